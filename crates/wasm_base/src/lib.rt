@@ -41,4 +41,6 @@ pub use section::{
     SectionLimited, SectionLimitedIntoIter, SectionLimitedIntoIterIn,
     SectionLimitedIntoIterWithOffsets,
 };
-pub use subsections::{Allocation, MayAllocate, NeverAllocates, Subsection, Subsections};
+pub use subsections::{
+    Allocation, MayAllocate, NeverAllocates, Subsection, Subsections, read_subsection,
+};

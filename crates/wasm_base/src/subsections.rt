@@ -6,7 +6,7 @@ ghost use Rattle.wasm_base.specs.Hints.{TakesNoMemory};
 ghost use Rattle.wasm_base.specs.Name.{window_at};
 ghost use Rattle.wasm_base.specs.Number.{after_number};
 ghost use Rattle.wasm_base.specs.Outcome.{GivesBy};
-ghost use Rattle.wasm_base.specs.Subsections.{MeansSubsection, ReadsSubsection, NextSubsection, subsection_at};
+ghost use Rattle.wasm_base.specs.Subsections.{MeansSubsection, ReadsSubsection, NextSubsection, after_refused, subsection_at};
 ghost use Rattle.wasm_base.specs.Window.{Window, place, KeepsWindow, range_of};
 ghost use Rattle.wasm_base.specs.declared.fault.NumberKind.TheVariants.{VarU32};
 
@@ -160,9 +160,27 @@ fn read_window<'a>(reader: &mut BinaryReader<'a>) -> Result<BinaryReader<'a>>
     Ok(BinaryReader::new_features(bytes, start, reader.features()))
 }
 
-// Reads the subsection that comes next.
+/// Reads the id and the window of the next subsection, whatever its kind.
+///
+/// After a fault the reader is where the next subsection begins: after the id if it is `InvalidU7`, otherwise after the bytes that
+/// reading the size takes. `UnexpectedEof` at the end of the window, which moves nothing.
 #[tactic(auto, unfolding(crate::specs::Subsections::subsection_at, crate::specs::Subsections::after_refused))]
-fn read_subsection<'a, T: Subsection<'a>>(alloc: Global, reader: &mut BinaryReader<'a>) -> Result<T>
+pub fn read_subsection<'a>(reader: &mut BinaryReader<'a>) -> Result<(u8, BinaryReader<'a>)>
+    ensures gives { GivesBy (λ x. (x.0, x.1)) result reader.old reader.new subsection_at }
+    ensures keeps { KeepsWindow reader.old reader.new }
+    ensures moves { 0 < length (place reader.old).rest
+        → reader.old.position < reader.new.position }
+    ensures memory { TakesNoMemory result }
+    ensures after { 0 < length (place reader.old).rest
+        → OnErr result (place reader.new ≡ after_refused (place reader.old)) }
+{
+    let id = reader.read_u7()?;
+    let window = read_window(reader)?;
+    Ok((id, window))
+}
+
+// Reads the subsection that comes next.
+fn read_as<'a, T: Subsection<'a>>(alloc: Global, reader: &mut BinaryReader<'a>) -> Result<T>
     requires { 0 < length (place reader.old).rest }
     ensures reads { ReadsSubsection T.meaning T.Allocation.ALLOCATES (place reader.old)
         (subsection_at (place reader.old)) result (place reader.new) }
@@ -170,8 +188,7 @@ fn read_subsection<'a, T: Subsection<'a>>(alloc: Global, reader: &mut BinaryRead
     ensures moves { reader.old.position < reader.new.position }
     ensures memory { T.Allocation.ALLOCATES ≡ false → TakesNoMemory result }
 {
-    let id = reader.read_u7()?;
-    let window = read_window(reader)?;
+    let (id, window) = read_subsection(reader)?;
     T::from_reader(alloc, id, window)
 }
 
@@ -186,6 +203,6 @@ impl<'a, T: Subsection<'a>> Iterator for Subsections<'a, T> {
         if self.reader.eof() {
             return None;
         }
-        Some(read_subsection(self.alloc, &mut self.reader))
+        Some(read_as(self.alloc, &mut self.reader))
     }
 }
