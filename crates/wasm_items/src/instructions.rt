@@ -87,9 +87,11 @@ fn read_operator(start: u64, opcode: u8, reader: &mut BinaryReader<'_>) -> Resul
     read_operands(start, opcode, reader)
 }
 
-// Reads an instruction.
+/// Reads an instruction of a constant expression, its end among them (core specification, Binary format, Instructions).
+///
+/// `NotConstant` at the opcode of any other instruction, and the faults of operands.
 #[tactic(auto, unfolding(crate::specs::Instructions::instruction_at))]
-fn read_instruction(reader: &mut BinaryReader<'_>) -> Result<ConstInstruction>
+pub fn read_instruction(reader: &mut BinaryReader<'_>) -> Result<ConstInstruction>
     ensures gives { GivesBy (λ instruction. instruction) result reader.old reader.new instruction_at }
     ensures memory { TakesNoMemory result }
 {

@@ -30,7 +30,7 @@ pub use functions::FunctionSectionReader;
 pub use globals::{Global, GlobalSectionReader};
 pub use imports::{Import, ImportItemCompact, ImportSectionReader, Imports, TypeRef};
 pub use init::{ConstExpr, ConstOperator, V128};
-pub use instructions::{ConstInstruction, ConstInstructions};
+pub use instructions::{ConstInstruction, ConstInstructions, read_instruction};
 pub use memories::MemorySectionReader;
 pub use tables::{Table, TableInit, TableSectionReader};
 pub use tags::TagSectionReader;
