@@ -264,6 +264,34 @@ class CoreValueKind(enum.IntEnum):
     F64 = 4
 
 
+class Opcode(enum.IntEnum):
+    """The opcode of an instruction of a constant expression."""
+
+    END = 11
+    GLOBAL_GET = 35
+    I32_CONST = 65
+    I64_CONST = 66
+    F32_CONST = 67
+    F64_CONST = 68
+    I32_ADD = 106
+    I32_SUB = 107
+    I32_MUL = 108
+    I64_ADD = 124
+    I64_SUB = 125
+    I64_MUL = 126
+    REF_NULL = 208
+    REF_FUNC = 210
+    STRUCT_NEW = 64256
+    STRUCT_NEW_DEFAULT = 64257
+    ARRAY_NEW = 64262
+    ARRAY_NEW_DEFAULT = 64263
+    ARRAY_NEW_FIXED = 64264
+    ANY_CONVERT_EXTERN = 64282
+    EXTERN_CONVERT_ANY = 64283
+    REF_I31 = 64284
+    V128_CONST = 64780
+
+
 class SymbolFlags(enum.IntFlag):
     """The flags of a symbol, as bits."""
 
@@ -302,10 +330,11 @@ class Event(ctypes.Structure):
         ("size", ctypes.c_uint32),
         ("start", ctypes.c_uint64),
         ("end", ctypes.c_uint64),
-        ("consumed", ctypes.c_uint64),
-        ("hint", ctypes.c_uint64),
         ("data_offset", ctypes.c_uint64),
-        ("name_size", ctypes.c_uint64),
+        ("at", ctypes.c_size_t),
+        ("consumed", ctypes.c_size_t),
+        ("hint", ctypes.c_size_t),
+        ("name_size", ctypes.c_size_t),
         ("fault", Fault),
     ]
 
@@ -340,10 +369,38 @@ class Feed(ctypes.Structure):
     ]
 
 
+class Items(ctypes.Structure):
+    _fields_ = [
+        ("offset", ctypes.c_uint64),
+        ("position", ctypes.c_size_t),
+        ("remaining", ctypes.c_uint32),
+        ("features", ctypes.c_uint32),
+        ("last", ctypes.c_uint32),
+        ("has_last", ctypes.c_uint8),
+        ("is_ended", ctypes.c_uint8),
+    ]
+
+
 class Span(ctypes.Structure):
     _fields_ = [
-        ("at", ctypes.c_uint64),
-        ("size", ctypes.c_uint64),
+        ("at", ctypes.c_size_t),
+        ("size", ctypes.c_size_t),
+    ]
+
+
+class Number(ctypes.Structure):
+    _fields_ = [
+        ("fault", Fault),
+        ("consumed", ctypes.c_size_t),
+        ("value", ctypes.c_uint64),
+    ]
+
+
+class Signed(ctypes.Structure):
+    _fields_ = [
+        ("fault", Fault),
+        ("consumed", ctypes.c_size_t),
+        ("value", ctypes.c_int64),
     ]
 
 
@@ -356,18 +413,10 @@ class Type(ctypes.Structure):
     ]
 
 
-class Number(ctypes.Structure):
-    _fields_ = [
-        ("fault", Fault),
-        ("consumed", ctypes.c_uint64),
-        ("value", ctypes.c_uint64),
-    ]
-
-
 class Value(ctypes.Structure):
     _fields_ = [
         ("fault", Fault),
-        ("consumed", ctypes.c_uint64),
+        ("consumed", ctypes.c_size_t),
         ("ty", Type),
     ]
 
@@ -375,7 +424,7 @@ class Value(ctypes.Structure):
 class Field(ctypes.Structure):
     _fields_ = [
         ("fault", Fault),
-        ("consumed", ctypes.c_uint64),
+        ("consumed", ctypes.c_size_t),
         ("ty", Type),
         ("is_mutable", ctypes.c_uint32),
     ]
@@ -384,7 +433,7 @@ class Field(ctypes.Structure):
 class TypeGroup(ctypes.Structure):
     _fields_ = [
         ("fault", Fault),
-        ("consumed", ctypes.c_uint64),
+        ("consumed", ctypes.c_size_t),
         ("is_explicit", ctypes.c_uint32),
         ("count", ctypes.c_uint32),
     ]
@@ -393,7 +442,7 @@ class TypeGroup(ctypes.Structure):
 class Subtype(ctypes.Structure):
     _fields_ = [
         ("fault", Fault),
-        ("consumed", ctypes.c_uint64),
+        ("consumed", ctypes.c_size_t),
         ("is_final", ctypes.c_uint32),
         ("has_supertype", ctypes.c_uint32),
         ("supertype", ctypes.c_uint32),
@@ -436,7 +485,7 @@ class GlobalType(ctypes.Structure):
 class Table(ctypes.Structure):
     _fields_ = [
         ("fault", Fault),
-        ("consumed", ctypes.c_uint64),
+        ("consumed", ctypes.c_size_t),
         ("ty", TableType),
         ("init", Span),
         ("has_init", ctypes.c_uint32),
@@ -446,7 +495,7 @@ class Table(ctypes.Structure):
 class Memory(ctypes.Structure):
     _fields_ = [
         ("fault", Fault),
-        ("consumed", ctypes.c_uint64),
+        ("consumed", ctypes.c_size_t),
         ("ty", MemoryType),
     ]
 
@@ -454,7 +503,7 @@ class Memory(ctypes.Structure):
 class Tag(ctypes.Structure):
     _fields_ = [
         ("fault", Fault),
-        ("consumed", ctypes.c_uint64),
+        ("consumed", ctypes.c_size_t),
         ("func_type_index", ctypes.c_uint32),
     ]
 
@@ -462,7 +511,7 @@ class Tag(ctypes.Structure):
 class Global(ctypes.Structure):
     _fields_ = [
         ("fault", Fault),
-        ("consumed", ctypes.c_uint64),
+        ("consumed", ctypes.c_size_t),
         ("ty", GlobalType),
         ("init", Span),
     ]
@@ -481,7 +530,7 @@ class ImportType(ctypes.Structure):
 class Import(ctypes.Structure):
     _fields_ = [
         ("fault", Fault),
-        ("consumed", ctypes.c_uint64),
+        ("consumed", ctypes.c_size_t),
         ("module_name", Span),
         ("name", Span),
         ("ty", ImportType),
@@ -494,7 +543,7 @@ class Import(ctypes.Structure):
 class ImportItem(ctypes.Structure):
     _fields_ = [
         ("fault", Fault),
-        ("consumed", ctypes.c_uint64),
+        ("consumed", ctypes.c_size_t),
         ("name", Span),
         ("ty", ImportType),
     ]
@@ -503,7 +552,7 @@ class ImportItem(ctypes.Structure):
 class Name(ctypes.Structure):
     _fields_ = [
         ("fault", Fault),
-        ("consumed", ctypes.c_uint64),
+        ("consumed", ctypes.c_size_t),
         ("name", Span),
     ]
 
@@ -511,24 +560,38 @@ class Name(ctypes.Structure):
 class Export(ctypes.Structure):
     _fields_ = [
         ("fault", Fault),
-        ("consumed", ctypes.c_uint64),
+        ("consumed", ctypes.c_size_t),
         ("name", Span),
         ("kind", ctypes.c_uint32),
         ("index", ctypes.c_uint32),
     ]
 
 
+class Instruction(ctypes.Structure):
+    _fields_ = [
+        ("fault", Fault),
+        ("consumed", ctypes.c_size_t),
+        ("opcode", ctypes.c_uint32),
+        ("index", ctypes.c_uint32),
+        ("heap", ctypes.c_uint32),
+        ("count", ctypes.c_uint32),
+        ("integer", ctypes.c_int64),
+        ("bits", ctypes.c_uint64),
+        ("bytes", Span),
+    ]
+
+
 class Expression(ctypes.Structure):
     _fields_ = [
         ("fault", Fault),
-        ("consumed", ctypes.c_uint64),
+        ("consumed", ctypes.c_size_t),
     ]
 
 
 class Element(ctypes.Structure):
     _fields_ = [
         ("fault", Fault),
-        ("consumed", ctypes.c_uint64),
+        ("consumed", ctypes.c_size_t),
         ("kind", ctypes.c_uint32),
         ("has_table", ctypes.c_uint32),
         ("table", ctypes.c_uint32),
@@ -543,7 +606,7 @@ class Element(ctypes.Structure):
 class Data(ctypes.Structure):
     _fields_ = [
         ("fault", Fault),
-        ("consumed", ctypes.c_uint64),
+        ("consumed", ctypes.c_size_t),
         ("kind", ctypes.c_uint32),
         ("memory", ctypes.c_uint32),
         ("offset_expression", Span),
@@ -554,7 +617,7 @@ class Data(ctypes.Structure):
 class Subsection(ctypes.Structure):
     _fields_ = [
         ("fault", Fault),
-        ("consumed", ctypes.c_uint64),
+        ("consumed", ctypes.c_size_t),
         ("id", ctypes.c_uint32),
         ("contents", Span),
     ]
@@ -563,7 +626,7 @@ class Subsection(ctypes.Structure):
 class Naming(ctypes.Structure):
     _fields_ = [
         ("fault", Fault),
-        ("consumed", ctypes.c_uint64),
+        ("consumed", ctypes.c_size_t),
         ("index", ctypes.c_uint32),
         ("name", Span),
     ]
@@ -572,7 +635,7 @@ class Naming(ctypes.Structure):
 class IndirectNaming(ctypes.Structure):
     _fields_ = [
         ("fault", Fault),
-        ("consumed", ctypes.c_uint64),
+        ("consumed", ctypes.c_size_t),
         ("index", ctypes.c_uint32),
         ("count", ctypes.c_uint32),
         ("names", Span),
@@ -582,7 +645,7 @@ class IndirectNaming(ctypes.Structure):
 class ProducersField(ctypes.Structure):
     _fields_ = [
         ("fault", Fault),
-        ("consumed", ctypes.c_uint64),
+        ("consumed", ctypes.c_size_t),
         ("name", Span),
         ("count", ctypes.c_uint32),
         ("values", Span),
@@ -592,7 +655,7 @@ class ProducersField(ctypes.Structure):
 class ProducersValue(ctypes.Structure):
     _fields_ = [
         ("fault", Fault),
-        ("consumed", ctypes.c_uint64),
+        ("consumed", ctypes.c_size_t),
         ("name", Span),
         ("version", Span),
     ]
@@ -601,7 +664,7 @@ class ProducersValue(ctypes.Structure):
 class HintedFunction(ctypes.Structure):
     _fields_ = [
         ("fault", Fault),
-        ("consumed", ctypes.c_uint64),
+        ("consumed", ctypes.c_size_t),
         ("func", ctypes.c_uint32),
         ("count", ctypes.c_uint32),
         ("hints", Span),
@@ -611,7 +674,7 @@ class HintedFunction(ctypes.Structure):
 class BranchHint(ctypes.Structure):
     _fields_ = [
         ("fault", Fault),
-        ("consumed", ctypes.c_uint64),
+        ("consumed", ctypes.c_size_t),
         ("func_offset", ctypes.c_uint32),
         ("taken", ctypes.c_uint32),
     ]
@@ -620,7 +683,7 @@ class BranchHint(ctypes.Structure):
 class DylinkMemory(ctypes.Structure):
     _fields_ = [
         ("fault", Fault),
-        ("consumed", ctypes.c_uint64),
+        ("consumed", ctypes.c_size_t),
         ("memory_size", ctypes.c_uint32),
         ("memory_alignment", ctypes.c_uint32),
         ("table_size", ctypes.c_uint32),
@@ -631,7 +694,7 @@ class DylinkMemory(ctypes.Structure):
 class DylinkExport(ctypes.Structure):
     _fields_ = [
         ("fault", Fault),
-        ("consumed", ctypes.c_uint64),
+        ("consumed", ctypes.c_size_t),
         ("name", Span),
         ("flags", ctypes.c_uint32),
     ]
@@ -640,7 +703,7 @@ class DylinkExport(ctypes.Structure):
 class DylinkImport(ctypes.Structure):
     _fields_ = [
         ("fault", Fault),
-        ("consumed", ctypes.c_uint64),
+        ("consumed", ctypes.c_size_t),
         ("module_name", Span),
         ("field", Span),
         ("flags", ctypes.c_uint32),
@@ -650,7 +713,7 @@ class DylinkImport(ctypes.Structure):
 class LinkingSegment(ctypes.Structure):
     _fields_ = [
         ("fault", Fault),
-        ("consumed", ctypes.c_uint64),
+        ("consumed", ctypes.c_size_t),
         ("name", Span),
         ("alignment", ctypes.c_uint32),
         ("flags", ctypes.c_uint32),
@@ -660,7 +723,7 @@ class LinkingSegment(ctypes.Structure):
 class InitFunction(ctypes.Structure):
     _fields_ = [
         ("fault", Fault),
-        ("consumed", ctypes.c_uint64),
+        ("consumed", ctypes.c_size_t),
         ("priority", ctypes.c_uint32),
         ("symbol", ctypes.c_uint32),
     ]
@@ -669,7 +732,7 @@ class InitFunction(ctypes.Structure):
 class Comdat(ctypes.Structure):
     _fields_ = [
         ("fault", Fault),
-        ("consumed", ctypes.c_uint64),
+        ("consumed", ctypes.c_size_t),
         ("name", Span),
         ("flags", ctypes.c_uint32),
         ("count", ctypes.c_uint32),
@@ -680,7 +743,7 @@ class Comdat(ctypes.Structure):
 class ComdatSymbol(ctypes.Structure):
     _fields_ = [
         ("fault", Fault),
-        ("consumed", ctypes.c_uint64),
+        ("consumed", ctypes.c_size_t),
         ("kind", ctypes.c_uint32),
         ("index", ctypes.c_uint32),
     ]
@@ -689,7 +752,7 @@ class ComdatSymbol(ctypes.Structure):
 class Symbol(ctypes.Structure):
     _fields_ = [
         ("fault", Fault),
-        ("consumed", ctypes.c_uint64),
+        ("consumed", ctypes.c_size_t),
         ("name", Span),
         ("kind", ctypes.c_uint32),
         ("flags", ctypes.c_uint32),
@@ -704,7 +767,7 @@ class Symbol(ctypes.Structure):
 class Relocation(ctypes.Structure):
     _fields_ = [
         ("fault", Fault),
-        ("consumed", ctypes.c_uint64),
+        ("consumed", ctypes.c_size_t),
         ("kind", ctypes.c_uint32),
         ("extent", ctypes.c_uint32),
         ("offset", ctypes.c_uint32),
@@ -716,7 +779,7 @@ class Relocation(ctypes.Structure):
 class CoreProcess(ctypes.Structure):
     _fields_ = [
         ("fault", Fault),
-        ("consumed", ctypes.c_uint64),
+        ("consumed", ctypes.c_size_t),
         ("name", Span),
     ]
 
@@ -724,7 +787,7 @@ class CoreProcess(ctypes.Structure):
 class CoreModule(ctypes.Structure):
     _fields_ = [
         ("fault", Fault),
-        ("consumed", ctypes.c_uint64),
+        ("consumed", ctypes.c_size_t),
         ("name", Span),
     ]
 
@@ -732,7 +795,7 @@ class CoreModule(ctypes.Structure):
 class CoreInstance(ctypes.Structure):
     _fields_ = [
         ("fault", Fault),
-        ("consumed", ctypes.c_uint64),
+        ("consumed", ctypes.c_size_t),
         ("module_index", ctypes.c_uint32),
     ]
 
@@ -740,7 +803,7 @@ class CoreInstance(ctypes.Structure):
 class CoreThread(ctypes.Structure):
     _fields_ = [
         ("fault", Fault),
-        ("consumed", ctypes.c_uint64),
+        ("consumed", ctypes.c_size_t),
         ("name", Span),
     ]
 
@@ -748,7 +811,7 @@ class CoreThread(ctypes.Structure):
 class CoreFrame(ctypes.Structure):
     _fields_ = [
         ("fault", Fault),
-        ("consumed", ctypes.c_uint64),
+        ("consumed", ctypes.c_size_t),
         ("instance", ctypes.c_uint32),
         ("func", ctypes.c_uint32),
         ("code_offset", ctypes.c_uint32),
@@ -758,7 +821,7 @@ class CoreFrame(ctypes.Structure):
 class CoreValue(ctypes.Structure):
     _fields_ = [
         ("fault", Fault),
-        ("consumed", ctypes.c_uint64),
+        ("consumed", ctypes.c_size_t),
         ("kind", ctypes.c_uint32),
         ("integer", ctypes.c_int64),
         ("bits", ctypes.c_uint64),
@@ -784,47 +847,92 @@ CALLS = {
     "pulleynavy_feed_step": (Event, [ctypes.POINTER(Feed), ctypes.c_void_p, ctypes.c_size_t]),
     "pulleynavy_feed_finish": (None, [ctypes.POINTER(Feed)]),
     "pulleynavy_feed_push": (ctypes.c_bool, [ctypes.POINTER(Feed), ctypes.c_void_p, ctypes.c_size_t, ctypes.c_void_p, ctypes.c_size_t]),
+    "pulleynavy_items_init": (Items, [ctypes.POINTER(Event), ctypes.c_uint32]),
+    "pulleynavy_list_init": (Items, [ctypes.c_uint64, ctypes.c_uint32, ctypes.c_uint32]),
     "pulleynavy_read_number": (Number, [ctypes.c_void_p, ctypes.c_size_t, ctypes.c_uint64, ctypes.c_uint32]),
+    "pulleynavy_next_numbers": (ctypes.c_size_t, [ctypes.POINTER(Items), ctypes.c_void_p, ctypes.c_size_t, ctypes.POINTER(Number), ctypes.c_size_t]),
+    "pulleynavy_read_u64": (Number, [ctypes.c_void_p, ctypes.c_size_t, ctypes.c_uint64, ctypes.c_uint32]),
+    "pulleynavy_read_s32": (Signed, [ctypes.c_void_p, ctypes.c_size_t, ctypes.c_uint64, ctypes.c_uint32]),
+    "pulleynavy_read_s33": (Signed, [ctypes.c_void_p, ctypes.c_size_t, ctypes.c_uint64, ctypes.c_uint32]),
+    "pulleynavy_read_s64": (Signed, [ctypes.c_void_p, ctypes.c_size_t, ctypes.c_uint64, ctypes.c_uint32]),
     "pulleynavy_read_value_type": (Value, [ctypes.c_void_p, ctypes.c_size_t, ctypes.c_uint64, ctypes.c_uint32]),
+    "pulleynavy_next_value_types": (ctypes.c_size_t, [ctypes.POINTER(Items), ctypes.c_void_p, ctypes.c_size_t, ctypes.POINTER(Value), ctypes.c_size_t]),
+    "pulleynavy_read_heap_type": (Value, [ctypes.c_void_p, ctypes.c_size_t, ctypes.c_uint64, ctypes.c_uint32]),
+    "pulleynavy_read_reference_type": (Value, [ctypes.c_void_p, ctypes.c_size_t, ctypes.c_uint64, ctypes.c_uint32]),
     "pulleynavy_read_field_type": (Field, [ctypes.c_void_p, ctypes.c_size_t, ctypes.c_uint64, ctypes.c_uint32]),
+    "pulleynavy_next_field_types": (ctypes.c_size_t, [ctypes.POINTER(Items), ctypes.c_void_p, ctypes.c_size_t, ctypes.POINTER(Field), ctypes.c_size_t]),
     "pulleynavy_read_type_group": (TypeGroup, [ctypes.c_void_p, ctypes.c_size_t, ctypes.c_uint64, ctypes.c_uint32]),
     "pulleynavy_read_subtype": (Subtype, [ctypes.c_void_p, ctypes.c_size_t, ctypes.c_uint64, ctypes.c_uint32]),
     "pulleynavy_read_table": (Table, [ctypes.c_void_p, ctypes.c_size_t, ctypes.c_uint64, ctypes.c_uint32]),
+    "pulleynavy_next_tables": (ctypes.c_size_t, [ctypes.POINTER(Items), ctypes.c_void_p, ctypes.c_size_t, ctypes.POINTER(Table), ctypes.c_size_t]),
     "pulleynavy_read_memory": (Memory, [ctypes.c_void_p, ctypes.c_size_t, ctypes.c_uint64, ctypes.c_uint32]),
+    "pulleynavy_next_memories": (ctypes.c_size_t, [ctypes.POINTER(Items), ctypes.c_void_p, ctypes.c_size_t, ctypes.POINTER(Memory), ctypes.c_size_t]),
     "pulleynavy_read_tag": (Tag, [ctypes.c_void_p, ctypes.c_size_t, ctypes.c_uint64, ctypes.c_uint32]),
+    "pulleynavy_next_tags": (ctypes.c_size_t, [ctypes.POINTER(Items), ctypes.c_void_p, ctypes.c_size_t, ctypes.POINTER(Tag), ctypes.c_size_t]),
     "pulleynavy_read_global": (Global, [ctypes.c_void_p, ctypes.c_size_t, ctypes.c_uint64, ctypes.c_uint32]),
+    "pulleynavy_next_globals": (ctypes.c_size_t, [ctypes.POINTER(Items), ctypes.c_void_p, ctypes.c_size_t, ctypes.POINTER(Global), ctypes.c_size_t]),
+    "pulleynavy_read_table_type": (Table, [ctypes.c_void_p, ctypes.c_size_t, ctypes.c_uint64, ctypes.c_uint32]),
+    "pulleynavy_read_global_type": (Global, [ctypes.c_void_p, ctypes.c_size_t, ctypes.c_uint64, ctypes.c_uint32]),
     "pulleynavy_read_import": (Import, [ctypes.c_void_p, ctypes.c_size_t, ctypes.c_uint64, ctypes.c_uint32]),
+    "pulleynavy_next_imports": (ctypes.c_size_t, [ctypes.POINTER(Items), ctypes.c_void_p, ctypes.c_size_t, ctypes.POINTER(Import), ctypes.c_size_t]),
     "pulleynavy_read_import_item": (ImportItem, [ctypes.c_void_p, ctypes.c_size_t, ctypes.c_uint64, ctypes.c_uint32]),
     "pulleynavy_read_name": (Name, [ctypes.c_void_p, ctypes.c_size_t, ctypes.c_uint64, ctypes.c_uint32]),
+    "pulleynavy_next_names": (ctypes.c_size_t, [ctypes.POINTER(Items), ctypes.c_void_p, ctypes.c_size_t, ctypes.POINTER(Name), ctypes.c_size_t]),
+    "pulleynavy_read_text": (Name, [ctypes.c_void_p, ctypes.c_size_t, ctypes.c_uint64, ctypes.c_uint32]),
+    "pulleynavy_next_texts": (ctypes.c_size_t, [ctypes.POINTER(Items), ctypes.c_void_p, ctypes.c_size_t, ctypes.POINTER(Name), ctypes.c_size_t]),
     "pulleynavy_read_bundled_import": (ImportItem, [ctypes.POINTER(Import), ctypes.c_void_p, ctypes.c_size_t, ctypes.c_uint64, ctypes.c_uint32]),
     "pulleynavy_read_export": (Export, [ctypes.c_void_p, ctypes.c_size_t, ctypes.c_uint64, ctypes.c_uint32]),
+    "pulleynavy_next_exports": (ctypes.c_size_t, [ctypes.POINTER(Items), ctypes.c_void_p, ctypes.c_size_t, ctypes.POINTER(Export), ctypes.c_size_t]),
+    "pulleynavy_read_instruction": (Instruction, [ctypes.c_void_p, ctypes.c_size_t, ctypes.c_uint64, ctypes.c_uint32]),
     "pulleynavy_read_expression": (Expression, [ctypes.c_void_p, ctypes.c_size_t, ctypes.c_uint64, ctypes.c_uint32]),
+    "pulleynavy_next_expressions": (ctypes.c_size_t, [ctypes.POINTER(Items), ctypes.c_void_p, ctypes.c_size_t, ctypes.POINTER(Expression), ctypes.c_size_t]),
     "pulleynavy_read_element": (Element, [ctypes.c_void_p, ctypes.c_size_t, ctypes.c_uint64, ctypes.c_uint32]),
+    "pulleynavy_next_elements": (ctypes.c_size_t, [ctypes.POINTER(Items), ctypes.c_void_p, ctypes.c_size_t, ctypes.POINTER(Element), ctypes.c_size_t]),
     "pulleynavy_read_data": (Data, [ctypes.c_void_p, ctypes.c_size_t, ctypes.c_uint64, ctypes.c_uint32]),
+    "pulleynavy_next_data": (ctypes.c_size_t, [ctypes.POINTER(Items), ctypes.c_void_p, ctypes.c_size_t, ctypes.POINTER(Data), ctypes.c_size_t]),
     "pulleynavy_read_subsection": (Subsection, [ctypes.c_void_p, ctypes.c_size_t, ctypes.c_uint64, ctypes.c_uint32]),
     "pulleynavy_read_naming": (Naming, [ctypes.c_void_p, ctypes.c_size_t, ctypes.c_uint64, ctypes.c_uint32]),
+    "pulleynavy_next_namings": (ctypes.c_size_t, [ctypes.POINTER(Items), ctypes.c_void_p, ctypes.c_size_t, ctypes.POINTER(Naming), ctypes.c_size_t]),
     "pulleynavy_read_indirect_naming": (IndirectNaming, [ctypes.c_void_p, ctypes.c_size_t, ctypes.c_uint64, ctypes.c_uint32]),
+    "pulleynavy_next_indirect_namings": (ctypes.c_size_t, [ctypes.POINTER(Items), ctypes.c_void_p, ctypes.c_size_t, ctypes.POINTER(IndirectNaming), ctypes.c_size_t]),
+    "pulleynavy_next_subsections": (ctypes.c_size_t, [ctypes.POINTER(Items), ctypes.c_void_p, ctypes.c_size_t, ctypes.POINTER(Subsection), ctypes.c_size_t]),
+    "pulleynavy_next_name_subsections": (ctypes.c_size_t, [ctypes.POINTER(Items), ctypes.c_void_p, ctypes.c_size_t, ctypes.POINTER(Subsection), ctypes.c_size_t]),
     "pulleynavy_read_producers_field": (ProducersField, [ctypes.c_void_p, ctypes.c_size_t, ctypes.c_uint64, ctypes.c_uint32]),
+    "pulleynavy_next_producers_fields": (ctypes.c_size_t, [ctypes.POINTER(Items), ctypes.c_void_p, ctypes.c_size_t, ctypes.POINTER(ProducersField), ctypes.c_size_t]),
     "pulleynavy_read_producers_value": (ProducersValue, [ctypes.c_void_p, ctypes.c_size_t, ctypes.c_uint64, ctypes.c_uint32]),
+    "pulleynavy_next_producers_values": (ctypes.c_size_t, [ctypes.POINTER(Items), ctypes.c_void_p, ctypes.c_size_t, ctypes.POINTER(ProducersValue), ctypes.c_size_t]),
     "pulleynavy_read_hinted_function": (HintedFunction, [ctypes.c_void_p, ctypes.c_size_t, ctypes.c_uint64, ctypes.c_uint32]),
+    "pulleynavy_next_hinted_functions": (ctypes.c_size_t, [ctypes.POINTER(Items), ctypes.c_void_p, ctypes.c_size_t, ctypes.POINTER(HintedFunction), ctypes.c_size_t]),
     "pulleynavy_read_branch_hint": (BranchHint, [ctypes.c_void_p, ctypes.c_size_t, ctypes.c_uint64, ctypes.c_uint32]),
+    "pulleynavy_next_branch_hints": (ctypes.c_size_t, [ctypes.POINTER(Items), ctypes.c_void_p, ctypes.c_size_t, ctypes.POINTER(BranchHint), ctypes.c_size_t]),
     "pulleynavy_read_dylink_memory": (DylinkMemory, [ctypes.c_void_p, ctypes.c_size_t, ctypes.c_uint64, ctypes.c_uint32]),
     "pulleynavy_read_dylink_export": (DylinkExport, [ctypes.c_void_p, ctypes.c_size_t, ctypes.c_uint64, ctypes.c_uint32]),
+    "pulleynavy_next_dylink_exports": (ctypes.c_size_t, [ctypes.POINTER(Items), ctypes.c_void_p, ctypes.c_size_t, ctypes.POINTER(DylinkExport), ctypes.c_size_t]),
     "pulleynavy_read_dylink_import": (DylinkImport, [ctypes.c_void_p, ctypes.c_size_t, ctypes.c_uint64, ctypes.c_uint32]),
+    "pulleynavy_next_dylink_imports": (ctypes.c_size_t, [ctypes.POINTER(Items), ctypes.c_void_p, ctypes.c_size_t, ctypes.POINTER(DylinkImport), ctypes.c_size_t]),
     "pulleynavy_read_linking_segment": (LinkingSegment, [ctypes.c_void_p, ctypes.c_size_t, ctypes.c_uint64, ctypes.c_uint32]),
+    "pulleynavy_next_linking_segments": (ctypes.c_size_t, [ctypes.POINTER(Items), ctypes.c_void_p, ctypes.c_size_t, ctypes.POINTER(LinkingSegment), ctypes.c_size_t]),
     "pulleynavy_read_init_function": (InitFunction, [ctypes.c_void_p, ctypes.c_size_t, ctypes.c_uint64, ctypes.c_uint32]),
+    "pulleynavy_next_init_functions": (ctypes.c_size_t, [ctypes.POINTER(Items), ctypes.c_void_p, ctypes.c_size_t, ctypes.POINTER(InitFunction), ctypes.c_size_t]),
     "pulleynavy_read_comdat": (Comdat, [ctypes.c_void_p, ctypes.c_size_t, ctypes.c_uint64, ctypes.c_uint32]),
+    "pulleynavy_next_comdats": (ctypes.c_size_t, [ctypes.POINTER(Items), ctypes.c_void_p, ctypes.c_size_t, ctypes.POINTER(Comdat), ctypes.c_size_t]),
     "pulleynavy_read_comdat_symbol": (ComdatSymbol, [ctypes.c_void_p, ctypes.c_size_t, ctypes.c_uint64, ctypes.c_uint32]),
+    "pulleynavy_next_comdat_symbols": (ctypes.c_size_t, [ctypes.POINTER(Items), ctypes.c_void_p, ctypes.c_size_t, ctypes.POINTER(ComdatSymbol), ctypes.c_size_t]),
     "pulleynavy_read_linking_version": (Number, [ctypes.c_void_p, ctypes.c_size_t, ctypes.c_uint64, ctypes.c_uint32]),
     "pulleynavy_read_symbol": (Symbol, [ctypes.c_void_p, ctypes.c_size_t, ctypes.c_uint64, ctypes.c_uint32]),
+    "pulleynavy_next_symbols": (ctypes.c_size_t, [ctypes.POINTER(Items), ctypes.c_void_p, ctypes.c_size_t, ctypes.POINTER(Symbol), ctypes.c_size_t]),
     "pulleynavy_read_relocation": (Relocation, [ctypes.c_void_p, ctypes.c_size_t, ctypes.c_uint64, ctypes.c_uint32]),
+    "pulleynavy_next_relocations": (ctypes.c_size_t, [ctypes.POINTER(Items), ctypes.c_void_p, ctypes.c_size_t, ctypes.POINTER(Relocation), ctypes.c_size_t]),
     "pulleynavy_read_core_process": (CoreProcess, [ctypes.c_void_p, ctypes.c_size_t, ctypes.c_uint64, ctypes.c_uint32]),
     "pulleynavy_read_core_module": (CoreModule, [ctypes.c_void_p, ctypes.c_size_t, ctypes.c_uint64, ctypes.c_uint32, ctypes.c_uint64]),
     "pulleynavy_read_core_instance": (CoreInstance, [ctypes.c_void_p, ctypes.c_size_t, ctypes.c_uint64, ctypes.c_uint32]),
     "pulleynavy_read_core_thread": (CoreThread, [ctypes.c_void_p, ctypes.c_size_t, ctypes.c_uint64, ctypes.c_uint32]),
     "pulleynavy_read_core_frame": (CoreFrame, [ctypes.c_void_p, ctypes.c_size_t, ctypes.c_uint64, ctypes.c_uint32]),
     "pulleynavy_read_core_value": (CoreValue, [ctypes.c_void_p, ctypes.c_size_t, ctypes.c_uint64, ctypes.c_uint32]),
+    "pulleynavy_next_core_values": (ctypes.c_size_t, [ctypes.POINTER(Items), ctypes.c_void_p, ctypes.c_size_t, ctypes.POINTER(CoreValue), ctypes.c_size_t]),
     "pulleynavy_classify_custom": (ctypes.c_uint32, [ctypes.c_void_p, ctypes.c_size_t]),
+    "pulleynavy_check_custom_end": (Fault, [ctypes.c_void_p, ctypes.c_size_t, ctypes.c_uint64]),
+    "pulleynavy_check_name_end": (Fault, [ctypes.c_void_p, ctypes.c_size_t, ctypes.c_uint64]),
     "pulleynavy_strip": (Stripped, [ctypes.c_void_p, ctypes.c_size_t, ctypes.c_bool]),
 }
 

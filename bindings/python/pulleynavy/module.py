@@ -2,14 +2,14 @@
 # SPDX-License-Identifier: Apache-2.0 OR MIT
 from __future__ import annotations
 
-import ctypes
 import dataclasses
 import functools
 import io
-from typing import Any, BinaryIO, Iterator
+from typing import Any, BinaryIO, Iterator, NamedTuple
 
 from ._events import Event, events
-from ._library import ALL_FEATURES, Fault, load
+from ._items import Items, fields
+from ._library import ALL_FEATURES, load
 from .declared import CustomKind, DataKind, ElementKind, EventKind, ExternalKind, HeapKind, TypeKind
 
 # Section ids (core specification, Binary format, Modules, Sections).
@@ -78,8 +78,7 @@ class Global:
     shared: bool
 
 
-@dataclasses.dataclass(frozen=True)
-class Import:
+class Import(NamedTuple):
     """An import: `type` is the index of a function's or a tag's type, or the table, memory or global."""
 
     module: str
@@ -88,8 +87,7 @@ class Import:
     type: int | Table | Memory | Global
 
 
-@dataclasses.dataclass(frozen=True)
-class Export:
+class Export(NamedTuple):
     """An export: what is exported, and its index among those of its kind."""
 
     name: str
@@ -97,8 +95,7 @@ class Export:
     index: int
 
 
-@dataclasses.dataclass(frozen=True)
-class Element:
+class Element(NamedTuple):
     """An element segment: what becomes of it, the table of an active one, and how many elements it has."""
 
     kind: ElementKind
@@ -106,8 +103,7 @@ class Element:
     count: int
 
 
-@dataclasses.dataclass(frozen=True)
-class Data:
+class Data(NamedTuple):
     """A data segment: what becomes of it, the memory of an active one, and its bytes."""
 
     kind: DataKind
@@ -157,36 +153,13 @@ def _global(ty: Any) -> Global:
     return Global(_value_type(ty.content), bool(ty.is_mutable), bool(ty.shared))
 
 
-class _Cursor:
-    """Reads items one after the other from the content of a section."""
-
-    def __init__(self, library: Any, content: bytes, offset: int, features: int) -> None:
-        self.library, self.features, self.offset, self.content = library, features, offset, content
-        self.held = ctypes.create_string_buffer(content, max(1, len(content)))
-        self.at, self.size = 0, len(content)
-
-    def read(self, call: str, *first: Any) -> Any:
-        """The item that the call `pulleynavy_read_` with this name reads. Raises its fault."""
-        address = ctypes.addressof(self.held) + self.at
-        item = getattr(self.library, "pulleynavy_read_" + call)(
-            *first, address, self.size - self.at, self.offset + self.at, self.features
-        )
-        if item.fault.kind:
-            raise Fault(self.library, item.fault)
-        self.before, self.at = self.at, self.at + item.consumed
-        return item
-
-    def all(self, call: str) -> Iterator[Any]:
-        """The items of a section that begins with a count."""
-        for _ in range(self.read("number").value):
-            yield self.read(call)
-
-    def span(self, span: Any) -> bytes:
-        """The bytes of a span of the item that was read last."""
-        return self.content[self.before + span.at : self.before + span.at + span.size]
-
-    def text(self, span: Any) -> str:
-        return self.span(span).decode()
+# The fields that are read of items that modules have by the thousand, and the kinds by their numbers.
+_NUMBER = fields("Number", "value")
+_EXPORT = fields("Export", "name.at", "name.size", "kind", "index")
+_ELEMENT = fields("Element", "kind", "has_table", "table", "count")
+_DATA = fields("Data", "kind", "memory", "bytes.at", "bytes.size")
+_NAMING = fields("Naming", "index", "name.at", "name.size")
+_EXTERNAL_KINDS, _ELEMENT_KINDS, _DATA_KINDS = tuple(ExternalKind), tuple(ElementKind), tuple(DataKind)
 
 
 class Module:
@@ -206,10 +179,11 @@ class Module:
         """Reads a whole binary file. Raises `Fault` if its sections are malformed."""
         return cls(file.read(), features)
 
-    def _cursors(self, number: int) -> Iterator[_Cursor]:
+    def _lists(self, number: int) -> Iterator[Items]:
+        """The items of each section with this id."""
         for event in self._events:
             if event.kind is EventKind.SECTION and event.id == number:
-                yield _Cursor(self._library, event.content, event.start, self._features)
+                yield Items(self._library, event.content, event.start, self._features).skip(event.data_offset - event.start, event.count)
 
     @functools.cached_property
     def is_component(self) -> bool:
@@ -224,58 +198,58 @@ class Module:
     @functools.cached_property
     def imports(self) -> list[Import]:
         """The imports, those of bundles among them."""
-        return [one for cursor in self._cursors(IMPORTS) for one in _imports(cursor)]
+        return [one for items in self._lists(IMPORTS) for one in _imports(items)]
 
     @functools.cached_property
     def functions(self) -> list[int]:
         """The index of the type of each function that the module defines."""
-        return [one.value for cursor in self._cursors(FUNCTIONS) for one in cursor.all("number")]
+        return [index for items in self._lists(FUNCTIONS) for index, in items.rows("numbers", "Number", _NUMBER)]
 
     @functools.cached_property
     def tables(self) -> list[Table]:
         """The tables that the module defines."""
-        return [_table(one.ty) for cursor in self._cursors(TABLES) for one in cursor.all("table")]
+        return [_table(one.ty) for items in self._lists(TABLES) for one in items.all("tables", "Table")]
 
     @functools.cached_property
     def memories(self) -> list[Memory]:
         """The memories that the module defines."""
-        return [_memory(one.ty) for cursor in self._cursors(MEMORIES) for one in cursor.all("memory")]
+        return [_memory(one.ty) for items in self._lists(MEMORIES) for one in items.all("memories", "Memory")]
 
     @functools.cached_property
     def globals(self) -> list[Global]:
         """The globals that the module defines."""
-        return [_global(one.ty) for cursor in self._cursors(GLOBALS) for one in cursor.all("global")]
+        return [_global(one.ty) for items in self._lists(GLOBALS) for one in items.all("globals", "Global")]
 
     @functools.cached_property
     def tags(self) -> list[int]:
         """The index of the function type of each tag that the module defines."""
-        return [one.func_type_index for cursor in self._cursors(TAGS) for one in cursor.all("tag")]
+        return [one.func_type_index for items in self._lists(TAGS) for one in items.all("tags", "Tag")]
 
     @functools.cached_property
     def exports(self) -> list[Export]:
         """The exports."""
         return [
-            Export(cursor.text(one.name), ExternalKind(one.kind), one.index)
-            for cursor in self._cursors(EXPORTS)
-            for one in cursor.all("export")
+            Export(str(items.content[at : at + size], "utf-8"), _EXTERNAL_KINDS[kind], index)
+            for items in self._lists(EXPORTS)
+            for at, size, kind, index in items.rows("exports", "Export", _EXPORT)
         ]
 
     @functools.cached_property
     def elements(self) -> list[Element]:
         """The element segments."""
         return [
-            Element(ElementKind(one.kind), one.table if one.has_table else None, one.count)
-            for cursor in self._cursors(ELEMENTS)
-            for one in cursor.all("element")
+            Element(_ELEMENT_KINDS[kind], table if has_table else None, count)
+            for items in self._lists(ELEMENTS)
+            for kind, has_table, table, count in items.rows("elements", "Element", _ELEMENT)
         ]
 
     @functools.cached_property
     def data(self) -> list[Data]:
         """The data segments."""
         return [
-            Data(DataKind(one.kind), one.memory if one.kind == DataKind.ACTIVE else None, cursor.span(one.bytes))
-            for cursor in self._cursors(DATAS)
-            for one in cursor.all("data")
+            Data(_DATA_KINDS[kind], memory if kind == DataKind.ACTIVE else None, items.content[at : at + size])
+            for items in self._lists(DATAS)
+            for kind, memory, at, size in items.rows("data", "Data", _DATA)
         ]
 
     @functools.cached_property
@@ -305,19 +279,20 @@ class Module:
         functions: dict[int, str] = {}
         for section in self.custom_sections:
             if section.kind is CustomKind.NAME:
-                for number, cursor in self._subsections(section):
+                for number, contents in self._subsections(section):
                     if number == MODULE_NAME:
-                        module = cursor.text(cursor.read("name").name)
+                        module = contents.text(contents.read("name").name)
                     elif number == FUNCTION_NAMES:
-                        functions.update((one.index, cursor.text(one.name)) for one in cursor.all("naming"))
+                        functions.update(
+                            (index, str(contents.content[at : at + size], "utf-8"))
+                            for index, at, size in contents.counted().rows("namings", "Naming", _NAMING)
+                        )
         return Names(module, functions)
 
-    def _subsections(self, section: CustomSection) -> Iterator[tuple[int, _Cursor]]:
-        cursor = _Cursor(self._library, section.data, section.offset, self._features)
-        while cursor.at < cursor.size:
-            one = cursor.read("subsection")
-            contents = cursor.span(one.contents)
-            yield one.id, _Cursor(self._library, contents, section.offset + cursor.before + one.contents.at, self._features)
+    def _subsections(self, section: CustomSection) -> Iterator[tuple[int, Items]]:
+        items = Items(self._library, section.data, section.offset, self._features)
+        for one in items.all("name_subsections", "Subsection"):
+            yield one.id, items.part(one.contents)
 
 
 def _section(event: Event) -> Iterator[Section]:
@@ -346,13 +321,13 @@ def _imported(ty: Any) -> int | Table | Memory | Global:
     return int(ty.index)
 
 
-def _imports(cursor: _Cursor) -> Iterator[Import]:
-    for one in cursor.all("import"):
-        module = cursor.text(one.module_name)
+def _imports(items: Items) -> Iterator[Import]:
+    for one in items.all("imports", "Import"):
+        module = items.text(one.module_name)
         if not one.kind:
-            yield Import(module, cursor.text(one.name), ExternalKind(one.ty.kind), _imported(one.ty))
+            yield Import(module, items.text(one.name), ExternalKind(one.ty.kind), _imported(one.ty))
             continue
-        items = _Cursor(cursor.library, cursor.span(one.items), cursor.offset + cursor.before + one.items.at, cursor.features)
+        bundle = items.part(one.items)
         for _ in range(one.count):
-            item = items.read("bundled_import", ctypes.byref(one))
-            yield Import(module, items.text(item.name), ExternalKind(item.ty.kind), _imported(item.ty))
+            item = bundle.read("bundled_import", one)
+            yield Import(module, bundle.text(item.name, bundle.before), ExternalKind(item.ty.kind), _imported(item.ty))

@@ -224,6 +224,32 @@ pub(crate) mod core_value_kind {
     pub(crate) const F64: u32 = 4;
 }
 
+pub(crate) mod opcode {
+    pub(crate) const END: u32 = 11;
+    pub(crate) const GLOBAL_GET: u32 = 35;
+    pub(crate) const I32_CONST: u32 = 65;
+    pub(crate) const I64_CONST: u32 = 66;
+    pub(crate) const F32_CONST: u32 = 67;
+    pub(crate) const F64_CONST: u32 = 68;
+    pub(crate) const I32_ADD: u32 = 106;
+    pub(crate) const I32_SUB: u32 = 107;
+    pub(crate) const I32_MUL: u32 = 108;
+    pub(crate) const I64_ADD: u32 = 124;
+    pub(crate) const I64_SUB: u32 = 125;
+    pub(crate) const I64_MUL: u32 = 126;
+    pub(crate) const REF_NULL: u32 = 208;
+    pub(crate) const REF_FUNC: u32 = 210;
+    pub(crate) const STRUCT_NEW: u32 = 64256;
+    pub(crate) const STRUCT_NEW_DEFAULT: u32 = 64257;
+    pub(crate) const ARRAY_NEW: u32 = 64262;
+    pub(crate) const ARRAY_NEW_DEFAULT: u32 = 64263;
+    pub(crate) const ARRAY_NEW_FIXED: u32 = 64264;
+    pub(crate) const ANY_CONVERT_EXTERN: u32 = 64282;
+    pub(crate) const EXTERN_CONVERT_ANY: u32 = 64283;
+    pub(crate) const REF_I31: u32 = 64284;
+    pub(crate) const V128_CONST: u32 = 64780;
+}
+
 pub(crate) mod symbol_flags {
     pub(crate) const BINDING_WEAK: u32 = 1;
     pub(crate) const BINDING_LOCAL: u32 = 2;

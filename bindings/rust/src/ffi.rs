@@ -18,10 +18,11 @@ pub struct Event {
     pub size: u32,
     pub start: u64,
     pub end: u64,
-    pub consumed: u64,
-    pub hint: u64,
     pub data_offset: u64,
-    pub name_size: u64,
+    pub at: usize,
+    pub consumed: usize,
+    pub hint: usize,
+    pub name_size: usize,
     pub fault: Fault,
 }
 
@@ -57,9 +58,37 @@ pub struct Feed {
 
 #[repr(C)]
 #[derive(Clone, Copy, Debug)]
+pub struct Items {
+    pub offset: u64,
+    pub position: usize,
+    pub remaining: u32,
+    pub features: u32,
+    pub last: u32,
+    pub has_last: u8,
+    pub is_ended: u8,
+}
+
+#[repr(C)]
+#[derive(Clone, Copy, Debug)]
 pub struct Span {
-    pub at: u64,
-    pub size: u64,
+    pub at: usize,
+    pub size: usize,
+}
+
+#[repr(C)]
+#[derive(Clone, Copy, Debug)]
+pub struct Number {
+    pub fault: Fault,
+    pub consumed: usize,
+    pub value: u64,
+}
+
+#[repr(C)]
+#[derive(Clone, Copy, Debug)]
+pub struct Signed {
+    pub fault: Fault,
+    pub consumed: usize,
+    pub value: i64,
 }
 
 #[repr(C)]
@@ -73,17 +102,9 @@ pub struct Type {
 
 #[repr(C)]
 #[derive(Clone, Copy, Debug)]
-pub struct Number {
-    pub fault: Fault,
-    pub consumed: u64,
-    pub value: u64,
-}
-
-#[repr(C)]
-#[derive(Clone, Copy, Debug)]
 pub struct Value {
     pub fault: Fault,
-    pub consumed: u64,
+    pub consumed: usize,
     pub ty: Type,
 }
 
@@ -91,7 +112,7 @@ pub struct Value {
 #[derive(Clone, Copy, Debug)]
 pub struct Field {
     pub fault: Fault,
-    pub consumed: u64,
+    pub consumed: usize,
     pub ty: Type,
     pub is_mutable: u32,
 }
@@ -100,7 +121,7 @@ pub struct Field {
 #[derive(Clone, Copy, Debug)]
 pub struct TypeGroup {
     pub fault: Fault,
-    pub consumed: u64,
+    pub consumed: usize,
     pub is_explicit: u32,
     pub count: u32,
 }
@@ -109,7 +130,7 @@ pub struct TypeGroup {
 #[derive(Clone, Copy, Debug)]
 pub struct Subtype {
     pub fault: Fault,
-    pub consumed: u64,
+    pub consumed: usize,
     pub is_final: u32,
     pub has_supertype: u32,
     pub supertype: u32,
@@ -152,7 +173,7 @@ pub struct GlobalType {
 #[derive(Clone, Copy, Debug)]
 pub struct Table {
     pub fault: Fault,
-    pub consumed: u64,
+    pub consumed: usize,
     pub ty: TableType,
     pub init: Span,
     pub has_init: u32,
@@ -162,7 +183,7 @@ pub struct Table {
 #[derive(Clone, Copy, Debug)]
 pub struct Memory {
     pub fault: Fault,
-    pub consumed: u64,
+    pub consumed: usize,
     pub ty: MemoryType,
 }
 
@@ -170,7 +191,7 @@ pub struct Memory {
 #[derive(Clone, Copy, Debug)]
 pub struct Tag {
     pub fault: Fault,
-    pub consumed: u64,
+    pub consumed: usize,
     pub func_type_index: u32,
 }
 
@@ -178,7 +199,7 @@ pub struct Tag {
 #[derive(Clone, Copy, Debug)]
 pub struct Global {
     pub fault: Fault,
-    pub consumed: u64,
+    pub consumed: usize,
     pub ty: GlobalType,
     pub init: Span,
 }
@@ -197,7 +218,7 @@ pub struct ImportType {
 #[derive(Clone, Copy, Debug)]
 pub struct Import {
     pub fault: Fault,
-    pub consumed: u64,
+    pub consumed: usize,
     pub module_name: Span,
     pub name: Span,
     pub ty: ImportType,
@@ -210,7 +231,7 @@ pub struct Import {
 #[derive(Clone, Copy, Debug)]
 pub struct ImportItem {
     pub fault: Fault,
-    pub consumed: u64,
+    pub consumed: usize,
     pub name: Span,
     pub ty: ImportType,
 }
@@ -219,7 +240,7 @@ pub struct ImportItem {
 #[derive(Clone, Copy, Debug)]
 pub struct Name {
     pub fault: Fault,
-    pub consumed: u64,
+    pub consumed: usize,
     pub name: Span,
 }
 
@@ -227,7 +248,7 @@ pub struct Name {
 #[derive(Clone, Copy, Debug)]
 pub struct Export {
     pub fault: Fault,
-    pub consumed: u64,
+    pub consumed: usize,
     pub name: Span,
     pub kind: u32,
     pub index: u32,
@@ -235,16 +256,30 @@ pub struct Export {
 
 #[repr(C)]
 #[derive(Clone, Copy, Debug)]
+pub struct Instruction {
+    pub fault: Fault,
+    pub consumed: usize,
+    pub opcode: u32,
+    pub index: u32,
+    pub heap: u32,
+    pub count: u32,
+    pub integer: i64,
+    pub bits: u64,
+    pub bytes: Span,
+}
+
+#[repr(C)]
+#[derive(Clone, Copy, Debug)]
 pub struct Expression {
     pub fault: Fault,
-    pub consumed: u64,
+    pub consumed: usize,
 }
 
 #[repr(C)]
 #[derive(Clone, Copy, Debug)]
 pub struct Element {
     pub fault: Fault,
-    pub consumed: u64,
+    pub consumed: usize,
     pub kind: u32,
     pub has_table: u32,
     pub table: u32,
@@ -259,7 +294,7 @@ pub struct Element {
 #[derive(Clone, Copy, Debug)]
 pub struct Data {
     pub fault: Fault,
-    pub consumed: u64,
+    pub consumed: usize,
     pub kind: u32,
     pub memory: u32,
     pub offset_expression: Span,
@@ -270,7 +305,7 @@ pub struct Data {
 #[derive(Clone, Copy, Debug)]
 pub struct Subsection {
     pub fault: Fault,
-    pub consumed: u64,
+    pub consumed: usize,
     pub id: u32,
     pub contents: Span,
 }
@@ -279,7 +314,7 @@ pub struct Subsection {
 #[derive(Clone, Copy, Debug)]
 pub struct Naming {
     pub fault: Fault,
-    pub consumed: u64,
+    pub consumed: usize,
     pub index: u32,
     pub name: Span,
 }
@@ -288,7 +323,7 @@ pub struct Naming {
 #[derive(Clone, Copy, Debug)]
 pub struct IndirectNaming {
     pub fault: Fault,
-    pub consumed: u64,
+    pub consumed: usize,
     pub index: u32,
     pub count: u32,
     pub names: Span,
@@ -298,7 +333,7 @@ pub struct IndirectNaming {
 #[derive(Clone, Copy, Debug)]
 pub struct ProducersField {
     pub fault: Fault,
-    pub consumed: u64,
+    pub consumed: usize,
     pub name: Span,
     pub count: u32,
     pub values: Span,
@@ -308,7 +343,7 @@ pub struct ProducersField {
 #[derive(Clone, Copy, Debug)]
 pub struct ProducersValue {
     pub fault: Fault,
-    pub consumed: u64,
+    pub consumed: usize,
     pub name: Span,
     pub version: Span,
 }
@@ -317,7 +352,7 @@ pub struct ProducersValue {
 #[derive(Clone, Copy, Debug)]
 pub struct HintedFunction {
     pub fault: Fault,
-    pub consumed: u64,
+    pub consumed: usize,
     pub func: u32,
     pub count: u32,
     pub hints: Span,
@@ -327,7 +362,7 @@ pub struct HintedFunction {
 #[derive(Clone, Copy, Debug)]
 pub struct BranchHint {
     pub fault: Fault,
-    pub consumed: u64,
+    pub consumed: usize,
     pub func_offset: u32,
     pub taken: u32,
 }
@@ -336,7 +371,7 @@ pub struct BranchHint {
 #[derive(Clone, Copy, Debug)]
 pub struct DylinkMemory {
     pub fault: Fault,
-    pub consumed: u64,
+    pub consumed: usize,
     pub memory_size: u32,
     pub memory_alignment: u32,
     pub table_size: u32,
@@ -347,7 +382,7 @@ pub struct DylinkMemory {
 #[derive(Clone, Copy, Debug)]
 pub struct DylinkExport {
     pub fault: Fault,
-    pub consumed: u64,
+    pub consumed: usize,
     pub name: Span,
     pub flags: u32,
 }
@@ -356,7 +391,7 @@ pub struct DylinkExport {
 #[derive(Clone, Copy, Debug)]
 pub struct DylinkImport {
     pub fault: Fault,
-    pub consumed: u64,
+    pub consumed: usize,
     pub module_name: Span,
     pub field: Span,
     pub flags: u32,
@@ -366,7 +401,7 @@ pub struct DylinkImport {
 #[derive(Clone, Copy, Debug)]
 pub struct LinkingSegment {
     pub fault: Fault,
-    pub consumed: u64,
+    pub consumed: usize,
     pub name: Span,
     pub alignment: u32,
     pub flags: u32,
@@ -376,7 +411,7 @@ pub struct LinkingSegment {
 #[derive(Clone, Copy, Debug)]
 pub struct InitFunction {
     pub fault: Fault,
-    pub consumed: u64,
+    pub consumed: usize,
     pub priority: u32,
     pub symbol: u32,
 }
@@ -385,7 +420,7 @@ pub struct InitFunction {
 #[derive(Clone, Copy, Debug)]
 pub struct Comdat {
     pub fault: Fault,
-    pub consumed: u64,
+    pub consumed: usize,
     pub name: Span,
     pub flags: u32,
     pub count: u32,
@@ -396,7 +431,7 @@ pub struct Comdat {
 #[derive(Clone, Copy, Debug)]
 pub struct ComdatSymbol {
     pub fault: Fault,
-    pub consumed: u64,
+    pub consumed: usize,
     pub kind: u32,
     pub index: u32,
 }
@@ -405,7 +440,7 @@ pub struct ComdatSymbol {
 #[derive(Clone, Copy, Debug)]
 pub struct Symbol {
     pub fault: Fault,
-    pub consumed: u64,
+    pub consumed: usize,
     pub name: Span,
     pub kind: u32,
     pub flags: u32,
@@ -420,7 +455,7 @@ pub struct Symbol {
 #[derive(Clone, Copy, Debug)]
 pub struct Relocation {
     pub fault: Fault,
-    pub consumed: u64,
+    pub consumed: usize,
     pub kind: u32,
     pub extent: u32,
     pub offset: u32,
@@ -432,7 +467,7 @@ pub struct Relocation {
 #[derive(Clone, Copy, Debug)]
 pub struct CoreProcess {
     pub fault: Fault,
-    pub consumed: u64,
+    pub consumed: usize,
     pub name: Span,
 }
 
@@ -440,7 +475,7 @@ pub struct CoreProcess {
 #[derive(Clone, Copy, Debug)]
 pub struct CoreModule {
     pub fault: Fault,
-    pub consumed: u64,
+    pub consumed: usize,
     pub name: Span,
 }
 
@@ -448,7 +483,7 @@ pub struct CoreModule {
 #[derive(Clone, Copy, Debug)]
 pub struct CoreInstance {
     pub fault: Fault,
-    pub consumed: u64,
+    pub consumed: usize,
     pub module_index: u32,
 }
 
@@ -456,7 +491,7 @@ pub struct CoreInstance {
 #[derive(Clone, Copy, Debug)]
 pub struct CoreThread {
     pub fault: Fault,
-    pub consumed: u64,
+    pub consumed: usize,
     pub name: Span,
 }
 
@@ -464,7 +499,7 @@ pub struct CoreThread {
 #[derive(Clone, Copy, Debug)]
 pub struct CoreFrame {
     pub fault: Fault,
-    pub consumed: u64,
+    pub consumed: usize,
     pub instance: u32,
     pub func: u32,
     pub code_offset: u32,
@@ -474,7 +509,7 @@ pub struct CoreFrame {
 #[derive(Clone, Copy, Debug)]
 pub struct CoreValue {
     pub fault: Fault,
-    pub consumed: u64,
+    pub consumed: usize,
     pub kind: u32,
     pub integer: i64,
     pub bits: u64,
@@ -516,13 +551,65 @@ unsafe extern "C" {
         piece: *const u8,
         piece_size: usize,
     ) -> bool;
+    pub fn pulleynavy_items_init(event: &Event, features: u32) -> Items;
+    pub fn pulleynavy_list_init(offset: u64, count: u32, features: u32) -> Items;
     pub fn pulleynavy_read_number(
         bytes: *const u8,
         bytes_size: usize,
         offset: u64,
         features: u32,
     ) -> Number;
+    pub fn pulleynavy_next_numbers(
+        items: &mut Items,
+        bytes: *const u8,
+        bytes_size: usize,
+        out: *mut Number,
+        out_count: usize,
+    ) -> usize;
+    pub fn pulleynavy_read_u64(
+        bytes: *const u8,
+        bytes_size: usize,
+        offset: u64,
+        features: u32,
+    ) -> Number;
+    pub fn pulleynavy_read_s32(
+        bytes: *const u8,
+        bytes_size: usize,
+        offset: u64,
+        features: u32,
+    ) -> Signed;
+    pub fn pulleynavy_read_s33(
+        bytes: *const u8,
+        bytes_size: usize,
+        offset: u64,
+        features: u32,
+    ) -> Signed;
+    pub fn pulleynavy_read_s64(
+        bytes: *const u8,
+        bytes_size: usize,
+        offset: u64,
+        features: u32,
+    ) -> Signed;
     pub fn pulleynavy_read_value_type(
+        bytes: *const u8,
+        bytes_size: usize,
+        offset: u64,
+        features: u32,
+    ) -> Value;
+    pub fn pulleynavy_next_value_types(
+        items: &mut Items,
+        bytes: *const u8,
+        bytes_size: usize,
+        out: *mut Value,
+        out_count: usize,
+    ) -> usize;
+    pub fn pulleynavy_read_heap_type(
+        bytes: *const u8,
+        bytes_size: usize,
+        offset: u64,
+        features: u32,
+    ) -> Value;
+    pub fn pulleynavy_read_reference_type(
         bytes: *const u8,
         bytes_size: usize,
         offset: u64,
@@ -534,6 +621,13 @@ unsafe extern "C" {
         offset: u64,
         features: u32,
     ) -> Field;
+    pub fn pulleynavy_next_field_types(
+        items: &mut Items,
+        bytes: *const u8,
+        bytes_size: usize,
+        out: *mut Field,
+        out_count: usize,
+    ) -> usize;
     pub fn pulleynavy_read_type_group(
         bytes: *const u8,
         bytes_size: usize,
@@ -552,19 +646,59 @@ unsafe extern "C" {
         offset: u64,
         features: u32,
     ) -> Table;
+    pub fn pulleynavy_next_tables(
+        items: &mut Items,
+        bytes: *const u8,
+        bytes_size: usize,
+        out: *mut Table,
+        out_count: usize,
+    ) -> usize;
     pub fn pulleynavy_read_memory(
         bytes: *const u8,
         bytes_size: usize,
         offset: u64,
         features: u32,
     ) -> Memory;
+    pub fn pulleynavy_next_memories(
+        items: &mut Items,
+        bytes: *const u8,
+        bytes_size: usize,
+        out: *mut Memory,
+        out_count: usize,
+    ) -> usize;
     pub fn pulleynavy_read_tag(
         bytes: *const u8,
         bytes_size: usize,
         offset: u64,
         features: u32,
     ) -> Tag;
+    pub fn pulleynavy_next_tags(
+        items: &mut Items,
+        bytes: *const u8,
+        bytes_size: usize,
+        out: *mut Tag,
+        out_count: usize,
+    ) -> usize;
     pub fn pulleynavy_read_global(
+        bytes: *const u8,
+        bytes_size: usize,
+        offset: u64,
+        features: u32,
+    ) -> Global;
+    pub fn pulleynavy_next_globals(
+        items: &mut Items,
+        bytes: *const u8,
+        bytes_size: usize,
+        out: *mut Global,
+        out_count: usize,
+    ) -> usize;
+    pub fn pulleynavy_read_table_type(
+        bytes: *const u8,
+        bytes_size: usize,
+        offset: u64,
+        features: u32,
+    ) -> Table;
+    pub fn pulleynavy_read_global_type(
         bytes: *const u8,
         bytes_size: usize,
         offset: u64,
@@ -576,6 +710,13 @@ unsafe extern "C" {
         offset: u64,
         features: u32,
     ) -> Import;
+    pub fn pulleynavy_next_imports(
+        items: &mut Items,
+        bytes: *const u8,
+        bytes_size: usize,
+        out: *mut Import,
+        out_count: usize,
+    ) -> usize;
     pub fn pulleynavy_read_import_item(
         bytes: *const u8,
         bytes_size: usize,
@@ -588,6 +729,26 @@ unsafe extern "C" {
         offset: u64,
         features: u32,
     ) -> Name;
+    pub fn pulleynavy_next_names(
+        items: &mut Items,
+        bytes: *const u8,
+        bytes_size: usize,
+        out: *mut Name,
+        out_count: usize,
+    ) -> usize;
+    pub fn pulleynavy_read_text(
+        bytes: *const u8,
+        bytes_size: usize,
+        offset: u64,
+        features: u32,
+    ) -> Name;
+    pub fn pulleynavy_next_texts(
+        items: &mut Items,
+        bytes: *const u8,
+        bytes_size: usize,
+        out: *mut Name,
+        out_count: usize,
+    ) -> usize;
     pub fn pulleynavy_read_bundled_import(
         bundle: &Import,
         bytes: *const u8,
@@ -601,24 +762,58 @@ unsafe extern "C" {
         offset: u64,
         features: u32,
     ) -> Export;
+    pub fn pulleynavy_next_exports(
+        items: &mut Items,
+        bytes: *const u8,
+        bytes_size: usize,
+        out: *mut Export,
+        out_count: usize,
+    ) -> usize;
+    pub fn pulleynavy_read_instruction(
+        bytes: *const u8,
+        bytes_size: usize,
+        offset: u64,
+        features: u32,
+    ) -> Instruction;
     pub fn pulleynavy_read_expression(
         bytes: *const u8,
         bytes_size: usize,
         offset: u64,
         features: u32,
     ) -> Expression;
+    pub fn pulleynavy_next_expressions(
+        items: &mut Items,
+        bytes: *const u8,
+        bytes_size: usize,
+        out: *mut Expression,
+        out_count: usize,
+    ) -> usize;
     pub fn pulleynavy_read_element(
         bytes: *const u8,
         bytes_size: usize,
         offset: u64,
         features: u32,
     ) -> Element;
+    pub fn pulleynavy_next_elements(
+        items: &mut Items,
+        bytes: *const u8,
+        bytes_size: usize,
+        out: *mut Element,
+        out_count: usize,
+    ) -> usize;
     pub fn pulleynavy_read_data(
         bytes: *const u8,
         bytes_size: usize,
         offset: u64,
         features: u32,
     ) -> Data;
+    pub fn pulleynavy_next_data(
+        items: &mut Items,
+        bytes: *const u8,
+        bytes_size: usize,
+        out: *mut Data,
+        out_count: usize,
+    ) -> usize;
     pub fn pulleynavy_read_subsection(
         bytes: *const u8,
         bytes_size: usize,
@@ -631,36 +826,92 @@ unsafe extern "C" {
         offset: u64,
         features: u32,
     ) -> Naming;
+    pub fn pulleynavy_next_namings(
+        items: &mut Items,
+        bytes: *const u8,
+        bytes_size: usize,
+        out: *mut Naming,
+        out_count: usize,
+    ) -> usize;
     pub fn pulleynavy_read_indirect_naming(
         bytes: *const u8,
         bytes_size: usize,
         offset: u64,
         features: u32,
     ) -> IndirectNaming;
+    pub fn pulleynavy_next_indirect_namings(
+        items: &mut Items,
+        bytes: *const u8,
+        bytes_size: usize,
+        out: *mut IndirectNaming,
+        out_count: usize,
+    ) -> usize;
+    pub fn pulleynavy_next_subsections(
+        items: &mut Items,
+        bytes: *const u8,
+        bytes_size: usize,
+        out: *mut Subsection,
+        out_count: usize,
+    ) -> usize;
+    pub fn pulleynavy_next_name_subsections(
+        items: &mut Items,
+        bytes: *const u8,
+        bytes_size: usize,
+        out: *mut Subsection,
+        out_count: usize,
+    ) -> usize;
     pub fn pulleynavy_read_producers_field(
         bytes: *const u8,
         bytes_size: usize,
         offset: u64,
         features: u32,
     ) -> ProducersField;
+    pub fn pulleynavy_next_producers_fields(
+        items: &mut Items,
+        bytes: *const u8,
+        bytes_size: usize,
+        out: *mut ProducersField,
+        out_count: usize,
+    ) -> usize;
     pub fn pulleynavy_read_producers_value(
         bytes: *const u8,
         bytes_size: usize,
         offset: u64,
         features: u32,
     ) -> ProducersValue;
+    pub fn pulleynavy_next_producers_values(
+        items: &mut Items,
+        bytes: *const u8,
+        bytes_size: usize,
+        out: *mut ProducersValue,
+        out_count: usize,
+    ) -> usize;
     pub fn pulleynavy_read_hinted_function(
         bytes: *const u8,
         bytes_size: usize,
         offset: u64,
         features: u32,
     ) -> HintedFunction;
+    pub fn pulleynavy_next_hinted_functions(
+        items: &mut Items,
+        bytes: *const u8,
+        bytes_size: usize,
+        out: *mut HintedFunction,
+        out_count: usize,
+    ) -> usize;
     pub fn pulleynavy_read_branch_hint(
         bytes: *const u8,
         bytes_size: usize,
         offset: u64,
         features: u32,
     ) -> BranchHint;
+    pub fn pulleynavy_next_branch_hints(
+        items: &mut Items,
+        bytes: *const u8,
+        bytes_size: usize,
+        out: *mut BranchHint,
+        out_count: usize,
+    ) -> usize;
     pub fn pulleynavy_read_dylink_memory(
         bytes: *const u8,
         bytes_size: usize,
@@ -673,36 +924,78 @@ unsafe extern "C" {
         offset: u64,
         features: u32,
     ) -> DylinkExport;
+    pub fn pulleynavy_next_dylink_exports(
+        items: &mut Items,
+        bytes: *const u8,
+        bytes_size: usize,
+        out: *mut DylinkExport,
+        out_count: usize,
+    ) -> usize;
     pub fn pulleynavy_read_dylink_import(
         bytes: *const u8,
         bytes_size: usize,
         offset: u64,
         features: u32,
     ) -> DylinkImport;
+    pub fn pulleynavy_next_dylink_imports(
+        items: &mut Items,
+        bytes: *const u8,
+        bytes_size: usize,
+        out: *mut DylinkImport,
+        out_count: usize,
+    ) -> usize;
     pub fn pulleynavy_read_linking_segment(
         bytes: *const u8,
         bytes_size: usize,
         offset: u64,
         features: u32,
     ) -> LinkingSegment;
+    pub fn pulleynavy_next_linking_segments(
+        items: &mut Items,
+        bytes: *const u8,
+        bytes_size: usize,
+        out: *mut LinkingSegment,
+        out_count: usize,
+    ) -> usize;
     pub fn pulleynavy_read_init_function(
         bytes: *const u8,
         bytes_size: usize,
         offset: u64,
         features: u32,
     ) -> InitFunction;
+    pub fn pulleynavy_next_init_functions(
+        items: &mut Items,
+        bytes: *const u8,
+        bytes_size: usize,
+        out: *mut InitFunction,
+        out_count: usize,
+    ) -> usize;
     pub fn pulleynavy_read_comdat(
         bytes: *const u8,
         bytes_size: usize,
         offset: u64,
         features: u32,
     ) -> Comdat;
+    pub fn pulleynavy_next_comdats(
+        items: &mut Items,
+        bytes: *const u8,
+        bytes_size: usize,
+        out: *mut Comdat,
+        out_count: usize,
+    ) -> usize;
     pub fn pulleynavy_read_comdat_symbol(
         bytes: *const u8,
         bytes_size: usize,
         offset: u64,
         features: u32,
     ) -> ComdatSymbol;
+    pub fn pulleynavy_next_comdat_symbols(
+        items: &mut Items,
+        bytes: *const u8,
+        bytes_size: usize,
+        out: *mut ComdatSymbol,
+        out_count: usize,
+    ) -> usize;
     pub fn pulleynavy_read_linking_version(
         bytes: *const u8,
         bytes_size: usize,
@@ -715,12 +1008,26 @@ unsafe extern "C" {
         offset: u64,
         features: u32,
     ) -> Symbol;
+    pub fn pulleynavy_next_symbols(
+        items: &mut Items,
+        bytes: *const u8,
+        bytes_size: usize,
+        out: *mut Symbol,
+        out_count: usize,
+    ) -> usize;
     pub fn pulleynavy_read_relocation(
         bytes: *const u8,
         bytes_size: usize,
         offset: u64,
         features: u32,
     ) -> Relocation;
+    pub fn pulleynavy_next_relocations(
+        items: &mut Items,
+        bytes: *const u8,
+        bytes_size: usize,
+        out: *mut Relocation,
+        out_count: usize,
+    ) -> usize;
     pub fn pulleynavy_read_core_process(
         bytes: *const u8,
         bytes_size: usize,
@@ -758,6 +1065,15 @@ unsafe extern "C" {
         offset: u64,
         features: u32,
     ) -> CoreValue;
+    pub fn pulleynavy_next_core_values(
+        items: &mut Items,
+        bytes: *const u8,
+        bytes_size: usize,
+        out: *mut CoreValue,
+        out_count: usize,
+    ) -> usize;
     pub fn pulleynavy_classify_custom(name: *const u8, name_size: usize) -> u32;
+    pub fn pulleynavy_check_custom_end(left: *const u8, left_size: usize, offset: u64) -> Fault;
+    pub fn pulleynavy_check_name_end(left: *const u8, left_size: usize, offset: u64) -> Fault;
     pub fn pulleynavy_strip(bytes: *mut u8, bytes_size: usize, keep_names: bool) -> Stripped;
 }

@@ -6,11 +6,14 @@
 /* Puts the item at a window's start and moves past it; returns false after a fault. */
 typedef bool reader(struct window *w);
 
-/* The same for an entry of a map, and stores its index. */
-typedef bool entry_reader(struct window *w, uint32_t *index);
-
 /* The same for a subsection with this id, whose bytes are the window. */
 typedef bool part_reader(uint32_t id, struct window *w);
+
+/* The subsections of a section: pulleynavy_next_subsections or pulleynavy_next_name_subsections. */
+typedef size_t subsections(pulleynavy_items *, const uint8_t *, size_t, pulleynavy_subsection *, size_t);
+
+/* Stores the next item of the list that is the window; spans begin where it does. */
+#define NEXT(call, items, w, one) call(&items, stream + (w).at, (size_t)((w).end - (w).at), &one, 1)
 
 static struct window window_of(uint64_t from, pulleynavy_span span) {
     return (struct window){from + span.at, from + span.at + span.size};
@@ -23,7 +26,7 @@ static bool read_number(struct window *w, uint64_t *value) {
 }
 
 static bool text(struct window *w) {
-    pulleynavy_name n = READ(pulleynavy_read_name, w);
+    pulleynavy_name n = READ(pulleynavy_read_text, w);
     uint64_t from = w->at;
     if (!passed(w, n.fault, n.consumed)) return false;
     put_bytes(from, n.name);
@@ -36,11 +39,20 @@ static void put_fault_over(size_t before) {
     put_fault();
 }
 
-/* Bytes after the last item are a fault. */
-static void expect_end(const struct window *w) {
-    if (w->at == w->end) return;
-    set_fault(PULLEYNAVY_FAULT_SIZE_MISMATCH, w->at);
+/* Puts the fault of an item of a list, if it has one. */
+static bool put_if_fault(pulleynavy_fault found) {
+    if (!found.kind) return false;
+    fault = found;
     put_fault();
+    return true;
+}
+
+/* A cursor after a count, and the window from there on; returns false if the count has a fault. */
+static bool begin(struct window *w, pulleynavy_items *items) {
+    uint64_t count;
+    if (!read_number(w, &count)) return false;
+    *items = pulleynavy_list_init(w->at, (uint32_t)count, PULLEYNAVY_ALL_FEATURES);
+    return true;
 }
 
 /* A list whose items have no fault. */
@@ -56,180 +68,153 @@ static bool owned(struct window *w, reader *item) {
     return true;
 }
 
-/* A list up to its first fault, which is put too. Each item has its offset. */
-static bool listed(struct window w, reader *item) {
-    uint64_t count;
-    put("%" PRIu64 "..%" PRIu64 " ", w.at, w.end);
-    if (!read_number(&w, &count)) return false;
-    put("#%" PRIu64 "[", count);
-    for (uint64_t i = 0; i < count; i++) {
-        size_t before = used;
-        put("%" PRIu64 ":", w.at);
-        if (!item(&w)) {
-            put_fault_over(before);
-            put("]");
-            return true;
-        }
-        put(" ");
+/* Defines a function that puts the items of a list, each at its offset, up to the first fault. */
+#define LISTED(name, kind, next) \
+    static bool name(struct window w) { \
+        pulleynavy_items items; \
+        pulleynavy_##kind one; \
+        put("%" PRIu64 "..%" PRIu64 " ", w.at, w.end); \
+        if (!begin(&w, &items)) return false; \
+        put("#%" PRIu32 "[", items.remaining); \
+        for (uint64_t at = items.offset; NEXT(next, items, w, one); at = items.offset) { \
+            if (put_if_fault(one.fault)) continue; \
+            put("%" PRIu64 ":", at); \
+            put_##kind(w.at, at, &one); \
+            put(" "); \
+        } \
+        put("]"); \
+        return true; \
     }
-    expect_end(&w);
-    put("]");
-    return true;
-}
 
-/* A map up to its first fault in an entry. An index that isn't above those before it is the fault `order`. */
-static bool map(struct window w, entry_reader *entry, uint32_t order) {
-    uint64_t count, least = 0;
-    if (!read_number(&w, &count)) return false;
-    put("{");
-    for (uint64_t i = 0; i < count; i++) {
-        size_t before = used;
-        uint64_t at = w.at;
-        uint32_t index;
-        if (!entry(&w, &index)) {
-            put_fault_over(before);
-            put("}");
-            return true;
-        }
-        if (index < least) {
-            set_fault(order, at);
-            put_fault_over(before);
-        } else {
-            least = (uint64_t)index + 1;
-            put(" ");
-        }
+/* Defines a function that puts the entries of a map: those out of order are faults among the others. */
+#define MAPPED(name, kind, next) \
+    static bool name(struct window w) { \
+        pulleynavy_items items; \
+        pulleynavy_##kind one; \
+        if (!begin(&w, &items)) return false; \
+        put("{"); \
+        while (NEXT(next, items, w, one)) { \
+            if (put_if_fault(one.fault)) continue; \
+            put_##kind(w.at, &one); \
+            put(" "); \
+        } \
+        put("}"); \
+        return true; \
     }
-    expect_end(&w);
-    put("}");
-    return true;
-}
 
-/* Subsections up to the first fault of an id or a size. Where `order` isn't 0, it is the fault of an id that isn't above those before it. */
-static void parts(struct window w, part_reader *part, uint32_t order) {
-    uint32_t least = 0;
+/* Subsections; after one that can't be read the next one follows. */
+static void parts(struct window w, part_reader *part, subsections *next) {
+    pulleynavy_items items = pulleynavy_list_init(w.at, 0, PULLEYNAVY_ALL_FEATURES);
+    pulleynavy_subsection one;
     put("<");
-    while (w.at < w.end) {
+    while (NEXT(next, items, w, one)) {
         size_t before = used;
-        pulleynavy_subsection s = READ(pulleynavy_read_subsection, &w);
-        uint64_t at = w.at;
-        if (!passed(&w, s.fault, s.consumed)) {
-            put_fault();
-            return;
-        }
-        struct window contents = window_of(at, s.contents);
-        if (!part(s.id, &contents)) {
-            put_fault_over(before);
-        } else if (order && s.id < least) {
-            set_fault(order, at);
-            put_fault_over(before);
-        } else {
-            least = s.id + 1;
-            put(" ");
-        }
+        if (put_if_fault(one.fault)) continue;
+        struct window contents = window_of(w.at, one.contents);
+        if (part(one.id, &contents)) put(" ");
+        else put_fault_over(before);
     }
     put(">");
 }
 
 static bool unknown_part(uint32_t id, const struct window *w) {
     put("unknown %" PRIu32 " ", id);
-    put_bytes(w->at, (pulleynavy_span){0, w->end - w->at});
+    put_bytes(w->at, (pulleynavy_span){0, (size_t)(w->end - w->at)});
     put(" %" PRIu64 "..%" PRIu64, w->at, w->end);
     return true;
 }
 
 /* ---- names */
 
-static bool naming(struct window *w, uint32_t *index) {
-    pulleynavy_naming n = READ(pulleynavy_read_naming, w);
-    uint64_t from = w->at;
-    if (!passed(w, n.fault, n.consumed)) return false;
-    *index = n.index;
-    put("name(%" PRIu32 " ", n.index);
-    put_bytes(from, n.name);
+static void put_naming(uint64_t from, const pulleynavy_naming *n) {
+    put("name(%" PRIu32 " ", n->index);
+    put_bytes(from, n->name);
     put(" )");
-    return true;
 }
 
-static bool indirect_naming(struct window *w, uint32_t *index) {
-    pulleynavy_indirect_naming n = READ(pulleynavy_read_indirect_naming, w);
-    struct window names = *w;
-    uint64_t func;
+MAPPED(name_map, naming, pulleynavy_next_namings)
+
+static void put_indirect_naming(uint64_t from, const pulleynavy_indirect_naming *n) {
+    struct window names = window_of(from, n->names);
+    pulleynavy_items items = pulleynavy_list_init(names.at, n->count, PULLEYNAVY_ALL_FEATURES);
+    pulleynavy_naming one;
+    put("names(%" PRIu32 " {", n->index);
+    while (NEXT(pulleynavy_next_namings, items, names, one)) {
+        if (put_if_fault(one.fault)) continue;
+        put_naming(names.at, &one);
+        put(" ");
+    }
+    put("} )");
+}
+
+MAPPED(indirect_name_map, indirect_naming, pulleynavy_next_indirect_namings)
+
+static bool module_name(struct window *w) {
+    uint64_t from = w->at;
+    pulleynavy_name n = READ(pulleynavy_read_name, w);
     if (!passed(w, n.fault, n.consumed)) return false;
-    *index = n.index;
-    put("names(%" PRIu32 " ", n.index);
-    read_number(&names, &func);
-    names.end = w->at;
-    map(names, naming, PULLEYNAVY_FAULT_NAMES_ORDER);
-    put(" )");
+    fault = pulleynavy_check_name_end(stream + w->at, (size_t)(w->end - w->at), w->at);
+    if (fault.kind) return false;
+    put("module ");
+    put_bytes(from, n.name);
+    put(" %" PRIu64 "..%" PRIu64, from, w->end);
     return true;
 }
 
 static bool name_part(uint32_t id, struct window *w) {
-    uint64_t from = w->at;
     switch (id) {
-    case 0:
-        put("module ");
-        if (!text(w)) return false;
-        if (w->at < w->end) {
-            set_fault(PULLEYNAVY_FAULT_NAME_TRAILING, w->at);
-            return false;
-        }
-        put(" %" PRIu64 "..%" PRIu64, from, w->end);
-        return true;
+    case 0: return module_name(w);
     case 2: case 3: case 10: case 12: case 13:
         put("%" PRIu32, id);
-        return map(*w, indirect_naming, PULLEYNAVY_FAULT_INDIRECT_ORDER);
+        return indirect_name_map(*w);
     case 1: case 4: case 5: case 6: case 7: case 8: case 9: case 11:
         put("%" PRIu32, id);
-        return map(*w, naming, PULLEYNAVY_FAULT_NAMES_ORDER);
+        return name_map(*w);
     default: return unknown_part(id, w);
     }
 }
 
 /* ---- producers and branch hints */
 
-static bool producers_value(struct window *w) {
-    pulleynavy_producers_value v = READ(pulleynavy_read_producers_value, w);
-    uint64_t from = w->at;
-    if (!passed(w, v.fault, v.consumed)) return false;
+static void put_producers_value(uint64_t from, uint64_t at, const pulleynavy_producers_value *v) {
+    (void)at;
     put("value(");
-    put_bytes(from, v.name);
+    put_bytes(from, v->name);
     put(" ");
-    put_bytes(from, v.version);
+    put_bytes(from, v->version);
     put(" )");
-    return true;
 }
 
-static bool producers_field(struct window *w) {
-    pulleynavy_producers_field f = READ(pulleynavy_read_producers_field, w);
-    uint64_t from = w->at;
-    if (!passed(w, f.fault, f.consumed)) return false;
+LISTED(producers_values, producers_value, pulleynavy_next_producers_values)
+
+static void put_producers_field(uint64_t from, uint64_t at, const pulleynavy_producers_field *f) {
+    (void)at;
     put("field(");
-    put_bytes(from, f.name);
+    put_bytes(from, f->name);
     put(" ");
-    listed((struct window){from + f.name.at + f.name.size, w->at}, producers_value);
+    producers_values((struct window){from + f->name.at + f->name.size, from + f->values.at + f->values.size});
     put(" )");
-    return true;
 }
 
-static bool branch_hint(struct window *w) {
-    pulleynavy_branch_hint h = READ(pulleynavy_read_branch_hint, w);
-    put("hint(%" PRIu32 " %s )", h.func_offset, yes(h.taken));
-    return passed(w, h.fault, h.consumed);
+LISTED(producers_fields, producers_field, pulleynavy_next_producers_fields)
+
+static void put_branch_hint(uint64_t from, uint64_t at, const pulleynavy_branch_hint *h) {
+    (void)from, (void)at;
+    put("hint(%" PRIu32 " %s )", h->func_offset, yes(h->taken));
 }
 
-static bool hinted_function(struct window *w) {
-    pulleynavy_hinted_function f = READ(pulleynavy_read_hinted_function, w);
-    struct window hints = *w;
+LISTED(branch_hints, branch_hint, pulleynavy_next_branch_hints)
+
+static void put_hinted_function(uint64_t from, uint64_t at, const pulleynavy_hinted_function *f) {
+    struct window hints = {at, from + f->hints.at + f->hints.size};
     uint64_t func;
-    if (!passed(w, f.fault, f.consumed)) return false;
-    put("function(%" PRIu32 " ", f.func);
+    put("function(%" PRIu32 " ", f->func);
     read_number(&hints, &func);
-    hints.end = w->at;
-    listed(hints, branch_hint);
+    branch_hints(hints);
     put(" )");
-    return true;
 }
+
+LISTED(hinted_functions, hinted_function, pulleynavy_next_hinted_functions)
 
 /* ---- dynamic linking */
 
@@ -271,65 +256,65 @@ static bool dylink_part(uint32_t id, struct window *w) {
 
 /* ---- linking and relocations */
 
-static bool linking_segment(struct window *w) {
-    pulleynavy_linking_segment s = READ(pulleynavy_read_linking_segment, w);
+static void put_linking_segment(uint64_t from, uint64_t at, const pulleynavy_linking_segment *s) {
+    (void)at;
     put("segment(");
-    put_bytes(w->at, s.name);
-    put(" %" PRIu32 " %" PRIu32 " )", s.alignment, s.flags);
-    return passed(w, s.fault, s.consumed);
+    put_bytes(from, s->name);
+    put(" %" PRIu32 " %" PRIu32 " )", s->alignment, s->flags);
 }
 
-static bool init_function(struct window *w) {
-    pulleynavy_init_function i = READ(pulleynavy_read_init_function, w);
-    put("init(%" PRIu32 " %" PRIu32 " )", i.priority, i.symbol);
-    return passed(w, i.fault, i.consumed);
+LISTED(linking_segments, linking_segment, pulleynavy_next_linking_segments)
+
+static void put_init_function(uint64_t from, uint64_t at, const pulleynavy_init_function *i) {
+    (void)from, (void)at;
+    put("init(%" PRIu32 " %" PRIu32 " )", i->priority, i->symbol);
 }
 
-static bool comdat_symbol(struct window *w) {
+LISTED(init_functions, init_function, pulleynavy_next_init_functions)
+
+static void put_comdat_symbol(uint64_t from, uint64_t at, const pulleynavy_comdat_symbol *s) {
     static const char *kinds[] = {"data", "func", "global", "event", "table", "section"};
-    pulleynavy_comdat_symbol s = READ(pulleynavy_read_comdat_symbol, w);
-    put("symbol(%s %" PRIu32 " )", kinds[s.kind], s.index);
-    return passed(w, s.fault, s.consumed);
+    (void)from, (void)at;
+    put("symbol(%s %" PRIu32 " )", kinds[s->kind], s->index);
 }
 
-static bool comdat(struct window *w) {
-    pulleynavy_comdat c = READ(pulleynavy_read_comdat, w);
-    uint64_t from = w->at, flags;
-    if (!passed(w, c.fault, c.consumed)) return false;
-    struct window symbols = {from + c.name.at + c.name.size, w->at};
+LISTED(comdat_symbols, comdat_symbol, pulleynavy_next_comdat_symbols)
+
+static void put_comdat(uint64_t from, uint64_t at, const pulleynavy_comdat *c) {
+    struct window symbols = {from + c->name.at + c->name.size, from + c->symbols.at + c->symbols.size};
+    uint64_t flags;
+    (void)at;
     put("comdat(");
-    put_bytes(from, c.name);
+    put_bytes(from, c->name);
     read_number(&symbols, &flags);
     put(" %" PRIu64 " ", flags);
-    listed(symbols, comdat_symbol);
+    comdat_symbols(symbols);
     put(" )");
-    return true;
 }
 
-static void put_symbol(uint64_t from, const pulleynavy_symbol *s) {
+LISTED(comdats, comdat, pulleynavy_next_comdats)
+
+static void put_symbol(uint64_t from, uint64_t at, const pulleynavy_symbol *s) {
     static const char *kinds[] = {"func", "data", "global", "section", "event", "table"};
+    (void)at;
     put("%s %" PRIu32, kinds[s->kind], s->flags);
-    if (s->kind != 1) put(" %" PRIu32, s->index);
-    if (s->kind == 3) return;
+    if (s->kind != PULLEYNAVY_SYMBOL_DATA) put(" %" PRIu32, s->index);
+    if (s->kind == PULLEYNAVY_SYMBOL_SECTION) return;
     put(" ");
     if (s->has_name) put_bytes(from, s->name);
     else put("-");
-    if (s->kind != 1) return;
+    if (s->kind != PULLEYNAVY_SYMBOL_DATA) return;
     if (s->is_defined) put(" defined(%" PRIu32 " %" PRIu32 " %" PRIu32 " )", s->index, s->data_offset, s->data_size);
     else put(" -");
 }
 
-static bool symbol(struct window *w) {
-    pulleynavy_symbol s = READ(pulleynavy_read_symbol, w);
-    put_symbol(w->at, &s);
-    return passed(w, s.fault, s.consumed);
-}
+LISTED(symbols, symbol, pulleynavy_next_symbols)
 
 static bool linking_part(uint32_t id, struct window *w) {
-    static reader *const readers[] = {linking_segment, init_function, comdat, symbol};
+    static bool (*const lists[])(struct window) = {linking_segments, init_functions, comdats, symbols};
     if (id < 5 || id > 9) return unknown_part(id, w);
     put("%" PRIu32 " ", id);
-    return id == 9 ? text(w) : listed(*w, readers[id - 5]);
+    return id == 9 ? text(w) : lists[id - 5](*w);
 }
 
 static bool linking(struct window w) {
@@ -337,21 +322,22 @@ static bool linking(struct window w) {
     pulleynavy_number version = READ(pulleynavy_read_linking_version, &w);
     if (!passed(&w, version.fault, version.consumed)) return false;
     put("version %" PRIu64 " at %" PRIu64 " %" PRIu64 "..%" PRIu64 " ", version.value, w.at, from, w.end);
-    parts(w, linking_part, 0);
+    parts(w, linking_part, pulleynavy_next_subsections);
     return true;
 }
 
-static bool relocation(struct window *w) {
-    pulleynavy_relocation r = READ(pulleynavy_read_relocation, w);
-    put("reloc(%" PRIu32 " %" PRIu32 " %" PRIu32 " %" PRId64 " )", r.kind, r.offset, r.index, r.addend);
-    return passed(w, r.fault, r.consumed);
+static void put_relocation(uint64_t from, uint64_t at, const pulleynavy_relocation *r) {
+    (void)from, (void)at;
+    put("reloc(%" PRIu32 " %" PRIu32 " %" PRIu32 " %" PRId64 " )", r->kind, r->offset, r->index, r->addend);
 }
+
+LISTED(relocation_list, relocation, pulleynavy_next_relocations)
 
 static bool relocations(struct window w) {
     uint64_t from = w.at, section;
     if (!read_number(&w, &section)) return false;
     put("section %" PRIu64 " %" PRIu64 "..%" PRIu64 " ", section, from, w.end);
-    return listed(w, relocation);
+    return relocation_list(w);
 }
 
 /* ---- core dumps */
@@ -418,17 +404,23 @@ static bool instances(struct window *w) { return owned(w, instance); }
 
 /* ---- all of them */
 
+static bool dumped(reader *part, struct window w) {
+    return part(&w) && !pulleynavy_check_custom_end(stream + w.at, (size_t)(w.end - w.at), w.at).kind;
+}
+
 /* Puts the data of a section of this kind, as `pulleynavy_classify_custom` has it; returns false where it isn't such data. */
 static bool put_custom(uint32_t kind, struct window w) {
-    static reader *const dumped[] = {process, modules, instances, stack};
     switch (kind) {
-    case 1: parts(w, name_part, PULLEYNAVY_FAULT_NAME_SECTION_ORDER); return true;
-    case 2: return listed(w, hinted_function);
-    case 3: return listed(w, producers_field);
-    case 4: parts(w, dylink_part, 0); return true;
-    case 5: return linking(w);
-    case 6: return relocations(w);
-    case 7: case 8: case 9: case 10: return dumped[kind - 7](&w) && w.at == w.end;
+    case PULLEYNAVY_CUSTOM_NAME: parts(w, name_part, pulleynavy_next_name_subsections); return true;
+    case PULLEYNAVY_CUSTOM_BRANCH_HINTS: return hinted_functions(w);
+    case PULLEYNAVY_CUSTOM_PRODUCERS: return producers_fields(w);
+    case PULLEYNAVY_CUSTOM_DYLINK0: parts(w, dylink_part, pulleynavy_next_subsections); return true;
+    case PULLEYNAVY_CUSTOM_LINKING: return linking(w);
+    case PULLEYNAVY_CUSTOM_RELOC: return relocations(w);
+    case PULLEYNAVY_CUSTOM_CORE: return dumped(process, w);
+    case PULLEYNAVY_CUSTOM_CORE_MODULES: return dumped(modules, w);
+    case PULLEYNAVY_CUSTOM_CORE_INSTANCES: return dumped(instances, w);
+    case PULLEYNAVY_CUSTOM_CORE_STACK: return dumped(stack, w);
     default: return false;
     }
 }

@@ -4,39 +4,32 @@
 #include <pulleynavy.h>
 #include <stdio.h>
 #include <stdlib.h>
-#include <string.h>
 
-enum { CHUNK = 4096, FUNCTION_NAMES = 1 };
+enum { CHUNK = 4096, BATCH = 64, FUNCTION_NAMES = 1 };
 
-/* Prints the names in a subsection, whose content begins at `offset` of the stream. */
-static void print_functions(const uint8_t *bytes, uint64_t size, uint64_t offset) {
+/* Prints the names in a subsection, which begins at `offset` of the stream. */
+static void print_functions(const uint8_t *bytes, size_t size, uint64_t offset) {
     pulleynavy_number count = pulleynavy_read_number(bytes, size, offset, PULLEYNAVY_ALL_FEATURES);
-    uint64_t at = count.consumed;
-    for (uint64_t i = 0; i < count.value; i++) {
-        pulleynavy_naming one = pulleynavy_read_naming(bytes + at, size - at, offset + at, PULLEYNAVY_ALL_FEATURES);
-        if (one.fault.kind) return;
-        printf("%" PRIu32 " %.*s\n", one.index, (int)one.name.size, (const char *)bytes + at + one.name.at);
-        at += one.consumed;
-    }
+    pulleynavy_items items = pulleynavy_list_init(offset + count.consumed, (uint32_t)count.value, PULLEYNAVY_ALL_FEATURES);
+    bytes += count.consumed, size -= count.consumed;
+    pulleynavy_naming names[BATCH];
+    for (size_t n; (n = pulleynavy_next_namings(&items, bytes, size, names, BATCH)) > 0;)
+        for (size_t i = 0; i < n; i++) {
+            if (names[i].fault.kind) return;
+            printf("%" PRIu32 " %.*s\n", names[i].index, (int)names[i].name.size, (const char *)bytes + names[i].name.at);
+        }
 }
 
-/* Looks for the subsections of function names in the data of the section `name`. */
-static void print_names(const uint8_t *bytes, uint64_t size, uint64_t offset) {
-    for (uint64_t at = 0; at < size;) {
-        pulleynavy_subsection one = pulleynavy_read_subsection(bytes + at, size - at, offset + at, PULLEYNAVY_ALL_FEATURES);
+/* Looks for the function names of a custom section, whose contents are `bytes`. */
+static void print_names(const pulleynavy_event *event, const uint8_t *bytes) {
+    size_t size = (size_t)(event->end - event->start), data = (size_t)(event->data_offset - event->start);
+    if (pulleynavy_classify_custom(bytes + data - event->name_size, event->name_size) != PULLEYNAVY_CUSTOM_NAME) return;
+    pulleynavy_items items = pulleynavy_items_init(event, PULLEYNAVY_ALL_FEATURES);
+    pulleynavy_subsection one;
+    while (pulleynavy_next_name_subsections(&items, bytes, size, &one, 1)) {
         if (one.fault.kind) return;
-        if (one.id == FUNCTION_NAMES) print_functions(bytes + at + one.contents.at, one.contents.size, offset + at + one.contents.at);
-        at += one.consumed;
+        if (one.id == FUNCTION_NAMES) print_functions(bytes + one.contents.at, one.contents.size, event->start + one.contents.at);
     }
-}
-
-/* `last` is the first byte after those that the event consumed, which end with the data of a custom section, after its name. */
-static void print_event(const pulleynavy_event *event, const uint8_t *last) {
-    if (event->kind != PULLEYNAVY_EVENT_CUSTOM) return;
-    uint64_t size = event->end - event->data_offset;
-    const uint8_t *data = last - size;
-    if (pulleynavy_classify_custom(data - event->name_size, event->name_size) == PULLEYNAVY_CUSTOM_NAME)
-        print_names(data, size, event->data_offset);
 }
 
 int main(void) {
@@ -48,10 +41,8 @@ int main(void) {
         if (!storage) return 3;
         pulleynavy_event event = pulleynavy_feed_step(&feed, storage, room);
         if (event.kind >= PULLEYNAVY_EVENT_END) return free(storage), event.kind == PULLEYNAVY_EVENT_FAULT;
-        if (event.kind != PULLEYNAVY_EVENT_NEED_MORE) {
-            print_event(&event, storage + feed.mark);
-            continue;
-        }
+        if (event.kind == PULLEYNAVY_EVENT_CUSTOM) print_names(&event, storage + event.at);
+        if (event.kind != PULLEYNAVY_EVENT_NEED_MORE) continue;
         size_t size = fread(chunk, 1, sizeof chunk, stdin);
         if (!size) pulleynavy_feed_finish(&feed);
         while (size && !pulleynavy_feed_push(&feed, storage, room, chunk, size) && (storage = realloc(storage, room *= 2))) {}

@@ -87,9 +87,8 @@ typedef enum pulleynavy_event_kind {
 enum { PULLEYNAVY_FEATURE_MEMORY64 = 1, PULLEYNAVY_FEATURE_COMPACT_IMPORTS = 2, PULLEYNAVY_ALL_FEATURES = 3 };
 
 /* The kinds of faults: the lowest 8 bits of the number of a fault. 0 is no fault. No call returns OUT_OF_MEMORY, since none
-   allocates, or INVALID_BOOL, since no item has such a byte. Nor does a call return SIZE_MISMATCH, NAMES_ORDER, INDIRECT_ORDER,
-   NAME_SECTION_ORDER, NAME_TRAILING or CUSTOM_TRAILING: these concern the order and the end of whole lists and sections, which the
-   caller compares, as examples/customs.h does. */
+   allocates, or INVALID_BOOL, since no item has such a byte. SIZE_MISMATCH, NAMES_ORDER, INDIRECT_ORDER and NAME_SECTION_ORDER are
+   returned by cursors alone, CUSTOM_TRAILING and NAME_TRAILING by the checks of an end alone. */
 typedef enum pulleynavy_fault_kind {
     PULLEYNAVY_FAULT_OUT_OF_MEMORY = 1,
     PULLEYNAVY_FAULT_UNEXPECTED_EOF = 2,
@@ -315,6 +314,33 @@ typedef enum pulleynavy_core_value_kind {
     PULLEYNAVY_CORE_VALUE_F64 = 4
 } pulleynavy_core_value_kind;
 
+/* The opcode of an instruction of a constant expression. */
+typedef enum pulleynavy_opcode {
+    PULLEYNAVY_OP_END = 11,
+    PULLEYNAVY_OP_GLOBAL_GET = 35,
+    PULLEYNAVY_OP_I32_CONST = 65,
+    PULLEYNAVY_OP_I64_CONST = 66,
+    PULLEYNAVY_OP_F32_CONST = 67,
+    PULLEYNAVY_OP_F64_CONST = 68,
+    PULLEYNAVY_OP_I32_ADD = 106,
+    PULLEYNAVY_OP_I32_SUB = 107,
+    PULLEYNAVY_OP_I32_MUL = 108,
+    PULLEYNAVY_OP_I64_ADD = 124,
+    PULLEYNAVY_OP_I64_SUB = 125,
+    PULLEYNAVY_OP_I64_MUL = 126,
+    PULLEYNAVY_OP_REF_NULL = 208,
+    PULLEYNAVY_OP_REF_FUNC = 210,
+    PULLEYNAVY_OP_STRUCT_NEW = 64256,
+    PULLEYNAVY_OP_STRUCT_NEW_DEFAULT = 64257,
+    PULLEYNAVY_OP_ARRAY_NEW = 64262,
+    PULLEYNAVY_OP_ARRAY_NEW_DEFAULT = 64263,
+    PULLEYNAVY_OP_ARRAY_NEW_FIXED = 64264,
+    PULLEYNAVY_OP_ANY_CONVERT_EXTERN = 64282,
+    PULLEYNAVY_OP_EXTERN_CONVERT_ANY = 64283,
+    PULLEYNAVY_OP_REF_I31 = 64284,
+    PULLEYNAVY_OP_V128_CONST = 64780
+} pulleynavy_opcode;
+
 /* The flags of a symbol, as bits. */
 typedef enum pulleynavy_symbol_flags {
     PULLEYNAVY_SYMBOL_FLAG_BINDING_WEAK = 1,
@@ -356,8 +382,8 @@ typedef struct pulleynavy_fault {
    text, at most 80 bytes, or 0 if no fault has this number. */
 size_t pulleynavy_format_message(uint32_t kind, uint8_t *out, size_t out_size);
 
-/* What a parser returns: an event, a fault or a request for more bytes. Fields that its kind doesn't use are 0. Offsets and sizes are
-   in bytes, offsets from the start of the whole stream (core specification, Binary format, Modules). */
+/* What a parser returns: an event, a fault or a request for more bytes. Fields that its kind doesn't use are 0. Offsets are in bytes
+   from the start of the whole stream (core specification, Binary format, Modules). */
 typedef struct pulleynavy_event {
     /* What it is, as in `pulleynavy_event_kind`: 0 a request for more bytes, 1 a header, 2 a section that begins with a count of
        items, 3 the start section, 4 the data count section, 5 the start of a code section, 6 a body, 7 a custom section, 8 a section
@@ -369,18 +395,21 @@ typedef struct pulleynavy_event {
     uint32_t count;
     /* How many bytes of a code section come after its count. */
     uint32_t size;
-    /* Where it begins: the header, the section's content, the body, the end, the fault. */
+    /* The offset where it begins: the header, the section's contents, the body, the end, the fault. */
     uint64_t start;
-    /* Where it ends. */
+    /* The offset where it ends. */
     uint64_t end;
-    /* How many bytes were consumed: 0 for a request, the end and a fault, and at least 1 otherwise. */
-    uint64_t consumed;
-    /* How many more bytes the first unfinished field is known to need, at least 1; 0 but for a request. */
-    uint64_t hint;
-    /* Where the data of a custom section begins, after its name. */
+    /* The offset of the first item after a count, of the first body of a code section, or of the data of a custom section. */
     uint64_t data_offset;
+    /* Where it begins in memory, in bytes from the first one that `pulleynavy_parse` was given, or from the start of the storage of a
+       feeder. Of a request, the end and a fault, where the unread bytes begin. */
+    size_t at;
+    /* How many bytes were consumed: 0 for a request, the end and a fault, and at least 1 otherwise. */
+    size_t consumed;
+    /* How many more bytes the first unfinished field is known to need, at least 1; 0 but for a request. */
+    size_t hint;
     /* How many bytes the name of a custom section has. It is just before the data. */
-    uint64_t name_size;
+    size_t name_size;
     /* The fault. */
     pulleynavy_fault fault;
 } pulleynavy_event;
@@ -470,13 +499,85 @@ void pulleynavy_feed_finish(pulleynavy_feed *feed);
 bool pulleynavy_feed_push(
     pulleynavy_feed *feed, uint8_t *storage, size_t storage_size, const uint8_t *piece, size_t piece_size);
 
+/* A cursor over the items of a list, which keeps no pointer. Any bytes are a cursor. Each call gets the bytes of the list. */
+typedef struct pulleynavy_items {
+    /* The stream offset of the next item. */
+    uint64_t offset;
+    /* Where the next item begins, in bytes from the start of the bytes of the list. */
+    size_t position;
+    /* How many items are left. */
+    uint32_t remaining;
+    /* The features, as bits. */
+    uint32_t features;
+    /* The index or id of the last item in order, if `has_last` isn't 0. */
+    uint32_t last;
+    /* 0 before the first item that has to be in order. */
+    uint8_t has_last;
+    /* Not 0 after the end, or after a fault that ends the list. */
+    uint8_t is_ended;
+} pulleynavy_items;
+
+/* Returns a cursor at the first item of a section that begins with a count, or at the data of a custom section. Its bytes are those
+   from `start` to `end` of the event. */
+pulleynavy_items pulleynavy_items_init(const pulleynavy_event *event, uint32_t features);
+
+/* Returns a cursor over a list of `count` items that begins at `offset` of the stream. Its bytes begin with the first item. A list of
+   subsections has no count: 0 will do. */
+pulleynavy_items pulleynavy_list_init(uint64_t offset, uint32_t count, uint32_t features);
+
 /* A run of the bytes that a call was given. */
 typedef struct pulleynavy_span {
     /* Where it begins, in bytes from the first of those that were given. */
-    uint64_t at;
+    size_t at;
     /* How many bytes it has. */
-    uint64_t size;
+    size_t size;
 } pulleynavy_span;
+
+/* A number, or its fault. */
+typedef struct pulleynavy_number {
+    /* The fault, whose kind is 0 where there is none. */
+    pulleynavy_fault fault;
+    /* How many bytes it takes. */
+    size_t consumed;
+    /* The number. */
+    uint64_t value;
+} pulleynavy_number;
+
+/* A number with a sign, or its fault. */
+typedef struct pulleynavy_signed {
+    /* The fault, whose kind is 0 where there is none. */
+    pulleynavy_fault fault;
+    /* How many bytes it takes. */
+    size_t consumed;
+    /* The number. */
+    int64_t value;
+} pulleynavy_signed;
+
+/* Reads the number at the start of `bytes`, a u32: the count of a list, an index of a type in a function section or of a function in
+   a list of elements (core specification, Binary format, Values, Integers). The bytes are the remaining bytes of its section, at
+   `offset` of the stream. After a fault all other fields are 0. */
+pulleynavy_number pulleynavy_read_number(const uint8_t *bytes, size_t bytes_size, uint64_t offset, uint32_t features);
+
+/* Stores the next numbers of a list in `out`. Returns how many there were or there was room for: 0 at the end. `bytes` are those of
+   the whole list. */
+size_t pulleynavy_next_numbers(
+    pulleynavy_items *items, const uint8_t *bytes, size_t bytes_size, pulleynavy_number *out, size_t out_count);
+
+/* Reads the u64 in LEB128 at the start of `bytes` (core specification, Binary format, Values, Integers). The bytes are the remaining
+   bytes of its section, at `offset` of the stream. After a fault all other fields are 0. */
+pulleynavy_number pulleynavy_read_u64(const uint8_t *bytes, size_t bytes_size, uint64_t offset, uint32_t features);
+
+/* Reads the s32 in LEB128 at the start of `bytes` (core specification, Binary format, Values, Integers). The bytes are the remaining
+   bytes of its section, at `offset` of the stream. After a fault all other fields are 0. */
+pulleynavy_signed pulleynavy_read_s32(const uint8_t *bytes, size_t bytes_size, uint64_t offset, uint32_t features);
+
+/* Reads the s33 in LEB128 at the start of `bytes` (core specification, Binary format, Values, Integers). The bytes are the remaining
+   bytes of its section, at `offset` of the stream. After a fault all other fields are 0. */
+pulleynavy_signed pulleynavy_read_s33(const uint8_t *bytes, size_t bytes_size, uint64_t offset, uint32_t features);
+
+/* Reads the s64 in LEB128 at the start of `bytes` (core specification, Binary format, Values, Integers). The bytes are the remaining
+   bytes of its section, at `offset` of the stream. After a fault all other fields are 0. */
+pulleynavy_signed pulleynavy_read_s64(const uint8_t *bytes, size_t bytes_size, uint64_t offset, uint32_t features);
 
 /* A type of values, or of what a field holds, as plain numbers (core specification, Binary format, Types). */
 typedef struct pulleynavy_type {
@@ -492,22 +593,12 @@ typedef struct pulleynavy_type {
     uint32_t index;
 } pulleynavy_type;
 
-/* A number, or its fault. */
-typedef struct pulleynavy_number {
-    /* The fault, whose kind is 0 where there is none. */
-    pulleynavy_fault fault;
-    /* How many bytes it takes. */
-    uint64_t consumed;
-    /* The number. */
-    uint64_t value;
-} pulleynavy_number;
-
 /* A value type, or its fault. */
 typedef struct pulleynavy_value {
     /* The fault, whose kind is 0 where there is none. */
     pulleynavy_fault fault;
     /* How many bytes it takes. */
-    uint64_t consumed;
+    size_t consumed;
     /* The type. */
     pulleynavy_type ty;
 } pulleynavy_value;
@@ -517,21 +608,31 @@ typedef struct pulleynavy_field {
     /* The fault, whose kind is 0 where there is none. */
     pulleynavy_fault fault;
     /* How many bytes it takes. */
-    uint64_t consumed;
+    size_t consumed;
     /* What it holds. */
     pulleynavy_type ty;
     /* 1 if it can be changed, or 0. */
     uint32_t is_mutable;
 } pulleynavy_field;
 
-/* Reads the number at the start of `bytes`, a u32: the count of a list, an index of a type in a function section or of a function in
-   a list of elements (core specification, Binary format, Values, Integers). The bytes are the remaining bytes of its section, at
-   `offset` of the stream. After a fault all other fields are 0. */
-pulleynavy_number pulleynavy_read_number(const uint8_t *bytes, size_t bytes_size, uint64_t offset, uint32_t features);
-
 /* Reads the value type at the start of `bytes` (core specification, Binary format, Types, Value Types): a parameter or a result of a
    function's type. The bytes are the remaining bytes of its section, at `offset` of the stream. After a fault all other fields are 0. */
 pulleynavy_value pulleynavy_read_value_type(
+    const uint8_t *bytes, size_t bytes_size, uint64_t offset, uint32_t features);
+
+/* Stores the next value types of a list in `out`. Returns how many there were or there was room for: 0 at the end. `bytes` are those
+   of the whole list. */
+size_t pulleynavy_next_value_types(
+    pulleynavy_items *items, const uint8_t *bytes, size_t bytes_size, pulleynavy_value *out, size_t out_count);
+
+/* Reads the heap type at the start of `bytes` (core specification, Binary format, Types, Heap Types): a reference that is not
+   nullable. The bytes are the remaining bytes of its section, at `offset` of the stream. After a fault all other fields are 0. */
+pulleynavy_value pulleynavy_read_heap_type(
+    const uint8_t *bytes, size_t bytes_size, uint64_t offset, uint32_t features);
+
+/* Reads the reference type at the start of `bytes` (core specification, Binary format, Types, Reference Types). The bytes are the
+   remaining bytes of its section, at `offset` of the stream. After a fault all other fields are 0. */
+pulleynavy_value pulleynavy_read_reference_type(
     const uint8_t *bytes, size_t bytes_size, uint64_t offset, uint32_t features);
 
 /* Reads the field at the start of `bytes`, of a structure or an array (core specification, Binary format, Types, Composite Types).
@@ -539,12 +640,17 @@ pulleynavy_value pulleynavy_read_value_type(
 pulleynavy_field pulleynavy_read_field_type(
     const uint8_t *bytes, size_t bytes_size, uint64_t offset, uint32_t features);
 
+/* Stores the next fields of a list in `out`. Returns how many there were or there was room for: 0 at the end. `bytes` are those of
+   the whole list. */
+size_t pulleynavy_next_field_types(
+    pulleynavy_items *items, const uint8_t *bytes, size_t bytes_size, pulleynavy_field *out, size_t out_count);
+
 /* The beginning of a group of types, or its fault. */
 typedef struct pulleynavy_type_group {
     /* The fault, whose kind is 0 where there is none. */
     pulleynavy_fault fault;
     /* How many bytes it takes. */
-    uint64_t consumed;
+    size_t consumed;
     /* 1 if the group is written as one, or 0 for a single type. */
     uint32_t is_explicit;
     /* How many subtypes come after it. */
@@ -556,7 +662,7 @@ typedef struct pulleynavy_subtype {
     /* The fault, whose kind is 0 where there is none. */
     pulleynavy_fault fault;
     /* How many bytes it takes. */
-    uint64_t consumed;
+    size_t consumed;
     /* 1 if no type may extend it, or 0. */
     uint32_t is_final;
     /* 1 if it extends a type, or 0. */
@@ -631,7 +737,7 @@ typedef struct pulleynavy_table {
     /* The fault, whose kind is 0 where there is none. */
     pulleynavy_fault fault;
     /* How many bytes it takes. */
-    uint64_t consumed;
+    size_t consumed;
     /* Its type. */
     pulleynavy_table_type ty;
     /* The expression of its elements, with its end. */
@@ -645,7 +751,7 @@ typedef struct pulleynavy_memory {
     /* The fault, whose kind is 0 where there is none. */
     pulleynavy_fault fault;
     /* How many bytes it takes. */
-    uint64_t consumed;
+    size_t consumed;
     /* Its type. */
     pulleynavy_memory_type ty;
 } pulleynavy_memory;
@@ -655,7 +761,7 @@ typedef struct pulleynavy_tag {
     /* The fault, whose kind is 0 where there is none. */
     pulleynavy_fault fault;
     /* How many bytes it takes. */
-    uint64_t consumed;
+    size_t consumed;
     /* The index of the function type whose parameters it carries. */
     uint32_t func_type_index;
 } pulleynavy_tag;
@@ -665,7 +771,7 @@ typedef struct pulleynavy_global {
     /* The fault, whose kind is 0 where there is none. */
     pulleynavy_fault fault;
     /* How many bytes it takes. */
-    uint64_t consumed;
+    size_t consumed;
     /* Its type. */
     pulleynavy_global_type ty;
     /* The expression of its first value, with its end. */
@@ -676,17 +782,47 @@ typedef struct pulleynavy_global {
    bytes of its section, at `offset` of the stream. After a fault all other fields are 0. */
 pulleynavy_table pulleynavy_read_table(const uint8_t *bytes, size_t bytes_size, uint64_t offset, uint32_t features);
 
+/* Stores the next tables of a list in `out`. Returns how many there were or there was room for: 0 at the end. `bytes` are those of
+   the whole list. */
+size_t pulleynavy_next_tables(
+    pulleynavy_items *items, const uint8_t *bytes, size_t bytes_size, pulleynavy_table *out, size_t out_count);
+
 /* Reads the memory at the start of `bytes` (core specification, Binary format, Modules, Memory Section). The bytes are the remaining
    bytes of its section, at `offset` of the stream. After a fault all other fields are 0. */
 pulleynavy_memory pulleynavy_read_memory(const uint8_t *bytes, size_t bytes_size, uint64_t offset, uint32_t features);
+
+/* Stores the next memories of a list in `out`. Returns how many there were or there was room for: 0 at the end. `bytes` are those of
+   the whole list. */
+size_t pulleynavy_next_memories(
+    pulleynavy_items *items, const uint8_t *bytes, size_t bytes_size, pulleynavy_memory *out, size_t out_count);
 
 /* Reads the tag at the start of `bytes` (core specification, Binary format, Modules, Tag Section). The bytes are the remaining bytes
    of its section, at `offset` of the stream. After a fault all other fields are 0. */
 pulleynavy_tag pulleynavy_read_tag(const uint8_t *bytes, size_t bytes_size, uint64_t offset, uint32_t features);
 
+/* Stores the next tags of a list in `out`. Returns how many there were or there was room for: 0 at the end. `bytes` are those of the
+   whole list. */
+size_t pulleynavy_next_tags(
+    pulleynavy_items *items, const uint8_t *bytes, size_t bytes_size, pulleynavy_tag *out, size_t out_count);
+
 /* Reads the global at the start of `bytes` (core specification, Binary format, Modules, Global Section). The bytes are the remaining
    bytes of its section, at `offset` of the stream. After a fault all other fields are 0. */
 pulleynavy_global pulleynavy_read_global(const uint8_t *bytes, size_t bytes_size, uint64_t offset, uint32_t features);
+
+/* Stores the next globals of a list in `out`. Returns how many there were or there was room for: 0 at the end. `bytes` are those of
+   the whole list. */
+size_t pulleynavy_next_globals(
+    pulleynavy_items *items, const uint8_t *bytes, size_t bytes_size, pulleynavy_global *out, size_t out_count);
+
+/* Reads the table type at the start of `bytes` (core specification, Binary format, Types, Table Types): a table without an
+   expression. The bytes are the remaining bytes of its section, at `offset` of the stream. After a fault all other fields are 0. */
+pulleynavy_table pulleynavy_read_table_type(
+    const uint8_t *bytes, size_t bytes_size, uint64_t offset, uint32_t features);
+
+/* Reads the global type at the start of `bytes` (core specification, Binary format, Types, Global Types): a global without an
+   expression. The bytes are the remaining bytes of its section, at `offset` of the stream. After a fault all other fields are 0. */
+pulleynavy_global pulleynavy_read_global_type(
+    const uint8_t *bytes, size_t bytes_size, uint64_t offset, uint32_t features);
 
 /* What is imported, with its type. The types that its kind doesn't name are all 0. */
 typedef struct pulleynavy_import_type {
@@ -707,7 +843,7 @@ typedef struct pulleynavy_import {
     /* The fault, whose kind is 0 where there is none. */
     pulleynavy_fault fault;
     /* How many bytes it takes, those of a bundle's imports among them. */
-    uint64_t consumed;
+    size_t consumed;
     /* The name of the module that it comes from, which is UTF-8. */
     pulleynavy_span module_name;
     /* The name of an import in its module, which is UTF-8. */
@@ -727,7 +863,7 @@ typedef struct pulleynavy_import_item {
     /* The fault, whose kind is 0 where there is none. */
     pulleynavy_fault fault;
     /* How many bytes it takes. */
-    uint64_t consumed;
+    size_t consumed;
     /* Its name in the bundle's module, which is UTF-8. */
     pulleynavy_span name;
     /* What it is. */
@@ -739,7 +875,7 @@ typedef struct pulleynavy_name {
     /* The fault, whose kind is 0 where there is none. */
     pulleynavy_fault fault;
     /* How many bytes it takes. */
-    uint64_t consumed;
+    size_t consumed;
     /* The name, which is UTF-8. */
     pulleynavy_span name;
 } pulleynavy_name;
@@ -749,6 +885,11 @@ typedef struct pulleynavy_name {
    bytes are the remaining bytes of its section, at `offset` of the stream. After a fault all other fields are 0. */
 pulleynavy_import pulleynavy_read_import(const uint8_t *bytes, size_t bytes_size, uint64_t offset, uint32_t features);
 
+/* Stores the next imports and bundles of a list in `out`. Returns how many there were or there was room for: 0 at the end. `bytes`
+   are those of the whole list. */
+size_t pulleynavy_next_imports(
+    pulleynavy_items *items, const uint8_t *bytes, size_t bytes_size, pulleynavy_import *out, size_t out_count);
+
 /* Reads the import of a bundle of one module at the start of `bytes` (the proposal for compact imports). The bytes are the remaining
    bytes of its section, at `offset` of the stream. After a fault all other fields are 0. */
 pulleynavy_import_item pulleynavy_read_import_item(
@@ -757,6 +898,21 @@ pulleynavy_import_item pulleynavy_read_import_item(
 /* Reads the name at the start of `bytes`, of at most 100,000 bytes (core specification, Binary format, Values, Names). The bytes are
    the remaining bytes of its section, at `offset` of the stream. After a fault all other fields are 0. */
 pulleynavy_name pulleynavy_read_name(const uint8_t *bytes, size_t bytes_size, uint64_t offset, uint32_t features);
+
+/* Stores the next names of a list in `out`. Returns how many there were or there was room for: 0 at the end. `bytes` are those of the
+   whole list. */
+size_t pulleynavy_next_names(
+    pulleynavy_items *items, const uint8_t *bytes, size_t bytes_size, pulleynavy_name *out, size_t out_count);
+
+/* Reads the text at the start of `bytes`, a name of any size (core specification, Binary format, Values, Names), as the sections
+   `producers`, `linking` and `dylink.0` have them. The bytes are the remaining bytes of its section, at `offset` of the stream. After
+   a fault all other fields are 0. */
+pulleynavy_name pulleynavy_read_text(const uint8_t *bytes, size_t bytes_size, uint64_t offset, uint32_t features);
+
+/* Stores the next texts of a list in `out`. Returns how many there were or there was room for: 0 at the end. `bytes` are those of the
+   whole list. */
+size_t pulleynavy_next_texts(
+    pulleynavy_items *items, const uint8_t *bytes, size_t bytes_size, pulleynavy_name *out, size_t out_count);
 
 /* Reads the import of this bundle at the start of `bytes`, whose module is the bundle's (the proposal for compact imports). Where the
    bundle has one type its imports are names, and the type is the bundle's. The bytes are the remaining bytes of its section, at
@@ -769,7 +925,7 @@ typedef struct pulleynavy_export {
     /* The fault, whose kind is 0 where there is none. */
     pulleynavy_fault fault;
     /* How many bytes it takes. */
-    uint64_t consumed;
+    size_t consumed;
     /* Its name, which is UTF-8. */
     pulleynavy_span name;
     /* 0 a function, 1 a table, 2 a memory, 3 a global, 4 a tag. */
@@ -782,12 +938,45 @@ typedef struct pulleynavy_export {
    bytes of its section, at `offset` of the stream. After a fault all other fields are 0. */
 pulleynavy_export pulleynavy_read_export(const uint8_t *bytes, size_t bytes_size, uint64_t offset, uint32_t features);
 
+/* Stores the next exports of a list in `out`. Returns how many there were or there was room for: 0 at the end. `bytes` are those of
+   the whole list. */
+size_t pulleynavy_next_exports(
+    pulleynavy_items *items, const uint8_t *bytes, size_t bytes_size, pulleynavy_export *out, size_t out_count);
+
+/* An instruction of a constant expression, or its fault. */
+typedef struct pulleynavy_instruction {
+    /* The fault, whose kind is 0 where there is none. */
+    pulleynavy_fault fault;
+    /* How many bytes it takes. */
+    size_t consumed;
+    /* Its opcode, as in `pulleynavy_opcode`. One of two parts is 256 times the first plus the second. */
+    uint32_t opcode;
+    /* The index of a global, a function or a type, or 0. */
+    uint32_t index;
+    /* What a null reference would refer to, as in `pulleynavy_heap_kind`, or 0. */
+    uint32_t heap;
+    /* How many elements an array of fixed size has, or 0. */
+    uint32_t count;
+    /* The integer, or 0. */
+    int64_t integer;
+    /* The bits of a float, or 0. */
+    uint64_t bits;
+    /* The 16 bytes of a vector. */
+    pulleynavy_span bytes;
+} pulleynavy_instruction;
+
+/* Reads the instruction at the start of `bytes`, of a constant expression (core specification, Binary format, Instructions). The last
+   one has the opcode `PULLEYNAVY_OP_END`. The bytes are the remaining bytes of its section, at `offset` of the stream. After a fault
+   all other fields are 0. */
+pulleynavy_instruction pulleynavy_read_instruction(
+    const uint8_t *bytes, size_t bytes_size, uint64_t offset, uint32_t features);
+
 /* A constant expression, or its fault. */
 typedef struct pulleynavy_expression {
     /* The fault, whose kind is 0 where there is none. */
     pulleynavy_fault fault;
     /* How many bytes it takes, its end among them. */
-    uint64_t consumed;
+    size_t consumed;
 } pulleynavy_expression;
 
 /* An element segment, or its fault. */
@@ -795,7 +984,7 @@ typedef struct pulleynavy_element {
     /* The fault, whose kind is 0 where there is none. */
     pulleynavy_fault fault;
     /* How many bytes it takes. */
-    uint64_t consumed;
+    size_t consumed;
     /* 0 a passive segment, 1 an active one, 2 a declared one. */
     uint32_t kind;
     /* 1 if the index of a table is written, or 0. */
@@ -819,7 +1008,7 @@ typedef struct pulleynavy_data {
     /* The fault, whose kind is 0 where there is none. */
     pulleynavy_fault fault;
     /* How many bytes it takes. */
-    uint64_t consumed;
+    size_t consumed;
     /* 0 a passive segment, 1 an active one. */
     uint32_t kind;
     /* The index of an active segment's memory, or 0. */
@@ -836,22 +1025,37 @@ typedef struct pulleynavy_data {
 pulleynavy_expression pulleynavy_read_expression(
     const uint8_t *bytes, size_t bytes_size, uint64_t offset, uint32_t features);
 
+/* Stores the next constant expressions of a list in `out`. Returns how many there were or there was room for: 0 at the end. `bytes`
+   are those of the whole list. */
+size_t pulleynavy_next_expressions(
+    pulleynavy_items *items, const uint8_t *bytes, size_t bytes_size, pulleynavy_expression *out, size_t out_count);
+
 /* Reads the element segment at the start of `bytes` (core specification, Binary format, Modules, Element Section). Its elements are
    read by `pulleynavy_read_number` or `pulleynavy_read_expression`, and have no fault. The bytes are the remaining bytes of its
    section, at `offset` of the stream. After a fault all other fields are 0. */
 pulleynavy_element pulleynavy_read_element(
     const uint8_t *bytes, size_t bytes_size, uint64_t offset, uint32_t features);
 
+/* Stores the next element segments of a list in `out`. Returns how many there were or there was room for: 0 at the end. `bytes` are
+   those of the whole list. */
+size_t pulleynavy_next_elements(
+    pulleynavy_items *items, const uint8_t *bytes, size_t bytes_size, pulleynavy_element *out, size_t out_count);
+
 /* Reads the data segment at the start of `bytes` (core specification, Binary format, Modules, Data Section). The bytes are the
    remaining bytes of its section, at `offset` of the stream. After a fault all other fields are 0. */
 pulleynavy_data pulleynavy_read_data(const uint8_t *bytes, size_t bytes_size, uint64_t offset, uint32_t features);
+
+/* Stores the next data segments of a list in `out`. Returns how many there were or there was room for: 0 at the end. `bytes` are
+   those of the whole list. */
+size_t pulleynavy_next_data(
+    pulleynavy_items *items, const uint8_t *bytes, size_t bytes_size, pulleynavy_data *out, size_t out_count);
 
 /* A subsection, or its fault. */
 typedef struct pulleynavy_subsection {
     /* The fault, whose kind is 0 where there is none. */
     pulleynavy_fault fault;
     /* How many bytes it takes. */
-    uint64_t consumed;
+    size_t consumed;
     /* Its id. */
     uint32_t id;
     /* Its bytes. */
@@ -863,7 +1067,7 @@ typedef struct pulleynavy_naming {
     /* The fault, whose kind is 0 where there is none. */
     pulleynavy_fault fault;
     /* How many bytes it takes. */
-    uint64_t consumed;
+    size_t consumed;
     /* The index of what is named. */
     uint32_t index;
     /* Its name, which is UTF-8. */
@@ -875,7 +1079,7 @@ typedef struct pulleynavy_indirect_naming {
     /* The fault, whose kind is 0 where there is none. */
     pulleynavy_fault fault;
     /* How many bytes it takes, those of the names among them. */
-    uint64_t consumed;
+    size_t consumed;
     /* The index of what has the names, as a function. */
     uint32_t index;
     /* How many names it has. */
@@ -895,18 +1099,38 @@ pulleynavy_subsection pulleynavy_read_subsection(
    other fields are 0. */
 pulleynavy_naming pulleynavy_read_naming(const uint8_t *bytes, size_t bytes_size, uint64_t offset, uint32_t features);
 
+/* Stores the next names of a name map in `out`. One whose index isn't above that of every name before it is `NAMES_ORDER`, and the
+   next one follows. Returns how many there were or there was room for: 0 at the end. `bytes` are those of the whole list. */
+size_t pulleynavy_next_namings(
+    pulleynavy_items *items, const uint8_t *bytes, size_t bytes_size, pulleynavy_naming *out, size_t out_count);
+
 /* Reads the index at the start of `bytes`, and the names of what it has (core specification, Appendix, Custom Sections, Name Section,
    Indirect Name Maps), which are read by `pulleynavy_read_naming`. That indices ascend isn't looked at. The bytes are the remaining
    bytes of its section, at `offset` of the stream. After a fault all other fields are 0. */
 pulleynavy_indirect_naming pulleynavy_read_indirect_naming(
     const uint8_t *bytes, size_t bytes_size, uint64_t offset, uint32_t features);
 
+/* Stores the next indices of an indirect name map in `out`. One that isn't above every index before it is `INDIRECT_ORDER`, and the
+   next one follows. Returns how many there were or there was room for: 0 at the end. `bytes` are those of the whole list. */
+size_t pulleynavy_next_indirect_namings(
+    pulleynavy_items *items, const uint8_t *bytes, size_t bytes_size, pulleynavy_indirect_naming *out, size_t out_count);
+
+/* Stores the next subsections of a section `linking` or `dylink.0` in `out`. After one that can't be read the next one follows.
+   Returns how many there were or there was room for: 0 at the end. `bytes` are those of the whole section. */
+size_t pulleynavy_next_subsections(
+    pulleynavy_items *items, const uint8_t *bytes, size_t bytes_size, pulleynavy_subsection *out, size_t out_count);
+
+/* Stores the next subsections of a section `name` in `out`, as `pulleynavy_next_subsections`. One whose id isn't above every id
+   before it is `NAME_SECTION_ORDER`, and the next one follows. */
+size_t pulleynavy_next_name_subsections(
+    pulleynavy_items *items, const uint8_t *bytes, size_t bytes_size, pulleynavy_subsection *out, size_t out_count);
+
 /* A field of the producers section, or its fault. */
 typedef struct pulleynavy_producers_field {
     /* The fault, whose kind is 0 where there is none. */
     pulleynavy_fault fault;
     /* How many bytes it takes. */
-    uint64_t consumed;
+    size_t consumed;
     /* Its name: `language`, `sdk` or `processed-by`. */
     pulleynavy_span name;
     /* How many values it has. */
@@ -920,7 +1144,7 @@ typedef struct pulleynavy_producers_value {
     /* The fault, whose kind is 0 where there is none. */
     pulleynavy_fault fault;
     /* How many bytes it takes. */
-    uint64_t consumed;
+    size_t consumed;
     /* The name of a tool, which is UTF-8. */
     pulleynavy_span name;
     /* Its version, which is UTF-8. */
@@ -933,17 +1157,27 @@ typedef struct pulleynavy_producers_value {
 pulleynavy_producers_field pulleynavy_read_producers_field(
     const uint8_t *bytes, size_t bytes_size, uint64_t offset, uint32_t features);
 
+/* Stores the next fields of a list in `out`. Returns how many there were or there was room for: 0 at the end. `bytes` are those of
+   the whole list. */
+size_t pulleynavy_next_producers_fields(
+    pulleynavy_items *items, const uint8_t *bytes, size_t bytes_size, pulleynavy_producers_field *out, size_t out_count);
+
 /* Reads the value of a field of a producers section at the start of `bytes` (tool conventions, Producers Section). The bytes are the
    remaining bytes of its section, at `offset` of the stream. After a fault all other fields are 0. */
 pulleynavy_producers_value pulleynavy_read_producers_value(
     const uint8_t *bytes, size_t bytes_size, uint64_t offset, uint32_t features);
+
+/* Stores the next values of a list in `out`. Returns how many there were or there was room for: 0 at the end. `bytes` are those of
+   the whole list. */
+size_t pulleynavy_next_producers_values(
+    pulleynavy_items *items, const uint8_t *bytes, size_t bytes_size, pulleynavy_producers_value *out, size_t out_count);
 
 /* A function that has branch hints, or its fault. */
 typedef struct pulleynavy_hinted_function {
     /* The fault, whose kind is 0 where there is none. */
     pulleynavy_fault fault;
     /* How many bytes it takes. */
-    uint64_t consumed;
+    size_t consumed;
     /* The index of the function. */
     uint32_t func;
     /* How many hints it has. */
@@ -957,7 +1191,7 @@ typedef struct pulleynavy_branch_hint {
     /* The fault, whose kind is 0 where there is none. */
     pulleynavy_fault fault;
     /* How many bytes it takes. */
-    uint64_t consumed;
+    size_t consumed;
     /* How many bytes after the start of the function's body its instruction is. */
     uint32_t func_offset;
     /* 1 if the branch is likely to be taken, or 0. */
@@ -970,17 +1204,27 @@ typedef struct pulleynavy_branch_hint {
 pulleynavy_hinted_function pulleynavy_read_hinted_function(
     const uint8_t *bytes, size_t bytes_size, uint64_t offset, uint32_t features);
 
+/* Stores the next functions of a list in `out`. Returns how many there were or there was room for: 0 at the end. `bytes` are those of
+   the whole list. */
+size_t pulleynavy_next_hinted_functions(
+    pulleynavy_items *items, const uint8_t *bytes, size_t bytes_size, pulleynavy_hinted_function *out, size_t out_count);
+
 /* Reads the branch hint at the start of `bytes` (tool conventions, Code Metadata, Branch Hints). The bytes are the remaining bytes of
    its section, at `offset` of the stream. After a fault all other fields are 0. */
 pulleynavy_branch_hint pulleynavy_read_branch_hint(
     const uint8_t *bytes, size_t bytes_size, uint64_t offset, uint32_t features);
+
+/* Stores the next branch hints of a list in `out`. Returns how many there were or there was room for: 0 at the end. `bytes` are those
+   of the whole list. */
+size_t pulleynavy_next_branch_hints(
+    pulleynavy_items *items, const uint8_t *bytes, size_t bytes_size, pulleynavy_branch_hint *out, size_t out_count);
 
 /* How much memory and table a library needs, or the fault of it. */
 typedef struct pulleynavy_dylink_memory {
     /* The fault, whose kind is 0 where there is none. */
     pulleynavy_fault fault;
     /* How many bytes it takes. */
-    uint64_t consumed;
+    size_t consumed;
     /* How many bytes of memory. */
     uint32_t memory_size;
     /* Their alignment, as a power of two. */
@@ -996,7 +1240,7 @@ typedef struct pulleynavy_dylink_export {
     /* The fault, whose kind is 0 where there is none. */
     pulleynavy_fault fault;
     /* How many bytes it takes. */
-    uint64_t consumed;
+    size_t consumed;
     /* Its name, which is UTF-8. */
     pulleynavy_span name;
     /* Its flags, as those of a symbol. */
@@ -1008,7 +1252,7 @@ typedef struct pulleynavy_dylink_import {
     /* The fault, whose kind is 0 where there is none. */
     pulleynavy_fault fault;
     /* How many bytes it takes. */
-    uint64_t consumed;
+    size_t consumed;
     /* The name of its module, which is UTF-8. */
     pulleynavy_span module_name;
     /* Its name there, which is UTF-8. */
@@ -1027,17 +1271,27 @@ pulleynavy_dylink_memory pulleynavy_read_dylink_memory(
 pulleynavy_dylink_export pulleynavy_read_dylink_export(
     const uint8_t *bytes, size_t bytes_size, uint64_t offset, uint32_t features);
 
+/* Stores the next exports of a list in `out`. Returns how many there were or there was room for: 0 at the end. `bytes` are those of
+   the whole list. */
+size_t pulleynavy_next_dylink_exports(
+    pulleynavy_items *items, const uint8_t *bytes, size_t bytes_size, pulleynavy_dylink_export *out, size_t out_count);
+
 /* Reads an import of subsection 4 of the section `dylink.0`, after the count (tool conventions, Dynamic Linking, The "dylink.0"
    Section). The bytes are the remaining bytes of its section, at `offset` of the stream. After a fault all other fields are 0. */
 pulleynavy_dylink_import pulleynavy_read_dylink_import(
     const uint8_t *bytes, size_t bytes_size, uint64_t offset, uint32_t features);
+
+/* Stores the next imports of a list in `out`. Returns how many there were or there was room for: 0 at the end. `bytes` are those of
+   the whole list. */
+size_t pulleynavy_next_dylink_imports(
+    pulleynavy_items *items, const uint8_t *bytes, size_t bytes_size, pulleynavy_dylink_import *out, size_t out_count);
 
 /* A data segment for linkers, or its fault. */
 typedef struct pulleynavy_linking_segment {
     /* The fault, whose kind is 0 where there is none. */
     pulleynavy_fault fault;
     /* How many bytes it takes. */
-    uint64_t consumed;
+    size_t consumed;
     /* Its name, which is UTF-8. */
     pulleynavy_span name;
     /* Its alignment, as a power of two. */
@@ -1051,7 +1305,7 @@ typedef struct pulleynavy_init_function {
     /* The fault, whose kind is 0 where there is none. */
     pulleynavy_fault fault;
     /* How many bytes it takes. */
-    uint64_t consumed;
+    size_t consumed;
     /* Its priority. */
     uint32_t priority;
     /* The index of its symbol. */
@@ -1063,7 +1317,7 @@ typedef struct pulleynavy_comdat {
     /* The fault, whose kind is 0 where there is none. */
     pulleynavy_fault fault;
     /* How many bytes it takes. */
-    uint64_t consumed;
+    size_t consumed;
     /* Its name, which is UTF-8. */
     pulleynavy_span name;
     /* Its flags. */
@@ -1079,7 +1333,7 @@ typedef struct pulleynavy_comdat_symbol {
     /* The fault, whose kind is 0 where there is none. */
     pulleynavy_fault fault;
     /* How many bytes it takes. */
-    uint64_t consumed;
+    size_t consumed;
     /* 0 a data segment, 1 a function, 2 a global, 3 an event, 4 a table, 5 a section. */
     uint32_t kind;
     /* Its index among those of its kind. */
@@ -1091,28 +1345,48 @@ typedef struct pulleynavy_comdat_symbol {
 pulleynavy_linking_segment pulleynavy_read_linking_segment(
     const uint8_t *bytes, size_t bytes_size, uint64_t offset, uint32_t features);
 
+/* Stores the next segments of a list in `out`. Returns how many there were or there was room for: 0 at the end. `bytes` are those of
+   the whole list. */
+size_t pulleynavy_next_linking_segments(
+    pulleynavy_items *items, const uint8_t *bytes, size_t bytes_size, pulleynavy_linking_segment *out, size_t out_count);
+
 /* Reads the function to be called at first at the start of `bytes`, in subsection 6 of the section `linking` after its count (tool
    conventions, Linking, Init Functions Subsection). The bytes are the remaining bytes of its section, at `offset` of the stream.
    After a fault all other fields are 0. */
 pulleynavy_init_function pulleynavy_read_init_function(
     const uint8_t *bytes, size_t bytes_size, uint64_t offset, uint32_t features);
 
+/* Stores the next functions of a list in `out`. Returns how many there were or there was room for: 0 at the end. `bytes` are those of
+   the whole list. */
+size_t pulleynavy_next_init_functions(
+    pulleynavy_items *items, const uint8_t *bytes, size_t bytes_size, pulleynavy_init_function *out, size_t out_count);
+
 /* Reads the comdat at the start of `bytes`, in subsection 7 of the section `linking` after its count (tool conventions, Linking,
    COMDAT Subsection). Its symbols are read by `pulleynavy_read_comdat_symbol`, and have no fault. The bytes are the remaining bytes
    of its section, at `offset` of the stream. After a fault all other fields are 0. */
 pulleynavy_comdat pulleynavy_read_comdat(const uint8_t *bytes, size_t bytes_size, uint64_t offset, uint32_t features);
+
+/* Stores the next comdats of a list in `out`. Returns how many there were or there was room for: 0 at the end. `bytes` are those of
+   the whole list. */
+size_t pulleynavy_next_comdats(
+    pulleynavy_items *items, const uint8_t *bytes, size_t bytes_size, pulleynavy_comdat *out, size_t out_count);
 
 /* Reads the symbol of a comdat at the start of `bytes` (tool conventions, Linking, COMDAT Subsection). The bytes are the remaining
    bytes of its section, at `offset` of the stream. After a fault all other fields are 0. */
 pulleynavy_comdat_symbol pulleynavy_read_comdat_symbol(
     const uint8_t *bytes, size_t bytes_size, uint64_t offset, uint32_t features);
 
+/* Stores the next symbols of a list in `out`. Returns how many there were or there was room for: 0 at the end. `bytes` are those of
+   the whole list. */
+size_t pulleynavy_next_comdat_symbols(
+    pulleynavy_items *items, const uint8_t *bytes, size_t bytes_size, pulleynavy_comdat_symbol *out, size_t out_count);
+
 /* A symbol, or its fault. */
 typedef struct pulleynavy_symbol {
     /* The fault, whose kind is 0 where there is none. */
     pulleynavy_fault fault;
     /* How many bytes it takes. */
-    uint64_t consumed;
+    size_t consumed;
     /* Its name, which is UTF-8. */
     pulleynavy_span name;
     /* 0 a function, 1 data, 2 a global, 3 a section, 4 an event, 5 a table. */
@@ -1143,12 +1417,17 @@ pulleynavy_number pulleynavy_read_linking_version(
    fields are 0. */
 pulleynavy_symbol pulleynavy_read_symbol(const uint8_t *bytes, size_t bytes_size, uint64_t offset, uint32_t features);
 
+/* Stores the next symbols of a list in `out`. Returns how many there were or there was room for: 0 at the end. `bytes` are those of
+   the whole list. */
+size_t pulleynavy_next_symbols(
+    pulleynavy_items *items, const uint8_t *bytes, size_t bytes_size, pulleynavy_symbol *out, size_t out_count);
+
 /* A relocation, or its fault. */
 typedef struct pulleynavy_relocation {
     /* The fault, whose kind is 0 where there is none. */
     pulleynavy_fault fault;
     /* How many bytes it takes. */
-    uint64_t consumed;
+    size_t consumed;
     /* The number of its type, from 0 to 26. */
     uint32_t kind;
     /* How many bytes it fills in: 4, 5, 8 or 10. */
@@ -1167,12 +1446,17 @@ typedef struct pulleynavy_relocation {
 pulleynavy_relocation pulleynavy_read_relocation(
     const uint8_t *bytes, size_t bytes_size, uint64_t offset, uint32_t features);
 
+/* Stores the next relocations of a list in `out`. Returns how many there were or there was room for: 0 at the end. `bytes` are those
+   of the whole list. */
+size_t pulleynavy_next_relocations(
+    pulleynavy_items *items, const uint8_t *bytes, size_t bytes_size, pulleynavy_relocation *out, size_t out_count);
+
 /* The name of the process of a core dump, or its fault. */
 typedef struct pulleynavy_core_process {
     /* The fault, whose kind is 0 where there is none. */
     pulleynavy_fault fault;
     /* How many bytes it takes. */
-    uint64_t consumed;
+    size_t consumed;
     /* The name, which is UTF-8. */
     pulleynavy_span name;
 } pulleynavy_core_process;
@@ -1182,7 +1466,7 @@ typedef struct pulleynavy_core_module {
     /* The fault, whose kind is 0 where there is none. */
     pulleynavy_fault fault;
     /* How many bytes it takes. */
-    uint64_t consumed;
+    size_t consumed;
     /* The name, which is UTF-8. */
     pulleynavy_span name;
 } pulleynavy_core_module;
@@ -1192,7 +1476,7 @@ typedef struct pulleynavy_core_instance {
     /* The fault, whose kind is 0 where there is none. */
     pulleynavy_fault fault;
     /* How many bytes it takes. */
-    uint64_t consumed;
+    size_t consumed;
     /* The index of its module. */
     uint32_t module_index;
 } pulleynavy_core_instance;
@@ -1202,7 +1486,7 @@ typedef struct pulleynavy_core_thread {
     /* The fault, whose kind is 0 where there is none. */
     pulleynavy_fault fault;
     /* How many bytes it takes. */
-    uint64_t consumed;
+    size_t consumed;
     /* The name, which is UTF-8. */
     pulleynavy_span name;
 } pulleynavy_core_thread;
@@ -1212,7 +1496,7 @@ typedef struct pulleynavy_core_frame {
     /* The fault, whose kind is 0 where there is none. */
     pulleynavy_fault fault;
     /* How many bytes it takes. */
-    uint64_t consumed;
+    size_t consumed;
     /* The index of its instance. */
     uint32_t instance;
     /* The index of its function. */
@@ -1226,7 +1510,7 @@ typedef struct pulleynavy_core_value {
     /* The fault, whose kind is 0 where there is none. */
     pulleynavy_fault fault;
     /* How many bytes it takes. */
-    uint64_t consumed;
+    size_t consumed;
     /* 0 a missing value, 1 a 32-bit integer, 2 a 64-bit integer, 3 a 32-bit float, 4 a 64-bit float. */
     uint32_t kind;
     /* The integer, or 0. */
@@ -1268,10 +1552,23 @@ pulleynavy_core_frame pulleynavy_read_core_frame(
 pulleynavy_core_value pulleynavy_read_core_value(
     const uint8_t *bytes, size_t bytes_size, uint64_t offset, uint32_t features);
 
+/* Stores the next values of a list in `out`. Returns how many there were or there was room for: 0 at the end. `bytes` are those of
+   the whole list. */
+size_t pulleynavy_next_core_values(
+    pulleynavy_items *items, const uint8_t *bytes, size_t bytes_size, pulleynavy_core_value *out, size_t out_count);
+
 /* Returns which known custom section has this name (core specification, Appendix, Custom Sections; tool conventions): 0 none, 1
    `name`, 2 `metadata.code.branch_hint`, 3 `producers`, 4 `dylink.0`, 5 `linking`, 6 a name that begins with `reloc.`, 7 `core`, 8
    `coremodules`, 9 `coreinstances`, 10 `corestack`. */
 uint32_t pulleynavy_classify_custom(const uint8_t *name, size_t name_size);
+
+/* Checks the end of a section of a core dump: `CUSTOM_TRAILING` if bytes are left after its last part, at `offset` of the stream
+   (tool conventions, Coredump). */
+pulleynavy_fault pulleynavy_check_custom_end(const uint8_t *left, size_t left_size, uint64_t offset);
+
+/* Checks the end of the subsection of a module's name: `NAME_TRAILING` if bytes are left after it, at `offset` of the stream (core
+   specification, Appendix, Custom Sections, Name Section, Module Names). */
+pulleynavy_fault pulleynavy_check_name_end(const uint8_t *left, size_t left_size, uint64_t offset);
 
 /* The result of stripping a stream. */
 typedef struct pulleynavy_stripped {
@@ -1293,12 +1590,14 @@ pulleynavy_stripped pulleynavy_strip(uint8_t *bytes, size_t bytes_size, bool kee
 #endif
 #if defined(__cplusplus) || __STDC_VERSION__ >= 201112L
 PULLEYNAVY_ASSERT(sizeof(pulleynavy_fault) == 24 && offsetof(pulleynavy_fault, offset) == 16, "layout");
-PULLEYNAVY_ASSERT(sizeof(pulleynavy_event) == 88 && offsetof(pulleynavy_event, fault) == 64, "layout");
+PULLEYNAVY_ASSERT(sizeof(pulleynavy_event) == 96 && offsetof(pulleynavy_event, fault) == 72, "layout");
 PULLEYNAVY_ASSERT(sizeof(pulleynavy_parser) == 48 && offsetof(pulleynavy_parser, in_code) == 43, "layout");
 PULLEYNAVY_ASSERT(sizeof(pulleynavy_feed) == 72 && offsetof(pulleynavy_feed, is_finished) == 64, "layout");
+PULLEYNAVY_ASSERT(sizeof(pulleynavy_items) == 32 && offsetof(pulleynavy_items, is_ended) == 29, "layout");
 PULLEYNAVY_ASSERT(sizeof(pulleynavy_span) == 16 && offsetof(pulleynavy_span, size) == 8, "layout");
-PULLEYNAVY_ASSERT(sizeof(pulleynavy_type) == 16 && offsetof(pulleynavy_type, index) == 12, "layout");
 PULLEYNAVY_ASSERT(sizeof(pulleynavy_number) == 40 && offsetof(pulleynavy_number, value) == 32, "layout");
+PULLEYNAVY_ASSERT(sizeof(pulleynavy_signed) == 40 && offsetof(pulleynavy_signed, value) == 32, "layout");
+PULLEYNAVY_ASSERT(sizeof(pulleynavy_type) == 16 && offsetof(pulleynavy_type, index) == 12, "layout");
 PULLEYNAVY_ASSERT(sizeof(pulleynavy_value) == 48 && offsetof(pulleynavy_value, ty) == 32, "layout");
 PULLEYNAVY_ASSERT(sizeof(pulleynavy_field) == 56 && offsetof(pulleynavy_field, is_mutable) == 48, "layout");
 PULLEYNAVY_ASSERT(sizeof(pulleynavy_type_group) == 40 && offsetof(pulleynavy_type_group, count) == 36, "layout");
@@ -1315,6 +1614,7 @@ PULLEYNAVY_ASSERT(sizeof(pulleynavy_import) == 208 && offsetof(pulleynavy_import
 PULLEYNAVY_ASSERT(sizeof(pulleynavy_import_item) == 168 && offsetof(pulleynavy_import_item, ty) == 48, "layout");
 PULLEYNAVY_ASSERT(sizeof(pulleynavy_name) == 48 && offsetof(pulleynavy_name, name) == 32, "layout");
 PULLEYNAVY_ASSERT(sizeof(pulleynavy_export) == 56 && offsetof(pulleynavy_export, index) == 52, "layout");
+PULLEYNAVY_ASSERT(sizeof(pulleynavy_instruction) == 80 && offsetof(pulleynavy_instruction, bytes) == 64, "layout");
 PULLEYNAVY_ASSERT(sizeof(pulleynavy_expression) == 32 && offsetof(pulleynavy_expression, consumed) == 24, "layout");
 PULLEYNAVY_ASSERT(sizeof(pulleynavy_element) == 104 && offsetof(pulleynavy_element, count) == 96, "layout");
 PULLEYNAVY_ASSERT(sizeof(pulleynavy_data) == 72 && offsetof(pulleynavy_data, bytes) == 56, "layout");

@@ -16,10 +16,6 @@ started_text_at what p = do
   begin ← start_at what p.offset p
   text_at None begin.1
 
--- where a text is that ends where an item does
-abbrev pub started_span : (from to size : ℕ) → PlainSpan
-started_span from to size = record { at = to - from - size; size = size }
-
 -- an instance: the index of its module, before the lists of its memories and globals (Modules and Instances)
 unfoldable pub instance_head_at : Place → Outcome ℕ
 instance_head_at p = do

@@ -4,8 +4,8 @@ use Rattle.wasm_base.specs.Outcome.{Outcome}
 use Rattle.wasm_base.specs.Window.{Place}
 use Rattle.wasm_c.specs.Faults.{no_fault, plain_fault}
 use Rattle.wasm_custom.specs.Coredumps.{ValueParts}
-use Rattle.wasm_c.specs.CoreHeads.{FrameHead, core_bits, core_code, core_integer, started_span}
-use Rattle.wasm_c.specs.Spans.{no_span}
+use Rattle.wasm_c.specs.CoreHeads.{FrameHead, core_bits, core_code, core_integer}
+use Rattle.wasm_c.specs.Spans.{no_span, span_before}
 use Rattle.wasm_c.specs.declared.coredumps.PlainCoreProcess.{PlainCoreProcess}
 use Rattle.wasm_c.specs.declared.coredumps.PlainCoreModule.{PlainCoreModule}
 use Rattle.wasm_c.specs.declared.coredumps.PlainCoreInstance.{PlainCoreInstance}
@@ -14,67 +14,67 @@ use Rattle.wasm_c.specs.declared.coredumps.PlainCoreFrame.{PlainCoreFrame}
 use Rattle.wasm_c.specs.declared.coredumps.PlainCoreValue.{PlainCoreValue}
 
 -- the name of the process of a core dump
-abbrev pub plain_core_process : Place → Outcome (List ℕ) → PlainCoreProcess
-plain_core_process p (Ok x) = record {
+abbrev pub plain_core_process : (from : ℕ) → Place → Outcome (List ℕ) → PlainCoreProcess
+plain_core_process from p (Ok x) = record {
   fault = no_fault;
   consumed = x.1.offset - p.offset;
-  name = started_span p.offset x.1.offset (length x.0);
+  name = span_before from x.1.offset (length x.0);
 }
-plain_core_process p (Err f) = record {
+plain_core_process from p (Err f) = record {
   fault = plain_fault f;
   consumed = 0;
   name = no_span;
 }
 
 -- the name of a module of a core dump
-abbrev pub plain_core_module : Place → Outcome (List ℕ) → PlainCoreModule
-plain_core_module p (Ok x) = record {
+abbrev pub plain_core_module : (from : ℕ) → Place → Outcome (List ℕ) → PlainCoreModule
+plain_core_module from p (Ok x) = record {
   fault = no_fault;
   consumed = x.1.offset - p.offset;
-  name = started_span p.offset x.1.offset (length x.0);
+  name = span_before from x.1.offset (length x.0);
 }
-plain_core_module p (Err f) = record {
+plain_core_module from p (Err f) = record {
   fault = plain_fault f;
   consumed = 0;
   name = no_span;
 }
 
 -- the beginning of an instance of a core dump
-abbrev pub plain_core_instance : Place → Outcome ℕ → PlainCoreInstance
-plain_core_instance p (Ok x) = record {
+abbrev pub plain_core_instance : (from : ℕ) → Place → Outcome ℕ → PlainCoreInstance
+plain_core_instance from p (Ok x) = record {
   fault = no_fault;
   consumed = x.1.offset - p.offset;
   module_index = x.0;
 }
-plain_core_instance p (Err f) = record {
+plain_core_instance from p (Err f) = record {
   fault = plain_fault f;
   consumed = 0;
   module_index = 0;
 }
 
 -- the name of a thread of a core dump
-abbrev pub plain_core_thread : Place → Outcome (List ℕ) → PlainCoreThread
-plain_core_thread p (Ok x) = record {
+abbrev pub plain_core_thread : (from : ℕ) → Place → Outcome (List ℕ) → PlainCoreThread
+plain_core_thread from p (Ok x) = record {
   fault = no_fault;
   consumed = x.1.offset - p.offset;
-  name = started_span p.offset x.1.offset (length x.0);
+  name = span_before from x.1.offset (length x.0);
 }
-plain_core_thread p (Err f) = record {
+plain_core_thread from p (Err f) = record {
   fault = plain_fault f;
   consumed = 0;
   name = no_span;
 }
 
 -- the beginning of a frame of a core dump
-abbrev pub plain_core_frame : Place → Outcome FrameHead → PlainCoreFrame
-plain_core_frame p (Ok x) = record {
+abbrev pub plain_core_frame : (from : ℕ) → Place → Outcome FrameHead → PlainCoreFrame
+plain_core_frame from p (Ok x) = record {
   fault = no_fault;
   consumed = x.1.offset - p.offset;
   instance = x.0.instance;
   func = x.0.func;
   code_offset = x.0.code_offset;
 }
-plain_core_frame p (Err f) = record {
+plain_core_frame from p (Err f) = record {
   fault = plain_fault f;
   consumed = 0;
   instance = 0;
@@ -83,15 +83,15 @@ plain_core_frame p (Err f) = record {
 }
 
 -- a value of a core dump
-abbrev pub plain_core_value : Place → Outcome ValueParts → PlainCoreValue
-plain_core_value p (Ok x) = record {
+abbrev pub plain_core_value : (from : ℕ) → Place → Outcome ValueParts → PlainCoreValue
+plain_core_value from p (Ok x) = record {
   fault = no_fault;
   consumed = x.1.offset - p.offset;
   kind = core_code x.0;
   integer = core_integer x.0;
   bits = core_bits x.0;
 }
-plain_core_value p (Err f) = record {
+plain_core_value from p (Err f) = record {
   fault = plain_fault f;
   consumed = 0;
   kind = 0;

@@ -18,12 +18,12 @@ external_code Tag = 4
 external_code FuncExact = 5
 
 -- an export
-abbrev pub plain_export : Place → Outcome ExportParts → PlainExport
-plain_export p (Ok x) = record {
+abbrev pub plain_export : (from : ℕ) → Place → Outcome ExportParts → PlainExport
+plain_export from p (Ok x) = record {
   fault = no_fault;
   consumed = x.1.offset - p.offset;
-  name = text_span p.offset p (length x.0.name);
+  name = text_span from p (length x.0.name);
   kind = external_code x.0.kind;
   index = x.0.index;
 }
-plain_export p (Err f) = record { fault = plain_fault f; consumed = 0; name = no_span; kind = 0; index = 0 }
+plain_export from p (Err f) = record { fault = plain_fault f; consumed = 0; name = no_span; kind = 0; index = 0 }

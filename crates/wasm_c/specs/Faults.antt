@@ -1,6 +1,6 @@
 -- Faults as plain numbers.
-use Rattle.std.specs.Prelude.{◌≡◌, ℕ, ◌+◌, ◌*◌, Option, Some, None}
-use Rattle.wasm_base.specs.FaultAt.{FaultAt}
+use Rattle.std.specs.Prelude.{◌≡◌, ℕ, ◌+◌, ◌*◌, List, [], ◌∷◌, Option, Some, None}
+use Rattle.wasm_base.specs.FaultAt.{FaultAt, at_offset}
 use Rattle.wasm_base.specs.declared.fault.Fault.{Fault}
 use Rattle.wasm_base.specs.declared.fault.Fault.TheVariants.{OutOfMemory, UnexpectedEof, OffsetRange, BadMagic}
 use Rattle.wasm_base.specs.declared.fault.Fault.TheVariants.{UnknownVersion, MagicAtSection, MalformedSectionId}
@@ -128,3 +128,8 @@ plain_fault f = record {
 
 abbrev pub no_fault : PlainFault
 no_fault = record { kind = 0; has_number = 0; number = 0; offset = 0 }
+
+-- the fault of bytes that are left at an offset, or none
+abbrev pub end_fault : Fault → (left : List ℕ) → (offset : ℕ) → PlainFault
+end_fault fault [] offset = no_fault
+end_fault fault (b ∷ bs) offset = plain_fault (at_offset fault offset)

@@ -20,7 +20,7 @@ IsFinished old new = new ≡ record old { is_finished = 1 }
 
 -- The feeder's parser answered this on the bytes that were held, and then holds what is after those that it consumed.
 pub record StepsPlain (old : StoredFeed) (storage : List ℕ) (event : PlainEvent) (new : StoredFeed) : Type 0 where
-  pub parses : ParsesPlain (parser_of old.parser) (is_set old.is_finished) (held_in old storage) event
+  pub parses : ParsesPlain old.mark (parser_of old.parser) (is_set old.is_finished) (held_in old storage) event
       (parser_of new.parser)
   pub goes_on : held_in new storage ≡ drop event.consumed (held_in old storage)
   pub finished : new.is_finished ≡ old.is_finished

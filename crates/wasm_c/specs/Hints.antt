@@ -1,5 +1,5 @@
 -- Branch hints as plain numbers.
-use Rattle.std.specs.Prelude.{◌-◌, Ok, Err}
+use Rattle.std.specs.Prelude.{ℕ, ◌-◌, Ok, Err}
 use Rattle.wasm_base.specs.Outcome.{Outcome}
 use Rattle.wasm_base.specs.Window.{Place}
 use Rattle.wasm_c.specs.Faults.{no_fault, plain_fault}
@@ -10,15 +10,15 @@ use Rattle.wasm_c.specs.declared.hints.PlainHintedFunction.{PlainHintedFunction}
 use Rattle.wasm_c.specs.declared.hints.PlainBranchHint.{PlainBranchHint}
 
 -- a function that has hints
-abbrev pub plain_hinted_function : Place → Outcome BranchHintFunction → PlainHintedFunction
-plain_hinted_function p (Ok x) = record {
+abbrev pub plain_hinted_function : (from : ℕ) → Place → Outcome BranchHintFunction → PlainHintedFunction
+plain_hinted_function from p (Ok x) = record {
   fault = no_fault;
   consumed = x.1.offset - p.offset;
   func = x.0.func;
   count = x.0.hints.count;
-  hints = items_span p.offset x.0.hints;
+  hints = items_span from x.0.hints;
 }
-plain_hinted_function p (Err f) = record {
+plain_hinted_function from p (Err f) = record {
   fault = plain_fault f;
   consumed = 0;
   func = 0;
@@ -27,14 +27,14 @@ plain_hinted_function p (Err f) = record {
 }
 
 -- a hint
-abbrev pub plain_branch_hint : Place → Outcome BranchHint → PlainBranchHint
-plain_branch_hint p (Ok x) = record {
+abbrev pub plain_branch_hint : (from : ℕ) → Place → Outcome BranchHint → PlainBranchHint
+plain_branch_hint from p (Ok x) = record {
   fault = no_fault;
   consumed = x.1.offset - p.offset;
   func_offset = x.0.func_offset;
   taken = flag x.0.taken;
 }
-plain_branch_hint p (Err f) = record {
+plain_branch_hint from p (Err f) = record {
   fault = plain_fault f;
   consumed = 0;
   func_offset = 0;

@@ -1,6 +1,6 @@
 -- Imports as plain numbers.
 use Rattle.std.specs.Prelude.{ℕ, ◌-◌, List, length, Some, Ok, Err, nat_eq, if◌then◌else◌}
-use Rattle.wasm_base.specs.Name.{name_limit, text_at}
+use Rattle.wasm_base.specs.Name.{name_limit, text_at, window_at}
 use Rattle.wasm_base.specs.Outcome.{Outcome}
 use Rattle.wasm_base.specs.Window.{Place}
 use Rattle.wasm_items.specs.Imports.{Bundle, ItemParts, item_at, single, of_module, of_type}
@@ -9,7 +9,8 @@ use Rattle.wasm_items.specs.declared.imports.TypeRef.TheVariants.{Func, Table, M
 use Rattle.wasm_c.specs.Faults.{no_fault, plain_fault}
 use Rattle.wasm_c.specs.Kinds.{no_global_type, no_memory_type, no_table_type, plain_global_type, plain_memory_type}
 use Rattle.wasm_c.specs.Kinds.{plain_table_type}
-use Rattle.wasm_c.specs.Spans.{items_span, no_span, place_over, read_over, text_after, text_span}
+use Rattle.wasm_c.specs.Readable.{item_over}
+use Rattle.wasm_c.specs.Spans.{items_span, no_span, text_after, text_span}
 use Rattle.wasm_c.specs.declared.imports.PlainImport.{PlainImport}
 use Rattle.wasm_c.specs.declared.imports.PlainImportItem.{PlainImportItem}
 use Rattle.wasm_c.specs.declared.imports.PlainImportType.{PlainImportType}
@@ -47,69 +48,69 @@ no_import = record {
 }
 
 -- an import, or the beginning of a bundle, that takes so many bytes from a place on
-abbrev pub import_from : Place → (consumed : ℕ) → Bundle → PlainImport
-import_from p consumed (single offset one) = record no_import {
+abbrev pub import_from : (from : ℕ) → Place → (consumed : ℕ) → Bundle → PlainImport
+import_from from p consumed (single offset one) = record no_import {
   consumed = consumed;
-  module_name = text_span p.offset p (length one.from);
-  name = text_after p.offset (length one.name) (text_at (Some name_limit) p);
+  module_name = text_span from p (length one.from);
+  name = text_after from (length one.name) (window_at p);
   ty = plain_import_type one.ty;
   count = 1;
 }
-import_from p consumed (of_module from items) = record no_import {
+import_from from p consumed (of_module origin items) = record no_import {
   consumed = consumed;
-  module_name = text_span p.offset p (length from);
-  items = items_span p.offset items;
+  module_name = text_span from p (length origin);
+  items = items_span from items;
   kind = 1;
   count = items.count;
 }
-import_from p consumed (of_type from ty names) = record no_import {
+import_from from p consumed (of_type origin ty names) = record no_import {
   consumed = consumed;
-  module_name = text_span p.offset p (length from);
+  module_name = text_span from p (length origin);
   ty = plain_import_type ty;
-  items = items_span p.offset names;
+  items = items_span from names;
   kind = 2;
   count = names.count;
 }
 
 -- an import, or a bundle of imports
-abbrev pub plain_import : Place → Outcome Bundle → PlainImport
-plain_import p (Ok x) = import_from p (x.1.offset - p.offset) x.0
-plain_import p (Err f) = record no_import { fault = plain_fault f }
+abbrev pub plain_import : (from : ℕ) → Place → Outcome Bundle → PlainImport
+plain_import from p (Ok x) = import_from from p (x.1.offset - p.offset) x.0
+plain_import from p (Err f) = record no_import { fault = plain_fault f }
 
 -- an import of a bundle of one module
-abbrev pub plain_import_item : Place → Outcome ItemParts → PlainImportItem
-plain_import_item p (Ok x) = record {
+abbrev pub plain_import_item : (from : ℕ) → Place → Outcome ItemParts → PlainImportItem
+plain_import_item from p (Ok x) = record {
   fault = no_fault;
   consumed = x.1.offset - p.offset;
-  name = text_span p.offset p (length x.0.name);
+  name = text_span from p (length x.0.name);
   ty = plain_import_type x.0.ty;
 }
-plain_import_item p (Err f) =
+plain_import_item from p (Err f) =
     record { fault = plain_fault f; consumed = 0; name = no_span; ty = indexed_type 0 0 }
 
 -- a name
-abbrev pub plain_name : Place → Outcome (List ℕ) → PlainName
-plain_name p (Ok x) = record {
+abbrev pub plain_name : (from : ℕ) → Place → Outcome (List ℕ) → PlainName
+plain_name from p (Ok x) = record {
   fault = no_fault;
   consumed = x.1.offset - p.offset;
-  name = text_span p.offset p (length x.0);
+  name = text_span from p (length x.0);
 }
-plain_name p (Err f) = record { fault = plain_fault f; consumed = 0; name = no_span }
+plain_name from p (Err f) = record { fault = plain_fault f; consumed = 0; name = no_span }
 
 -- an import that is a name, and has the type of its bundle
-abbrev pub plain_named : PlainImportType → Place → Outcome (List ℕ) → PlainImportItem
-plain_named ty p (Ok x) = record {
+abbrev pub plain_named : PlainImportType → (from : ℕ) → Place → Outcome (List ℕ) → PlainImportItem
+plain_named ty from p (Ok x) = record {
   fault = no_fault;
   consumed = x.1.offset - p.offset;
-  name = text_span p.offset p (length x.0);
+  name = text_span from p (length x.0);
   ty = ty;
 }
-plain_named ty p (Err f) = plain_import_item p (Err f)
+plain_named ty from p (Err f) = plain_import_item from p (Err f)
 
 -- an import of a bundle where these bytes begin: a name of one type's bundle, and else a name and what it is
 abbrev pub bundled_over : PlainImport → (features offset : ℕ) → List ℕ → PlainImportItem
 bundled_over bundle features offset bytes =
     if nat_eq bundle.kind 2
-    then plain_named bundle.ty (place_over features offset bytes)
-    (read_over (text_at (Some name_limit)) features offset bytes)
-    else plain_import_item (place_over features offset bytes) (read_over item_at features offset bytes)
+    then item_over (plain_named bundle.ty) (text_at (Some name_limit)) features offset bytes
+    else
+    item_over plain_import_item item_at features offset bytes

@@ -79,35 +79,52 @@ init_span from RefNull = no_span
 init_span from (Expr e) = window_span from (expression_window e)
 
 -- a table
-abbrev pub plain_table : Place → Outcome Table → PlainTable
-plain_table p (Ok x) = record {
+abbrev pub plain_table : (from : ℕ) → Place → Outcome Table → PlainTable
+plain_table from p (Ok x) = record {
   fault = no_fault;
   consumed = x.1.offset - p.offset;
   ty = plain_table_type x.0.ty;
-  init = init_span p.offset x.0.init;
+  init = init_span from x.0.init;
   has_init = has_expression x.0.init;
 }
-plain_table p (Err f) =
+plain_table from p (Err f) =
     record { fault = plain_fault f; consumed = 0; ty = no_table_type; init = no_span; has_init = 0 }
 
 -- a memory
-abbrev pub plain_memory : Place → Outcome MemoryType → PlainMemory
-plain_memory p (Ok x) =
+abbrev pub plain_memory : (from : ℕ) → Place → Outcome MemoryType → PlainMemory
+plain_memory from p (Ok x) =
     record { fault = no_fault; consumed = x.1.offset - p.offset; ty = plain_memory_type x.0 }
-plain_memory p (Err f) = record { fault = plain_fault f; consumed = 0; ty = no_memory_type }
+plain_memory from p (Err f) = record { fault = plain_fault f; consumed = 0; ty = no_memory_type }
 
 -- a tag
-abbrev pub plain_tag : Place → Outcome TagType → PlainTag
-plain_tag p (Ok x) =
+abbrev pub plain_tag : (from : ℕ) → Place → Outcome TagType → PlainTag
+plain_tag from p (Ok x) =
     record { fault = no_fault; consumed = x.1.offset - p.offset; func_type_index = x.0.func_type_idx }
-plain_tag p (Err f) = record { fault = plain_fault f; consumed = 0; func_type_index = 0 }
+plain_tag from p (Err f) = record { fault = plain_fault f; consumed = 0; func_type_index = 0 }
 
 -- a global
-abbrev pub plain_global : Place → Outcome Global → PlainGlobal
-plain_global p (Ok x) = record {
+abbrev pub plain_global : (from : ℕ) → Place → Outcome Global → PlainGlobal
+plain_global from p (Ok x) = record {
   fault = no_fault;
   consumed = x.1.offset - p.offset;
   ty = plain_global_type x.0.ty;
-  init = window_span p.offset (expression_window x.0.init_expr);
+  init = window_span from (expression_window x.0.init_expr);
 }
-plain_global p (Err f) = record { fault = plain_fault f; consumed = 0; ty = no_global_type; init = no_span }
+plain_global from p (Err f) = record { fault = plain_fault f; consumed = 0; ty = no_global_type; init = no_span }
+
+-- a table type alone
+abbrev pub plain_table_alone : (from : ℕ) → Place → Outcome TableType → PlainTable
+plain_table_alone from p (Ok x) = record {
+  fault = no_fault;
+  consumed = x.1.offset - p.offset;
+  ty = plain_table_type x.0;
+  init = no_span;
+  has_init = 0;
+}
+plain_table_alone from p (Err f) = plain_table from p (Err f)
+
+-- a global type alone
+abbrev pub plain_global_alone : (from : ℕ) → Place → Outcome GlobalType → PlainGlobal
+plain_global_alone from p (Ok x) =
+    record { fault = no_fault; consumed = x.1.offset - p.offset; ty = plain_global_type x.0; init = no_span }
+plain_global_alone from p (Err f) = plain_global from p (Err f)

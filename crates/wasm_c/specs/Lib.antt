@@ -1,6 +1,7 @@
 pub mod CoreHeads
 pub mod CoreParts
 pub mod Coredumps
+pub mod Cursors
 pub mod Customs
 pub mod Dylink
 pub mod Events
@@ -9,10 +10,13 @@ pub mod Faults
 pub mod Feeds
 pub mod Hints
 pub mod Imports
+pub mod Instructions
 pub mod Kinds
 pub mod Linking
 pub mod Names
+pub mod Numbers
 pub mod Producers
+pub mod Readable
 pub mod Relocations
 pub mod Segments
 pub mod Spans

@@ -23,15 +23,15 @@ comdat_code Table = 4
 comdat_code Section = 5
 
 -- a segment
-abbrev pub plain_linking_segment : Place → Outcome SegmentParts → PlainLinkingSegment
-plain_linking_segment p (Ok x) = record {
+abbrev pub plain_linking_segment : (from : ℕ) → Place → Outcome SegmentParts → PlainLinkingSegment
+plain_linking_segment from p (Ok x) = record {
   fault = no_fault;
   consumed = x.1.offset - p.offset;
-  name = text_span p.offset p (length x.0.name);
+  name = text_span from p (length x.0.name);
   alignment = x.0.alignment;
   flags = x.0.flags;
 }
-plain_linking_segment p (Err f) = record {
+plain_linking_segment from p (Err f) = record {
   fault = plain_fault f;
   consumed = 0;
   name = no_span;
@@ -40,14 +40,14 @@ plain_linking_segment p (Err f) = record {
 }
 
 -- a function that is called at first
-abbrev pub plain_init_function : Place → Outcome InitFunc → PlainInitFunction
-plain_init_function p (Ok x) = record {
+abbrev pub plain_init_function : (from : ℕ) → Place → Outcome InitFunc → PlainInitFunction
+plain_init_function from p (Ok x) = record {
   fault = no_fault;
   consumed = x.1.offset - p.offset;
   priority = x.0.priority;
   symbol = x.0.symbol_index;
 }
-plain_init_function p (Err f) = record {
+plain_init_function from p (Err f) = record {
   fault = plain_fault f;
   consumed = 0;
   priority = 0;
@@ -55,16 +55,16 @@ plain_init_function p (Err f) = record {
 }
 
 -- a comdat
-abbrev pub plain_comdat : Place → Outcome ComdatParts → PlainComdat
-plain_comdat p (Ok x) = record {
+abbrev pub plain_comdat : (from : ℕ) → Place → Outcome ComdatParts → PlainComdat
+plain_comdat from p (Ok x) = record {
   fault = no_fault;
   consumed = x.1.offset - p.offset;
-  name = text_span p.offset p (length x.0.name);
+  name = text_span from p (length x.0.name);
   flags = x.0.flags;
   count = x.0.symbols.count;
-  symbols = items_span p.offset x.0.symbols;
+  symbols = items_span from x.0.symbols;
 }
-plain_comdat p (Err f) = record {
+plain_comdat from p (Err f) = record {
   fault = plain_fault f;
   consumed = 0;
   name = no_span;
@@ -74,14 +74,14 @@ plain_comdat p (Err f) = record {
 }
 
 -- a symbol of a comdat
-abbrev pub plain_comdat_symbol : Place → Outcome ComdatSymbol → PlainComdatSymbol
-plain_comdat_symbol p (Ok x) = record {
+abbrev pub plain_comdat_symbol : (from : ℕ) → Place → Outcome ComdatSymbol → PlainComdatSymbol
+plain_comdat_symbol from p (Ok x) = record {
   fault = no_fault;
   consumed = x.1.offset - p.offset;
   kind = comdat_code x.0.kind;
   index = x.0.index;
 }
-plain_comdat_symbol p (Err f) = record {
+plain_comdat_symbol from p (Err f) = record {
   fault = plain_fault f;
   consumed = 0;
   kind = 0;

@@ -13,15 +13,19 @@ use Rattle.wasm_c.specs.declared.names.PlainSubsection.{PlainSubsection}
 use Rattle.wasm_c.specs.declared.names.PlainIndirectNaming.{PlainIndirectNaming}
 use Rattle.wasm_c.specs.declared.names.PlainNaming.{PlainNaming}
 
--- a subsection
-abbrev pub plain_subsection : Place → Outcome (ℕ × Window) → PlainSubsection
-plain_subsection p (Ok x) = record {
+-- a subsection of so many bytes
+abbrev pub subsection_from : (from consumed id : ℕ) → Window → PlainSubsection
+subsection_from from consumed id window = record {
   fault = no_fault;
-  consumed = x.1.offset - p.offset;
-  id = x.0.0;
-  contents = window_span p.offset x.0.1;
+  consumed = consumed;
+  id = id;
+  contents = window_span from window;
 }
-plain_subsection p (Err f) = record {
+
+-- a subsection
+abbrev pub plain_subsection : (from : ℕ) → Place → Outcome (ℕ × Window) → PlainSubsection
+plain_subsection from p (Ok x) = subsection_from from (x.1.offset - p.offset) x.0.0 x.0.1
+plain_subsection from p (Err f) = record {
   fault = plain_fault f;
   consumed = 0;
   id = 0;
@@ -29,14 +33,14 @@ plain_subsection p (Err f) = record {
 }
 
 -- an index and its name
-abbrev pub plain_naming : Place → Outcome NamingParts → PlainNaming
-plain_naming p (Ok x) = record {
+abbrev pub plain_naming : (from : ℕ) → Place → Outcome NamingParts → PlainNaming
+plain_naming from p (Ok x) = record {
   fault = no_fault;
   consumed = x.1.offset - p.offset;
   index = x.0.index;
-  name = text_after p.offset (length x.0.name) (unsigned_at VarU32 p);
+  name = text_after from (length x.0.name) (unsigned_at VarU32 p);
 }
-plain_naming p (Err f) = record {
+plain_naming from p (Err f) = record {
   fault = plain_fault f;
   consumed = 0;
   index = 0;
@@ -54,10 +58,10 @@ indirect_from from consumed index names = record {
 }
 
 -- an index and the names of what it has
-abbrev pub plain_indirect : Place → Outcome IndirectNaming → PlainIndirectNaming
-plain_indirect p (Ok x) = indirect_from p.offset (x.1.offset - p.offset) x.0.index
+abbrev pub plain_indirect : (from : ℕ) → Place → Outcome IndirectNaming → PlainIndirectNaming
+plain_indirect from p (Ok x) = indirect_from from (x.1.offset - p.offset) x.0.index
     (record { reader = x.0.names.entries.reader; count = x.0.names.entries.count })
-plain_indirect p (Err f) = record {
+plain_indirect from p (Err f) = record {
   fault = plain_fault f;
   consumed = 0;
   index = 0;

@@ -1,24 +1,24 @@
 -- What a module was produced with, as plain numbers.
-use Rattle.std.specs.Prelude.{◌-◌, length, None, Ok, Err}
+use Rattle.std.specs.Prelude.{ℕ, ◌-◌, length, None, Ok, Err}
 use Rattle.wasm_base.specs.Outcome.{Outcome}
 use Rattle.wasm_base.specs.Window.{Place}
 use Rattle.wasm_c.specs.Faults.{no_fault, plain_fault}
-use Rattle.wasm_base.specs.Name.{text_at}
+use Rattle.wasm_base.specs.Name.{window_at}
 use Rattle.wasm_custom.specs.Producers.{FieldParts, ValueParts}
 use Rattle.wasm_c.specs.Spans.{items_span, no_span, text_after, text_span}
 use Rattle.wasm_c.specs.declared.producers.PlainProducersField.{PlainProducersField}
 use Rattle.wasm_c.specs.declared.producers.PlainProducersValue.{PlainProducersValue}
 
 -- a field
-abbrev pub plain_producers_field : Place → Outcome FieldParts → PlainProducersField
-plain_producers_field p (Ok x) = record {
+abbrev pub plain_producers_field : (from : ℕ) → Place → Outcome FieldParts → PlainProducersField
+plain_producers_field from p (Ok x) = record {
   fault = no_fault;
   consumed = x.1.offset - p.offset;
-  name = text_span p.offset p (length x.0.name);
+  name = text_span from p (length x.0.name);
   count = x.0.values.count;
-  values = items_span p.offset x.0.values;
+  values = items_span from x.0.values;
 }
-plain_producers_field p (Err f) = record {
+plain_producers_field from p (Err f) = record {
   fault = plain_fault f;
   consumed = 0;
   name = no_span;
@@ -27,14 +27,14 @@ plain_producers_field p (Err f) = record {
 }
 
 -- a value
-abbrev pub plain_producers_value : Place → Outcome ValueParts → PlainProducersValue
-plain_producers_value p (Ok x) = record {
+abbrev pub plain_producers_value : (from : ℕ) → Place → Outcome ValueParts → PlainProducersValue
+plain_producers_value from p (Ok x) = record {
   fault = no_fault;
   consumed = x.1.offset - p.offset;
-  name = text_span p.offset p (length x.0.name);
-  version = text_after p.offset (length x.0.version) (text_at None p);
+  name = text_span from p (length x.0.name);
+  version = text_after from (length x.0.version) (window_at p);
 }
-plain_producers_value p (Err f) = record {
+plain_producers_value from p (Err f) = record {
   fault = plain_fault f;
   consumed = 0;
   name = no_span;

@@ -1,5 +1,5 @@
 -- Relocations as plain numbers.
-use Rattle.std.specs.Prelude.{◌-◌, Ok, Err, pos}
+use Rattle.std.specs.Prelude.{ℕ, ◌-◌, Ok, Err, pos}
 use Rattle.wasm_base.specs.Outcome.{Outcome}
 use Rattle.wasm_base.specs.Window.{Place}
 use Rattle.wasm_c.specs.Faults.{no_fault, plain_fault}
@@ -8,8 +8,8 @@ use Rattle.wasm_custom.specs.declared.reloc.RelocationEntry.{RelocationEntry}
 use Rattle.wasm_c.specs.declared.relocations.PlainRelocation.{PlainRelocation}
 
 -- a relocation
-abbrev pub plain_relocation : Place → Outcome RelocationEntry → PlainRelocation
-plain_relocation p (Ok x) = record {
+abbrev pub plain_relocation : (from : ℕ) → Place → Outcome RelocationEntry → PlainRelocation
+plain_relocation from p (Ok x) = record {
   fault = no_fault;
   consumed = x.1.offset - p.offset;
   kind = number_of x.0.ty;
@@ -18,7 +18,7 @@ plain_relocation p (Ok x) = record {
   index = x.0.index;
   addend = x.0.addend;
 }
-plain_relocation p (Err f) = record {
+plain_relocation from p (Err f) = record {
   fault = plain_fault f;
   consumed = 0;
   kind = 0;

@@ -15,7 +15,7 @@ use Rattle.wasm_items.specs.declared.elements.ElementKind.{ElementKind}
 use Rattle.wasm_items.specs.declared.elements.ElementKind.TheVariants.{Passive, Active, Declared}
 use Rattle.wasm_items.specs.declared.types.RefType.{RefType}
 use Rattle.wasm_c.specs.Faults.{no_fault, number_flag, number_or_0, plain_fault}
-use Rattle.wasm_c.specs.Spans.{items_span, no_span, window_span}
+use Rattle.wasm_c.specs.Spans.{items_span, no_span, span_before, window_span}
 use Rattle.wasm_c.specs.Values.{plain_ref, simple_type}
 use Rattle.wasm_c.specs.declared.segments.PlainData.{PlainData}
 use Rattle.wasm_c.specs.declared.segments.PlainElement.{PlainElement}
@@ -23,9 +23,9 @@ use Rattle.wasm_c.specs.declared.segments.PlainExpression.{PlainExpression}
 use Rattle.wasm_c.specs.declared.spans.PlainSpan.{PlainSpan}
 
 -- a constant expression, whose bytes are those that it takes
-abbrev pub plain_expression : Place → Outcome Window → PlainExpression
-plain_expression p (Ok x) = record { fault = no_fault; consumed = x.1.offset - p.offset }
-plain_expression p (Err f) = record { fault = plain_fault f; consumed = 0 }
+abbrev pub plain_expression : (from : ℕ) → Place → Outcome Window → PlainExpression
+plain_expression from p (Ok x) = record { fault = no_fault; consumed = x.1.offset - p.offset }
+plain_expression from p (Err f) = record { fault = plain_fault f; consumed = 0 }
 
 abbrev pub element_code : ElementKind → ℕ
 element_code Passive = 0
@@ -71,9 +71,9 @@ element_from from consumed e = record {
 }
 
 -- an element segment
-abbrev pub plain_element : Place → Outcome Element → PlainElement
-plain_element p (Ok x) = element_from p.offset (x.1.offset - p.offset) x.0
-plain_element p (Err f) = record {
+abbrev pub plain_element : (from : ℕ) → Place → Outcome Element → PlainElement
+plain_element from p (Ok x) = element_from from (x.1.offset - p.offset) x.0
+plain_element from p (Err f) = record {
   fault = plain_fault f;
   consumed = 0;
   kind = 0;
@@ -99,16 +99,16 @@ data_offset from Datas.Passive = no_span
 data_offset from (Datas.Active memory offset) = window_span from (expression_window offset)
 
 -- a data segment, whose bytes come last
-abbrev pub plain_data : Place → Outcome DataParts → PlainData
-plain_data p (Ok x) = record {
+abbrev pub plain_data : (from : ℕ) → Place → Outcome DataParts → PlainData
+plain_data from p (Ok x) = record {
   fault = no_fault;
   consumed = x.1.offset - p.offset;
   kind = data_code x.0.kind;
   memory = data_memory x.0.kind;
-  offset_expression = data_offset p.offset x.0.kind;
-  bytes = record { at = x.0.end - x.0.start - length x.0.bytes; size = length x.0.bytes };
+  offset_expression = data_offset from x.0.kind;
+  bytes = span_before from x.0.end (length x.0.bytes);
 }
-plain_data p (Err f) = record {
+plain_data from p (Err f) = record {
   fault = plain_fault f;
   consumed = 0;
   kind = 0;

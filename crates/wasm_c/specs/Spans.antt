@@ -37,6 +37,10 @@ items_span from s = record {
   size = (range_of s.reader).end - (place s.reader).offset;
 }
 
+-- where bytes are that end at an offset
+abbrev pub span_before : (from to size : ℕ) → PlainSpan
+span_before from to size = record { at = to - from - size; size = size }
+
 -- how many bytes are before what a number is the size of
 abbrev pub after_size : (from : ℕ) → Outcome ℕ → ℕ
 after_size from (Ok size) = size.1.offset - from

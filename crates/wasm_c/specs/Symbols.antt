@@ -9,7 +9,7 @@ use Rattle.wasm_base.specs.declared.fault.NumberKind.TheVariants.{VarU32}
 use Rattle.wasm_custom.specs.Linking.{SymbolParts, indexed, data_symbol, section_symbol}
 use Rattle.wasm_custom.specs.declared.linking.DefinedDataSymbol.{DefinedDataSymbol}
 use Rattle.wasm_c.specs.Faults.{no_fault, plain_fault}
-use Rattle.wasm_c.specs.Spans.{no_span, text_after}
+use Rattle.wasm_c.specs.Spans.{no_span, span_before, text_after}
 use Rattle.wasm_c.specs.declared.spans.PlainSpan.{PlainSpan}
 use Rattle.wasm_c.specs.declared.symbols.PlainSymbol.{PlainSymbol}
 
@@ -40,23 +40,19 @@ no_symbol = record {
   data_size = 0;
 }
 
--- a text that is the last part of a symbol of so many bytes, if it is there
-abbrev pub last_span : (consumed : ℕ) → Option (List ℕ) → PlainSpan
-last_span consumed None = no_span
-last_span consumed (Some text) = record { at = consumed - length text; size = length text }
+-- whether there is a name, and where it is as the last part of a symbol that ends at an offset
+abbrev pub name_parts : (from to : ℕ) → Option (List ℕ) → ℕ × PlainSpan
+name_parts from to None = (0, no_span)
+name_parts from to (Some text) = (1, span_before from to (length text))
 
-abbrev pub name_flag : Option (List ℕ) → ℕ
-name_flag None = 0
-name_flag (Some text) = 1
-
-abbrev pub indexed_symbol : (consumed kind flags index : ℕ) → Option (List ℕ) → PlainSymbol
+abbrev pub indexed_symbol : (consumed kind flags index : ℕ) → (name : ℕ × PlainSpan) → PlainSymbol
 indexed_symbol consumed kind flags index name = record no_symbol {
   consumed = consumed;
-  name = last_span consumed name;
+  name = name.1;
   kind = kind;
   flags = flags;
   index = index;
-  has_name = name_flag name;
+  has_name = name.0;
 }
 
 -- a data symbol, and where it is if it is defined here
@@ -69,15 +65,16 @@ abbrev pub named_symbol : (consumed flags : ℕ) → PlainSpan → PlainSymbol
 named_symbol consumed flags name =
     record no_symbol { consumed = consumed; name = name; kind = 1; flags = flags; has_name = 1 }
 
--- a symbol of so many bytes at a place
-abbrev pub symbol_from : Place → (consumed : ℕ) → SymbolParts → PlainSymbol
-symbol_from p consumed (indexed kind flags index name) = indexed_symbol consumed kind flags index name
-symbol_from p consumed (data_symbol flags name symbol) =
-    placed_symbol (named_symbol consumed flags (text_after p.offset (length name) (flags_at p))) symbol
-symbol_from p consumed (section_symbol flags section) =
-    record no_symbol { consumed = consumed; kind = 3; flags = flags; index = section }
+-- a symbol at a place that ends at an offset
+abbrev pub symbol_from : (from : ℕ) → Place → (to : ℕ) → SymbolParts → PlainSymbol
+symbol_from from p to (indexed kind flags index name) =
+    indexed_symbol (to - p.offset) kind flags index (name_parts from to name)
+symbol_from from p to (data_symbol flags name symbol) =
+    placed_symbol (named_symbol (to - p.offset) flags (text_after from (length name) (flags_at p))) symbol
+symbol_from from p to (section_symbol flags section) =
+    record no_symbol { consumed = to - p.offset; kind = 3; flags = flags; index = section }
 
 -- a symbol
-abbrev pub plain_symbol : Place → Outcome SymbolParts → PlainSymbol
-plain_symbol p (Ok x) = symbol_from p (x.1.offset - p.offset) x.0
-plain_symbol p (Err f) = record no_symbol { fault = plain_fault f }
+abbrev pub plain_symbol : (from : ℕ) → Place → Outcome SymbolParts → PlainSymbol
+plain_symbol from p (Ok x) = symbol_from from p x.1.offset x.0
+plain_symbol from p (Err f) = record no_symbol { fault = plain_fault f }

@@ -76,18 +76,18 @@ subtype_head_at p = do
       else plain_head_at p
 
 -- the beginning of a group
-abbrev pub plain_type_group : Place → Outcome GroupHead → PlainTypeGroup
-plain_type_group p (Ok x) = record {
+abbrev pub plain_type_group : (from : ℕ) → Place → Outcome GroupHead → PlainTypeGroup
+plain_type_group from p (Ok x) = record {
   fault = no_fault;
   consumed = x.1.offset - p.offset;
   is_explicit = flag x.0.explicit;
   count = x.0.count;
 }
-plain_type_group p (Err f) = record { fault = plain_fault f; consumed = 0; is_explicit = 0; count = 0 }
+plain_type_group from p (Err f) = record { fault = plain_fault f; consumed = 0; is_explicit = 0; count = 0 }
 
 -- the beginning of a subtype
-abbrev pub plain_subtype : Place → Outcome SubtypeHead → PlainSubtype
-plain_subtype p (Ok x) = record {
+abbrev pub plain_subtype : (from : ℕ) → Place → Outcome SubtypeHead → PlainSubtype
+plain_subtype from p (Ok x) = record {
   fault = no_fault;
   consumed = x.1.offset - p.offset;
   is_final = flag x.0.final;
@@ -96,7 +96,7 @@ plain_subtype p (Ok x) = record {
   kind = x.0.composite.kind;
   count = x.0.composite.count;
 }
-plain_subtype p (Err f) = record {
+plain_subtype from p (Err f) = record {
   fault = plain_fault f;
   consumed = 0;
   is_final = 0;

@@ -1,5 +1,5 @@
 -- Types of values as plain numbers.
-use Rattle.std.specs.Prelude.{ℕ, ◌-◌, Ok, Err}
+use Rattle.std.specs.Prelude.{ℕ, ◌-◌, false, Ok, Err}
 use Rattle.wasm_base.specs.Outcome.{Outcome}
 use Rattle.wasm_base.specs.Window.{Place}
 use Rattle.wasm_items.specs.declared.types.FieldType.{FieldType}
@@ -13,7 +13,6 @@ use Rattle.wasm_items.specs.declared.types.ValType.TheVariants.{I32, I64, F32, F
 use Rattle.wasm_c.specs.Faults.{no_fault, plain_fault}
 use Rattle.wasm_c.specs.Spans.{flag}
 use Rattle.wasm_c.specs.declared.values.PlainField.{PlainField}
-use Rattle.wasm_c.specs.declared.values.PlainNumber.{PlainNumber}
 use Rattle.wasm_c.specs.declared.values.PlainType.{PlainType}
 use Rattle.wasm_c.specs.declared.values.PlainValue.{PlainValue}
 
@@ -57,22 +56,30 @@ plain_storage I8 = simple_type 6
 plain_storage I16 = simple_type 7
 plain_storage (Val value) = plain_type value
 
--- an index, a count or a size
-abbrev pub plain_number : Place → Outcome ℕ → PlainNumber
-plain_number p (Ok x) = record { fault = no_fault; consumed = x.1.offset - p.offset; value = x.0 }
-plain_number p (Err f) = record { fault = plain_fault f; consumed = 0; value = 0 }
-
 -- a value type
-abbrev pub plain_value : Place → Outcome ValType → PlainValue
-plain_value p (Ok x) = record { fault = no_fault; consumed = x.1.offset - p.offset; ty = plain_type x.0 }
-plain_value p (Err f) = record { fault = plain_fault f; consumed = 0; ty = simple_type 0 }
+abbrev pub plain_value : (from : ℕ) → Place → Outcome ValType → PlainValue
+plain_value from p (Ok x) = record { fault = no_fault; consumed = x.1.offset - p.offset; ty = plain_type x.0 }
+plain_value from p (Err f) = record { fault = plain_fault f; consumed = 0; ty = simple_type 0 }
+
+-- a heap type, as a reference that is not nullable
+abbrev pub plain_heap : HeapType → PlainType
+plain_heap heap = plain_ref (record { nullable = false; heap = heap })
+
+abbrev pub plain_heap_type : (from : ℕ) → Place → Outcome HeapType → PlainValue
+plain_heap_type from p (Ok x) = record { fault = no_fault; consumed = x.1.offset - p.offset; ty = plain_heap x.0 }
+plain_heap_type from p (Err f) = plain_value from p (Err f)
+
+-- a reference type
+abbrev pub plain_reference_type : (from : ℕ) → Place → Outcome RefType → PlainValue
+plain_reference_type from p (Ok x) = record { fault = no_fault; consumed = x.1.offset - p.offset; ty = plain_ref x.0 }
+plain_reference_type from p (Err f) = plain_value from p (Err f)
 
 -- a field
-abbrev pub plain_field : Place → Outcome FieldType → PlainField
-plain_field p (Ok x) = record {
+abbrev pub plain_field : (from : ℕ) → Place → Outcome FieldType → PlainField
+plain_field from p (Ok x) = record {
   fault = no_fault;
   consumed = x.1.offset - p.offset;
   ty = plain_storage x.0.storage;
   is_mutable = flag x.0.mutable;
 }
-plain_field p (Err f) = record { fault = plain_fault f; consumed = 0; ty = simple_type 0; is_mutable = 0 }
+plain_field from p (Err f) = record { fault = plain_fault f; consumed = 0; ty = simple_type 0; is_mutable = 0 }

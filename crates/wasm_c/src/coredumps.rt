@@ -1,20 +1,20 @@
 // Core dumps as plain numbers.
-ghost use Rattle.std.specs.Prelude.{◌≡◌, []};
-ghost use Rattle.wasm_base.specs.FaultAt.{fault_at};
-ghost use Rattle.wasm_base.specs.Window.{place};
-ghost use Rattle.wasm_c.specs.Spans.{place_over, read_over};
-ghost use Rattle.std.specs.Prelude.{◌-◌, ◌+◌};
+ghost use Rattle.wasm_c.specs.Cursors.{StoresItems, next_by};
+ghost use Rattle.std.specs.Prelude.{List, ℕ, ◌≡◌};
 ghost use Rattle.wasm_base.specs.Outcome.{GivesBy};
 ghost use Rattle.wasm_base.specs.Window.{KeepsWindow};
-ghost use Rattle.wasm_base.specs.declared.fault.CoreStart.TheVariants as Starts;
-ghost use Rattle.wasm_custom.specs.Coredumps.{module_at, start_at, value_at, value_parts};
+ghost use Rattle.wasm_c.specs.CoreHeads.{FrameHead, core_bits, core_code, core_integer, frame_head_at, instance_head_at, started_text_at};
 ghost use Rattle.wasm_c.specs.CoreParts.{frame_parts};
-ghost use Rattle.wasm_c.specs.CoreHeads.{core_bits, core_code, core_integer, frame_head_at, instance_head_at, started_span, started_text_at};
 ghost use Rattle.wasm_c.specs.Coredumps.{plain_core_frame, plain_core_instance, plain_core_module, plain_core_process, plain_core_thread, plain_core_value};
+ghost use Rattle.wasm_c.specs.Readable.{item_over};
+ghost use Rattle.wasm_custom.specs.Coredumps.{ValueParts, module_at, start_at, value_at, value_parts};
+ghost use Rattle.wasm_base.specs.declared.fault.CoreStart.TheVariants as Starts;
 
+use crate::cursors::{Counted, StoredItems, store_items};
 use crate::faults::{NO_FAULT, PlainFault, plain_fault};
-use crate::spans::{NO_SPAN, PlainSpan, distance, out_of_range, reader_over};
-use wasm_parser::{BinaryReader, CoreDumpValue, CoreStart, Error, Fault, FromReader, Result, fits};
+use crate::readable::{Readable, read_at};
+use crate::spans::{NO_SPAN, PlainSpan, distance, span_before};
+use wasm_parser::{BinaryReader, CoreDumpValue, CoreStart, Error, Fault, FromReader, Result};
 
 /// The name of the process of a core dump, or its fault.
 #[repr(C)]
@@ -23,7 +23,7 @@ pub struct PlainCoreProcess {
     /// The fault, whose kind is 0 where there is none.
     pub fault: PlainFault,
     /// How many bytes it takes.
-    pub consumed: u64,
+    pub consumed: usize,
     /// The name, which is UTF-8.
     pub name: PlainSpan,
 }
@@ -35,7 +35,7 @@ pub struct PlainCoreModule {
     /// The fault, whose kind is 0 where there is none.
     pub fault: PlainFault,
     /// How many bytes it takes.
-    pub consumed: u64,
+    pub consumed: usize,
     /// The name, which is UTF-8.
     pub name: PlainSpan,
 }
@@ -47,7 +47,7 @@ pub struct PlainCoreInstance {
     /// The fault, whose kind is 0 where there is none.
     pub fault: PlainFault,
     /// How many bytes it takes.
-    pub consumed: u64,
+    pub consumed: usize,
     /// The index of its module.
     pub module_index: u32,
 }
@@ -59,7 +59,7 @@ pub struct PlainCoreThread {
     /// The fault, whose kind is 0 where there is none.
     pub fault: PlainFault,
     /// How many bytes it takes.
-    pub consumed: u64,
+    pub consumed: usize,
     /// The name, which is UTF-8.
     pub name: PlainSpan,
 }
@@ -71,7 +71,7 @@ pub struct PlainCoreFrame {
     /// The fault, whose kind is 0 where there is none.
     pub fault: PlainFault,
     /// How many bytes it takes.
-    pub consumed: u64,
+    pub consumed: usize,
     /// The index of its instance.
     pub instance: u32,
     /// The index of its function.
@@ -87,7 +87,7 @@ pub struct PlainCoreValue {
     /// The fault, whose kind is 0 where there is none.
     pub fault: PlainFault,
     /// How many bytes it takes.
-    pub consumed: u64,
+    pub consumed: usize,
     /// 0 a missing value, 1 a 32-bit integer, 2 a 64-bit integer, 3 a 32-bit float, 4 a 64-bit float.
     pub kind: u32,
     /// The integer, or 0.
@@ -133,17 +133,6 @@ fn read_module<'a>(data_offset: u64, reader: &mut BinaryReader<'a>) -> Result<&'
 {
     read_start(CoreStart::Module, data_offset, reader)?;
     reader.read_unlimited_string()
-}
-
-// Where a text is that ends at an offset, of an item that begins at another.
-fn started_span(from: u64, to: u64, size: usize) -> PlainSpan
-    ensures { result ≡ started_span from to size }
-{
-    let size = size as u64;
-    PlainSpan {
-        at: distance(size, distance(from, to)),
-        size,
-    }
 }
 
 // The beginning of an instance: the index of its module.
@@ -207,27 +196,34 @@ fn core_bits(value: &CoreDumpValue) -> u64
     }
 }
 
-fn refused_core_process(error: Error) -> PlainCoreProcess
-    ensures { result ≡ plain_core_process (place_over 0 0 []) (Err (fault_at error)) }
-{
-    PlainCoreProcess {
-        fault: plain_fault(error),
-        consumed: 0,
-        name: NO_SPAN,
-    }
-}
+#[derive(Clone, Copy)]
+pub(crate) struct CoreProcesses;
 
-fn next_core_process(mut reader: BinaryReader<'_>) -> PlainCoreProcess
-    ensures { result ≡ plain_core_process (place reader.entry) ((started_text_at Starts.Name) (place reader.entry)) }
-{
-    let from = reader.original_position();
-    match read_started(CoreStart::Name, &mut reader) {
-        Ok(name) => PlainCoreProcess {
+impl Readable for CoreProcesses {
+    type Plain = PlainCoreProcess;
+
+    ghost Item = { (List ℕ) };
+
+    ghost reading = { λ _. started_text_at Starts.Name };
+
+    ghost plain = { λ _. plain_core_process };
+
+    fn read(self, reader: &mut BinaryReader<'_>, from: u64) -> Result<PlainCoreProcess> {
+        let start = reader.original_position();
+        let name = read_started(CoreStart::Name, reader)?;
+        Ok(PlainCoreProcess {
             fault: NO_FAULT,
-            consumed: distance(from, reader.original_position()),
-            name: started_span(from, reader.original_position(), name.len()),
-        },
-        Err(error) => refused_core_process(error),
+            consumed: distance(start, reader.original_position()),
+            name: span_before(from, reader.original_position(), name.len()),
+        })
+    }
+
+    fn refused(self, error: Error) -> PlainCoreProcess {
+        PlainCoreProcess {
+            fault: plain_fault(error),
+            consumed: 0,
+            name: NO_SPAN,
+        }
     }
 }
 
@@ -239,36 +235,41 @@ pub extern "C" fn pulleynavy_read_core_process(
     offset: u64,
     features: u32,
 ) -> PlainCoreProcess
-    ensures { result ≡ plain_core_process (place_over features offset bytes.now)
-        (read_over (started_text_at Starts.Name) features offset bytes.now) }
+    ensures { result ≡ item_over plain_core_process (started_text_at Starts.Name) features offset bytes.now }
 {
-    if !fits(offset, bytes.len()) {
-        return refused_core_process(out_of_range(offset));
-    }
-    next_core_process(reader_over(bytes, offset, features))
+    read_at(CoreProcesses, bytes, offset, features)
 }
 
-fn refused_core_module(error: Error) -> PlainCoreModule
-    ensures { result ≡ plain_core_module (place_over 0 0 []) (Err (fault_at error)) }
-{
-    PlainCoreModule {
-        fault: plain_fault(error),
-        consumed: 0,
-        name: NO_SPAN,
-    }
+#[derive(Clone, Copy)]
+pub(crate) struct CoreModules {
+    data_offset: u64,
 }
 
-fn next_core_module(mut reader: BinaryReader<'_>, data_offset: u64) -> PlainCoreModule
-    ensures { result ≡ plain_core_module (place reader.entry) (module_at data_offset (place reader.entry)) }
-{
-    let from = reader.original_position();
-    match read_module(data_offset, &mut reader) {
-        Ok(name) => PlainCoreModule {
+impl Readable for CoreModules {
+    type Plain = PlainCoreModule;
+
+    ghost Item = { (List ℕ) };
+
+    ghost reading = { λ kind. module_at kind.data_offset };
+
+    ghost plain = { λ _. plain_core_module };
+
+    fn read(self, reader: &mut BinaryReader<'_>, from: u64) -> Result<PlainCoreModule> {
+        let start = reader.original_position();
+        let name = read_module(self.data_offset, reader)?;
+        Ok(PlainCoreModule {
             fault: NO_FAULT,
-            consumed: distance(from, reader.original_position()),
-            name: started_span(from, reader.original_position(), name.len()),
-        },
-        Err(error) => refused_core_module(error),
+            consumed: distance(start, reader.original_position()),
+            name: span_before(from, reader.original_position(), name.len()),
+        })
+    }
+
+    fn refused(self, error: Error) -> PlainCoreModule {
+        PlainCoreModule {
+            fault: plain_fault(error),
+            consumed: 0,
+            name: NO_SPAN,
+        }
     }
 }
 
@@ -282,36 +283,39 @@ pub extern "C" fn pulleynavy_read_core_module(
     features: u32,
     data_offset: u64,
 ) -> PlainCoreModule
-    ensures { result ≡ plain_core_module (place_over features offset bytes.now)
-        (read_over (module_at data_offset) features offset bytes.now) }
+    ensures { result ≡ item_over plain_core_module (module_at data_offset) features offset bytes.now }
 {
-    if !fits(offset, bytes.len()) {
-        return refused_core_module(out_of_range(offset));
-    }
-    next_core_module(reader_over(bytes, offset, features), data_offset)
+    read_at(CoreModules { data_offset }, bytes, offset, features)
 }
 
-fn refused_core_instance(error: Error) -> PlainCoreInstance
-    ensures { result ≡ plain_core_instance (place_over 0 0 []) (Err (fault_at error)) }
-{
-    PlainCoreInstance {
-        fault: plain_fault(error),
-        consumed: 0,
-        module_index: 0,
-    }
-}
+#[derive(Clone, Copy)]
+pub(crate) struct CoreInstances;
 
-fn next_core_instance(mut reader: BinaryReader<'_>) -> PlainCoreInstance
-    ensures { result ≡ plain_core_instance (place reader.entry) (instance_head_at (place reader.entry)) }
-{
-    let from = reader.original_position();
-    match read_instance(&mut reader) {
-        Ok(index) => PlainCoreInstance {
+impl Readable for CoreInstances {
+    type Plain = PlainCoreInstance;
+
+    ghost Item = { ℕ };
+
+    ghost reading = { λ _. instance_head_at };
+
+    ghost plain = { λ _. plain_core_instance };
+
+    fn read(self, reader: &mut BinaryReader<'_>, _from: u64) -> Result<PlainCoreInstance> {
+        let start = reader.original_position();
+        let index = read_instance(reader)?;
+        Ok(PlainCoreInstance {
             fault: NO_FAULT,
-            consumed: distance(from, reader.original_position()),
+            consumed: distance(start, reader.original_position()),
             module_index: index,
-        },
-        Err(error) => refused_core_instance(error),
+        })
+    }
+
+    fn refused(self, error: Error) -> PlainCoreInstance {
+        PlainCoreInstance {
+            fault: plain_fault(error),
+            consumed: 0,
+            module_index: 0,
+        }
     }
 }
 
@@ -324,36 +328,39 @@ pub extern "C" fn pulleynavy_read_core_instance(
     offset: u64,
     features: u32,
 ) -> PlainCoreInstance
-    ensures { result ≡ plain_core_instance (place_over features offset bytes.now)
-        (read_over instance_head_at features offset bytes.now) }
+    ensures { result ≡ item_over plain_core_instance instance_head_at features offset bytes.now }
 {
-    if !fits(offset, bytes.len()) {
-        return refused_core_instance(out_of_range(offset));
-    }
-    next_core_instance(reader_over(bytes, offset, features))
+    read_at(CoreInstances, bytes, offset, features)
 }
 
-fn refused_core_thread(error: Error) -> PlainCoreThread
-    ensures { result ≡ plain_core_thread (place_over 0 0 []) (Err (fault_at error)) }
-{
-    PlainCoreThread {
-        fault: plain_fault(error),
-        consumed: 0,
-        name: NO_SPAN,
-    }
-}
+#[derive(Clone, Copy)]
+pub(crate) struct CoreThreads;
 
-fn next_core_thread(mut reader: BinaryReader<'_>) -> PlainCoreThread
-    ensures { result ≡ plain_core_thread (place reader.entry) ((started_text_at Starts.StackName) (place reader.entry)) }
-{
-    let from = reader.original_position();
-    match read_started(CoreStart::StackName, &mut reader) {
-        Ok(name) => PlainCoreThread {
+impl Readable for CoreThreads {
+    type Plain = PlainCoreThread;
+
+    ghost Item = { (List ℕ) };
+
+    ghost reading = { λ _. started_text_at Starts.StackName };
+
+    ghost plain = { λ _. plain_core_thread };
+
+    fn read(self, reader: &mut BinaryReader<'_>, from: u64) -> Result<PlainCoreThread> {
+        let start = reader.original_position();
+        let name = read_started(CoreStart::StackName, reader)?;
+        Ok(PlainCoreThread {
             fault: NO_FAULT,
-            consumed: distance(from, reader.original_position()),
-            name: started_span(from, reader.original_position(), name.len()),
-        },
-        Err(error) => refused_core_thread(error),
+            consumed: distance(start, reader.original_position()),
+            name: span_before(from, reader.original_position(), name.len()),
+        })
+    }
+
+    fn refused(self, error: Error) -> PlainCoreThread {
+        PlainCoreThread {
+            fault: plain_fault(error),
+            consumed: 0,
+            name: NO_SPAN,
+        }
     }
 }
 
@@ -365,40 +372,43 @@ pub extern "C" fn pulleynavy_read_core_thread(
     offset: u64,
     features: u32,
 ) -> PlainCoreThread
-    ensures { result ≡ plain_core_thread (place_over features offset bytes.now)
-        (read_over (started_text_at Starts.StackName) features offset bytes.now) }
+    ensures { result ≡ item_over plain_core_thread (started_text_at Starts.StackName) features offset bytes.now }
 {
-    if !fits(offset, bytes.len()) {
-        return refused_core_thread(out_of_range(offset));
-    }
-    next_core_thread(reader_over(bytes, offset, features))
+    read_at(CoreThreads, bytes, offset, features)
 }
 
-fn refused_core_frame(error: Error) -> PlainCoreFrame
-    ensures { result ≡ plain_core_frame (place_over 0 0 []) (Err (fault_at error)) }
-{
-    PlainCoreFrame {
-        fault: plain_fault(error),
-        consumed: 0,
-        instance: 0,
-        func: 0,
-        code_offset: 0,
-    }
-}
+#[derive(Clone, Copy)]
+pub(crate) struct CoreFrames;
 
-fn next_core_frame(mut reader: BinaryReader<'_>) -> PlainCoreFrame
-    ensures { result ≡ plain_core_frame (place reader.entry) (frame_head_at (place reader.entry)) }
-{
-    let from = reader.original_position();
-    match read_frame(&mut reader) {
-        Ok(frame) => PlainCoreFrame {
+impl Readable for CoreFrames {
+    type Plain = PlainCoreFrame;
+
+    ghost Item = { FrameHead };
+
+    ghost reading = { λ _. frame_head_at };
+
+    ghost plain = { λ _. plain_core_frame };
+
+    fn read(self, reader: &mut BinaryReader<'_>, _from: u64) -> Result<PlainCoreFrame> {
+        let start = reader.original_position();
+        let frame = read_frame(reader)?;
+        Ok(PlainCoreFrame {
             fault: NO_FAULT,
-            consumed: distance(from, reader.original_position()),
+            consumed: distance(start, reader.original_position()),
             instance: frame.instance,
             func: frame.func,
             code_offset: frame.code_offset,
-        },
-        Err(error) => refused_core_frame(error),
+        })
+    }
+
+    fn refused(self, error: Error) -> PlainCoreFrame {
+        PlainCoreFrame {
+            fault: plain_fault(error),
+            consumed: 0,
+            instance: 0,
+            func: 0,
+            code_offset: 0,
+        }
     }
 }
 
@@ -411,40 +421,43 @@ pub extern "C" fn pulleynavy_read_core_frame(
     offset: u64,
     features: u32,
 ) -> PlainCoreFrame
-    ensures { result ≡ plain_core_frame (place_over features offset bytes.now)
-        (read_over frame_head_at features offset bytes.now) }
+    ensures { result ≡ item_over plain_core_frame frame_head_at features offset bytes.now }
 {
-    if !fits(offset, bytes.len()) {
-        return refused_core_frame(out_of_range(offset));
-    }
-    next_core_frame(reader_over(bytes, offset, features))
+    read_at(CoreFrames, bytes, offset, features)
 }
 
-fn refused_core_value(error: Error) -> PlainCoreValue
-    ensures { result ≡ plain_core_value (place_over 0 0 []) (Err (fault_at error)) }
-{
-    PlainCoreValue {
-        fault: plain_fault(error),
-        consumed: 0,
-        kind: 0,
-        integer: 0,
-        bits: 0,
-    }
-}
+#[derive(Clone, Copy)]
+pub(crate) struct CoreValues;
 
-fn next_core_value(mut reader: BinaryReader<'_>) -> PlainCoreValue
-    ensures { result ≡ plain_core_value (place reader.entry) (value_at (place reader.entry)) }
-{
-    let from = reader.original_position();
-    match CoreDumpValue::from_reader(&mut reader) {
-        Ok(value) => PlainCoreValue {
+impl Readable for CoreValues {
+    type Plain = PlainCoreValue;
+
+    ghost Item = { ValueParts };
+
+    ghost reading = { λ _. value_at };
+
+    ghost plain = { λ _. plain_core_value };
+
+    fn read(self, reader: &mut BinaryReader<'_>, _from: u64) -> Result<PlainCoreValue> {
+        let start = reader.original_position();
+        let value = CoreDumpValue::from_reader(reader)?;
+        Ok(PlainCoreValue {
             fault: NO_FAULT,
-            consumed: distance(from, reader.original_position()),
+            consumed: distance(start, reader.original_position()),
             kind: core_code(&value),
             integer: core_integer(&value),
             bits: core_bits(&value),
-        },
-        Err(error) => refused_core_value(error),
+        })
+    }
+
+    fn refused(self, error: Error) -> PlainCoreValue {
+        PlainCoreValue {
+            fault: plain_fault(error),
+            consumed: 0,
+            kind: 0,
+            integer: 0,
+            bits: 0,
+        }
     }
 }
 
@@ -456,11 +469,21 @@ pub extern "C" fn pulleynavy_read_core_value(
     offset: u64,
     features: u32,
 ) -> PlainCoreValue
-    ensures { result ≡ plain_core_value (place_over features offset bytes.now)
-        (read_over value_at features offset bytes.now) }
+    ensures { result ≡ item_over plain_core_value value_at features offset bytes.now }
 {
-    if !fits(offset, bytes.len()) {
-        return refused_core_value(out_of_range(offset));
-    }
-    next_core_value(reader_over(bytes, offset, features))
+    read_at(CoreValues, bytes, offset, features)
+}
+
+/// Stores the next values of a list in `out`. Returns how many there were or there was room for: 0 at the end.
+/// `bytes` are those of the whole list.
+#[unsafe(no_mangle)]
+pub extern "C" fn pulleynavy_next_core_values(
+    items: &mut StoredItems,
+    bytes: &[u8],
+    out: &mut [PlainCoreValue],
+) -> usize
+    ensures { StoresItems (next_by plain_core_value value_at bytes.now)
+        items.old out.old result items.new out.new }
+{
+    store_items(Counted(CoreValues), items, bytes, out)
 }

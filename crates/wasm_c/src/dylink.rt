@@ -1,17 +1,17 @@
 // What a dynamic linker reads, as plain numbers.
-ghost use Rattle.std.specs.Prelude.{◌≡◌, []};
-ghost use Rattle.wasm_base.specs.FaultAt.{fault_at};
-ghost use Rattle.wasm_base.specs.Window.{place};
-ghost use Rattle.wasm_c.specs.Spans.{place_over, read_over};
-ghost use Rattle.wasm_custom.specs.Dylink0.{export_info_at, import_info_at, mem_info_at};
+ghost use Rattle.wasm_c.specs.Cursors.{StoresItems, next_by};
+ghost use Rattle.std.specs.Prelude.{◌≡◌};
 ghost use Rattle.wasm_c.specs.Dylink.{plain_dylink_export, plain_dylink_import, plain_dylink_memory};
+ghost use Rattle.wasm_c.specs.Readable.{item_over};
+ghost use Rattle.wasm_custom.specs.Dylink0.{ExportInfoParts, ImportInfoParts, export_info_at, import_info_at, mem_info_at};
+ghost use Rattle.wasm_custom.specs.declared.dylink0.MemInfo.{MemInfo};
 
+use crate::cursors::{Counted, StoredItems, store_items};
 use crate::faults::{NO_FAULT, PlainFault, plain_fault};
-use crate::spans::{
-    NO_SPAN, PlainSpan, distance, out_of_range, reader_over, text_after_text, text_span,
-};
+use crate::readable::{Readable, read_at};
+use crate::spans::{NO_SPAN, PlainSpan, distance, text_after_sized, text_span};
 use bitflags::Flags;
-use wasm_parser::{BinaryReader, Error, ExportInfo, FromReader, ImportInfo, MemInfo, fits};
+use wasm_parser::{BinaryReader, Error, ExportInfo, FromReader, ImportInfo, MemInfo, Result};
 
 /// How much memory and table a library needs, or the fault of it.
 #[repr(C)]
@@ -20,7 +20,7 @@ pub struct PlainDylinkMemory {
     /// The fault, whose kind is 0 where there is none.
     pub fault: PlainFault,
     /// How many bytes it takes.
-    pub consumed: u64,
+    pub consumed: usize,
     /// How many bytes of memory.
     pub memory_size: u32,
     /// Their alignment, as a power of two.
@@ -38,7 +38,7 @@ pub struct PlainDylinkExport {
     /// The fault, whose kind is 0 where there is none.
     pub fault: PlainFault,
     /// How many bytes it takes.
-    pub consumed: u64,
+    pub consumed: usize,
     /// Its name, which is UTF-8.
     pub name: PlainSpan,
     /// Its flags, as those of a symbol.
@@ -52,7 +52,7 @@ pub struct PlainDylinkImport {
     /// The fault, whose kind is 0 where there is none.
     pub fault: PlainFault,
     /// How many bytes it takes.
-    pub consumed: u64,
+    pub consumed: usize,
     /// The name of its module, which is UTF-8.
     pub module_name: PlainSpan,
     /// Its name there, which is UTF-8.
@@ -61,33 +61,40 @@ pub struct PlainDylinkImport {
     pub flags: u32,
 }
 
-fn refused_dylink_memory(error: Error) -> PlainDylinkMemory
-    ensures { result ≡ plain_dylink_memory (place_over 0 0 []) (Err (fault_at error)) }
-{
-    PlainDylinkMemory {
-        fault: plain_fault(error),
-        consumed: 0,
-        memory_size: 0,
-        memory_alignment: 0,
-        table_size: 0,
-        table_alignment: 0,
-    }
-}
+#[derive(Clone, Copy)]
+pub(crate) struct DylinkMemories;
 
-fn next_dylink_memory(mut reader: BinaryReader<'_>) -> PlainDylinkMemory
-    ensures { result ≡ plain_dylink_memory (place reader.entry) (mem_info_at (place reader.entry)) }
-{
-    let from = reader.original_position();
-    match MemInfo::from_reader(&mut reader) {
-        Ok(info) => PlainDylinkMemory {
+impl Readable for DylinkMemories {
+    type Plain = PlainDylinkMemory;
+
+    ghost Item = { MemInfo };
+
+    ghost reading = { λ _. mem_info_at };
+
+    ghost plain = { λ _. plain_dylink_memory };
+
+    fn read(self, reader: &mut BinaryReader<'_>, _from: u64) -> Result<PlainDylinkMemory> {
+        let start = reader.original_position();
+        let info = MemInfo::from_reader(reader)?;
+        Ok(PlainDylinkMemory {
             fault: NO_FAULT,
-            consumed: distance(from, reader.original_position()),
+            consumed: distance(start, reader.original_position()),
             memory_size: info.memory_size,
             memory_alignment: info.memory_alignment,
             table_size: info.table_size,
             table_alignment: info.table_alignment,
-        },
-        Err(error) => refused_dylink_memory(error),
+        })
+    }
+
+    fn refused(self, error: Error) -> PlainDylinkMemory {
+        PlainDylinkMemory {
+            fault: plain_fault(error),
+            consumed: 0,
+            memory_size: 0,
+            memory_alignment: 0,
+            table_size: 0,
+            table_alignment: 0,
+        }
     }
 }
 
@@ -99,39 +106,42 @@ pub extern "C" fn pulleynavy_read_dylink_memory(
     offset: u64,
     features: u32,
 ) -> PlainDylinkMemory
-    ensures { result ≡ plain_dylink_memory (place_over features offset bytes.now)
-        (read_over mem_info_at features offset bytes.now) }
+    ensures { result ≡ item_over plain_dylink_memory mem_info_at features offset bytes.now }
 {
-    if !fits(offset, bytes.len()) {
-        return refused_dylink_memory(out_of_range(offset));
-    }
-    next_dylink_memory(reader_over(bytes, offset, features))
+    read_at(DylinkMemories, bytes, offset, features)
 }
 
-fn refused_dylink_export(error: Error) -> PlainDylinkExport
-    ensures { result ≡ plain_dylink_export (place_over 0 0 []) (Err (fault_at error)) }
-{
-    PlainDylinkExport {
-        fault: plain_fault(error),
-        consumed: 0,
-        name: NO_SPAN,
-        flags: 0,
-    }
-}
+#[derive(Clone, Copy)]
+pub(crate) struct DylinkExports;
 
-fn next_dylink_export(mut reader: BinaryReader<'_>) -> PlainDylinkExport
-    ensures { result ≡ plain_dylink_export (place reader.entry) (export_info_at (place reader.entry)) }
-{
-    let from = reader.original_position();
-    let before = reader.clone().unwrap();
-    match ExportInfo::from_reader(&mut reader) {
-        Ok(info) => PlainDylinkExport {
+impl Readable for DylinkExports {
+    type Plain = PlainDylinkExport;
+
+    ghost Item = { ExportInfoParts };
+
+    ghost reading = { λ _. export_info_at };
+
+    ghost plain = { λ _. plain_dylink_export };
+
+    fn read(self, reader: &mut BinaryReader<'_>, from: u64) -> Result<PlainDylinkExport> {
+        let start = reader.original_position();
+        let before = reader.clone().unwrap();
+        let info = ExportInfo::from_reader(reader)?;
+        Ok(PlainDylinkExport {
             fault: NO_FAULT,
-            consumed: distance(from, reader.original_position()),
+            consumed: distance(start, reader.original_position()),
             name: text_span(from, before, info.name.len()),
             flags: info.flags.bits(),
-        },
-        Err(error) => refused_dylink_export(error),
+        })
+    }
+
+    fn refused(self, error: Error) -> PlainDylinkExport {
+        PlainDylinkExport {
+            fault: plain_fault(error),
+            consumed: 0,
+            name: NO_SPAN,
+            flags: 0,
+        }
     }
 }
 
@@ -143,41 +153,58 @@ pub extern "C" fn pulleynavy_read_dylink_export(
     offset: u64,
     features: u32,
 ) -> PlainDylinkExport
-    ensures { result ≡ plain_dylink_export (place_over features offset bytes.now)
-        (read_over export_info_at features offset bytes.now) }
+    ensures { result ≡ item_over plain_dylink_export export_info_at features offset bytes.now }
 {
-    if !fits(offset, bytes.len()) {
-        return refused_dylink_export(out_of_range(offset));
-    }
-    next_dylink_export(reader_over(bytes, offset, features))
+    read_at(DylinkExports, bytes, offset, features)
 }
 
-fn refused_dylink_import(error: Error) -> PlainDylinkImport
-    ensures { result ≡ plain_dylink_import (place_over 0 0 []) (Err (fault_at error)) }
+/// Stores the next exports of a list in `out`. Returns how many there were or there was room for: 0 at the end.
+/// `bytes` are those of the whole list.
+#[unsafe(no_mangle)]
+pub extern "C" fn pulleynavy_next_dylink_exports(
+    items: &mut StoredItems,
+    bytes: &[u8],
+    out: &mut [PlainDylinkExport],
+) -> usize
+    ensures { StoresItems (next_by plain_dylink_export export_info_at bytes.now)
+        items.old out.old result items.new out.new }
 {
-    PlainDylinkImport {
-        fault: plain_fault(error),
-        consumed: 0,
-        module_name: NO_SPAN,
-        field: NO_SPAN,
-        flags: 0,
-    }
+    store_items(Counted(DylinkExports), items, bytes, out)
 }
 
-fn next_dylink_import(mut reader: BinaryReader<'_>) -> PlainDylinkImport
-    ensures { result ≡ plain_dylink_import (place reader.entry) (import_info_at (place reader.entry)) }
-{
-    let from = reader.original_position();
-    let before = reader.clone().unwrap();
-    match ImportInfo::from_reader(&mut reader) {
-        Ok(info) => PlainDylinkImport {
+#[derive(Clone, Copy)]
+pub(crate) struct DylinkImports;
+
+impl Readable for DylinkImports {
+    type Plain = PlainDylinkImport;
+
+    ghost Item = { ImportInfoParts };
+
+    ghost reading = { λ _. import_info_at };
+
+    ghost plain = { λ _. plain_dylink_import };
+
+    fn read(self, reader: &mut BinaryReader<'_>, from: u64) -> Result<PlainDylinkImport> {
+        let start = reader.original_position();
+        let before = reader.clone().unwrap();
+        let info = ImportInfo::from_reader(reader)?;
+        Ok(PlainDylinkImport {
             fault: NO_FAULT,
-            consumed: distance(from, reader.original_position()),
+            consumed: distance(start, reader.original_position()),
             module_name: text_span(from, before.clone().unwrap(), info.module.len()),
-            field: text_after_text(from, before, info.field.len()),
+            field: text_after_sized(from, before, info.field.len()),
             flags: info.flags.bits(),
-        },
-        Err(error) => refused_dylink_import(error),
+        })
+    }
+
+    fn refused(self, error: Error) -> PlainDylinkImport {
+        PlainDylinkImport {
+            fault: plain_fault(error),
+            consumed: 0,
+            module_name: NO_SPAN,
+            field: NO_SPAN,
+            flags: 0,
+        }
     }
 }
 
@@ -189,11 +216,21 @@ pub extern "C" fn pulleynavy_read_dylink_import(
     offset: u64,
     features: u32,
 ) -> PlainDylinkImport
-    ensures { result ≡ plain_dylink_import (place_over features offset bytes.now)
-        (read_over import_info_at features offset bytes.now) }
+    ensures { result ≡ item_over plain_dylink_import import_info_at features offset bytes.now }
 {
-    if !fits(offset, bytes.len()) {
-        return refused_dylink_import(out_of_range(offset));
-    }
-    next_dylink_import(reader_over(bytes, offset, features))
+    read_at(DylinkImports, bytes, offset, features)
+}
+
+/// Stores the next imports of a list in `out`. Returns how many there were or there was room for: 0 at the end.
+/// `bytes` are those of the whole list.
+#[unsafe(no_mangle)]
+pub extern "C" fn pulleynavy_next_dylink_imports(
+    items: &mut StoredItems,
+    bytes: &[u8],
+    out: &mut [PlainDylinkImport],
+) -> usize
+    ensures { StoresItems (next_by plain_dylink_import import_info_at bytes.now)
+        items.old out.old result items.new out.new }
+{
+    store_items(Counted(DylinkImports), items, bytes, out)
 }

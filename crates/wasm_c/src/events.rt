@@ -2,14 +2,20 @@
 ghost use Rattle.std.specs.Prelude.{◌≡◌};
 ghost use Rattle.wasm_base.specs.FaultAt.{fault_at};
 ghost use Rattle.wasm_parser.specs.ParseAnswer.{report_of};
-ghost use Rattle.wasm_c.specs.Events.{encoding_code, event_between, fault_event, parsed_event, report_event, request_event, silent};
+ghost use Rattle.wasm_c.specs.Events.{code_event, counted_event, encoding_code, event_between, fault_event, parsed_event, payload_event, report_event, request_event, silent};
+ghost use Rattle.wasm_parser.specs.declared.payload.Payload.TheVariants.{CustomSection};
 
 use crate::faults::{NO_FAULT, PlainFault, plain_fault};
-use wasm_grammar::{CODE_SECTION, CUSTOM_SECTION, DATA_COUNT_SECTION, START_SECTION};
-use wasm_parser::{Encoding, Error, Payload};
+use crate::spans::distance;
+use wasm_grammar::{
+    CODE_SECTION, CUSTOM_SECTION, DATA_COUNT_SECTION, DATA_SECTION, ELEMENT_SECTION,
+    EXPORT_SECTION, FUNCTION_SECTION, GLOBAL_SECTION, IMPORT_SECTION, MEMORY_SECTION,
+    START_SECTION, TABLE_SECTION, TAG_SECTION, TYPE_SECTION,
+};
+use wasm_parser::{CustomSectionReader, Encoding, Error, Payload, SectionLimited};
 
-/// What a parser returns: an event, a fault or a request for more bytes. Fields that its kind doesn't use are 0. Offsets and
-/// sizes are in bytes, offsets from the start of the whole stream (core specification, Binary format, Modules).
+/// What a parser returns: an event, a fault or a request for more bytes. Fields that its kind doesn't use are 0. Offsets are in
+/// bytes from the start of the whole stream (core specification, Binary format, Modules).
 #[repr(C)]
 #[derive(Clone, Copy, Debug, PartialEq, Eq)]
 pub struct PlainEvent {
@@ -23,18 +29,21 @@ pub struct PlainEvent {
     pub count: u32,
     /// How many bytes of a code section come after its count.
     pub size: u32,
-    /// Where it begins: the header, the section's content, the body, the end, the fault.
+    /// The offset where it begins: the header, the section's contents, the body, the end, the fault.
     pub start: u64,
-    /// Where it ends.
+    /// The offset where it ends.
     pub end: u64,
-    /// How many bytes were consumed: 0 for a request, the end and a fault, and at least 1 otherwise.
-    pub consumed: u64,
-    /// How many more bytes the first unfinished field is known to need, at least 1; 0 but for a request.
-    pub hint: u64,
-    /// Where the data of a custom section begins, after its name.
+    /// The offset of the first item after a count, of the first body of a code section, or of the data of a custom section.
     pub data_offset: u64,
+    /// Where it begins in memory, in bytes from the first one that `pulleynavy_parse` was given, or from the start of the storage
+    /// of a feeder. Of a request, the end and a fault, where the unread bytes begin.
+    pub at: usize,
+    /// How many bytes were consumed: 0 for a request, the end and a fault, and at least 1 otherwise.
+    pub consumed: usize,
+    /// How many more bytes the first unfinished field is known to need, at least 1; 0 but for a request.
+    pub hint: usize,
     /// How many bytes the name of a custom section has. It is just before the data.
-    pub name_size: u64,
+    pub name_size: usize,
     /// The fault.
     pub fault: PlainFault,
 }
@@ -46,14 +55,16 @@ const SILENT: PlainEvent = PlainEvent {
     size: 0,
     start: 0,
     end: 0,
+    data_offset: 0,
+    at: 0,
     consumed: 0,
     hint: 0,
-    data_offset: 0,
     name_size: 0,
     fault: NO_FAULT,
 };
 
 // An event of this kind with these offsets.
+#[inline(always)]
 fn event_between(kind: u32, id: u32, from: u64, to: u64) -> PlainEvent
     ensures { result ≡ event_between kind id from to }
 {
@@ -75,9 +86,48 @@ fn encoding_code(encoding: Encoding) -> u32
     }
 }
 
+// A section that begins with a count.
+#[inline(always)]
+fn counted_event<T>(id: u8, section: &SectionLimited<'_, T>) -> PlainEvent
+    ensures { result ≡ counted_event id section.now }
+{
+    let range = section.range();
+    PlainEvent {
+        count: section.count(),
+        data_offset: section.original_position(),
+        ..event_between(2, u32::from(id), range.start, range.end)
+    }
+}
+
+// The start of a code section.
+#[inline(always)]
+fn code_event(count: u32, from: u64, to: u64, size: u32) -> PlainEvent
+    ensures { result ≡ code_event count from to size }
+{
+    PlainEvent {
+        count,
+        size,
+        data_offset: to.saturating_sub(u64::from(size)),
+        ..event_between(5, u32::from(CODE_SECTION), from, to)
+    }
+}
+
+// A custom section.
+#[inline(always)]
+fn custom_event(section: &CustomSectionReader) -> PlainEvent
+    ensures { result ≡ report_event (report_of (CustomSection section.now)) }
+{
+    let range = section.range();
+    PlainEvent {
+        data_offset: section.data_offset(),
+        name_size: section.name().len(),
+        ..event_between(7, u32::from(CUSTOM_SECTION), range.start, range.end)
+    }
+}
+
 // A payload, without what it consumed.
 fn payload_event(payload: &Payload) -> PlainEvent
-    ensures { result ≡ report_event (report_of payload.now) }
+    ensures { result ≡ payload_event payload.now }
 {
     match payload {
         Payload::Version {
@@ -88,6 +138,16 @@ fn payload_event(payload: &Payload) -> PlainEvent
             count: u32::from(*num),
             ..event_between(1, encoding_code(*encoding), range.start, range.end)
         },
+        Payload::TypeSection(section) => counted_event(TYPE_SECTION, section),
+        Payload::ImportSection(section) => counted_event(IMPORT_SECTION, section),
+        Payload::FunctionSection(section) => counted_event(FUNCTION_SECTION, section),
+        Payload::TableSection(section) => counted_event(TABLE_SECTION, section),
+        Payload::MemorySection(section) => counted_event(MEMORY_SECTION, section),
+        Payload::TagSection(section) => counted_event(TAG_SECTION, section),
+        Payload::GlobalSection(section) => counted_event(GLOBAL_SECTION, section),
+        Payload::ExportSection(section) => counted_event(EXPORT_SECTION, section),
+        Payload::ElementSection(section) => counted_event(ELEMENT_SECTION, section),
+        Payload::DataSection(section) => counted_event(DATA_SECTION, section),
         Payload::StartSection { func, range } => PlainEvent {
             count: *func,
             ..event_between(3, u32::from(START_SECTION), range.start, range.end)
@@ -100,73 +160,54 @@ fn payload_event(payload: &Payload) -> PlainEvent
             count,
             unchecked_range,
             size,
-        } => PlainEvent {
-            count: *count,
-            size: *size,
-            ..event_between(
-                5,
-                u32::from(CODE_SECTION),
-                unchecked_range.start,
-                unchecked_range.end,
-            )
-        },
+        } => code_event(*count, unchecked_range.start, unchecked_range.end, *size),
         Payload::CodeSectionEntry(body) => {
             let range = body.range();
             event_between(6, u32::from(CODE_SECTION), range.start, range.end)
         }
-        Payload::CustomSection(section) => {
-            let range = section.range();
-            PlainEvent {
-                data_offset: section.data_offset(),
-                name_size: section.name().len() as u64,
-                ..event_between(7, u32::from(CUSTOM_SECTION), range.start, range.end)
-            }
-        }
+        Payload::CustomSection(section) => custom_event(section),
         Payload::UnknownSection { id, range, .. } => {
             event_between(8, u32::from(*id), range.start, range.end)
         }
         Payload::End(offset) => event_between(9, 0, *offset, *offset),
-        _ => match payload.as_counted() {
-            Some(section) => PlainEvent {
-                count: section.count,
-                ..event_between(
-                    2,
-                    u32::from(section.id),
-                    section.range.start,
-                    section.range.end,
-                )
-            },
-            None => unreachable!(),
-        },
     }
 }
 
 /// A fault.
-pub(crate) fn fault_event(error: Error) -> PlainEvent
-    ensures { result ≡ fault_event (fault_at error) }
+pub(crate) fn fault_event(error: Error, base: usize) -> PlainEvent
+    ensures { result ≡ fault_event base (fault_at error) }
 {
     PlainEvent {
+        at: base,
         fault: plain_fault(error),
         ..event_between(10, 0, error.offset(), error.offset())
     }
 }
 
 /// A request for more bytes.
-pub(crate) fn request_event(hint: usize) -> PlainEvent
-    ensures { result ≡ request_event hint }
+pub(crate) fn request_event(hint: usize, base: usize) -> PlainEvent
+    ensures { result ≡ request_event base hint }
 {
     PlainEvent {
-        hint: hint as u64,
+        at: base,
+        hint,
         ..SILENT
     }
 }
 
-/// A payload, and what it consumed.
-pub(crate) fn parsed_event(consumed: usize, payload: &Payload) -> PlainEvent
-    ensures { result ≡ parsed_event consumed payload.now }
+/// A payload, and what it consumed from this offset on, whose byte is at `base` in memory.
+pub(crate) fn parsed_event(
+    consumed: usize,
+    payload: &Payload,
+    offset: u64,
+    base: usize,
+) -> PlainEvent
+    ensures { result ≡ parsed_event base offset consumed payload.now }
 {
+    let event = payload_event(payload);
     PlainEvent {
-        consumed: consumed as u64,
-        ..payload_event(payload)
+        at: base.saturating_add(distance(offset, event.start)),
+        consumed,
+        ..event
     }
 }

@@ -5,6 +5,7 @@ ghost use Rattle.wasm_c.specs.Feeds.{IsFinished, IsNewFeed, PushesPlain, StepsPl
 
 use crate::events::PlainEvent;
 use crate::parsing::{parse_stored, pulleynavy_parser_init};
+use crate::spans::{after, front};
 use crate::stored::StoredParser;
 
 /// A feeder: its parser, and where in the caller's storage the bytes are that were pushed and not consumed. Any bytes are a
@@ -37,28 +38,6 @@ pub extern "C" fn pulleynavy_feed_init(offset: u64, features: u32) -> StoredFeed
     }
 }
 
-// The first bytes.
-fn front(bytes: &[u8], end: usize) -> &[u8]
-    ensures { result.now ≡ take end bytes.now }
-{
-    if end <= bytes.len() {
-        &bytes[..end]
-    } else {
-        bytes
-    }
-}
-
-// The bytes after the first.
-fn after(bytes: &[u8], mark: usize) -> &[u8]
-    ensures { result.now ≡ drop mark bytes.now }
-{
-    if mark <= bytes.len() {
-        &bytes[mark..]
-    } else {
-        &[]
-    }
-}
-
 /// Reads the next part of the stream from the bytes that the storage holds. A fault or a request for more bytes leaves the feeder
 /// unchanged. After a request, call `pulleynavy_feed_push` or `pulleynavy_feed_finish`, then step again. After `pulleynavy_feed_finish` it never
 /// requests more. After a fault, the next step returns the same fault.
@@ -67,8 +46,8 @@ pub extern "C" fn pulleynavy_feed_step(feed: &mut StoredFeed, storage: &[u8]) ->
     ensures { StepsPlain feed.old storage.now result feed.new }
 {
     let held = after(front(storage, feed.end), feed.mark);
-    let event = parse_stored(&mut feed.parser, held, feed.is_finished != 0);
-    feed.mark = feed.mark.saturating_add(event.consumed as usize);
+    let event = parse_stored(&mut feed.parser, held, feed.is_finished != 0, feed.mark);
+    feed.mark = feed.mark.saturating_add(event.consumed);
     event
 }
 

@@ -1,14 +1,17 @@
 // Branch hints as plain numbers.
-ghost use Rattle.std.specs.Prelude.{◌≡◌, []};
-ghost use Rattle.wasm_base.specs.FaultAt.{fault_at};
-ghost use Rattle.wasm_base.specs.Window.{place};
-ghost use Rattle.wasm_c.specs.Spans.{place_over, read_over};
-ghost use Rattle.wasm_custom.specs.BranchHinting.{branch_hint_at, function_hints_at};
+ghost use Rattle.wasm_c.specs.Cursors.{StoresItems, next_by};
+ghost use Rattle.std.specs.Prelude.{◌≡◌};
 ghost use Rattle.wasm_c.specs.Hints.{plain_branch_hint, plain_hinted_function};
+ghost use Rattle.wasm_c.specs.Readable.{item_over};
+ghost use Rattle.wasm_custom.specs.BranchHinting.{branch_hint_at, function_hints_at};
+ghost use Rattle.wasm_custom.specs.declared.branch_hinting.BranchHint.{BranchHint};
+ghost use Rattle.wasm_custom.specs.declared.branch_hinting.BranchHintFunction.{BranchHintFunction};
 
+use crate::cursors::{Counted, StoredItems, store_items};
 use crate::faults::{NO_FAULT, PlainFault, plain_fault};
-use crate::spans::{NO_SPAN, PlainSpan, distance, flag, items_span, out_of_range, reader_over};
-use wasm_parser::{BinaryReader, BranchHint, BranchHintFunction, Error, FromReader, fits};
+use crate::readable::{Readable, read_at};
+use crate::spans::{NO_SPAN, PlainSpan, distance, flag, items_span};
+use wasm_parser::{BinaryReader, BranchHint, BranchHintFunction, Error, FromReader, Result};
 
 /// A function that has branch hints, or its fault.
 #[repr(C)]
@@ -17,7 +20,7 @@ pub struct PlainHintedFunction {
     /// The fault, whose kind is 0 where there is none.
     pub fault: PlainFault,
     /// How many bytes it takes.
-    pub consumed: u64,
+    pub consumed: usize,
     /// The index of the function.
     pub func: u32,
     /// How many hints it has.
@@ -33,38 +36,45 @@ pub struct PlainBranchHint {
     /// The fault, whose kind is 0 where there is none.
     pub fault: PlainFault,
     /// How many bytes it takes.
-    pub consumed: u64,
+    pub consumed: usize,
     /// How many bytes after the start of the function's body its instruction is.
     pub func_offset: u32,
     /// 1 if the branch is likely to be taken, or 0.
     pub taken: u32,
 }
 
-fn refused_hinted_function(error: Error) -> PlainHintedFunction
-    ensures { result ≡ plain_hinted_function (place_over 0 0 []) (Err (fault_at error)) }
-{
-    PlainHintedFunction {
-        fault: plain_fault(error),
-        consumed: 0,
-        func: 0,
-        count: 0,
-        hints: NO_SPAN,
-    }
-}
+#[derive(Clone, Copy)]
+pub(crate) struct HintedFunctions;
 
-fn next_hinted_function(mut reader: BinaryReader<'_>) -> PlainHintedFunction
-    ensures { result ≡ plain_hinted_function (place reader.entry) (function_hints_at (place reader.entry)) }
-{
-    let from = reader.original_position();
-    match BranchHintFunction::from_reader(&mut reader) {
-        Ok(function) => PlainHintedFunction {
+impl Readable for HintedFunctions {
+    type Plain = PlainHintedFunction;
+
+    ghost Item = { BranchHintFunction };
+
+    ghost reading = { λ _. function_hints_at };
+
+    ghost plain = { λ _. plain_hinted_function };
+
+    fn read(self, reader: &mut BinaryReader<'_>, from: u64) -> Result<PlainHintedFunction> {
+        let start = reader.original_position();
+        let function = BranchHintFunction::from_reader(reader)?;
+        Ok(PlainHintedFunction {
             fault: NO_FAULT,
-            consumed: distance(from, reader.original_position()),
+            consumed: distance(start, reader.original_position()),
             func: function.func,
             count: function.hints.count(),
             hints: items_span(from, &function.hints),
-        },
-        Err(error) => refused_hinted_function(error),
+        })
+    }
+
+    fn refused(self, error: Error) -> PlainHintedFunction {
+        PlainHintedFunction {
+            fault: plain_fault(error),
+            consumed: 0,
+            func: 0,
+            count: 0,
+            hints: NO_SPAN,
+        }
     }
 }
 
@@ -77,38 +87,55 @@ pub extern "C" fn pulleynavy_read_hinted_function(
     offset: u64,
     features: u32,
 ) -> PlainHintedFunction
-    ensures { result ≡ plain_hinted_function (place_over features offset bytes.now)
-        (read_over function_hints_at features offset bytes.now) }
+    ensures { result ≡ item_over plain_hinted_function function_hints_at features offset bytes.now }
 {
-    if !fits(offset, bytes.len()) {
-        return refused_hinted_function(out_of_range(offset));
-    }
-    next_hinted_function(reader_over(bytes, offset, features))
+    read_at(HintedFunctions, bytes, offset, features)
 }
 
-fn refused_branch_hint(error: Error) -> PlainBranchHint
-    ensures { result ≡ plain_branch_hint (place_over 0 0 []) (Err (fault_at error)) }
+/// Stores the next functions of a list in `out`. Returns how many there were or there was room for: 0 at the end.
+/// `bytes` are those of the whole list.
+#[unsafe(no_mangle)]
+pub extern "C" fn pulleynavy_next_hinted_functions(
+    items: &mut StoredItems,
+    bytes: &[u8],
+    out: &mut [PlainHintedFunction],
+) -> usize
+    ensures { StoresItems (next_by plain_hinted_function function_hints_at bytes.now)
+        items.old out.old result items.new out.new }
 {
-    PlainBranchHint {
-        fault: plain_fault(error),
-        consumed: 0,
-        func_offset: 0,
-        taken: 0,
-    }
+    store_items(Counted(HintedFunctions), items, bytes, out)
 }
 
-fn next_branch_hint(mut reader: BinaryReader<'_>) -> PlainBranchHint
-    ensures { result ≡ plain_branch_hint (place reader.entry) (branch_hint_at (place reader.entry)) }
-{
-    let from = reader.original_position();
-    match BranchHint::from_reader(&mut reader) {
-        Ok(hint) => PlainBranchHint {
+#[derive(Clone, Copy)]
+pub(crate) struct BranchHints;
+
+impl Readable for BranchHints {
+    type Plain = PlainBranchHint;
+
+    ghost Item = { BranchHint };
+
+    ghost reading = { λ _. branch_hint_at };
+
+    ghost plain = { λ _. plain_branch_hint };
+
+    fn read(self, reader: &mut BinaryReader<'_>, _from: u64) -> Result<PlainBranchHint> {
+        let start = reader.original_position();
+        let hint = BranchHint::from_reader(reader)?;
+        Ok(PlainBranchHint {
             fault: NO_FAULT,
-            consumed: distance(from, reader.original_position()),
+            consumed: distance(start, reader.original_position()),
             func_offset: hint.func_offset,
             taken: flag(hint.taken),
-        },
-        Err(error) => refused_branch_hint(error),
+        })
+    }
+
+    fn refused(self, error: Error) -> PlainBranchHint {
+        PlainBranchHint {
+            fault: plain_fault(error),
+            consumed: 0,
+            func_offset: 0,
+            taken: 0,
+        }
     }
 }
 
@@ -120,11 +147,21 @@ pub extern "C" fn pulleynavy_read_branch_hint(
     offset: u64,
     features: u32,
 ) -> PlainBranchHint
-    ensures { result ≡ plain_branch_hint (place_over features offset bytes.now)
-        (read_over branch_hint_at features offset bytes.now) }
+    ensures { result ≡ item_over plain_branch_hint branch_hint_at features offset bytes.now }
 {
-    if !fits(offset, bytes.len()) {
-        return refused_branch_hint(out_of_range(offset));
-    }
-    next_branch_hint(reader_over(bytes, offset, features))
+    read_at(BranchHints, bytes, offset, features)
+}
+
+/// Stores the next branch hints of a list in `out`. Returns how many there were or there was room for: 0 at the end.
+/// `bytes` are those of the whole list.
+#[unsafe(no_mangle)]
+pub extern "C" fn pulleynavy_next_branch_hints(
+    items: &mut StoredItems,
+    bytes: &[u8],
+    out: &mut [PlainBranchHint],
+) -> usize
+    ensures { StoresItems (next_by plain_branch_hint branch_hint_at bytes.now)
+        items.old out.old result items.new out.new }
+{
+    store_items(Counted(BranchHints), items, bytes, out)
 }

@@ -1,21 +1,26 @@
 // Imports as plain numbers.
-ghost use Rattle.std.specs.Prelude.{◌≡◌, [], Some};
-ghost use Rattle.wasm_base.specs.FaultAt.{fault_at};
+ghost use Rattle.std.specs.Prelude.{List, None, Some, ℕ, ◌≡◌};
 ghost use Rattle.wasm_base.specs.Name.{name_limit, text_at};
 ghost use Rattle.wasm_base.specs.Window.{place};
-ghost use Rattle.wasm_items.specs.Imports.{bundle_at, bundle_parts, item_at};
-ghost use Rattle.wasm_c.specs.Imports.{bundled_over, import_from, indexed_type, no_import, plain_import, plain_import_item, plain_import_type, plain_name, plain_named};
-ghost use Rattle.wasm_c.specs.Spans.{place_over, read_over};
+ghost use Rattle.wasm_c.specs.Cursors.{StoresItems, next_by};
+ghost use Rattle.wasm_c.specs.Imports.{bundled_over, import_from, indexed_type, plain_import, plain_import_item, plain_import_type, plain_name, plain_named};
+ghost use Rattle.wasm_c.specs.Readable.{item_over};
+ghost use Rattle.wasm_items.specs.Imports.{Bundle, ItemParts, bundle_at, bundle_parts, item_at};
 
+use crate::cursors::{Counted, StoredItems, store_items};
 use crate::faults::{NO_FAULT, PlainFault, plain_fault};
 use crate::kinds::{
     NO_GLOBAL_TYPE, NO_MEMORY_TYPE, NO_TABLE_TYPE, PlainGlobalType, PlainMemoryType,
     PlainTableType, plain_global_type, plain_memory_type, plain_table_type,
 };
+use crate::readable::{Readable, read_at};
 use crate::spans::{
-    NO_SPAN, PlainSpan, distance, items_span, out_of_range, reader_over, text_after_name, text_span,
+    NO_SPAN, PlainSpan, distance, items_span, out_of_range, reader_over, text_after_sized,
+    text_span,
 };
-use wasm_parser::{BinaryReader, Error, FromReader, ImportItemCompact, Imports, TypeRef, fits};
+use wasm_parser::{
+    BinaryReader, Error, FromReader, ImportItemCompact, Imports, Result, TypeRef, fits,
+};
 
 /// What is imported, with its type. The types that its kind doesn't name are all 0.
 #[repr(C)]
@@ -40,7 +45,7 @@ pub struct PlainImport {
     /// The fault, whose kind is 0 where there is none.
     pub fault: PlainFault,
     /// How many bytes it takes, those of a bundle's imports among them.
-    pub consumed: u64,
+    pub consumed: usize,
     /// The name of the module that it comes from, which is UTF-8.
     pub module_name: PlainSpan,
     /// The name of an import in its module, which is UTF-8.
@@ -62,7 +67,7 @@ pub struct PlainImportItem {
     /// The fault, whose kind is 0 where there is none.
     pub fault: PlainFault,
     /// How many bytes it takes.
-    pub consumed: u64,
+    pub consumed: usize,
     /// Its name in the bundle's module, which is UTF-8.
     pub name: PlainSpan,
     /// What it is.
@@ -76,7 +81,7 @@ pub struct PlainName {
     /// The fault, whose kind is 0 where there is none.
     pub fault: PlainFault,
     /// How many bytes it takes.
-    pub consumed: u64,
+    pub consumed: usize,
     /// The name, which is UTF-8.
     pub name: PlainSpan,
 }
@@ -137,15 +142,19 @@ fn plain_import_type(ty: TypeRef) -> PlainImportType
 }
 
 // An import, or the beginning of a bundle, that takes so many bytes from where the reader is.
-fn whole_import(before: BinaryReader<'_>, consumed: u64, bundle: &Imports) -> PlainImport
-    ensures { result ≡ import_from (place before.entry) consumed (bundle_parts bundle.now) }
+fn whole_import(
+    from: u64,
+    before: BinaryReader<'_>,
+    consumed: usize,
+    bundle: &Imports,
+) -> PlainImport
+    ensures { result ≡ import_from from (place before.entry) consumed (bundle_parts bundle.now) }
 {
-    let from = before.original_position();
     match bundle {
         Imports::Single(_, one) => PlainImport {
             consumed,
             module_name: text_span(from, before.clone().unwrap(), one.module.len()),
-            name: text_after_name(from, before, one.name.len()),
+            name: text_after_sized(from, before, one.name.len()),
             ty: plain_import_type(one.ty),
             count: 1,
             ..NO_IMPORT
@@ -170,23 +179,31 @@ fn whole_import(before: BinaryReader<'_>, consumed: u64, bundle: &Imports) -> Pl
     }
 }
 
-fn refused_import(error: Error) -> PlainImport
-    ensures { result ≡ plain_import (place_over 0 0 []) (Err (fault_at error)) }
-{
-    PlainImport {
-        fault: plain_fault(error),
-        ..NO_IMPORT
-    }
-}
+#[derive(Clone, Copy)]
+pub(crate) struct Bundles;
 
-fn next_import(mut reader: BinaryReader<'_>) -> PlainImport
-    ensures { result ≡ plain_import (place reader.entry) (bundle_at (place reader.entry)) }
-{
-    let from = reader.original_position();
-    let before = reader.clone().unwrap();
-    match Imports::from_reader(&mut reader) {
-        Ok(bundle) => whole_import(before, distance(from, reader.original_position()), &bundle),
-        Err(error) => refused_import(error),
+impl Readable for Bundles {
+    type Plain = PlainImport;
+
+    ghost Item = { Bundle };
+
+    ghost reading = { λ _. bundle_at };
+
+    ghost plain = { λ _. plain_import };
+
+    fn read(self, reader: &mut BinaryReader<'_>, from: u64) -> Result<PlainImport> {
+        let start = reader.original_position();
+        let before = reader.clone().unwrap();
+        let bundle = Imports::from_reader(reader)?;
+        let consumed = distance(start, reader.original_position());
+        Ok(whole_import(from, before, consumed, &bundle))
+    }
+
+    fn refused(self, error: Error) -> PlainImport {
+        PlainImport {
+            fault: plain_fault(error),
+            ..NO_IMPORT
+        }
     }
 }
 
@@ -196,39 +213,56 @@ fn next_import(mut reader: BinaryReader<'_>) -> PlainImport
 /// other fields are 0.
 #[unsafe(no_mangle)]
 pub extern "C" fn pulleynavy_read_import(bytes: &[u8], offset: u64, features: u32) -> PlainImport
-    ensures { result ≡ plain_import (place_over features offset bytes.now)
-        (read_over bundle_at features offset bytes.now) }
+    ensures { result ≡ item_over plain_import bundle_at features offset bytes.now }
 {
-    if !fits(offset, bytes.len()) {
-        return refused_import(out_of_range(offset));
-    }
-    next_import(reader_over(bytes, offset, features))
+    read_at(Bundles, bytes, offset, features)
 }
 
-fn refused_import_item(error: Error) -> PlainImportItem
-    ensures { result ≡ plain_import_item (place_over 0 0 []) (Err (fault_at error)) }
+/// Stores the next imports and bundles of a list in `out`. Returns how many there were or there was room for: 0 at the end.
+/// `bytes` are those of the whole list.
+#[unsafe(no_mangle)]
+pub extern "C" fn pulleynavy_next_imports(
+    items: &mut StoredItems,
+    bytes: &[u8],
+    out: &mut [PlainImport],
+) -> usize
+    ensures { StoresItems (next_by plain_import bundle_at bytes.now)
+        items.old out.old result items.new out.new }
 {
-    PlainImportItem {
-        fault: plain_fault(error),
-        consumed: 0,
-        name: NO_SPAN,
-        ty: NO_TYPE,
-    }
+    store_items(Counted(Bundles), items, bytes, out)
 }
 
-fn next_import_item(mut reader: BinaryReader<'_>) -> PlainImportItem
-    ensures { result ≡ plain_import_item (place reader.entry) (item_at (place reader.entry)) }
-{
-    let from = reader.original_position();
-    let before = reader.clone().unwrap();
-    match ImportItemCompact::from_reader(&mut reader) {
-        Ok(item) => PlainImportItem {
+#[derive(Clone, Copy)]
+pub(crate) struct BundledItems;
+
+impl Readable for BundledItems {
+    type Plain = PlainImportItem;
+
+    ghost Item = { ItemParts };
+
+    ghost reading = { λ _. item_at };
+
+    ghost plain = { λ _. plain_import_item };
+
+    fn read(self, reader: &mut BinaryReader<'_>, from: u64) -> Result<PlainImportItem> {
+        let start = reader.original_position();
+        let before = reader.clone().unwrap();
+        let item = ImportItemCompact::from_reader(reader)?;
+        Ok(PlainImportItem {
             fault: NO_FAULT,
-            consumed: distance(from, reader.original_position()),
+            consumed: distance(start, reader.original_position()),
             name: text_span(from, before, item.name.len()),
             ty: plain_import_type(item.ty),
-        },
-        Err(error) => refused_import_item(error),
+        })
+    }
+
+    fn refused(self, error: Error) -> PlainImportItem {
+        PlainImportItem {
+            fault: plain_fault(error),
+            consumed: 0,
+            name: NO_SPAN,
+            ty: NO_TYPE,
+        }
     }
 }
 
@@ -240,38 +274,40 @@ pub extern "C" fn pulleynavy_read_import_item(
     offset: u64,
     features: u32,
 ) -> PlainImportItem
-    ensures { result ≡ plain_import_item (place_over features offset bytes.now)
-        (read_over item_at features offset bytes.now) }
+    ensures { result ≡ item_over plain_import_item item_at features offset bytes.now }
 {
-    if !fits(offset, bytes.len()) {
-        return refused_import_item(out_of_range(offset));
-    }
-    next_import_item(reader_over(bytes, offset, features))
+    read_at(BundledItems, bytes, offset, features)
 }
 
-fn refused_name(error: Error) -> PlainName
-    ensures { result ≡ plain_name (place_over 0 0 []) (Err (fault_at error)) }
-{
-    PlainName {
-        fault: plain_fault(error),
-        consumed: 0,
-        name: NO_SPAN,
-    }
-}
+#[derive(Clone, Copy)]
+pub(crate) struct Names;
 
-fn next_name(mut reader: BinaryReader<'_>) -> PlainName
-    ensures { result ≡ plain_name (place reader.entry)
-        (text_at (Some name_limit) (place reader.entry)) }
-{
-    let from = reader.original_position();
-    let before = reader.clone().unwrap();
-    match reader.read_string() {
-        Ok(name) => PlainName {
+impl Readable for Names {
+    type Plain = PlainName;
+
+    ghost Item = { (List ℕ) };
+
+    ghost reading = { λ _. text_at (Some name_limit) };
+
+    ghost plain = { λ _. plain_name };
+
+    fn read(self, reader: &mut BinaryReader<'_>, from: u64) -> Result<PlainName> {
+        let start = reader.original_position();
+        let before = reader.clone().unwrap();
+        let name = reader.read_string()?;
+        Ok(PlainName {
             fault: NO_FAULT,
-            consumed: distance(from, reader.original_position()),
+            consumed: distance(start, reader.original_position()),
             name: text_span(from, before, name.len()),
-        },
-        Err(error) => refused_name(error),
+        })
+    }
+
+    fn refused(self, error: Error) -> PlainName {
+        PlainName {
+            fault: plain_fault(error),
+            consumed: 0,
+            name: NO_SPAN,
+        }
     }
 }
 
@@ -279,30 +315,104 @@ fn next_name(mut reader: BinaryReader<'_>) -> PlainName
 /// are the remaining bytes of its section, at `offset` of the stream. After a fault all other fields are 0.
 #[unsafe(no_mangle)]
 pub extern "C" fn pulleynavy_read_name(bytes: &[u8], offset: u64, features: u32) -> PlainName
-    ensures { result ≡ plain_name (place_over features offset bytes.now)
-        (read_over (text_at (Some name_limit)) features offset bytes.now) }
+    ensures { result ≡ item_over plain_name (text_at (Some name_limit)) features offset bytes.now }
 {
-    if !fits(offset, bytes.len()) {
-        return refused_name(out_of_range(offset));
-    }
-    next_name(reader_over(bytes, offset, features))
+    read_at(Names, bytes, offset, features)
 }
 
-// The import of this type whose name comes next.
-fn next_named(ty: PlainImportType, mut reader: BinaryReader<'_>) -> PlainImportItem
-    ensures { result ≡ plain_named ty (place reader.entry)
-        (text_at (Some name_limit) (place reader.entry)) }
+/// Stores the next names of a list in `out`. Returns how many there were or there was room for: 0 at the end.
+/// `bytes` are those of the whole list.
+#[unsafe(no_mangle)]
+pub extern "C" fn pulleynavy_next_names(
+    items: &mut StoredItems,
+    bytes: &[u8],
+    out: &mut [PlainName],
+) -> usize
+    ensures { StoresItems (next_by plain_name (text_at (Some name_limit)) bytes.now)
+        items.old out.old result items.new out.new }
 {
-    let from = reader.original_position();
-    let before = reader.clone().unwrap();
-    match reader.read_string() {
-        Ok(name) => PlainImportItem {
+    store_items(Counted(Names), items, bytes, out)
+}
+
+#[derive(Clone, Copy)]
+struct Texts;
+
+impl Readable for Texts {
+    type Plain = PlainName;
+
+    ghost Item = { List ℕ };
+
+    ghost reading = { λ _. text_at None };
+
+    ghost plain = { λ _. plain_name };
+
+    fn read(self, reader: &mut BinaryReader<'_>, from: u64) -> Result<PlainName> {
+        let start = reader.original_position();
+        let before = reader.clone().unwrap();
+        let text = reader.read_unlimited_string()?;
+        Ok(PlainName {
             fault: NO_FAULT,
-            consumed: distance(from, reader.original_position()),
-            name: text_span(from, before, name.len()),
-            ty,
-        },
-        Err(error) => refused_import_item(error),
+            consumed: distance(start, reader.original_position()),
+            name: text_span(from, before, text.len()),
+        })
+    }
+
+    fn refused(self, error: Error) -> PlainName {
+        Names.refused(error)
+    }
+}
+
+/// Reads the text at the start of `bytes`, a name of any size (core specification, Binary format, Values, Names), as the sections
+/// `producers`, `linking` and `dylink.0` have them. The bytes are the remaining bytes of its section, at `offset` of the stream.
+/// After a fault all other fields are 0.
+#[unsafe(no_mangle)]
+pub extern "C" fn pulleynavy_read_text(bytes: &[u8], offset: u64, features: u32) -> PlainName
+    ensures { result ≡ item_over plain_name (text_at None) features offset bytes.now }
+{
+    read_at(Texts, bytes, offset, features)
+}
+
+/// Stores the next texts of a list in `out`. Returns how many there were or there was room for: 0 at the end.
+/// `bytes` are those of the whole list.
+#[unsafe(no_mangle)]
+pub extern "C" fn pulleynavy_next_texts(
+    items: &mut StoredItems,
+    bytes: &[u8],
+    out: &mut [PlainName],
+) -> usize
+    ensures { StoresItems (next_by plain_name (text_at None) bytes.now)
+        items.old out.old result items.new out.new }
+{
+    store_items(Counted(Texts), items, bytes, out)
+}
+
+// The imports of a bundle of one type, which are names.
+#[derive(Clone, Copy)]
+pub(crate) struct TypedNames {
+    ty: PlainImportType,
+}
+
+impl Readable for TypedNames {
+    type Plain = PlainImportItem;
+
+    ghost Item = { List ℕ };
+
+    ghost reading = { λ _. text_at (Some name_limit) };
+
+    ghost plain = { λ kind. plain_named kind.ty };
+
+    fn read(self, reader: &mut BinaryReader<'_>, from: u64) -> Result<PlainImportItem> {
+        let name = Names.read(reader, from)?;
+        Ok(PlainImportItem {
+            fault: NO_FAULT,
+            consumed: name.consumed,
+            name: name.name,
+            ty: self.ty,
+        })
+    }
+
+    fn refused(self, error: Error) -> PlainImportItem {
+        BundledItems.refused(error)
     }
 }
 
@@ -318,11 +428,8 @@ pub extern "C" fn pulleynavy_read_bundled_import(
 ) -> PlainImportItem
     ensures { result ≡ bundled_over bundle.now features offset bytes.now }
 {
-    if bundle.kind != OF_TYPE {
-        return pulleynavy_read_import_item(bytes, offset, features);
+    if bundle.kind == OF_TYPE {
+        return read_at(TypedNames { ty: bundle.ty }, bytes, offset, features);
     }
-    if !fits(offset, bytes.len()) {
-        return refused_import_item(out_of_range(offset));
-    }
-    next_named(bundle.ty, reader_over(bytes, offset, features))
+    read_at(BundledItems, bytes, offset, features)
 }

@@ -1,22 +1,30 @@
 // Tables, memories, tags and globals as plain numbers.
-ghost use Rattle.std.specs.Prelude.{◌≡◌, []};
-ghost use Rattle.wasm_base.specs.FaultAt.{fault_at};
-ghost use Rattle.wasm_base.specs.Window.{place};
-ghost use Rattle.wasm_items.specs.Globals.{global_at};
+ghost use Rattle.std.specs.Prelude.{◌≡◌};
+ghost use Rattle.wasm_c.specs.Cursors.{StoresItems, next_by};
+ghost use Rattle.wasm_c.specs.Faults.{number_flag, number_or_0};
+ghost use Rattle.wasm_c.specs.Kinds.{has_expression, init_span, plain_global, plain_global_alone, plain_global_type, plain_memory, plain_memory_type, plain_table, plain_table_alone, plain_table_type, plain_tag};
+ghost use Rattle.wasm_c.specs.Readable.{item_over};
+ghost use Rattle.wasm_c.specs.Spans.{window_span};
+ghost use Rattle.wasm_items.specs.Globals.{global_at, global_type_at};
 ghost use Rattle.wasm_items.specs.Memories.{memory_type_at};
-ghost use Rattle.wasm_items.specs.Tables.{table_at};
+ghost use Rattle.wasm_items.specs.Tables.{table_at, table_type_at};
 ghost use Rattle.wasm_items.specs.Tags.{tag_type_at};
 ghost use Rattle.wasm_items.specs.Windows.{expression_window};
-ghost use Rattle.wasm_c.specs.Faults.{number_flag, number_or_0};
-ghost use Rattle.wasm_c.specs.Kinds.{has_expression, init_span, plain_global, plain_global_type, plain_memory, plain_memory_type, plain_table, plain_table_type, plain_tag};
-ghost use Rattle.wasm_c.specs.Spans.{place_over, read_over, window_span};
+ghost use Rattle.wasm_items.specs.declared.globals.Global.{Global};
+ghost use Rattle.wasm_items.specs.declared.tables.Table.{Table};
+ghost use Rattle.wasm_items.specs.declared.types.GlobalType.{GlobalType};
+ghost use Rattle.wasm_items.specs.declared.types.MemoryType.{MemoryType};
+ghost use Rattle.wasm_items.specs.declared.types.TableType.{TableType};
+ghost use Rattle.wasm_items.specs.declared.types.TagType.{TagType};
 
+use crate::cursors::{Counted, StoredItems, store_items};
 use crate::faults::{NO_FAULT, PlainFault, number_parts, plain_fault};
-use crate::spans::{NO_SPAN, PlainSpan, distance, flag, out_of_range, reader_over, window_span};
+use crate::readable::{Readable, read_at};
+use crate::spans::{NO_SPAN, PlainSpan, distance, flag, window_span};
 use crate::values::{PlainType, SIMPLE, plain_ref, plain_type};
 use wasm_parser::{
-    BinaryReader, ConstExpr, Error, FromReader, Global, GlobalType, MemoryType, Table, TableInit,
-    TableType, TagType, fits,
+    BinaryReader, ConstExpr, Error, FromReader, Global, GlobalType, MemoryType, Result, Table,
+    TableInit, TableType, TagType,
 };
 
 /// A table type as plain numbers (core specification, Binary format, Types, Table Types).
@@ -76,7 +84,7 @@ pub struct PlainTable {
     /// The fault, whose kind is 0 where there is none.
     pub fault: PlainFault,
     /// How many bytes it takes.
-    pub consumed: u64,
+    pub consumed: usize,
     /// Its type.
     pub ty: PlainTableType,
     /// The expression of its elements, with its end.
@@ -92,7 +100,7 @@ pub struct PlainMemory {
     /// The fault, whose kind is 0 where there is none.
     pub fault: PlainFault,
     /// How many bytes it takes.
-    pub consumed: u64,
+    pub consumed: usize,
     /// Its type.
     pub ty: PlainMemoryType,
 }
@@ -104,7 +112,7 @@ pub struct PlainTag {
     /// The fault, whose kind is 0 where there is none.
     pub fault: PlainFault,
     /// How many bytes it takes.
-    pub consumed: u64,
+    pub consumed: usize,
     /// The index of the function type whose parameters it carries.
     pub func_type_index: u32,
 }
@@ -116,7 +124,7 @@ pub struct PlainGlobal {
     /// The fault, whose kind is 0 where there is none.
     pub fault: PlainFault,
     /// How many bytes it takes.
-    pub consumed: u64,
+    pub consumed: usize,
     /// Its type.
     pub ty: PlainGlobalType,
     /// The expression of its first value, with its end.
@@ -205,18 +213,6 @@ pub(crate) fn plain_global_type(ty: GlobalType) -> PlainGlobalType
     }
 }
 
-fn refused_table(error: Error) -> PlainTable
-    ensures { result ≡ plain_table (place_over 0 0 []) (Err (fault_at error)) }
-{
-    PlainTable {
-        fault: plain_fault(error),
-        consumed: 0,
-        ty: NO_TABLE_TYPE,
-        init: NO_SPAN,
-        has_init: 0,
-    }
-}
-
 // The expression of a table's elements, if there is one, from this offset on.
 fn init_span(from: u64, init: &TableInit) -> PlainSpan
     ensures { result ≡ init_span from init.now }
@@ -243,19 +239,38 @@ fn has_expression(init: &TableInit) -> u32
     }
 }
 
-fn next_table(mut reader: BinaryReader<'_>) -> PlainTable
-    ensures { result ≡ plain_table (place reader.entry) (table_at (place reader.entry)) }
-{
-    let from = reader.original_position();
-    match Table::from_reader(&mut reader) {
-        Ok(table) => PlainTable {
+#[derive(Clone, Copy)]
+pub(crate) struct Tables;
+
+impl Readable for Tables {
+    type Plain = PlainTable;
+
+    ghost Item = { Table };
+
+    ghost reading = { λ _. table_at };
+
+    ghost plain = { λ _. plain_table };
+
+    fn read(self, reader: &mut BinaryReader<'_>, from: u64) -> Result<PlainTable> {
+        let start = reader.original_position();
+        let table = Table::from_reader(reader)?;
+        Ok(PlainTable {
             fault: NO_FAULT,
-            consumed: distance(from, reader.original_position()),
+            consumed: distance(start, reader.original_position()),
             ty: plain_table_type(table.ty),
             init: init_span(from, &table.init),
             has_init: has_expression(&table.init),
-        },
-        Err(error) => refused_table(error),
+        })
+    }
+
+    fn refused(self, error: Error) -> PlainTable {
+        PlainTable {
+            fault: plain_fault(error),
+            consumed: 0,
+            ty: NO_TABLE_TYPE,
+            init: NO_SPAN,
+            has_init: 0,
+        }
     }
 }
 
@@ -263,36 +278,53 @@ fn next_table(mut reader: BinaryReader<'_>) -> PlainTable
 /// remaining bytes of its section, at `offset` of the stream. After a fault all other fields are 0.
 #[unsafe(no_mangle)]
 pub extern "C" fn pulleynavy_read_table(bytes: &[u8], offset: u64, features: u32) -> PlainTable
-    ensures { result ≡ plain_table (place_over features offset bytes.now)
-        (read_over table_at features offset bytes.now) }
+    ensures { result ≡ item_over plain_table table_at features offset bytes.now }
 {
-    if !fits(offset, bytes.len()) {
-        return refused_table(out_of_range(offset));
-    }
-    next_table(reader_over(bytes, offset, features))
+    read_at(Tables, bytes, offset, features)
 }
 
-fn refused_memory(error: Error) -> PlainMemory
-    ensures { result ≡ plain_memory (place_over 0 0 []) (Err (fault_at error)) }
+/// Stores the next tables of a list in `out`. Returns how many there were or there was room for: 0 at the end.
+/// `bytes` are those of the whole list.
+#[unsafe(no_mangle)]
+pub extern "C" fn pulleynavy_next_tables(
+    items: &mut StoredItems,
+    bytes: &[u8],
+    out: &mut [PlainTable],
+) -> usize
+    ensures { StoresItems (next_by plain_table table_at bytes.now)
+        items.old out.old result items.new out.new }
 {
-    PlainMemory {
-        fault: plain_fault(error),
-        consumed: 0,
-        ty: NO_MEMORY_TYPE,
-    }
+    store_items(Counted(Tables), items, bytes, out)
 }
 
-fn next_memory(mut reader: BinaryReader<'_>) -> PlainMemory
-    ensures { result ≡ plain_memory (place reader.entry) (memory_type_at (place reader.entry)) }
-{
-    let from = reader.original_position();
-    match MemoryType::from_reader(&mut reader) {
-        Ok(ty) => PlainMemory {
+#[derive(Clone, Copy)]
+pub(crate) struct Memories;
+
+impl Readable for Memories {
+    type Plain = PlainMemory;
+
+    ghost Item = { MemoryType };
+
+    ghost reading = { λ _. memory_type_at };
+
+    ghost plain = { λ _. plain_memory };
+
+    fn read(self, reader: &mut BinaryReader<'_>, _from: u64) -> Result<PlainMemory> {
+        let start = reader.original_position();
+        let ty = MemoryType::from_reader(reader)?;
+        Ok(PlainMemory {
             fault: NO_FAULT,
-            consumed: distance(from, reader.original_position()),
+            consumed: distance(start, reader.original_position()),
             ty: plain_memory_type(ty),
-        },
-        Err(error) => refused_memory(error),
+        })
+    }
+
+    fn refused(self, error: Error) -> PlainMemory {
+        PlainMemory {
+            fault: plain_fault(error),
+            consumed: 0,
+            ty: NO_MEMORY_TYPE,
+        }
     }
 }
 
@@ -300,36 +332,53 @@ fn next_memory(mut reader: BinaryReader<'_>) -> PlainMemory
 /// remaining bytes of its section, at `offset` of the stream. After a fault all other fields are 0.
 #[unsafe(no_mangle)]
 pub extern "C" fn pulleynavy_read_memory(bytes: &[u8], offset: u64, features: u32) -> PlainMemory
-    ensures { result ≡ plain_memory (place_over features offset bytes.now)
-        (read_over memory_type_at features offset bytes.now) }
+    ensures { result ≡ item_over plain_memory memory_type_at features offset bytes.now }
 {
-    if !fits(offset, bytes.len()) {
-        return refused_memory(out_of_range(offset));
-    }
-    next_memory(reader_over(bytes, offset, features))
+    read_at(Memories, bytes, offset, features)
 }
 
-fn refused_tag(error: Error) -> PlainTag
-    ensures { result ≡ plain_tag (place_over 0 0 []) (Err (fault_at error)) }
+/// Stores the next memories of a list in `out`. Returns how many there were or there was room for: 0 at the end.
+/// `bytes` are those of the whole list.
+#[unsafe(no_mangle)]
+pub extern "C" fn pulleynavy_next_memories(
+    items: &mut StoredItems,
+    bytes: &[u8],
+    out: &mut [PlainMemory],
+) -> usize
+    ensures { StoresItems (next_by plain_memory memory_type_at bytes.now)
+        items.old out.old result items.new out.new }
 {
-    PlainTag {
-        fault: plain_fault(error),
-        consumed: 0,
-        func_type_index: 0,
-    }
+    store_items(Counted(Memories), items, bytes, out)
 }
 
-fn next_tag(mut reader: BinaryReader<'_>) -> PlainTag
-    ensures { result ≡ plain_tag (place reader.entry) (tag_type_at (place reader.entry)) }
-{
-    let from = reader.original_position();
-    match TagType::from_reader(&mut reader) {
-        Ok(tag) => PlainTag {
+#[derive(Clone, Copy)]
+pub(crate) struct Tags;
+
+impl Readable for Tags {
+    type Plain = PlainTag;
+
+    ghost Item = { TagType };
+
+    ghost reading = { λ _. tag_type_at };
+
+    ghost plain = { λ _. plain_tag };
+
+    fn read(self, reader: &mut BinaryReader<'_>, _from: u64) -> Result<PlainTag> {
+        let start = reader.original_position();
+        let tag = TagType::from_reader(reader)?;
+        Ok(PlainTag {
             fault: NO_FAULT,
-            consumed: distance(from, reader.original_position()),
+            consumed: distance(start, reader.original_position()),
             func_type_index: tag.func_type_idx,
-        },
-        Err(error) => refused_tag(error),
+        })
+    }
+
+    fn refused(self, error: Error) -> PlainTag {
+        PlainTag {
+            fault: plain_fault(error),
+            consumed: 0,
+            func_type_index: 0,
+        }
     }
 }
 
@@ -337,38 +386,55 @@ fn next_tag(mut reader: BinaryReader<'_>) -> PlainTag
 /// bytes of its section, at `offset` of the stream. After a fault all other fields are 0.
 #[unsafe(no_mangle)]
 pub extern "C" fn pulleynavy_read_tag(bytes: &[u8], offset: u64, features: u32) -> PlainTag
-    ensures { result ≡ plain_tag (place_over features offset bytes.now)
-        (read_over tag_type_at features offset bytes.now) }
+    ensures { result ≡ item_over plain_tag tag_type_at features offset bytes.now }
 {
-    if !fits(offset, bytes.len()) {
-        return refused_tag(out_of_range(offset));
-    }
-    next_tag(reader_over(bytes, offset, features))
+    read_at(Tags, bytes, offset, features)
 }
 
-fn refused_global(error: Error) -> PlainGlobal
-    ensures { result ≡ plain_global (place_over 0 0 []) (Err (fault_at error)) }
+/// Stores the next tags of a list in `out`. Returns how many there were or there was room for: 0 at the end.
+/// `bytes` are those of the whole list.
+#[unsafe(no_mangle)]
+pub extern "C" fn pulleynavy_next_tags(
+    items: &mut StoredItems,
+    bytes: &[u8],
+    out: &mut [PlainTag],
+) -> usize
+    ensures { StoresItems (next_by plain_tag tag_type_at bytes.now)
+        items.old out.old result items.new out.new }
 {
-    PlainGlobal {
-        fault: plain_fault(error),
-        consumed: 0,
-        ty: NO_GLOBAL_TYPE,
-        init: NO_SPAN,
-    }
+    store_items(Counted(Tags), items, bytes, out)
 }
 
-fn next_global(mut reader: BinaryReader<'_>) -> PlainGlobal
-    ensures { result ≡ plain_global (place reader.entry) (global_at (place reader.entry)) }
-{
-    let from = reader.original_position();
-    match Global::from_reader(&mut reader) {
-        Ok(global) => PlainGlobal {
+#[derive(Clone, Copy)]
+pub(crate) struct Globals;
+
+impl Readable for Globals {
+    type Plain = PlainGlobal;
+
+    ghost Item = { Global };
+
+    ghost reading = { λ _. global_at };
+
+    ghost plain = { λ _. plain_global };
+
+    fn read(self, reader: &mut BinaryReader<'_>, from: u64) -> Result<PlainGlobal> {
+        let start = reader.original_position();
+        let global = Global::from_reader(reader)?;
+        Ok(PlainGlobal {
             fault: NO_FAULT,
-            consumed: distance(from, reader.original_position()),
+            consumed: distance(start, reader.original_position()),
             ty: plain_global_type(global.ty),
             init: expression_span(from, &global.init_expr),
-        },
-        Err(error) => refused_global(error),
+        })
+    }
+
+    fn refused(self, error: Error) -> PlainGlobal {
+        PlainGlobal {
+            fault: plain_fault(error),
+            consumed: 0,
+            ty: NO_GLOBAL_TYPE,
+            init: NO_SPAN,
+        }
     }
 }
 
@@ -376,11 +442,100 @@ fn next_global(mut reader: BinaryReader<'_>) -> PlainGlobal
 /// remaining bytes of its section, at `offset` of the stream. After a fault all other fields are 0.
 #[unsafe(no_mangle)]
 pub extern "C" fn pulleynavy_read_global(bytes: &[u8], offset: u64, features: u32) -> PlainGlobal
-    ensures { result ≡ plain_global (place_over features offset bytes.now)
-        (read_over global_at features offset bytes.now) }
+    ensures { result ≡ item_over plain_global global_at features offset bytes.now }
 {
-    if !fits(offset, bytes.len()) {
-        return refused_global(out_of_range(offset));
+    read_at(Globals, bytes, offset, features)
+}
+
+/// Stores the next globals of a list in `out`. Returns how many there were or there was room for: 0 at the end.
+/// `bytes` are those of the whole list.
+#[unsafe(no_mangle)]
+pub extern "C" fn pulleynavy_next_globals(
+    items: &mut StoredItems,
+    bytes: &[u8],
+    out: &mut [PlainGlobal],
+) -> usize
+    ensures { StoresItems (next_by plain_global global_at bytes.now)
+        items.old out.old result items.new out.new }
+{
+    store_items(Counted(Globals), items, bytes, out)
+}
+
+#[derive(Clone, Copy)]
+struct TableTypes;
+
+impl Readable for TableTypes {
+    type Plain = PlainTable;
+
+    ghost Item = { TableType };
+
+    ghost reading = { λ _. table_type_at };
+
+    ghost plain = { λ _. plain_table_alone };
+
+    fn read(self, reader: &mut BinaryReader<'_>, _from: u64) -> Result<PlainTable> {
+        let start = reader.original_position();
+        let ty = TableType::from_reader(reader)?;
+        Ok(PlainTable {
+            fault: NO_FAULT,
+            consumed: distance(start, reader.original_position()),
+            ty: plain_table_type(ty),
+            init: NO_SPAN,
+            has_init: 0,
+        })
     }
-    next_global(reader_over(bytes, offset, features))
+
+    fn refused(self, error: Error) -> PlainTable {
+        Tables.refused(error)
+    }
+}
+
+/// Reads the table type at the start of `bytes` (core specification, Binary format, Types, Table Types): a table without an
+/// expression. The bytes are the remaining bytes of its section, at `offset` of the stream. After a fault all other fields are 0.
+#[unsafe(no_mangle)]
+pub extern "C" fn pulleynavy_read_table_type(bytes: &[u8], offset: u64, features: u32) -> PlainTable
+    ensures { result ≡ item_over plain_table_alone table_type_at features offset bytes.now }
+{
+    read_at(TableTypes, bytes, offset, features)
+}
+
+#[derive(Clone, Copy)]
+struct GlobalTypes;
+
+impl Readable for GlobalTypes {
+    type Plain = PlainGlobal;
+
+    ghost Item = { GlobalType };
+
+    ghost reading = { λ _. global_type_at };
+
+    ghost plain = { λ _. plain_global_alone };
+
+    fn read(self, reader: &mut BinaryReader<'_>, _from: u64) -> Result<PlainGlobal> {
+        let start = reader.original_position();
+        let ty = GlobalType::from_reader(reader)?;
+        Ok(PlainGlobal {
+            fault: NO_FAULT,
+            consumed: distance(start, reader.original_position()),
+            ty: plain_global_type(ty),
+            init: NO_SPAN,
+        })
+    }
+
+    fn refused(self, error: Error) -> PlainGlobal {
+        Globals.refused(error)
+    }
+}
+
+/// Reads the global type at the start of `bytes` (core specification, Binary format, Types, Global Types): a global without an
+/// expression. The bytes are the remaining bytes of its section, at `offset` of the stream. After a fault all other fields are 0.
+#[unsafe(no_mangle)]
+pub extern "C" fn pulleynavy_read_global_type(
+    bytes: &[u8],
+    offset: u64,
+    features: u32,
+) -> PlainGlobal
+    ensures { result ≡ item_over plain_global_alone global_type_at features offset bytes.now }
+{
+    read_at(GlobalTypes, bytes, offset, features)
 }

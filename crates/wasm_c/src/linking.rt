@@ -1,19 +1,20 @@
 // What a linker reads, as plain numbers.
-ghost use Rattle.std.specs.Prelude.{◌≡◌, []};
-ghost use Rattle.wasm_base.specs.FaultAt.{fault_at};
-ghost use Rattle.wasm_base.specs.Window.{place};
-ghost use Rattle.wasm_c.specs.Spans.{place_over, read_over};
-ghost use Rattle.wasm_custom.specs.Linking.{comdat_at, comdat_symbol_at, init_function_at, segment_at};
+ghost use Rattle.wasm_c.specs.Cursors.{StoresItems, next_by};
+ghost use Rattle.std.specs.Prelude.{◌≡◌};
 ghost use Rattle.wasm_c.specs.Linking.{comdat_code, plain_comdat, plain_comdat_symbol, plain_init_function, plain_linking_segment};
+ghost use Rattle.wasm_c.specs.Readable.{item_over};
+ghost use Rattle.wasm_custom.specs.Linking.{ComdatParts, SegmentParts, comdat_at, comdat_symbol_at, init_function_at, segment_at};
+ghost use Rattle.wasm_custom.specs.declared.linking.ComdatSymbol.{ComdatSymbol};
+ghost use Rattle.wasm_custom.specs.declared.linking.InitFunc.{InitFunc};
 
+use crate::cursors::{Counted, StoredItems, store_items};
 use crate::faults::{NO_FAULT, PlainFault, plain_fault};
-use crate::spans::{
-    NO_SPAN, PlainSpan, distance, items_span, out_of_range, reader_over, text_span,
-};
+use crate::readable::{Readable, read_at};
+use crate::spans::{NO_SPAN, PlainSpan, distance, items_span, text_span};
 use bitflags::Flags;
 use wasm_parser::{
-    BinaryReader, Comdat, ComdatSymbol, ComdatSymbolKind, Error, FromReader, InitFunc, Segment,
-    fits,
+    BinaryReader, Comdat, ComdatSymbol, ComdatSymbolKind, Error, FromReader, InitFunc, Result,
+    Segment,
 };
 
 /// A data segment for linkers, or its fault.
@@ -23,7 +24,7 @@ pub struct PlainLinkingSegment {
     /// The fault, whose kind is 0 where there is none.
     pub fault: PlainFault,
     /// How many bytes it takes.
-    pub consumed: u64,
+    pub consumed: usize,
     /// Its name, which is UTF-8.
     pub name: PlainSpan,
     /// Its alignment, as a power of two.
@@ -39,7 +40,7 @@ pub struct PlainInitFunction {
     /// The fault, whose kind is 0 where there is none.
     pub fault: PlainFault,
     /// How many bytes it takes.
-    pub consumed: u64,
+    pub consumed: usize,
     /// Its priority.
     pub priority: u32,
     /// The index of its symbol.
@@ -53,7 +54,7 @@ pub struct PlainComdat {
     /// The fault, whose kind is 0 where there is none.
     pub fault: PlainFault,
     /// How many bytes it takes.
-    pub consumed: u64,
+    pub consumed: usize,
     /// Its name, which is UTF-8.
     pub name: PlainSpan,
     /// Its flags.
@@ -71,7 +72,7 @@ pub struct PlainComdatSymbol {
     /// The fault, whose kind is 0 where there is none.
     pub fault: PlainFault,
     /// How many bytes it takes.
-    pub consumed: u64,
+    pub consumed: usize,
     /// 0 a data segment, 1 a function, 2 a global, 3 an event, 4 a table, 5 a section.
     pub kind: u32,
     /// Its index among those of its kind.
@@ -91,32 +92,39 @@ fn comdat_code(kind: ComdatSymbolKind) -> u32
     }
 }
 
-fn refused_linking_segment(error: Error) -> PlainLinkingSegment
-    ensures { result ≡ plain_linking_segment (place_over 0 0 []) (Err (fault_at error)) }
-{
-    PlainLinkingSegment {
-        fault: plain_fault(error),
-        consumed: 0,
-        name: NO_SPAN,
-        alignment: 0,
-        flags: 0,
-    }
-}
+#[derive(Clone, Copy)]
+pub(crate) struct LinkingSegments;
 
-fn next_linking_segment(mut reader: BinaryReader<'_>) -> PlainLinkingSegment
-    ensures { result ≡ plain_linking_segment (place reader.entry) (segment_at (place reader.entry)) }
-{
-    let from = reader.original_position();
-    let before = reader.clone().unwrap();
-    match Segment::from_reader(&mut reader) {
-        Ok(segment) => PlainLinkingSegment {
+impl Readable for LinkingSegments {
+    type Plain = PlainLinkingSegment;
+
+    ghost Item = { SegmentParts };
+
+    ghost reading = { λ _. segment_at };
+
+    ghost plain = { λ _. plain_linking_segment };
+
+    fn read(self, reader: &mut BinaryReader<'_>, from: u64) -> Result<PlainLinkingSegment> {
+        let start = reader.original_position();
+        let before = reader.clone().unwrap();
+        let segment = Segment::from_reader(reader)?;
+        Ok(PlainLinkingSegment {
             fault: NO_FAULT,
-            consumed: distance(from, reader.original_position()),
+            consumed: distance(start, reader.original_position()),
             name: text_span(from, before, segment.name.len()),
             alignment: segment.alignment,
             flags: segment.flags.bits(),
-        },
-        Err(error) => refused_linking_segment(error),
+        })
+    }
+
+    fn refused(self, error: Error) -> PlainLinkingSegment {
+        PlainLinkingSegment {
+            fault: plain_fault(error),
+            consumed: 0,
+            name: NO_SPAN,
+            alignment: 0,
+            flags: 0,
+        }
     }
 }
 
@@ -129,38 +137,55 @@ pub extern "C" fn pulleynavy_read_linking_segment(
     offset: u64,
     features: u32,
 ) -> PlainLinkingSegment
-    ensures { result ≡ plain_linking_segment (place_over features offset bytes.now)
-        (read_over segment_at features offset bytes.now) }
+    ensures { result ≡ item_over plain_linking_segment segment_at features offset bytes.now }
 {
-    if !fits(offset, bytes.len()) {
-        return refused_linking_segment(out_of_range(offset));
-    }
-    next_linking_segment(reader_over(bytes, offset, features))
+    read_at(LinkingSegments, bytes, offset, features)
 }
 
-fn refused_init_function(error: Error) -> PlainInitFunction
-    ensures { result ≡ plain_init_function (place_over 0 0 []) (Err (fault_at error)) }
+/// Stores the next segments of a list in `out`. Returns how many there were or there was room for: 0 at the end.
+/// `bytes` are those of the whole list.
+#[unsafe(no_mangle)]
+pub extern "C" fn pulleynavy_next_linking_segments(
+    items: &mut StoredItems,
+    bytes: &[u8],
+    out: &mut [PlainLinkingSegment],
+) -> usize
+    ensures { StoresItems (next_by plain_linking_segment segment_at bytes.now)
+        items.old out.old result items.new out.new }
 {
-    PlainInitFunction {
-        fault: plain_fault(error),
-        consumed: 0,
-        priority: 0,
-        symbol: 0,
-    }
+    store_items(Counted(LinkingSegments), items, bytes, out)
 }
 
-fn next_init_function(mut reader: BinaryReader<'_>) -> PlainInitFunction
-    ensures { result ≡ plain_init_function (place reader.entry) (init_function_at (place reader.entry)) }
-{
-    let from = reader.original_position();
-    match InitFunc::from_reader(&mut reader) {
-        Ok(function) => PlainInitFunction {
+#[derive(Clone, Copy)]
+pub(crate) struct InitFunctions;
+
+impl Readable for InitFunctions {
+    type Plain = PlainInitFunction;
+
+    ghost Item = { InitFunc };
+
+    ghost reading = { λ _. init_function_at };
+
+    ghost plain = { λ _. plain_init_function };
+
+    fn read(self, reader: &mut BinaryReader<'_>, _from: u64) -> Result<PlainInitFunction> {
+        let start = reader.original_position();
+        let function = InitFunc::from_reader(reader)?;
+        Ok(PlainInitFunction {
             fault: NO_FAULT,
-            consumed: distance(from, reader.original_position()),
+            consumed: distance(start, reader.original_position()),
             priority: function.priority,
             symbol: function.symbol_index,
-        },
-        Err(error) => refused_init_function(error),
+        })
+    }
+
+    fn refused(self, error: Error) -> PlainInitFunction {
+        PlainInitFunction {
+            fault: plain_fault(error),
+            consumed: 0,
+            priority: 0,
+            symbol: 0,
+        }
     }
 }
 
@@ -173,43 +198,60 @@ pub extern "C" fn pulleynavy_read_init_function(
     offset: u64,
     features: u32,
 ) -> PlainInitFunction
-    ensures { result ≡ plain_init_function (place_over features offset bytes.now)
-        (read_over init_function_at features offset bytes.now) }
+    ensures { result ≡ item_over plain_init_function init_function_at features offset bytes.now }
 {
-    if !fits(offset, bytes.len()) {
-        return refused_init_function(out_of_range(offset));
-    }
-    next_init_function(reader_over(bytes, offset, features))
+    read_at(InitFunctions, bytes, offset, features)
 }
 
-fn refused_comdat(error: Error) -> PlainComdat
-    ensures { result ≡ plain_comdat (place_over 0 0 []) (Err (fault_at error)) }
+/// Stores the next functions of a list in `out`. Returns how many there were or there was room for: 0 at the end.
+/// `bytes` are those of the whole list.
+#[unsafe(no_mangle)]
+pub extern "C" fn pulleynavy_next_init_functions(
+    items: &mut StoredItems,
+    bytes: &[u8],
+    out: &mut [PlainInitFunction],
+) -> usize
+    ensures { StoresItems (next_by plain_init_function init_function_at bytes.now)
+        items.old out.old result items.new out.new }
 {
-    PlainComdat {
-        fault: plain_fault(error),
-        consumed: 0,
-        name: NO_SPAN,
-        flags: 0,
-        count: 0,
-        symbols: NO_SPAN,
-    }
+    store_items(Counted(InitFunctions), items, bytes, out)
 }
 
-fn next_comdat(mut reader: BinaryReader<'_>) -> PlainComdat
-    ensures { result ≡ plain_comdat (place reader.entry) (comdat_at (place reader.entry)) }
-{
-    let from = reader.original_position();
-    let before = reader.clone().unwrap();
-    match Comdat::from_reader(&mut reader) {
-        Ok(comdat) => PlainComdat {
+#[derive(Clone, Copy)]
+pub(crate) struct Comdats;
+
+impl Readable for Comdats {
+    type Plain = PlainComdat;
+
+    ghost Item = { ComdatParts };
+
+    ghost reading = { λ _. comdat_at };
+
+    ghost plain = { λ _. plain_comdat };
+
+    fn read(self, reader: &mut BinaryReader<'_>, from: u64) -> Result<PlainComdat> {
+        let start = reader.original_position();
+        let before = reader.clone().unwrap();
+        let comdat = Comdat::from_reader(reader)?;
+        Ok(PlainComdat {
             fault: NO_FAULT,
-            consumed: distance(from, reader.original_position()),
+            consumed: distance(start, reader.original_position()),
             name: text_span(from, before, comdat.name.len()),
             flags: comdat.flags,
             count: comdat.symbols.count(),
             symbols: items_span(from, &comdat.symbols),
-        },
-        Err(error) => refused_comdat(error),
+        })
+    }
+
+    fn refused(self, error: Error) -> PlainComdat {
+        PlainComdat {
+            fault: plain_fault(error),
+            consumed: 0,
+            name: NO_SPAN,
+            flags: 0,
+            count: 0,
+            symbols: NO_SPAN,
+        }
     }
 }
 
@@ -218,38 +260,55 @@ fn next_comdat(mut reader: BinaryReader<'_>) -> PlainComdat
 /// of its section, at `offset` of the stream. After a fault all other fields are 0.
 #[unsafe(no_mangle)]
 pub extern "C" fn pulleynavy_read_comdat(bytes: &[u8], offset: u64, features: u32) -> PlainComdat
-    ensures { result ≡ plain_comdat (place_over features offset bytes.now)
-        (read_over comdat_at features offset bytes.now) }
+    ensures { result ≡ item_over plain_comdat comdat_at features offset bytes.now }
 {
-    if !fits(offset, bytes.len()) {
-        return refused_comdat(out_of_range(offset));
-    }
-    next_comdat(reader_over(bytes, offset, features))
+    read_at(Comdats, bytes, offset, features)
 }
 
-fn refused_comdat_symbol(error: Error) -> PlainComdatSymbol
-    ensures { result ≡ plain_comdat_symbol (place_over 0 0 []) (Err (fault_at error)) }
+/// Stores the next comdats of a list in `out`. Returns how many there were or there was room for: 0 at the end.
+/// `bytes` are those of the whole list.
+#[unsafe(no_mangle)]
+pub extern "C" fn pulleynavy_next_comdats(
+    items: &mut StoredItems,
+    bytes: &[u8],
+    out: &mut [PlainComdat],
+) -> usize
+    ensures { StoresItems (next_by plain_comdat comdat_at bytes.now)
+        items.old out.old result items.new out.new }
 {
-    PlainComdatSymbol {
-        fault: plain_fault(error),
-        consumed: 0,
-        kind: 0,
-        index: 0,
-    }
+    store_items(Counted(Comdats), items, bytes, out)
 }
 
-fn next_comdat_symbol(mut reader: BinaryReader<'_>) -> PlainComdatSymbol
-    ensures { result ≡ plain_comdat_symbol (place reader.entry) (comdat_symbol_at (place reader.entry)) }
-{
-    let from = reader.original_position();
-    match ComdatSymbol::from_reader(&mut reader) {
-        Ok(symbol) => PlainComdatSymbol {
+#[derive(Clone, Copy)]
+pub(crate) struct ComdatSymbols;
+
+impl Readable for ComdatSymbols {
+    type Plain = PlainComdatSymbol;
+
+    ghost Item = { ComdatSymbol };
+
+    ghost reading = { λ _. comdat_symbol_at };
+
+    ghost plain = { λ _. plain_comdat_symbol };
+
+    fn read(self, reader: &mut BinaryReader<'_>, _from: u64) -> Result<PlainComdatSymbol> {
+        let start = reader.original_position();
+        let symbol = ComdatSymbol::from_reader(reader)?;
+        Ok(PlainComdatSymbol {
             fault: NO_FAULT,
-            consumed: distance(from, reader.original_position()),
+            consumed: distance(start, reader.original_position()),
             kind: comdat_code(symbol.kind),
             index: symbol.index,
-        },
-        Err(error) => refused_comdat_symbol(error),
+        })
+    }
+
+    fn refused(self, error: Error) -> PlainComdatSymbol {
+        PlainComdatSymbol {
+            fault: plain_fault(error),
+            consumed: 0,
+            kind: 0,
+            index: 0,
+        }
     }
 }
 
@@ -261,11 +320,21 @@ pub extern "C" fn pulleynavy_read_comdat_symbol(
     offset: u64,
     features: u32,
 ) -> PlainComdatSymbol
-    ensures { result ≡ plain_comdat_symbol (place_over features offset bytes.now)
-        (read_over comdat_symbol_at features offset bytes.now) }
+    ensures { result ≡ item_over plain_comdat_symbol comdat_symbol_at features offset bytes.now }
 {
-    if !fits(offset, bytes.len()) {
-        return refused_comdat_symbol(out_of_range(offset));
-    }
-    next_comdat_symbol(reader_over(bytes, offset, features))
+    read_at(ComdatSymbols, bytes, offset, features)
+}
+
+/// Stores the next symbols of a list in `out`. Returns how many there were or there was room for: 0 at the end.
+/// `bytes` are those of the whole list.
+#[unsafe(no_mangle)]
+pub extern "C" fn pulleynavy_next_comdat_symbols(
+    items: &mut StoredItems,
+    bytes: &[u8],
+    out: &mut [PlainComdatSymbol],
+) -> usize
+    ensures { StoresItems (next_by plain_comdat_symbol comdat_symbol_at bytes.now)
+        items.old out.old result items.new out.new }
+{
+    store_items(Counted(ComdatSymbols), items, bytes, out)
 }

@@ -1,22 +1,28 @@
 // Names and subsections as plain numbers.
-ghost use Rattle.std.specs.Prelude.{◌≡◌, []};
+ghost use Rattle.std.specs.Prelude.{◌+◌, ◌<◌, ◌^◌, Err, [], length};
 ghost use Rattle.wasm_base.specs.FaultAt.{fault_at};
-ghost use Rattle.wasm_base.specs.Window.{place};
-ghost use Rattle.wasm_c.specs.Spans.{place_over, read_over};
-ghost use Rattle.wasm_base.specs.Hints.{TakesNoMemory};
+ghost use Rattle.wasm_c.specs.Spans.{place_over};
+ghost use Rattle.wasm_base.specs.declared.fault.Fault.TheVariants.{IndirectOrder, NamesOrder};
+ghost use Rattle.wasm_c.specs.Cursors.{StoresItems, indirect_index, naming_index, next_indirect_namings, next_name_subsection, next_namings, next_subsection, place_of, subsection_by, subsection_in, unless_fault};
+ghost use Rattle.std.specs.Prelude.{ℕ, ◌≡◌};
 ghost use Rattle.wasm_base.specs.Outcome.{GivesBy};
 ghost use Rattle.wasm_base.specs.Subsections.{subsection_at};
-ghost use Rattle.wasm_base.specs.Window.{KeepsWindow};
-ghost use Rattle.wasm_custom.specs.Names.{indirect_naming_at, naming_at};
-ghost use Rattle.wasm_c.specs.Names.{indirect_from, plain_indirect, plain_naming, plain_subsection};
+ghost use Rattle.wasm_base.specs.Window.{KeepsWindow, Window};
+ghost use Rattle.wasm_c.specs.Names.{indirect_from, plain_indirect, plain_naming, plain_subsection, subsection_from};
+ghost use Rattle.wasm_c.specs.Readable.{item_over};
+ghost use Rattle.wasm_custom.specs.Names.{NamingParts, indirect_naming_at, naming_at};
+ghost use Rattle.wasm_custom.specs.declared.names.IndirectNaming.{IndirectNaming};
 
+use crate::cursors::{Ascending, Indexed, StoredItems, Walk, store_items};
 use crate::faults::{NO_FAULT, PlainFault, plain_fault};
+use crate::readable::{Readable, read_at};
 use crate::spans::{
-    NO_SPAN, PlainSpan, distance, items_span, out_of_range, reader_over, text_after_number,
+    NO_SPAN, PlainSpan, after, distance, items_span, out_of_range, reader_over, text_after_number,
     window_span,
 };
+use wasm_base::read_subsection;
 use wasm_parser::{
-    BinaryReader, Error, FromReader, IndirectNaming, Naming, Result, SectionLimited, fits,
+    BinaryReader, Error, Fault, FromReader, IndirectNaming, Naming, Result, SectionLimited, fits,
 };
 
 /// A subsection, or its fault.
@@ -26,7 +32,7 @@ pub struct PlainSubsection {
     /// The fault, whose kind is 0 where there is none.
     pub fault: PlainFault,
     /// How many bytes it takes.
-    pub consumed: u64,
+    pub consumed: usize,
     /// Its id.
     pub id: u32,
     /// Its bytes.
@@ -40,7 +46,7 @@ pub struct PlainNaming {
     /// The fault, whose kind is 0 where there is none.
     pub fault: PlainFault,
     /// How many bytes it takes.
-    pub consumed: u64,
+    pub consumed: usize,
     /// The index of what is named.
     pub index: u32,
     /// Its name, which is UTF-8.
@@ -54,7 +60,7 @@ pub struct PlainIndirectNaming {
     /// The fault, whose kind is 0 where there is none.
     pub fault: PlainFault,
     /// How many bytes it takes, those of the names among them.
-    pub consumed: u64,
+    pub consumed: usize,
     /// The index of what has the names, as a function.
     pub index: u32,
     /// How many names it has.
@@ -63,19 +69,26 @@ pub struct PlainIndirectNaming {
     pub names: PlainSpan,
 }
 
-// An id, and the window of a subsection's bytes.
-#[tactic(auto, unfolding(wasm_base::specs::Subsections::subsection_at))]
-fn read_subsection<'a>(reader: &mut BinaryReader<'a>) -> Result<(u8, BinaryReader<'a>)>
-    ensures gives { GivesBy (λ x. (x.0, x.1)) result reader.old reader.new subsection_at }
-    ensures keeps { KeepsWindow reader.old reader.new }
+// A subsection of so many bytes.
+fn whole_subsection(
+    from: u64,
+    consumed: usize,
+    id: u8,
+    window: &BinaryReader<'_>,
+) -> PlainSubsection
+    ensures { result ≡ subsection_from from consumed id window.now }
 {
-    let id = reader.read_u7()?;
-    let window = reader.read_reader()?;
-    Ok((id, window))
+    PlainSubsection {
+        fault: NO_FAULT,
+        consumed,
+        id: u32::from(id),
+        contents: window_span(from, window),
+    }
 }
 
+// The fault of a subsection.
 fn refused_subsection(error: Error) -> PlainSubsection
-    ensures { result ≡ plain_subsection (place_over 0 0 []) (Err (fault_at error)) }
+    ensures { result ≡ plain_subsection 0 (place_over 0 0 []) (Err (fault_at error)) }
 {
     PlainSubsection {
         fault: plain_fault(error),
@@ -85,18 +98,27 @@ fn refused_subsection(error: Error) -> PlainSubsection
     }
 }
 
-fn next_subsection(mut reader: BinaryReader<'_>) -> PlainSubsection
-    ensures { result ≡ plain_subsection (place reader.entry) (subsection_at (place reader.entry)) }
-{
-    let from = reader.original_position();
-    match read_subsection(&mut reader) {
-        Ok((id, window)) => PlainSubsection {
-            fault: NO_FAULT,
-            consumed: distance(from, reader.original_position()),
-            id: u32::from(id),
-            contents: window_span(from, &window),
-        },
-        Err(error) => refused_subsection(error),
+#[derive(Clone, Copy)]
+pub(crate) struct AnySubsections;
+
+impl Readable for AnySubsections {
+    type Plain = PlainSubsection;
+
+    ghost Item = { (ℕ × Window) };
+
+    ghost reading = { λ _. subsection_at };
+
+    ghost plain = { λ _. plain_subsection };
+
+    fn read(self, reader: &mut BinaryReader<'_>, from: u64) -> Result<PlainSubsection> {
+        let start = reader.original_position();
+        let (id, window) = read_subsection(reader)?;
+        let consumed = distance(start, reader.original_position());
+        Ok(whole_subsection(from, consumed, id, &window))
+    }
+
+    fn refused(self, error: Error) -> PlainSubsection {
+        refused_subsection(error)
     }
 }
 
@@ -109,39 +131,42 @@ pub extern "C" fn pulleynavy_read_subsection(
     offset: u64,
     features: u32,
 ) -> PlainSubsection
-    ensures { result ≡ plain_subsection (place_over features offset bytes.now)
-        (read_over subsection_at features offset bytes.now) }
+    ensures { result ≡ item_over plain_subsection subsection_at features offset bytes.now }
 {
-    if !fits(offset, bytes.len()) {
-        return refused_subsection(out_of_range(offset));
-    }
-    next_subsection(reader_over(bytes, offset, features))
+    read_at(AnySubsections, bytes, offset, features)
 }
 
-fn refused_naming(error: Error) -> PlainNaming
-    ensures { result ≡ plain_naming (place_over 0 0 []) (Err (fault_at error)) }
-{
-    PlainNaming {
-        fault: plain_fault(error),
-        consumed: 0,
-        index: 0,
-        name: NO_SPAN,
-    }
-}
+#[derive(Clone, Copy)]
+pub(crate) struct Namings;
 
-fn next_naming(mut reader: BinaryReader<'_>) -> PlainNaming
-    ensures { result ≡ plain_naming (place reader.entry) (naming_at (place reader.entry)) }
-{
-    let from = reader.original_position();
-    let before = reader.clone().unwrap();
-    match Naming::from_reader(&mut reader) {
-        Ok(naming) => PlainNaming {
+impl Readable for Namings {
+    type Plain = PlainNaming;
+
+    ghost Item = { NamingParts };
+
+    ghost reading = { λ _. naming_at };
+
+    ghost plain = { λ _. plain_naming };
+
+    fn read(self, reader: &mut BinaryReader<'_>, from: u64) -> Result<PlainNaming> {
+        let start = reader.original_position();
+        let before = reader.clone().unwrap();
+        let naming = Naming::from_reader(reader)?;
+        Ok(PlainNaming {
             fault: NO_FAULT,
-            consumed: distance(from, reader.original_position()),
+            consumed: distance(start, reader.original_position()),
             index: naming.index,
             name: text_after_number(from, before, naming.name.len()),
-        },
-        Err(error) => refused_naming(error),
+        })
+    }
+
+    fn refused(self, error: Error) -> PlainNaming {
+        PlainNaming {
+            fault: plain_fault(error),
+            consumed: 0,
+            index: 0,
+            name: NO_SPAN,
+        }
     }
 }
 
@@ -150,31 +175,30 @@ fn next_naming(mut reader: BinaryReader<'_>) -> PlainNaming
 /// fault all other fields are 0.
 #[unsafe(no_mangle)]
 pub extern "C" fn pulleynavy_read_naming(bytes: &[u8], offset: u64, features: u32) -> PlainNaming
-    ensures { result ≡ plain_naming (place_over features offset bytes.now)
-        (read_over naming_at features offset bytes.now) }
+    ensures { result ≡ item_over plain_naming naming_at features offset bytes.now }
 {
-    if !fits(offset, bytes.len()) {
-        return refused_naming(out_of_range(offset));
-    }
-    next_naming(reader_over(bytes, offset, features))
+    read_at(Namings, bytes, offset, features)
 }
 
-fn refused_indirect(error: Error) -> PlainIndirectNaming
-    ensures { result ≡ plain_indirect (place_over 0 0 []) (Err (fault_at error)) }
+/// Stores the next names of a name map in `out`. One whose index isn't above that of every name before it is `NAMES_ORDER`, and
+/// the next one follows. Returns how many there were or there was room for: 0 at the end.
+/// `bytes` are those of the whole list.
+#[unsafe(no_mangle)]
+pub extern "C" fn pulleynavy_next_namings(
+    items: &mut StoredItems,
+    bytes: &[u8],
+    out: &mut [PlainNaming],
+) -> usize
+    ensures { StoresItems (next_namings bytes.now)
+        items.old out.old result items.new out.new }
 {
-    PlainIndirectNaming {
-        fault: plain_fault(error),
-        consumed: 0,
-        index: 0,
-        count: 0,
-        names: NO_SPAN,
-    }
+    store_items(Ascending(Namings), items, bytes, out)
 }
 
 // An index and its names, which take so many bytes from this offset on.
 fn whole_indirect(
     from: u64,
-    consumed: u64,
+    consumed: usize,
     index: u32,
     names: &SectionLimited<'_, Naming<'_>>,
 ) -> PlainIndirectNaming
@@ -189,16 +213,33 @@ fn whole_indirect(
     }
 }
 
-fn next_indirect(mut reader: BinaryReader<'_>) -> PlainIndirectNaming
-    ensures { result ≡ plain_indirect (place reader.entry) (indirect_naming_at (place reader.entry)) }
-{
-    let from = reader.original_position();
-    match IndirectNaming::from_reader(&mut reader) {
-        Ok(IndirectNaming { index, names }) => {
-            let consumed = distance(from, reader.original_position());
-            whole_indirect(from, consumed, index, &SectionLimited::from(names.names))
+#[derive(Clone, Copy)]
+pub(crate) struct IndirectNamings;
+
+impl Readable for IndirectNamings {
+    type Plain = PlainIndirectNaming;
+
+    ghost Item = { IndirectNaming };
+
+    ghost reading = { λ _. indirect_naming_at };
+
+    ghost plain = { λ _. plain_indirect };
+
+    fn read(self, reader: &mut BinaryReader<'_>, from: u64) -> Result<PlainIndirectNaming> {
+        let start = reader.original_position();
+        let IndirectNaming { index, names } = IndirectNaming::from_reader(reader)?;
+        let consumed = distance(start, reader.original_position());
+        Ok(whole_indirect(from, consumed, index, &SectionLimited::from(names.names)))
+    }
+
+    fn refused(self, error: Error) -> PlainIndirectNaming {
+        PlainIndirectNaming {
+            fault: plain_fault(error),
+            consumed: 0,
+            index: 0,
+            count: 0,
+            names: NO_SPAN,
         }
-        Err(error) => refused_indirect(error),
     }
 }
 
@@ -211,11 +252,156 @@ pub extern "C" fn pulleynavy_read_indirect_naming(
     offset: u64,
     features: u32,
 ) -> PlainIndirectNaming
-    ensures { result ≡ plain_indirect (place_over features offset bytes.now)
-        (read_over indirect_naming_at features offset bytes.now) }
+    ensures { result ≡ item_over plain_indirect indirect_naming_at features offset bytes.now }
 {
-    if !fits(offset, bytes.len()) {
-        return refused_indirect(out_of_range(offset));
+    read_at(IndirectNamings, bytes, offset, features)
+}
+
+/// Stores the next indices of an indirect name map in `out`. One that isn't above every index before it is `INDIRECT_ORDER`, and
+/// the next one follows. Returns how many there were or there was room for: 0 at the end.
+/// `bytes` are those of the whole list.
+#[unsafe(no_mangle)]
+pub extern "C" fn pulleynavy_next_indirect_namings(
+    items: &mut StoredItems,
+    bytes: &[u8],
+    out: &mut [PlainIndirectNaming],
+) -> usize
+    ensures { StoresItems (next_indirect_namings bytes.now)
+        items.old out.old result items.new out.new }
+{
+    store_items(Ascending(IndirectNamings), items, bytes, out)
+}
+
+impl Indexed for Namings {
+    ghost index = { naming_index };
+
+    ghost order = { NamesOrder };
+
+    fn index(item: &PlainNaming) -> Option<u32> {
+        unless_fault(&item.fault, item.index)
     }
-    next_indirect(reader_over(bytes, offset, features))
+
+    fn order() -> Fault {
+        Fault::NamesOrder
+    }
+}
+
+impl Indexed for IndirectNamings {
+    ghost index = { indirect_index };
+
+    ghost order = { IndirectOrder };
+
+    fn index(item: &PlainIndirectNaming) -> Option<u32> {
+        unless_fault(&item.fault, item.index)
+    }
+
+    fn order() -> Fault {
+        Fault::IndirectOrder
+    }
+}
+
+// A number of an item that has no fault.
+fn unless_fault(fault: &PlainFault, number: u32) -> Option<u32>
+    ensures { result ≡ unless_fault fault.now number }
+{
+    if fault.kind == 0 { Some(number) } else { None }
+}
+
+// Reads the subsection at which the cursor is. The next one begins after it, or after the bytes that reading its id and size
+// takes.
+fn read_next_subsection(items: &mut StoredItems, rest: &[u8]) -> PlainSubsection
+    requires some { 0 < length rest.now }
+    requires fits { items.old.offset + length rest.now < 2 ^ 64 }
+    ensures { (result, items.new) ≡ subsection_in items.old (place_of items.old rest.now)
+        (subsection_at (place_of items.old rest.now)) }
+{
+    let (from, start) = (items.start(), items.offset);
+    let mut reader = reader_over(rest, start, items.features);
+    let read = read_subsection(&mut reader);
+    items.move_to(reader.original_position());
+    match read {
+        Ok((id, window)) => whole_subsection(from, distance(start, items.offset), id, &window),
+        Err(error) => refused_subsection(error),
+    }
+}
+
+// The same of any bytes.
+fn next_subsection(items: &mut StoredItems, rest: &[u8]) -> PlainSubsection
+    requires { 0 < length rest.now }
+    ensures { (result, items.new) ≡ subsection_by items.old rest.now }
+{
+    if fits(items.offset, rest.len()) {
+        return read_next_subsection(items, rest);
+    }
+    items.is_ended = 1;
+    refused_subsection(out_of_range(items.offset))
+}
+
+/// The subsections of a section, up to the end of its bytes.
+#[derive(Clone, Copy)]
+struct Subsections;
+
+impl Walk for Subsections {
+    type Plain = PlainSubsection;
+
+    ghost next = { λ _. next_subsection };
+
+    fn next(self, items: &mut StoredItems, bytes: &[u8]) -> Option<PlainSubsection> {
+        if items.is_ended != 0 {
+            return None;
+        }
+        let rest = after(bytes, items.position);
+        if rest.is_empty() {
+            items.is_ended = 1;
+            return None;
+        }
+        Some(next_subsection(items, rest))
+    }
+}
+
+/// Those of a section of names, whose ids ascend.
+#[derive(Clone, Copy)]
+struct NameSubsections;
+
+impl Walk for NameSubsections {
+    type Plain = PlainSubsection;
+
+    ghost next = { λ _. next_name_subsection };
+
+    fn next(self, items: &mut StoredItems, bytes: &[u8]) -> Option<PlainSubsection> {
+        let start = items.offset;
+        let item = Subsections.next(items, bytes)?;
+        let id = unless_fault(&item.fault, item.id);
+        if items.takes(id) {
+            return Some(item);
+        }
+        Some(refused_subsection(Error::new(Fault::NameSectionOrder, start)))
+    }
+}
+
+/// Stores the next subsections of a section `linking` or `dylink.0` in `out`. After one that can't be read the next one follows.
+/// Returns how many there were or there was room for: 0 at the end. `bytes` are those of the whole section.
+#[unsafe(no_mangle)]
+pub extern "C" fn pulleynavy_next_subsections(
+    items: &mut StoredItems,
+    bytes: &[u8],
+    out: &mut [PlainSubsection],
+) -> usize
+    ensures { StoresItems (next_subsection bytes.now) items.old out.old result items.new out.new }
+{
+    store_items(Subsections, items, bytes, out)
+}
+
+/// Stores the next subsections of a section `name` in `out`, as `pulleynavy_next_subsections`. One whose id isn't above every id
+/// before it is `NAME_SECTION_ORDER`, and the next one follows.
+#[unsafe(no_mangle)]
+pub extern "C" fn pulleynavy_next_name_subsections(
+    items: &mut StoredItems,
+    bytes: &[u8],
+    out: &mut [PlainSubsection],
+) -> usize
+    ensures { StoresItems (next_name_subsection bytes.now) items.old out.old result
+        items.new out.new }
+{
+    store_items(NameSubsections, items, bytes, out)
 }

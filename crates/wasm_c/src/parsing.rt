@@ -23,18 +23,25 @@ pub extern "C" fn pulleynavy_parser_init(offset: u64, features: u32) -> StoredPa
 
 // What the parser that is stored answers, which is then stored again.
 #[inline(always)]
-pub(crate) fn parse_stored(stored: &mut StoredParser, bytes: &[u8], is_all: bool) -> PlainEvent
-    ensures { ParsesPlain (parser_of stored.old) is_all bytes.now result (parser_of stored.new) }
+pub(crate) fn parse_stored(
+    stored: &mut StoredParser,
+    bytes: &[u8],
+    is_all: bool,
+    base: usize,
+) -> PlainEvent
+    ensures { ParsesPlain base (parser_of stored.old) is_all bytes.now result
+        (parser_of stored.new) }
 {
     let mut parser = stored.parser();
+    let offset = parser.offset();
     match parser.parse(bytes, is_all) {
         Ok(Chunk::Parsed { consumed, payload }) => {
             *stored = StoredParser::of(&parser);
-            parsed_event(consumed, &payload)
+            parsed_event(consumed, &payload, offset, base)
         }
         // The parser is what it was, so it needn't be stored again.
-        Ok(Chunk::NeedMoreData(hint)) => request_event(hint),
-        Err(error) => fault_event(error),
+        Ok(Chunk::NeedMoreData(hint)) => request_event(hint, base),
+        Err(error) => fault_event(error, base),
     }
 }
 
@@ -48,9 +55,9 @@ pub extern "C" fn pulleynavy_parse(
     bytes: &[u8],
     is_all: bool,
 ) -> PlainEvent
-    ensures { ParsesPlain (parser_of parser.old) is_all bytes.now result (parser_of parser.new) }
+    ensures { ParsesPlain 0 (parser_of parser.old) is_all bytes.now result (parser_of parser.new) }
 {
-    parse_stored(parser, bytes, is_all)
+    parse_stored(parser, bytes, is_all, 0)
 }
 
 /// Skips the remaining bytes of a code section and returns how many these are: call `pulleynavy_parse` next with the bytes after

@@ -1,16 +1,15 @@
 // What a module was produced with, as plain numbers.
-ghost use Rattle.std.specs.Prelude.{◌≡◌, []};
-ghost use Rattle.wasm_base.specs.FaultAt.{fault_at};
-ghost use Rattle.wasm_base.specs.Window.{place};
-ghost use Rattle.wasm_c.specs.Spans.{place_over, read_over};
-ghost use Rattle.wasm_custom.specs.Producers.{field_at, field_value_at};
+ghost use Rattle.wasm_c.specs.Cursors.{StoresItems, next_by};
+ghost use Rattle.std.specs.Prelude.{◌≡◌};
 ghost use Rattle.wasm_c.specs.Producers.{plain_producers_field, plain_producers_value};
+ghost use Rattle.wasm_c.specs.Readable.{item_over};
+ghost use Rattle.wasm_custom.specs.Producers.{FieldParts, ValueParts, field_at, field_value_at};
 
+use crate::cursors::{Counted, StoredItems, store_items};
 use crate::faults::{NO_FAULT, PlainFault, plain_fault};
-use crate::spans::{
-    NO_SPAN, PlainSpan, distance, items_span, out_of_range, reader_over, text_after_text, text_span,
-};
-use wasm_parser::{BinaryReader, Error, FromReader, ProducersField, ProducersFieldValue, fits};
+use crate::readable::{Readable, read_at};
+use crate::spans::{NO_SPAN, PlainSpan, distance, items_span, text_after_sized, text_span};
+use wasm_parser::{BinaryReader, Error, FromReader, ProducersField, ProducersFieldValue, Result};
 
 /// A field of the producers section, or its fault.
 #[repr(C)]
@@ -19,7 +18,7 @@ pub struct PlainProducersField {
     /// The fault, whose kind is 0 where there is none.
     pub fault: PlainFault,
     /// How many bytes it takes.
-    pub consumed: u64,
+    pub consumed: usize,
     /// Its name: `language`, `sdk` or `processed-by`.
     pub name: PlainSpan,
     /// How many values it has.
@@ -35,39 +34,46 @@ pub struct PlainProducersValue {
     /// The fault, whose kind is 0 where there is none.
     pub fault: PlainFault,
     /// How many bytes it takes.
-    pub consumed: u64,
+    pub consumed: usize,
     /// The name of a tool, which is UTF-8.
     pub name: PlainSpan,
     /// Its version, which is UTF-8.
     pub version: PlainSpan,
 }
 
-fn refused_producers_field(error: Error) -> PlainProducersField
-    ensures { result ≡ plain_producers_field (place_over 0 0 []) (Err (fault_at error)) }
-{
-    PlainProducersField {
-        fault: plain_fault(error),
-        consumed: 0,
-        name: NO_SPAN,
-        count: 0,
-        values: NO_SPAN,
-    }
-}
+#[derive(Clone, Copy)]
+pub(crate) struct ProducersFields;
 
-fn next_producers_field(mut reader: BinaryReader<'_>) -> PlainProducersField
-    ensures { result ≡ plain_producers_field (place reader.entry) (field_at (place reader.entry)) }
-{
-    let from = reader.original_position();
-    let before = reader.clone().unwrap();
-    match ProducersField::from_reader(&mut reader) {
-        Ok(field) => PlainProducersField {
+impl Readable for ProducersFields {
+    type Plain = PlainProducersField;
+
+    ghost Item = { FieldParts };
+
+    ghost reading = { λ _. field_at };
+
+    ghost plain = { λ _. plain_producers_field };
+
+    fn read(self, reader: &mut BinaryReader<'_>, from: u64) -> Result<PlainProducersField> {
+        let start = reader.original_position();
+        let before = reader.clone().unwrap();
+        let field = ProducersField::from_reader(reader)?;
+        Ok(PlainProducersField {
             fault: NO_FAULT,
-            consumed: distance(from, reader.original_position()),
+            consumed: distance(start, reader.original_position()),
             name: text_span(from, before, field.name.len()),
             count: field.values.count(),
             values: items_span(from, &field.values),
-        },
-        Err(error) => refused_producers_field(error),
+        })
+    }
+
+    fn refused(self, error: Error) -> PlainProducersField {
+        PlainProducersField {
+            fault: plain_fault(error),
+            consumed: 0,
+            name: NO_SPAN,
+            count: 0,
+            values: NO_SPAN,
+        }
     }
 }
 
@@ -80,39 +86,56 @@ pub extern "C" fn pulleynavy_read_producers_field(
     offset: u64,
     features: u32,
 ) -> PlainProducersField
-    ensures { result ≡ plain_producers_field (place_over features offset bytes.now)
-        (read_over field_at features offset bytes.now) }
+    ensures { result ≡ item_over plain_producers_field field_at features offset bytes.now }
 {
-    if !fits(offset, bytes.len()) {
-        return refused_producers_field(out_of_range(offset));
-    }
-    next_producers_field(reader_over(bytes, offset, features))
+    read_at(ProducersFields, bytes, offset, features)
 }
 
-fn refused_producers_value(error: Error) -> PlainProducersValue
-    ensures { result ≡ plain_producers_value (place_over 0 0 []) (Err (fault_at error)) }
+/// Stores the next fields of a list in `out`. Returns how many there were or there was room for: 0 at the end.
+/// `bytes` are those of the whole list.
+#[unsafe(no_mangle)]
+pub extern "C" fn pulleynavy_next_producers_fields(
+    items: &mut StoredItems,
+    bytes: &[u8],
+    out: &mut [PlainProducersField],
+) -> usize
+    ensures { StoresItems (next_by plain_producers_field field_at bytes.now)
+        items.old out.old result items.new out.new }
 {
-    PlainProducersValue {
-        fault: plain_fault(error),
-        consumed: 0,
-        name: NO_SPAN,
-        version: NO_SPAN,
-    }
+    store_items(Counted(ProducersFields), items, bytes, out)
 }
 
-fn next_producers_value(mut reader: BinaryReader<'_>) -> PlainProducersValue
-    ensures { result ≡ plain_producers_value (place reader.entry) (field_value_at (place reader.entry)) }
-{
-    let from = reader.original_position();
-    let before = reader.clone().unwrap();
-    match ProducersFieldValue::from_reader(&mut reader) {
-        Ok(value) => PlainProducersValue {
+#[derive(Clone, Copy)]
+pub(crate) struct ProducersValues;
+
+impl Readable for ProducersValues {
+    type Plain = PlainProducersValue;
+
+    ghost Item = { ValueParts };
+
+    ghost reading = { λ _. field_value_at };
+
+    ghost plain = { λ _. plain_producers_value };
+
+    fn read(self, reader: &mut BinaryReader<'_>, from: u64) -> Result<PlainProducersValue> {
+        let start = reader.original_position();
+        let before = reader.clone().unwrap();
+        let value = ProducersFieldValue::from_reader(reader)?;
+        Ok(PlainProducersValue {
             fault: NO_FAULT,
-            consumed: distance(from, reader.original_position()),
+            consumed: distance(start, reader.original_position()),
             name: text_span(from, before.clone().unwrap(), value.name.len()),
-            version: text_after_text(from, before, value.version.len()),
-        },
-        Err(error) => refused_producers_value(error),
+            version: text_after_sized(from, before, value.version.len()),
+        })
+    }
+
+    fn refused(self, error: Error) -> PlainProducersValue {
+        PlainProducersValue {
+            fault: plain_fault(error),
+            consumed: 0,
+            name: NO_SPAN,
+            version: NO_SPAN,
+        }
     }
 }
 
@@ -124,11 +147,21 @@ pub extern "C" fn pulleynavy_read_producers_value(
     offset: u64,
     features: u32,
 ) -> PlainProducersValue
-    ensures { result ≡ plain_producers_value (place_over features offset bytes.now)
-        (read_over field_value_at features offset bytes.now) }
+    ensures { result ≡ item_over plain_producers_value field_value_at features offset bytes.now }
 {
-    if !fits(offset, bytes.len()) {
-        return refused_producers_value(out_of_range(offset));
-    }
-    next_producers_value(reader_over(bytes, offset, features))
+    read_at(ProducersValues, bytes, offset, features)
+}
+
+/// Stores the next values of a list in `out`. Returns how many there were or there was room for: 0 at the end.
+/// `bytes` are those of the whole list.
+#[unsafe(no_mangle)]
+pub extern "C" fn pulleynavy_next_producers_values(
+    items: &mut StoredItems,
+    bytes: &[u8],
+    out: &mut [PlainProducersValue],
+) -> usize
+    ensures { StoresItems (next_by plain_producers_value field_value_at bytes.now)
+        items.old out.old result items.new out.new }
+{
+    store_items(Counted(ProducersValues), items, bytes, out)
 }

@@ -1,15 +1,16 @@
 // Relocations as plain numbers.
-ghost use Rattle.std.specs.Prelude.{◌≡◌, []};
-ghost use Rattle.wasm_base.specs.FaultAt.{fault_at};
-ghost use Rattle.wasm_base.specs.Window.{place};
-ghost use Rattle.wasm_c.specs.Spans.{place_over, read_over};
-ghost use Rattle.std.specs.Prelude.{◌<◌};
-ghost use Rattle.wasm_custom.specs.Reloc.{extent_of, number_of, relocation_at};
+ghost use Rattle.wasm_c.specs.Cursors.{StoresItems, next_by};
+ghost use Rattle.std.specs.Prelude.{◌≡◌};
+ghost use Rattle.wasm_c.specs.Readable.{item_over};
 ghost use Rattle.wasm_c.specs.Relocations.{plain_relocation};
+ghost use Rattle.wasm_custom.specs.Reloc.{extent_of, number_of, relocation_at};
+ghost use Rattle.wasm_custom.specs.declared.reloc.RelocationEntry.{RelocationEntry};
 
+use crate::cursors::{Counted, StoredItems, store_items};
 use crate::faults::{NO_FAULT, PlainFault, plain_fault};
-use crate::spans::{distance, out_of_range, reader_over};
-use wasm_parser::{BinaryReader, Error, FromReader, RelocationEntry, RelocationType, fits};
+use crate::readable::{Readable, read_at};
+use crate::spans::distance;
+use wasm_parser::{BinaryReader, Error, FromReader, RelocationEntry, RelocationType, Result};
 
 /// A relocation, or its fault.
 #[repr(C)]
@@ -18,7 +19,7 @@ pub struct PlainRelocation {
     /// The fault, whose kind is 0 where there is none.
     pub fault: PlainFault,
     /// How many bytes it takes.
-    pub consumed: u64,
+    pub consumed: usize,
     /// The number of its type, from 0 to 26.
     pub kind: u32,
     /// How many bytes it fills in: 4, 5, 8 or 10.
@@ -72,35 +73,42 @@ fn extent(ty: RelocationType) -> u32
     u32::try_from(ty.extent()).unwrap_or(0)
 }
 
-fn refused_relocation(error: Error) -> PlainRelocation
-    ensures { result ≡ plain_relocation (place_over 0 0 []) (Err (fault_at error)) }
-{
-    PlainRelocation {
-        fault: plain_fault(error),
-        consumed: 0,
-        kind: 0,
-        extent: 0,
-        offset: 0,
-        index: 0,
-        addend: 0,
-    }
-}
+#[derive(Clone, Copy)]
+pub(crate) struct Relocations;
 
-fn next_relocation(mut reader: BinaryReader<'_>) -> PlainRelocation
-    ensures { result ≡ plain_relocation (place reader.entry) (relocation_at (place reader.entry)) }
-{
-    let from = reader.original_position();
-    match RelocationEntry::from_reader(&mut reader) {
-        Ok(entry) => PlainRelocation {
+impl Readable for Relocations {
+    type Plain = PlainRelocation;
+
+    ghost Item = { RelocationEntry };
+
+    ghost reading = { λ _. relocation_at };
+
+    ghost plain = { λ _. plain_relocation };
+
+    fn read(self, reader: &mut BinaryReader<'_>, _from: u64) -> Result<PlainRelocation> {
+        let start = reader.original_position();
+        let entry = RelocationEntry::from_reader(reader)?;
+        Ok(PlainRelocation {
             fault: NO_FAULT,
-            consumed: distance(from, reader.original_position()),
+            consumed: distance(start, reader.original_position()),
             kind: relocation_number(entry.ty),
             extent: extent(entry.ty),
             offset: entry.offset,
             index: entry.index,
             addend: entry.addend,
-        },
-        Err(error) => refused_relocation(error),
+        })
+    }
+
+    fn refused(self, error: Error) -> PlainRelocation {
+        PlainRelocation {
+            fault: plain_fault(error),
+            consumed: 0,
+            kind: 0,
+            extent: 0,
+            offset: 0,
+            index: 0,
+            addend: 0,
+        }
     }
 }
 
@@ -113,11 +121,21 @@ pub extern "C" fn pulleynavy_read_relocation(
     offset: u64,
     features: u32,
 ) -> PlainRelocation
-    ensures { result ≡ plain_relocation (place_over features offset bytes.now)
-        (read_over relocation_at features offset bytes.now) }
+    ensures { result ≡ item_over plain_relocation relocation_at features offset bytes.now }
 {
-    if !fits(offset, bytes.len()) {
-        return refused_relocation(out_of_range(offset));
-    }
-    next_relocation(reader_over(bytes, offset, features))
+    read_at(Relocations, bytes, offset, features)
+}
+
+/// Stores the next relocations of a list in `out`. Returns how many there were or there was room for: 0 at the end.
+/// `bytes` are those of the whole list.
+#[unsafe(no_mangle)]
+pub extern "C" fn pulleynavy_next_relocations(
+    items: &mut StoredItems,
+    bytes: &[u8],
+    out: &mut [PlainRelocation],
+) -> usize
+    ensures { StoresItems (next_by plain_relocation relocation_at bytes.now)
+        items.old out.old result items.new out.new }
+{
+    store_items(Counted(Relocations), items, bytes, out)
 }

@@ -1,20 +1,24 @@
 // Expressions and segments as plain numbers.
-ghost use Rattle.std.specs.Prelude.{◌≡◌, ◌-◌, [], length};
-ghost use Rattle.wasm_base.specs.FaultAt.{fault_at};
-ghost use Rattle.wasm_base.specs.Window.{place};
-ghost use Rattle.wasm_items.specs.Data.{data_at};
+ghost use Rattle.wasm_c.specs.Cursors.{StoresItems, next_by};
+ghost use Rattle.std.specs.Prelude.{length, ◌-◌, ◌≡◌};
+ghost use Rattle.wasm_base.specs.Window.{Window};
+ghost use Rattle.wasm_c.specs.Readable.{item_over};
+ghost use Rattle.wasm_c.specs.Segments.{data_code, data_memory, data_offset, element_code, element_from, element_offset, element_table, elements_section, elements_type, has_expressions, plain_data, plain_element, plain_expression};
+ghost use Rattle.wasm_c.specs.Spans.{items_span};
+ghost use Rattle.wasm_items.specs.Data.{DataParts, data_at};
 ghost use Rattle.wasm_items.specs.Elements.{element_at};
 ghost use Rattle.wasm_items.specs.Init.{expression_at};
-ghost use Rattle.wasm_c.specs.Segments.{data_code, data_memory, data_offset, element_code, element_from, element_offset, element_table, elements_section, elements_type, has_expressions, plain_data, plain_element, plain_expression};
-ghost use Rattle.wasm_c.specs.Spans.{items_span, place_over, read_over};
+ghost use Rattle.wasm_items.specs.declared.elements.Element.{Element};
 
+use crate::cursors::{Counted, StoredItems, store_items};
 use crate::faults::{NO_FAULT, PlainFault, plain_fault};
 use crate::kinds::{expression_span, small_parts};
-use crate::spans::{NO_SPAN, PlainSpan, distance, items_span, out_of_range, reader_over};
+use crate::readable::{Readable, read_at};
+use crate::spans::{NO_SPAN, PlainSpan, distance, items_span, span_before};
 use crate::values::{PlainType, SIMPLE, plain_ref};
 use wasm_parser::{
     BinaryReader, ConstExpr, Data, DataKind, Element, ElementItems, ElementKind, Error, FromReader,
-    RefType, fits,
+    RefType, Result,
 };
 
 /// A constant expression, or its fault.
@@ -24,7 +28,7 @@ pub struct PlainExpression {
     /// The fault, whose kind is 0 where there is none.
     pub fault: PlainFault,
     /// How many bytes it takes, its end among them.
-    pub consumed: u64,
+    pub consumed: usize,
 }
 
 /// An element segment, or its fault.
@@ -34,7 +38,7 @@ pub struct PlainElement {
     /// The fault, whose kind is 0 where there is none.
     pub fault: PlainFault,
     /// How many bytes it takes.
-    pub consumed: u64,
+    pub consumed: usize,
     /// 0 a passive segment, 1 an active one, 2 a declared one.
     pub kind: u32,
     /// 1 if the index of a table is written, or 0.
@@ -60,7 +64,7 @@ pub struct PlainData {
     /// The fault, whose kind is 0 where there is none.
     pub fault: PlainFault,
     /// How many bytes it takes.
-    pub consumed: u64,
+    pub consumed: usize,
     /// 0 a passive segment, 1 an active one.
     pub kind: u32,
     /// The index of an active segment's memory, or 0.
@@ -71,25 +75,32 @@ pub struct PlainData {
     pub bytes: PlainSpan,
 }
 
-fn refused_expression(error: Error) -> PlainExpression
-    ensures { result ≡ plain_expression (place_over 0 0 []) (Err (fault_at error)) }
-{
-    PlainExpression {
-        fault: plain_fault(error),
-        consumed: 0,
-    }
-}
+#[derive(Clone, Copy)]
+pub(crate) struct Expressions;
 
-fn next_expression(mut reader: BinaryReader<'_>) -> PlainExpression
-    ensures { result ≡ plain_expression (place reader.entry) (expression_at (place reader.entry)) }
-{
-    let from = reader.original_position();
-    match ConstExpr::from_reader(&mut reader) {
-        Ok(_) => PlainExpression {
+impl Readable for Expressions {
+    type Plain = PlainExpression;
+
+    ghost Item = { Window };
+
+    ghost reading = { λ _. expression_at };
+
+    ghost plain = { λ _. plain_expression };
+
+    fn read(self, reader: &mut BinaryReader<'_>, _from: u64) -> Result<PlainExpression> {
+        let start = reader.original_position();
+        ConstExpr::from_reader(reader)?;
+        Ok(PlainExpression {
             fault: NO_FAULT,
-            consumed: distance(from, reader.original_position()),
-        },
-        Err(error) => refused_expression(error),
+            consumed: distance(start, reader.original_position()),
+        })
+    }
+
+    fn refused(self, error: Error) -> PlainExpression {
+        PlainExpression {
+            fault: plain_fault(error),
+            consumed: 0,
+        }
     }
 }
 
@@ -102,30 +113,23 @@ pub extern "C" fn pulleynavy_read_expression(
     offset: u64,
     features: u32,
 ) -> PlainExpression
-    ensures { result ≡ plain_expression (place_over features offset bytes.now)
-        (read_over expression_at features offset bytes.now) }
+    ensures { result ≡ item_over plain_expression expression_at features offset bytes.now }
 {
-    if !fits(offset, bytes.len()) {
-        return refused_expression(out_of_range(offset));
-    }
-    next_expression(reader_over(bytes, offset, features))
+    read_at(Expressions, bytes, offset, features)
 }
 
-fn refused_element(error: Error) -> PlainElement
-    ensures { result ≡ plain_element (place_over 0 0 []) (Err (fault_at error)) }
+/// Stores the next constant expressions of a list in `out`. Returns how many there were or there was room for: 0 at the end.
+/// `bytes` are those of the whole list.
+#[unsafe(no_mangle)]
+pub extern "C" fn pulleynavy_next_expressions(
+    items: &mut StoredItems,
+    bytes: &[u8],
+    out: &mut [PlainExpression],
+) -> usize
+    ensures { StoresItems (next_by plain_expression expression_at bytes.now)
+        items.old out.old result items.new out.new }
 {
-    PlainElement {
-        fault: plain_fault(error),
-        consumed: 0,
-        kind: 0,
-        has_table: 0,
-        table: 0,
-        has_expressions: 0,
-        offset_expression: NO_SPAN,
-        ty: SIMPLE,
-        items: NO_SPAN,
-        count: 0,
-    }
+    store_items(Counted(Expressions), items, bytes, out)
 }
 
 fn element_code(kind: &ElementKind) -> u32
@@ -197,7 +201,7 @@ fn elements_count(items: &ElementItems) -> u32
 }
 
 // A segment, which takes so many bytes from this offset on.
-fn whole_element(from: u64, consumed: u64, element: &Element) -> PlainElement
+fn whole_element(from: u64, consumed: usize, element: &Element) -> PlainElement
     ensures { result ≡ element_from from consumed element.now }
 {
     let (has_table, table) = small_parts(element_table(&element.kind));
@@ -215,13 +219,37 @@ fn whole_element(from: u64, consumed: u64, element: &Element) -> PlainElement
     }
 }
 
-fn next_element(mut reader: BinaryReader<'_>) -> PlainElement
-    ensures { result ≡ plain_element (place reader.entry) (element_at (place reader.entry)) }
-{
-    let from = reader.original_position();
-    match Element::from_reader(&mut reader) {
-        Ok(element) => whole_element(from, distance(from, reader.original_position()), &element),
-        Err(error) => refused_element(error),
+#[derive(Clone, Copy)]
+pub(crate) struct ElementSegments;
+
+impl Readable for ElementSegments {
+    type Plain = PlainElement;
+
+    ghost Item = { Element };
+
+    ghost reading = { λ _. element_at };
+
+    ghost plain = { λ _. plain_element };
+
+    fn read(self, reader: &mut BinaryReader<'_>, from: u64) -> Result<PlainElement> {
+        let start = reader.original_position();
+        let element = Element::from_reader(reader)?;
+        Ok(whole_element(from, distance(start, reader.original_position()), &element))
+    }
+
+    fn refused(self, error: Error) -> PlainElement {
+        PlainElement {
+            fault: plain_fault(error),
+            consumed: 0,
+            kind: 0,
+            has_table: 0,
+            table: 0,
+            has_expressions: 0,
+            offset_expression: NO_SPAN,
+            ty: SIMPLE,
+            items: NO_SPAN,
+            count: 0,
+        }
     }
 }
 
@@ -230,26 +258,23 @@ fn next_element(mut reader: BinaryReader<'_>) -> PlainElement
 /// section, at `offset` of the stream. After a fault all other fields are 0.
 #[unsafe(no_mangle)]
 pub extern "C" fn pulleynavy_read_element(bytes: &[u8], offset: u64, features: u32) -> PlainElement
-    ensures { result ≡ plain_element (place_over features offset bytes.now)
-        (read_over element_at features offset bytes.now) }
+    ensures { result ≡ item_over plain_element element_at features offset bytes.now }
 {
-    if !fits(offset, bytes.len()) {
-        return refused_element(out_of_range(offset));
-    }
-    next_element(reader_over(bytes, offset, features))
+    read_at(ElementSegments, bytes, offset, features)
 }
 
-fn refused_data(error: Error) -> PlainData
-    ensures { result ≡ plain_data (place_over 0 0 []) (Err (fault_at error)) }
+/// Stores the next element segments of a list in `out`. Returns how many there were or there was room for: 0 at the end.
+/// `bytes` are those of the whole list.
+#[unsafe(no_mangle)]
+pub extern "C" fn pulleynavy_next_elements(
+    items: &mut StoredItems,
+    bytes: &[u8],
+    out: &mut [PlainElement],
+) -> usize
+    ensures { StoresItems (next_by plain_element element_at bytes.now)
+        items.old out.old result items.new out.new }
 {
-    PlainData {
-        fault: plain_fault(error),
-        consumed: 0,
-        kind: 0,
-        memory: 0,
-        offset_expression: NO_SPAN,
-        bytes: NO_SPAN,
-    }
+    store_items(Counted(ElementSegments), items, bytes, out)
 }
 
 fn data_code(kind: &DataKind) -> u32
@@ -280,34 +305,40 @@ fn data_offset(from: u64, kind: &DataKind) -> PlainSpan
     }
 }
 
-// The bytes of a segment, which come last.
-fn data_bytes(segment: &Data) -> PlainSpan
-    ensures at { result.at ≡ segment.now.range.end - segment.now.range.start
-        - length segment.now.bytes.now }
-    ensures size { result.size ≡ length segment.now.bytes.now }
-{
-    let size = segment.bytes.len() as u64;
-    let whole = distance(segment.range.start, segment.range.end);
-    PlainSpan {
-        at: distance(size, whole),
-        size,
-    }
-}
+#[derive(Clone, Copy)]
+pub(crate) struct DataSegments;
 
-fn next_data(mut reader: BinaryReader<'_>) -> PlainData
-    ensures { result ≡ plain_data (place reader.entry) (data_at (place reader.entry)) }
-{
-    let from = reader.original_position();
-    match Data::from_reader(&mut reader) {
-        Ok(segment) => PlainData {
+impl Readable for DataSegments {
+    type Plain = PlainData;
+
+    ghost Item = { DataParts };
+
+    ghost reading = { λ _. data_at };
+
+    ghost plain = { λ _. plain_data };
+
+    fn read(self, reader: &mut BinaryReader<'_>, from: u64) -> Result<PlainData> {
+        let start = reader.original_position();
+        let segment = Data::from_reader(reader)?;
+        Ok(PlainData {
             fault: NO_FAULT,
-            consumed: distance(from, reader.original_position()),
+            consumed: distance(start, reader.original_position()),
             kind: data_code(&segment.kind),
             memory: data_memory(&segment.kind),
             offset_expression: data_offset(from, &segment.kind),
-            bytes: data_bytes(&segment),
-        },
-        Err(error) => refused_data(error),
+            bytes: span_before(from, segment.range.end, segment.bytes.len()),
+        })
+    }
+
+    fn refused(self, error: Error) -> PlainData {
+        PlainData {
+            fault: plain_fault(error),
+            consumed: 0,
+            kind: 0,
+            memory: 0,
+            offset_expression: NO_SPAN,
+            bytes: NO_SPAN,
+        }
     }
 }
 
@@ -315,11 +346,21 @@ fn next_data(mut reader: BinaryReader<'_>) -> PlainData
 /// remaining bytes of its section, at `offset` of the stream. After a fault all other fields are 0.
 #[unsafe(no_mangle)]
 pub extern "C" fn pulleynavy_read_data(bytes: &[u8], offset: u64, features: u32) -> PlainData
-    ensures { result ≡ plain_data (place_over features offset bytes.now)
-        (read_over data_at features offset bytes.now) }
+    ensures { result ≡ item_over plain_data data_at features offset bytes.now }
 {
-    if !fits(offset, bytes.len()) {
-        return refused_data(out_of_range(offset));
-    }
-    next_data(reader_over(bytes, offset, features))
+    read_at(DataSegments, bytes, offset, features)
+}
+
+/// Stores the next data segments of a list in `out`. Returns how many there were or there was room for: 0 at the end.
+/// `bytes` are those of the whole list.
+#[unsafe(no_mangle)]
+pub extern "C" fn pulleynavy_next_data(
+    items: &mut StoredItems,
+    bytes: &[u8],
+    out: &mut [PlainData],
+) -> usize
+    ensures { StoresItems (next_by plain_data data_at bytes.now)
+        items.old out.old result items.new out.new }
+{
+    store_items(Counted(DataSegments), items, bytes, out)
 }

@@ -1,11 +1,11 @@
 // Places in the caller's bytes.
-ghost use Rattle.std.specs.Prelude.{◌≡◌, ◌+◌, ◌-◌, ◌<◌, ◌^◌, Some, None, length};
+ghost use Rattle.std.specs.Prelude.{◌≡◌, ◌+◌, ◌-◌, ◌<◌, ◌^◌, drop, length, take};
 ghost use Rattle.wasm_base.specs.FaultAt.{at_offset, fault_at};
 ghost use Rattle.wasm_base.specs.Number.{unsigned_at};
 ghost use Rattle.wasm_base.specs.declared.fault.NumberKind.TheVariants.{VarU32};
 ghost use Rattle.wasm_base.specs.Window.{place, window_over};
-ghost use Rattle.wasm_base.specs.Name.{name_limit, text_at};
-ghost use Rattle.wasm_c.specs.Spans.{flag, items_span, text_after, text_span, window_span};
+ghost use Rattle.wasm_base.specs.Name.{window_at};
+ghost use Rattle.wasm_c.specs.Spans.{flag, items_span, span_before, text_after, text_span, window_span};
 ghost use Rattle.wasm_base.specs.declared.fault.Fault.TheVariants.{OffsetRange};
 
 use bitflags::Flags;
@@ -16,9 +16,9 @@ use wasm_parser::{BinaryReader, Error, Fault, SectionLimited, WasmFeatures};
 #[derive(Clone, Copy, Debug, PartialEq, Eq)]
 pub struct PlainSpan {
     /// Where it begins, in bytes from the first of those that were given.
-    pub at: u64,
+    pub at: usize,
     /// How many bytes it has.
-    pub size: u64,
+    pub size: usize,
 }
 
 /// No bytes.
@@ -40,10 +40,10 @@ pub(crate) fn out_of_range(offset: u64) -> Error
 }
 
 /// How many bytes there are from one offset to another, which isn't before it.
-pub(crate) fn distance(from: u64, to: u64) -> u64
+pub(crate) fn distance(from: u64, to: u64) -> usize
     ensures { result ≡ to - from }
 {
-    to.saturating_sub(from)
+    to.saturating_sub(from) as usize
 }
 
 /// 1 for what holds.
@@ -61,27 +61,14 @@ pub(crate) fn text_span(from: u64, mut reader: BinaryReader<'_>, size: usize) ->
         Ok(_) => distance(from, reader.original_position()),
         Err(_) => 0,
     };
-    PlainSpan {
-        at,
-        size: size as u64,
-    }
+    PlainSpan { at, size }
 }
 
-/// The same of the text after the name with which the reader begins.
-pub(crate) fn text_after_name(from: u64, mut reader: BinaryReader<'_>, size: usize) -> PlainSpan
-    ensures { result ≡ text_after from size (text_at (Some name_limit) (place reader.entry)) }
+/// The same of the text after a size and so many bytes, with which the reader begins.
+pub(crate) fn text_after_sized(from: u64, mut reader: BinaryReader<'_>, size: usize) -> PlainSpan
+    ensures { result ≡ text_after from size (window_at (place reader.entry)) }
 {
-    match reader.read_string() {
-        Ok(_) => text_span(from, reader, size),
-        Err(_) => unknown_span(size),
-    }
-}
-
-/// The same after a text of any size.
-pub(crate) fn text_after_text(from: u64, mut reader: BinaryReader<'_>, size: usize) -> PlainSpan
-    ensures { result ≡ text_after from size (text_at None (place reader.entry)) }
-{
-    match reader.read_unlimited_string() {
+    match reader.read_reader() {
         Ok(_) => text_span(from, reader, size),
         Err(_) => unknown_span(size),
     }
@@ -97,15 +84,22 @@ pub(crate) fn text_after_number(from: u64, mut reader: BinaryReader<'_>, size: u
     }
 }
 
+/// Where bytes are, from this offset on, that end at another.
+pub(crate) fn span_before(from: u64, to: u64, size: usize) -> PlainSpan
+    ensures { result ≡ span_before from to size }
+{
+    PlainSpan {
+        at: distance(from, to).saturating_sub(size),
+        size,
+    }
+}
+
 /// A text whose place isn't known.
 pub(crate) fn unknown_span(size: usize) -> PlainSpan
     ensures at { result.at ≡ 0 }
     ensures size { result.size ≡ size }
 {
-    PlainSpan {
-        at: 0,
-        size: size as u64,
-    }
+    PlainSpan { at: 0, size }
 }
 
 /// Where the window of a reader is, from this offset on.
@@ -127,5 +121,27 @@ pub(crate) fn items_span<T>(from: u64, section: &SectionLimited<'_, T>) -> Plain
     PlainSpan {
         at: distance(from, begin),
         size: distance(begin, section.range().end),
+    }
+}
+
+/// The first bytes.
+pub(crate) fn front(bytes: &[u8], end: usize) -> &[u8]
+    ensures { result.now ≡ take end bytes.now }
+{
+    if end <= bytes.len() {
+        &bytes[..end]
+    } else {
+        bytes
+    }
+}
+
+/// The bytes after the first.
+pub(crate) fn after(bytes: &[u8], mark: usize) -> &[u8]
+    ensures { result.now ≡ drop mark bytes.now }
+{
+    if mark <= bytes.len() {
+        &bytes[mark..]
+    } else {
+        &[]
     }
 }

@@ -1,26 +1,23 @@
 // Symbols as plain numbers.
-ghost use Rattle.std.specs.Prelude.{◌≡◌, []};
-ghost use Rattle.wasm_base.specs.FaultAt.{fault_at};
-ghost use Rattle.wasm_base.specs.Window.{place};
-ghost use Rattle.wasm_c.specs.Spans.{place_over, read_over};
-ghost use Rattle.std.specs.Prelude.{Option};
+ghost use Rattle.wasm_c.specs.Cursors.{StoresItems, next_by};
+ghost use Rattle.std.specs.Prelude.{ℕ, ◌≡◌};
 ghost use Rattle.wasm_base.specs.Outcome.{GivesBy};
-ghost use Rattle.wasm_base.specs.Window.{KeepsWindow};
-ghost use Rattle.wasm_custom.specs.Flags.{symbol_bits};
-ghost use Rattle.wasm_custom.specs.Linking.{symbol_at, symbol_parts, text_if_any};
+ghost use Rattle.wasm_base.specs.Window.{KeepsWindow, place};
+ghost use Rattle.wasm_c.specs.Readable.{item_over};
 ghost use Rattle.wasm_c.specs.Spans.{text_after};
-ghost use Rattle.wasm_c.specs.Symbols.{flags_at, indexed_symbol, last_span, linking_version_at, named_symbol, name_flag, plain_symbol, placed_symbol, symbol_from};
-ghost use Rattle.wasm_c.specs.Values.{plain_number};
+ghost use Rattle.wasm_c.specs.Symbols.{flags_at, indexed_symbol, linking_version_at, name_parts, named_symbol, placed_symbol, plain_symbol, symbol_from};
+ghost use Rattle.wasm_c.specs.Numbers.{plain_number};
+ghost use Rattle.wasm_custom.specs.Flags.{symbol_bits};
+ghost use Rattle.wasm_custom.specs.Linking.{SymbolParts, symbol_at, symbol_parts, text_if_any};
 
+use crate::cursors::{Counted, StoredItems, store_items};
 use crate::faults::{NO_FAULT, PlainFault, plain_fault};
-use crate::spans::{
-    NO_SPAN, PlainSpan, distance, out_of_range, reader_over, text_after_number, unknown_span,
-};
-use crate::values::{PlainNumber, refused_number};
+use crate::numbers::{Numbers, PlainNumber};
+use crate::readable::{Readable, read_at};
+use crate::spans::{NO_SPAN, PlainSpan, distance, span_before, text_after_number, unknown_span};
 use bitflags::Flags;
 use wasm_parser::{
     BinaryReader, DefinedDataSymbol, Error, Fault, FromReader, Result, SymbolFlags, SymbolInfo,
-    fits,
 };
 
 /// A symbol, or its fault.
@@ -30,7 +27,7 @@ pub struct PlainSymbol {
     /// The fault, whose kind is 0 where there is none.
     pub fault: PlainFault,
     /// How many bytes it takes.
-    pub consumed: u64,
+    pub consumed: usize,
     /// Its name, which is UTF-8.
     pub name: PlainSpan,
     /// 0 a function, 1 data, 2 a global, 3 a section, 4 an event, 5 a table.
@@ -77,17 +74,30 @@ fn read_version(reader: &mut BinaryReader<'_>) -> Result<u32>
     Ok(version)
 }
 
-fn next_version(mut reader: BinaryReader<'_>) -> PlainNumber
-    ensures { result ≡ plain_number (place reader.entry) (linking_version_at (place reader.entry)) }
-{
-    let from = reader.original_position();
-    match read_version(&mut reader) {
-        Ok(version) => PlainNumber {
+#[derive(Clone, Copy)]
+pub(crate) struct LinkingVersions;
+
+impl Readable for LinkingVersions {
+    type Plain = PlainNumber;
+
+    ghost Item = { ℕ };
+
+    ghost reading = { λ _. linking_version_at };
+
+    ghost plain = { λ _. plain_number };
+
+    fn read(self, reader: &mut BinaryReader<'_>, from: u64) -> Result<PlainNumber> {
+        let start = reader.original_position();
+        let version = read_version(reader)?;
+        Ok(PlainNumber {
             fault: NO_FAULT,
-            consumed: distance(from, reader.original_position()),
+            consumed: distance(start, reader.original_position()),
             value: u64::from(version),
-        },
-        Err(error) => refused_number(error),
+        })
+    }
+
+    fn refused(self, error: Error) -> PlainNumber {
+        Numbers.refused(error)
     }
 }
 
@@ -100,41 +110,31 @@ pub extern "C" fn pulleynavy_read_linking_version(
     offset: u64,
     features: u32,
 ) -> PlainNumber
-    ensures { result ≡ plain_number (place_over features offset bytes.now)
-        (read_over linking_version_at features offset bytes.now) }
+    ensures { result ≡ item_over plain_number linking_version_at features offset bytes.now }
 {
-    if !fits(offset, bytes.len()) {
-        return refused_number(out_of_range(offset));
-    }
-    next_version(reader_over(bytes, offset, features))
+    read_at(LinkingVersions, bytes, offset, features)
 }
 
 // Whether there is a name, and where it is as the last part of a symbol.
-fn name_parts(consumed: u64, name: Option<&str>) -> (u32, PlainSpan)
-    ensures flag { result.0 ≡ name_flag (text_if_any name.entry (λ text. text.now)) }
-    ensures span { result.1 ≡ last_span consumed (text_if_any name.entry (λ text. text.now)) }
+fn name_parts(from: u64, to: u64, name: Option<&str>) -> (u32, PlainSpan)
+    ensures { result ≡ name_parts from to (text_if_any name.entry (λ text. text.now)) }
 {
     match name {
-        Some(name) => {
-            let size = name.len() as u64;
-            let at = distance(size, consumed);
-            (1, PlainSpan { at, size })
-        }
+        Some(name) => (1, span_before(from, to, name.len())),
         None => (0, NO_SPAN),
     }
 }
 
 fn indexed(
-    consumed: u64,
+    consumed: usize,
     kind: u32,
     flags: SymbolFlags,
     index: u32,
-    name: Option<&str>,
+    name: (u32, PlainSpan),
 ) -> PlainSymbol
-    ensures { result ≡ indexed_symbol consumed kind (symbol_bits flags) index
-        (text_if_any name.entry (λ text. text.now)) }
+    ensures { result ≡ indexed_symbol consumed kind (symbol_bits flags) index name }
 {
-    let (has_name, name) = name_parts(consumed, name);
+    let (has_name, name) = name;
     PlainSymbol {
         consumed,
         name,
@@ -158,7 +158,7 @@ fn name_after_flags(from: u64, mut reader: BinaryReader<'_>, size: usize) -> Pla
 
 // A data symbol with this name.
 fn named(
-    consumed: u64,
+    consumed: usize,
     flags: SymbolFlags,
     name: PlainSpan,
     symbol: Option<DefinedDataSymbol>,
@@ -185,27 +185,31 @@ fn named(
     }
 }
 
-// A symbol, which takes so many bytes from where the reader is.
-fn whole_symbol(before: BinaryReader<'_>, consumed: u64, symbol: SymbolInfo<'_>) -> PlainSymbol
-    ensures { result ≡ symbol_from (place before.entry) consumed (symbol_parts symbol.entry) }
+// A symbol that begins where the reader is and ends at an offset.
+fn whole_symbol(from: u64, before: BinaryReader<'_>, to: u64, symbol: SymbolInfo<'_>) -> PlainSymbol
+    ensures { result ≡ symbol_from from (place before.entry) to (symbol_parts symbol.entry) }
 {
+    let consumed = distance(before.original_position(), to);
     match symbol {
-        SymbolInfo::Func { flags, index, name } => indexed(consumed, 0, flags, index, name),
-        SymbolInfo::Global { flags, index, name } => indexed(consumed, 2, flags, index, name),
-        SymbolInfo::Event { flags, index, name } => indexed(consumed, 4, flags, index, name),
-        SymbolInfo::Table { flags, index, name } => indexed(consumed, 5, flags, index, name),
+        SymbolInfo::Func { flags, index, name } => {
+            indexed(consumed, 0, flags, index, name_parts(from, to, name))
+        }
+        SymbolInfo::Global { flags, index, name } => {
+            indexed(consumed, 2, flags, index, name_parts(from, to, name))
+        }
+        SymbolInfo::Event { flags, index, name } => {
+            indexed(consumed, 4, flags, index, name_parts(from, to, name))
+        }
+        SymbolInfo::Table { flags, index, name } => {
+            indexed(consumed, 5, flags, index, name_parts(from, to, name))
+        }
         SymbolInfo::Data {
             flags,
             name,
             symbol,
         } => {
-            let from = before.original_position();
-            named(
-                consumed,
-                flags,
-                name_after_flags(from, before, name.len()),
-                symbol,
-            )
+            let span = name_after_flags(from, before, name.len());
+            named(consumed, flags, span, symbol)
         }
         SymbolInfo::Section { flags, section } => PlainSymbol {
             consumed,
@@ -217,23 +221,29 @@ fn whole_symbol(before: BinaryReader<'_>, consumed: u64, symbol: SymbolInfo<'_>)
     }
 }
 
-fn refused_symbol(error: Error) -> PlainSymbol
-    ensures { result ≡ plain_symbol (place_over 0 0 []) (Err (fault_at error)) }
-{
-    PlainSymbol {
-        fault: plain_fault(error),
-        ..NO_SYMBOL
-    }
-}
+#[derive(Clone, Copy)]
+pub(crate) struct Symbols;
 
-fn next_symbol(mut reader: BinaryReader<'_>) -> PlainSymbol
-    ensures { result ≡ plain_symbol (place reader.entry) (symbol_at (place reader.entry)) }
-{
-    let from = reader.original_position();
-    let before = reader.clone().unwrap();
-    match SymbolInfo::from_reader(&mut reader) {
-        Ok(symbol) => whole_symbol(before, distance(from, reader.original_position()), symbol),
-        Err(error) => refused_symbol(error),
+impl Readable for Symbols {
+    type Plain = PlainSymbol;
+
+    ghost Item = { SymbolParts };
+
+    ghost reading = { λ _. symbol_at };
+
+    ghost plain = { λ _. plain_symbol };
+
+    fn read(self, reader: &mut BinaryReader<'_>, from: u64) -> Result<PlainSymbol> {
+        let before = reader.clone().unwrap();
+        let symbol = SymbolInfo::from_reader(reader)?;
+        Ok(whole_symbol(from, before, reader.original_position(), symbol))
+    }
+
+    fn refused(self, error: Error) -> PlainSymbol {
+        PlainSymbol {
+            fault: plain_fault(error),
+            ..NO_SYMBOL
+        }
     }
 }
 
@@ -242,11 +252,21 @@ fn next_symbol(mut reader: BinaryReader<'_>) -> PlainSymbol
 /// fields are 0.
 #[unsafe(no_mangle)]
 pub extern "C" fn pulleynavy_read_symbol(bytes: &[u8], offset: u64, features: u32) -> PlainSymbol
-    ensures { result ≡ plain_symbol (place_over features offset bytes.now)
-        (read_over symbol_at features offset bytes.now) }
+    ensures { result ≡ item_over plain_symbol symbol_at features offset bytes.now }
 {
-    if !fits(offset, bytes.len()) {
-        return refused_symbol(out_of_range(offset));
-    }
-    next_symbol(reader_over(bytes, offset, features))
+    read_at(Symbols, bytes, offset, features)
+}
+
+/// Stores the next symbols of a list in `out`. Returns how many there were or there was room for: 0 at the end.
+/// `bytes` are those of the whole list.
+#[unsafe(no_mangle)]
+pub extern "C" fn pulleynavy_next_symbols(
+    items: &mut StoredItems,
+    bytes: &[u8],
+    out: &mut [PlainSymbol],
+) -> usize
+    ensures { StoresItems (next_by plain_symbol symbol_at bytes.now)
+        items.old out.old result items.new out.new }
+{
+    store_items(Counted(Symbols), items, bytes, out)
 }

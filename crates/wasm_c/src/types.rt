@@ -1,21 +1,18 @@
 // The beginnings of groups of types and of subtypes.
-ghost use Rattle.std.specs.Prelude.{◌≡◌, []};
-ghost use Rattle.wasm_base.specs.FaultAt.{fault_at};
-ghost use Rattle.wasm_base.specs.Window.{place};
-ghost use Rattle.wasm_c.specs.Spans.{place_over, read_over};
-ghost use Rattle.std.specs.Prelude.{Option};
-ghost use Rattle.wasm_base.specs.Hints.{TakesNoMemory};
+ghost use Rattle.std.specs.Prelude.{◌≡◌};
 ghost use Rattle.wasm_base.specs.Outcome.{GivesBy};
 ghost use Rattle.wasm_base.specs.Window.{KeepsWindow};
-ghost use Rattle.wasm_items.specs.RecGroups.{supertypes_at};
-ghost use Rattle.wasm_c.specs.TypeHeads.{composite_head_at, extending_head_at, group_head_at, plain_subtype, plain_type_group, subtype_head_at};
+ghost use Rattle.wasm_c.specs.Readable.{item_over};
+ghost use Rattle.wasm_c.specs.TypeHeads.{GroupHead, SubtypeHead, composite_head_at, extending_head_at, group_head_at, plain_subtype, plain_type_group, subtype_head_at};
 ghost use Rattle.wasm_c.specs.TypeParts.{composite_parts, group_parts, subtype_parts};
+ghost use Rattle.wasm_items.specs.RecGroups.{supertypes_at};
 
 use crate::faults::{NO_FAULT, PlainFault, plain_fault};
 use crate::kinds::small_parts;
-use crate::spans::{distance, flag, out_of_range, reader_over};
+use crate::readable::{Readable, read_at};
+use crate::spans::{distance, flag};
 use wasm_base::leading_byte_error;
-use wasm_parser::{BinaryReader, Error, Fault, Lead, Result, fits};
+use wasm_parser::{BinaryReader, Error, Fault, Lead, Result};
 
 /// The beginning of a group of types, or its fault.
 #[repr(C)]
@@ -24,7 +21,7 @@ pub struct PlainTypeGroup {
     /// The fault, whose kind is 0 where there is none.
     pub fault: PlainFault,
     /// How many bytes it takes.
-    pub consumed: u64,
+    pub consumed: usize,
     /// 1 if the group is written as one, or 0 for a single type.
     pub is_explicit: u32,
     /// How many subtypes come after it.
@@ -38,7 +35,7 @@ pub struct PlainSubtype {
     /// The fault, whose kind is 0 where there is none.
     pub fault: PlainFault,
     /// How many bytes it takes.
-    pub consumed: u64,
+    pub consumed: usize,
     /// 1 if no type may extend it, or 0.
     pub is_final: u32,
     /// 1 if it extends a type, or 0.
@@ -162,29 +159,36 @@ fn read_subtype(reader: &mut BinaryReader<'_>) -> Result<SubtypeParts>
     }
 }
 
-fn refused_type_group(error: Error) -> PlainTypeGroup
-    ensures { result ≡ plain_type_group (place_over 0 0 []) (Err (fault_at error)) }
-{
-    PlainTypeGroup {
-        fault: plain_fault(error),
-        consumed: 0,
-        is_explicit: 0,
-        count: 0,
-    }
-}
+#[derive(Clone, Copy)]
+pub(crate) struct TypeGroups;
 
-fn next_type_group(mut reader: BinaryReader<'_>) -> PlainTypeGroup
-    ensures { result ≡ plain_type_group (place reader.entry) (group_head_at (place reader.entry)) }
-{
-    let from = reader.original_position();
-    match read_group(&mut reader) {
-        Ok(group) => PlainTypeGroup {
+impl Readable for TypeGroups {
+    type Plain = PlainTypeGroup;
+
+    ghost Item = { GroupHead };
+
+    ghost reading = { λ _. group_head_at };
+
+    ghost plain = { λ _. plain_type_group };
+
+    fn read(self, reader: &mut BinaryReader<'_>, _from: u64) -> Result<PlainTypeGroup> {
+        let start = reader.original_position();
+        let group = read_group(reader)?;
+        Ok(PlainTypeGroup {
             fault: NO_FAULT,
-            consumed: distance(from, reader.original_position()),
+            consumed: distance(start, reader.original_position()),
             is_explicit: flag(group.explicit),
             count: group.count,
-        },
-        Err(error) => refused_type_group(error),
+        })
+    }
+
+    fn refused(self, error: Error) -> PlainTypeGroup {
+        PlainTypeGroup {
+            fault: plain_fault(error),
+            consumed: 0,
+            is_explicit: 0,
+            count: 0,
+        }
     }
 }
 
@@ -197,44 +201,47 @@ pub extern "C" fn pulleynavy_read_type_group(
     offset: u64,
     features: u32,
 ) -> PlainTypeGroup
-    ensures { result ≡ plain_type_group (place_over features offset bytes.now)
-        (read_over group_head_at features offset bytes.now) }
+    ensures { result ≡ item_over plain_type_group group_head_at features offset bytes.now }
 {
-    if !fits(offset, bytes.len()) {
-        return refused_type_group(out_of_range(offset));
-    }
-    next_type_group(reader_over(bytes, offset, features))
+    read_at(TypeGroups, bytes, offset, features)
 }
 
-fn refused_subtype(error: Error) -> PlainSubtype
-    ensures { result ≡ plain_subtype (place_over 0 0 []) (Err (fault_at error)) }
-{
-    PlainSubtype {
-        fault: plain_fault(error),
-        consumed: 0,
-        is_final: 0,
-        has_supertype: 0,
-        supertype: 0,
-        kind: 0,
-        count: 0,
-    }
-}
+#[derive(Clone, Copy)]
+pub(crate) struct Subtypes;
 
-fn next_subtype(mut reader: BinaryReader<'_>) -> PlainSubtype
-    ensures { result ≡ plain_subtype (place reader.entry) (subtype_head_at (place reader.entry)) }
-{
-    let from = reader.original_position();
-    match read_subtype(&mut reader) {
-        Ok(subtype) => PlainSubtype {
+impl Readable for Subtypes {
+    type Plain = PlainSubtype;
+
+    ghost Item = { SubtypeHead };
+
+    ghost reading = { λ _. subtype_head_at };
+
+    ghost plain = { λ _. plain_subtype };
+
+    fn read(self, reader: &mut BinaryReader<'_>, _from: u64) -> Result<PlainSubtype> {
+        let start = reader.original_position();
+        let subtype = read_subtype(reader)?;
+        Ok(PlainSubtype {
             fault: NO_FAULT,
-            consumed: distance(from, reader.original_position()),
+            consumed: distance(start, reader.original_position()),
             is_final: flag(subtype.is_final),
             has_supertype: small_parts(subtype.supertype).0,
             supertype: small_parts(subtype.supertype).1,
             kind: subtype.composite.kind,
             count: subtype.composite.count,
-        },
-        Err(error) => refused_subtype(error),
+        })
+    }
+
+    fn refused(self, error: Error) -> PlainSubtype {
+        PlainSubtype {
+            fault: plain_fault(error),
+            consumed: 0,
+            is_final: 0,
+            has_supertype: 0,
+            supertype: 0,
+            kind: 0,
+            count: 0,
+        }
     }
 }
 
@@ -244,11 +251,7 @@ fn next_subtype(mut reader: BinaryReader<'_>) -> PlainSubtype
 /// bytes of its section, at `offset` of the stream. After a fault all other fields are 0.
 #[unsafe(no_mangle)]
 pub extern "C" fn pulleynavy_read_subtype(bytes: &[u8], offset: u64, features: u32) -> PlainSubtype
-    ensures { result ≡ plain_subtype (place_over features offset bytes.now)
-        (read_over subtype_head_at features offset bytes.now) }
+    ensures { result ≡ item_over plain_subtype subtype_head_at features offset bytes.now }
 {
-    if !fits(offset, bytes.len()) {
-        return refused_subtype(out_of_range(offset));
-    }
-    next_subtype(reader_over(bytes, offset, features))
+    read_at(Subtypes, bytes, offset, features)
 }

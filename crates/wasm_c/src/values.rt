@@ -1,18 +1,21 @@
 // Numbers and types of values as plain numbers.
-ghost use Rattle.std.specs.Prelude.{◌≡◌, []};
-ghost use Rattle.wasm_base.specs.FaultAt.{fault_at};
-ghost use Rattle.wasm_base.specs.Number.{unsigned_at};
-ghost use Rattle.wasm_base.specs.Window.{place};
-ghost use Rattle.wasm_base.specs.declared.fault.NumberKind.TheVariants.{VarU32};
+ghost use Rattle.std.specs.Prelude.{◌≡◌};
+ghost use Rattle.wasm_c.specs.Cursors.{StoresItems, next_by};
+ghost use Rattle.wasm_c.specs.Readable.{item_over};
+ghost use Rattle.wasm_c.specs.Values.{heap_code, heap_index, plain_field, plain_heap, plain_heap_type, plain_ref, plain_reference_type, plain_storage, plain_type, plain_value, simple_type};
 ghost use Rattle.wasm_items.specs.RecGroups.{field_type_at};
-ghost use Rattle.wasm_items.specs.Values.{val_type_at};
-ghost use Rattle.wasm_c.specs.Spans.{place_over, read_over};
-ghost use Rattle.wasm_c.specs.Values.{heap_code, heap_index, plain_field, plain_number, plain_ref, plain_storage, plain_type, plain_value, simple_type};
+ghost use Rattle.wasm_items.specs.Values.{heap_type_at, ref_type_at, val_type_at};
+ghost use Rattle.wasm_items.specs.declared.types.FieldType.{FieldType};
+ghost use Rattle.wasm_items.specs.declared.types.HeapType.{HeapType};
+ghost use Rattle.wasm_items.specs.declared.types.RefType.{RefType};
+ghost use Rattle.wasm_items.specs.declared.types.ValType.{ValType};
 
+use crate::cursors::{Counted, StoredItems, store_items};
 use crate::faults::{NO_FAULT, PlainFault, plain_fault};
-use crate::spans::{distance, flag, out_of_range, reader_over};
+use crate::readable::{Readable, read_at};
+use crate::spans::{distance, flag};
 use wasm_parser::{
-    BinaryReader, Error, FieldType, FromReader, HeapType, RefType, StorageType, ValType, fits,
+    BinaryReader, Error, FieldType, FromReader, HeapType, RefType, Result, StorageType, ValType,
 };
 
 /// A type of values, or of what a field holds, as plain numbers (core specification, Binary format, Types).
@@ -31,18 +34,6 @@ pub struct PlainType {
     pub index: u32,
 }
 
-/// A number, or its fault.
-#[repr(C)]
-#[derive(Clone, Copy, Debug, PartialEq, Eq)]
-pub struct PlainNumber {
-    /// The fault, whose kind is 0 where there is none.
-    pub fault: PlainFault,
-    /// How many bytes it takes.
-    pub consumed: u64,
-    /// The number.
-    pub value: u64,
-}
-
 /// A value type, or its fault.
 #[repr(C)]
 #[derive(Clone, Copy, Debug, PartialEq, Eq)]
@@ -50,7 +41,7 @@ pub struct PlainValue {
     /// The fault, whose kind is 0 where there is none.
     pub fault: PlainFault,
     /// How many bytes it takes.
-    pub consumed: u64,
+    pub consumed: usize,
     /// The type.
     pub ty: PlainType,
 }
@@ -62,15 +53,15 @@ pub struct PlainField {
     /// The fault, whose kind is 0 where there is none.
     pub fault: PlainFault,
     /// How many bytes it takes.
-    pub consumed: u64,
+    pub consumed: usize,
     /// What it holds.
     pub ty: PlainType,
     /// 1 if it can be changed, or 0.
     pub is_mutable: u32,
 }
 
-// What a reference refers to, and the index of the type that it names.
-fn heap_parts(heap: HeapType) -> (u32, u32)
+/// What a reference refers to, and the index of the type that it names.
+pub(crate) fn heap_parts(heap: HeapType) -> (u32, u32)
     ensures code { result.0 ≡ heap_code heap }
     ensures index { result.1 ≡ heap_index heap }
 {
@@ -148,66 +139,34 @@ fn plain_storage(ty: StorageType) -> PlainType
     }
 }
 
-/// That a number has a fault.
-pub(crate) fn refused_number(error: Error) -> PlainNumber
-    ensures { result ≡ plain_number (place_over 0 0 []) (Err (fault_at error)) }
-{
-    PlainNumber {
-        fault: plain_fault(error),
-        consumed: 0,
-        value: 0,
-    }
-}
+#[derive(Clone, Copy)]
+pub(crate) struct ValueTypes;
 
-fn next_number(mut reader: BinaryReader<'_>) -> PlainNumber
-    ensures { result ≡ plain_number (place reader.entry) (unsigned_at VarU32 (place reader.entry)) }
-{
-    let from = reader.original_position();
-    match reader.read_var_u32() {
-        Ok(value) => PlainNumber {
+impl Readable for ValueTypes {
+    type Plain = PlainValue;
+
+    ghost Item = { ValType };
+
+    ghost reading = { λ _. val_type_at };
+
+    ghost plain = { λ _. plain_value };
+
+    fn read(self, reader: &mut BinaryReader<'_>, _from: u64) -> Result<PlainValue> {
+        let start = reader.original_position();
+        let ty = ValType::from_reader(reader)?;
+        Ok(PlainValue {
             fault: NO_FAULT,
-            consumed: distance(from, reader.original_position()),
-            value: u64::from(value),
-        },
-        Err(error) => refused_number(error),
-    }
-}
-
-/// Reads the number at the start of `bytes`, a u32: the count of a list, an index of a type in a function section or of a
-/// function in a list of elements (core specification, Binary format, Values, Integers). The bytes are the remaining bytes of its
-/// section, at `offset` of the stream. After a fault all other fields are 0.
-#[unsafe(no_mangle)]
-pub extern "C" fn pulleynavy_read_number(bytes: &[u8], offset: u64, features: u32) -> PlainNumber
-    ensures { result ≡ plain_number (place_over features offset bytes.now)
-        (read_over (unsigned_at VarU32) features offset bytes.now) }
-{
-    if !fits(offset, bytes.len()) {
-        return refused_number(out_of_range(offset));
-    }
-    next_number(reader_over(bytes, offset, features))
-}
-
-fn refused_value(error: Error) -> PlainValue
-    ensures { result ≡ plain_value (place_over 0 0 []) (Err (fault_at error)) }
-{
-    PlainValue {
-        fault: plain_fault(error),
-        consumed: 0,
-        ty: simple_type(0),
-    }
-}
-
-fn next_value(mut reader: BinaryReader<'_>) -> PlainValue
-    ensures { result ≡ plain_value (place reader.entry) (val_type_at (place reader.entry)) }
-{
-    let from = reader.original_position();
-    match ValType::from_reader(&mut reader) {
-        Ok(ty) => PlainValue {
-            fault: NO_FAULT,
-            consumed: distance(from, reader.original_position()),
+            consumed: distance(start, reader.original_position()),
             ty: plain_type(ty),
-        },
-        Err(error) => refused_value(error),
+        })
+    }
+
+    fn refused(self, error: Error) -> PlainValue {
+        PlainValue {
+            fault: plain_fault(error),
+            consumed: 0,
+            ty: simple_type(0),
+        }
     }
 }
 
@@ -216,38 +175,144 @@ fn next_value(mut reader: BinaryReader<'_>) -> PlainValue
 /// fields are 0.
 #[unsafe(no_mangle)]
 pub extern "C" fn pulleynavy_read_value_type(bytes: &[u8], offset: u64, features: u32) -> PlainValue
-    ensures { result ≡ plain_value (place_over features offset bytes.now)
-        (read_over val_type_at features offset bytes.now) }
+    ensures { result ≡ item_over plain_value val_type_at features offset bytes.now }
 {
-    if !fits(offset, bytes.len()) {
-        return refused_value(out_of_range(offset));
-    }
-    next_value(reader_over(bytes, offset, features))
+    read_at(ValueTypes, bytes, offset, features)
 }
 
-fn refused_field(error: Error) -> PlainField
-    ensures { result ≡ plain_field (place_over 0 0 []) (Err (fault_at error)) }
+/// Stores the next value types of a list in `out`. Returns how many there were or there was room for: 0 at the end.
+/// `bytes` are those of the whole list.
+#[unsafe(no_mangle)]
+pub extern "C" fn pulleynavy_next_value_types(
+    items: &mut StoredItems,
+    bytes: &[u8],
+    out: &mut [PlainValue],
+) -> usize
+    ensures { StoresItems (next_by plain_value val_type_at bytes.now)
+        items.old out.old result items.new out.new }
 {
-    PlainField {
-        fault: plain_fault(error),
-        consumed: 0,
-        ty: simple_type(0),
-        is_mutable: 0,
+    store_items(Counted(ValueTypes), items, bytes, out)
+}
+
+// A heap type, as a reference that is not nullable.
+fn plain_heap(heap: HeapType) -> PlainType
+    ensures { result ≡ plain_heap heap }
+{
+    let (heap, index) = heap_parts(heap);
+    PlainType {
+        kind: 5,
+        nullable: 0,
+        heap,
+        index,
     }
 }
 
-fn next_field(mut reader: BinaryReader<'_>) -> PlainField
-    ensures { result ≡ plain_field (place reader.entry) (field_type_at (place reader.entry)) }
-{
-    let from = reader.original_position();
-    match FieldType::from_reader(&mut reader) {
-        Ok(field) => PlainField {
+#[derive(Clone, Copy)]
+struct HeapTypes;
+
+impl Readable for HeapTypes {
+    type Plain = PlainValue;
+
+    ghost Item = { HeapType };
+
+    ghost reading = { λ _. heap_type_at };
+
+    ghost plain = { λ _. plain_heap_type };
+
+    fn read(self, reader: &mut BinaryReader<'_>, _from: u64) -> Result<PlainValue> {
+        let start = reader.original_position();
+        let heap = HeapType::from_reader(reader)?;
+        Ok(PlainValue {
             fault: NO_FAULT,
-            consumed: distance(from, reader.original_position()),
+            consumed: distance(start, reader.original_position()),
+            ty: plain_heap(heap),
+        })
+    }
+
+    fn refused(self, error: Error) -> PlainValue {
+        ValueTypes.refused(error)
+    }
+}
+
+/// Reads the heap type at the start of `bytes` (core specification, Binary format, Types, Heap Types): a reference that is not
+/// nullable. The bytes are the remaining bytes of its section, at `offset` of the stream. After a fault all other fields are 0.
+#[unsafe(no_mangle)]
+pub extern "C" fn pulleynavy_read_heap_type(bytes: &[u8], offset: u64, features: u32) -> PlainValue
+    ensures { result ≡ item_over plain_heap_type heap_type_at features offset bytes.now }
+{
+    read_at(HeapTypes, bytes, offset, features)
+}
+
+#[derive(Clone, Copy)]
+struct ReferenceTypes;
+
+impl Readable for ReferenceTypes {
+    type Plain = PlainValue;
+
+    ghost Item = { RefType };
+
+    ghost reading = { λ _. ref_type_at };
+
+    ghost plain = { λ _. plain_reference_type };
+
+    fn read(self, reader: &mut BinaryReader<'_>, _from: u64) -> Result<PlainValue> {
+        let start = reader.original_position();
+        let ty = RefType::from_reader(reader)?;
+        Ok(PlainValue {
+            fault: NO_FAULT,
+            consumed: distance(start, reader.original_position()),
+            ty: plain_ref(ty),
+        })
+    }
+
+    fn refused(self, error: Error) -> PlainValue {
+        ValueTypes.refused(error)
+    }
+}
+
+/// Reads the reference type at the start of `bytes` (core specification, Binary format, Types, Reference Types). The bytes are the
+/// remaining bytes of its section, at `offset` of the stream. After a fault all other fields are 0.
+#[unsafe(no_mangle)]
+pub extern "C" fn pulleynavy_read_reference_type(
+    bytes: &[u8],
+    offset: u64,
+    features: u32,
+) -> PlainValue
+    ensures { result ≡ item_over plain_reference_type ref_type_at features offset bytes.now }
+{
+    read_at(ReferenceTypes, bytes, offset, features)
+}
+
+#[derive(Clone, Copy)]
+pub(crate) struct FieldTypes;
+
+impl Readable for FieldTypes {
+    type Plain = PlainField;
+
+    ghost Item = { FieldType };
+
+    ghost reading = { λ _. field_type_at };
+
+    ghost plain = { λ _. plain_field };
+
+    fn read(self, reader: &mut BinaryReader<'_>, _from: u64) -> Result<PlainField> {
+        let start = reader.original_position();
+        let field = FieldType::from_reader(reader)?;
+        Ok(PlainField {
+            fault: NO_FAULT,
+            consumed: distance(start, reader.original_position()),
             ty: plain_storage(field.storage),
             is_mutable: flag(field.mutable),
-        },
-        Err(error) => refused_field(error),
+        })
+    }
+
+    fn refused(self, error: Error) -> PlainField {
+        PlainField {
+            fault: plain_fault(error),
+            consumed: 0,
+            ty: simple_type(0),
+            is_mutable: 0,
+        }
     }
 }
 
@@ -255,11 +320,21 @@ fn next_field(mut reader: BinaryReader<'_>) -> PlainField
 /// Types). The bytes are the remaining bytes of its section, at `offset` of the stream. After a fault all other fields are 0.
 #[unsafe(no_mangle)]
 pub extern "C" fn pulleynavy_read_field_type(bytes: &[u8], offset: u64, features: u32) -> PlainField
-    ensures { result ≡ plain_field (place_over features offset bytes.now)
-        (read_over field_type_at features offset bytes.now) }
+    ensures { result ≡ item_over plain_field field_type_at features offset bytes.now }
 {
-    if !fits(offset, bytes.len()) {
-        return refused_field(out_of_range(offset));
-    }
-    next_field(reader_over(bytes, offset, features))
+    read_at(FieldTypes, bytes, offset, features)
+}
+
+/// Stores the next fields of a list in `out`. Returns how many there were or there was room for: 0 at the end.
+/// `bytes` are those of the whole list.
+#[unsafe(no_mangle)]
+pub extern "C" fn pulleynavy_next_field_types(
+    items: &mut StoredItems,
+    bytes: &[u8],
+    out: &mut [PlainField],
+) -> usize
+    ensures { StoresItems (next_by plain_field field_type_at bytes.now)
+        items.old out.old result items.new out.new }
+{
+    store_items(Counted(FieldTypes), items, bytes, out)
 }

@@ -20,16 +20,17 @@ returns-in-Ok-Parsed c =
       asks = c.parse.ensures.asks;
       waits = c.parse.ensures.waits;
       faults = c.parse.ensures.faults;
-      is_event = c.parsed_event.ensures ∙ ap answer_event (sym answers);
+      is_event = subst (λ (o : ℕ). c.parsed_event.result ≡ answer_event c.args.base o c.parse.result) c.offset-offset.ensures
+          (c.parsed_event.ensures ∙ ap (answer_event c.args.base c.offset-offset.result) (sym answers));
     })
 
 -- an answer of a parser that has stayed where it was
-unmoved : {old new : ParserState} {eof : Bool} {bytes : List ℕ} {answer : Result Chunk Error} {event : PlainEvent} → new ≡ old
+unmoved : {base : ℕ} {old new : ParserState} {eof : Bool} {bytes : List ℕ} {answer : Result Chunk Error} {event : PlainEvent} → new ≡ old
     → ParseAnswer old eof bytes answer new → GivesNextEvent old eof bytes answer new → Consumes bytes answer
-    → AsksForSome answer → AsksWhereOpen old eof bytes answer → FaultsWithin old bytes answer → event ≡ answer_event answer
-    → ParsesPlain old eof bytes event old
-unmoved {old} {new} {eof} {bytes} {answer} {event} same answers gives consumes asks waits faults is =
-    subst (ParsesPlain old eof bytes event) same (record {
+    → AsksForSome answer → AsksWhereOpen old eof bytes answer → FaultsWithin old bytes answer → event ≡ answer_event base old.offset answer
+    → ParsesPlain base old eof bytes event old
+unmoved {base} {old} {new} {eof} {bytes} {answer} {event} same answers gives consumes asks waits faults is =
+    subst (ParsesPlain base old eof bytes event) same (record {
       answer = answer;
       answers = answers;
       gives = gives;
@@ -45,11 +46,11 @@ returns-in-Ok-NeedMoreData c =
     let asks = c.in-Ok-NeedMoreData.is ∙ ap Ok c.in-Ok-NeedMoreData.field-0-is in
     let same = subst (λ (r : Result Chunk Error). IsUnchanged c.parser-parser.result r c.parse.new.self) asks c.parse.ensures.unchanged in
     rw (sym c.parser-parser.ensures) (unmoved same c.parse.ensures.answers c.parse.ensures.gives c.parse.ensures.consumes
-    c.parse.ensures.asks c.parse.ensures.waits c.parse.ensures.faults (c.request_event.ensures ∙ ap answer_event (sym asks)))
+    c.parse.ensures.asks c.parse.ensures.waits c.parse.ensures.faults (c.request_event.ensures ∙ ap (answer_event _ _) (sym asks)))
 
 pub returns-in-Err : goal.returns-in-Err
 returns-in-Err c =
     let stays : Result Chunk Error → Type 0 = λ r. IsUnchanged c.parser-parser.result r c.parse.new.self in
     let same = subst stays c.in-Err.is c.parse.ensures.unchanged in
     rw (sym c.parser-parser.ensures) (unmoved same c.parse.ensures.answers c.parse.ensures.gives c.parse.ensures.consumes
-    c.parse.ensures.asks c.parse.ensures.waits c.parse.ensures.faults (c.fault_event.ensures ∙ ap answer_event (sym c.in-Err.is)))
+    c.parse.ensures.asks c.parse.ensures.waits c.parse.ensures.faults (c.fault_event.ensures ∙ ap (answer_event _ _) (sym c.in-Err.is)))

@@ -1,0 +1,203 @@
+// Instructions of constant expressions.
+ghost use Rattle.std.specs.Prelude.{◌≡◌};
+ghost use Rattle.wasm_c.specs.Instructions.{indexed, instruction_from, opcode, plain_instruction, with_bits, with_count, with_heap, with_integer, with_vector};
+ghost use Rattle.wasm_c.specs.Readable.{item_over};
+ghost use Rattle.wasm_items.specs.Instructions.{instruction_at};
+ghost use Rattle.wasm_items.specs.declared.instructions.ConstInstruction.{ConstInstruction};
+
+use crate::faults::{NO_FAULT, PlainFault, plain_fault};
+use crate::readable::{Readable, read_at};
+use crate::spans::{NO_SPAN, PlainSpan, distance, span_before};
+use crate::values::heap_parts;
+use wasm_items::read_instruction;
+use wasm_parser::{BinaryReader, ConstOperator, Error, HeapType, Result};
+
+/// An instruction of a constant expression, or its fault.
+#[repr(C)]
+#[derive(Clone, Copy, Debug, PartialEq, Eq)]
+pub struct PlainInstruction {
+    /// The fault, whose kind is 0 where there is none.
+    pub fault: PlainFault,
+    /// How many bytes it takes.
+    pub consumed: usize,
+    /// Its opcode, as in `pulleynavy_opcode`. One of two parts is 256 times the first plus the second.
+    pub opcode: u32,
+    /// The index of a global, a function or a type, or 0.
+    pub index: u32,
+    /// What a null reference would refer to, as in `pulleynavy_heap_kind`, or 0.
+    pub heap: u32,
+    /// How many elements an array of fixed size has, or 0.
+    pub count: u32,
+    /// The integer, or 0.
+    pub integer: i64,
+    /// The bits of a float, or 0.
+    pub bits: u64,
+    /// The 16 bytes of a vector.
+    pub bytes: PlainSpan,
+}
+
+// An instruction without operands.
+fn opcode(consumed: usize, code: u32) -> PlainInstruction
+    ensures { result ≡ opcode consumed code }
+{
+    PlainInstruction {
+        fault: NO_FAULT,
+        consumed,
+        opcode: code,
+        index: 0,
+        heap: 0,
+        count: 0,
+        integer: 0,
+        bits: 0,
+        bytes: NO_SPAN,
+    }
+}
+
+// One whose operand is an index.
+fn indexed(consumed: usize, code: u32, index: u32) -> PlainInstruction
+    ensures { result ≡ indexed consumed code index }
+{
+    PlainInstruction {
+        index,
+        ..opcode(consumed, code)
+    }
+}
+
+// A constant whose operand is an integer.
+fn integer(consumed: usize, code: u32, integer: i64) -> PlainInstruction
+    ensures { result ≡ with_integer consumed code integer }
+{
+    PlainInstruction {
+        integer,
+        ..opcode(consumed, code)
+    }
+}
+
+// A constant whose operand is a float with these bits.
+fn float(consumed: usize, code: u32, bits: u64) -> PlainInstruction
+    ensures { result ≡ with_bits consumed code bits }
+{
+    PlainInstruction {
+        bits,
+        ..opcode(consumed, code)
+    }
+}
+
+// A constant whose operand is a vector.
+fn vector(consumed: usize, bytes: PlainSpan) -> PlainInstruction
+    ensures { result ≡ with_vector consumed bytes }
+{
+    PlainInstruction {
+        bytes,
+        ..opcode(consumed, 0xfd0c)
+    }
+}
+
+// A null reference.
+fn null(consumed: usize, heap: HeapType) -> PlainInstruction
+    ensures { result ≡ with_heap consumed heap }
+{
+    let (heap, index) = heap_parts(heap);
+    PlainInstruction {
+        heap,
+        ..indexed(consumed, 0xd0, index)
+    }
+}
+
+// An array of so many elements.
+fn array(consumed: usize, index: u32, count: u32) -> PlainInstruction
+    ensures { result ≡ with_count consumed index count }
+{
+    PlainInstruction {
+        count,
+        ..indexed(consumed, 0xfb08, index)
+    }
+}
+
+// An instruction of so many bytes, of which these are the last 16.
+fn whole_instruction(consumed: usize, last: PlainSpan, operator: ConstOperator) -> PlainInstruction
+    ensures { result ≡ instruction_from consumed last operator }
+{
+    match operator {
+        ConstOperator::End => opcode(consumed, 0x0b),
+        ConstOperator::I32Add => opcode(consumed, 0x6a),
+        ConstOperator::I32Sub => opcode(consumed, 0x6b),
+        ConstOperator::I32Mul => opcode(consumed, 0x6c),
+        ConstOperator::I64Add => opcode(consumed, 0x7c),
+        ConstOperator::I64Sub => opcode(consumed, 0x7d),
+        ConstOperator::I64Mul => opcode(consumed, 0x7e),
+        ConstOperator::AnyConvertExtern => opcode(consumed, 0xfb1a),
+        ConstOperator::ExternConvertAny => opcode(consumed, 0xfb1b),
+        ConstOperator::RefI31 => opcode(consumed, 0xfb1c),
+        ConstOperator::GlobalGet { global_index } => indexed(consumed, 0x23, global_index),
+        ConstOperator::RefFunc { function_index } => indexed(consumed, 0xd2, function_index),
+        ConstOperator::StructNew { struct_type_index } => indexed(
+            consumed,
+            0xfb00,
+            struct_type_index,
+        ),
+        ConstOperator::StructNewDefault { struct_type_index } => indexed(
+            consumed,
+            0xfb01,
+            struct_type_index,
+        ),
+        ConstOperator::ArrayNew { array_type_index } => indexed(consumed, 0xfb06, array_type_index),
+        ConstOperator::ArrayNewDefault { array_type_index } => indexed(
+            consumed,
+            0xfb07,
+            array_type_index,
+        ),
+        ConstOperator::I32Const { value } => integer(consumed, 0x41, i64::from(value)),
+        ConstOperator::I64Const { value } => integer(consumed, 0x42, value),
+        ConstOperator::F32Const { value } => float(consumed, 0x43, u64::from(value.bits())),
+        ConstOperator::F64Const { value } => float(consumed, 0x44, value.bits()),
+        ConstOperator::V128Const { .. } => vector(consumed, last),
+        ConstOperator::RefNull { hty } => null(consumed, hty),
+        ConstOperator::ArrayNewFixed {
+            array_type_index,
+            array_size,
+        } => array(consumed, array_type_index, array_size),
+    }
+}
+
+#[derive(Clone, Copy)]
+struct Instructions;
+
+impl Readable for Instructions {
+    type Plain = PlainInstruction;
+
+    ghost Item = { ConstInstruction };
+
+    ghost reading = { λ _. instruction_at };
+
+    ghost plain = { λ _. plain_instruction };
+
+    fn read(self, reader: &mut BinaryReader<'_>, from: u64) -> Result<PlainInstruction> {
+        let start = reader.original_position();
+        let instruction = read_instruction(reader)?;
+        let end = reader.original_position();
+        let last = span_before(from, end, 16);
+        Ok(whole_instruction(distance(start, end), last, instruction.operator))
+    }
+
+    fn refused(self, error: Error) -> PlainInstruction {
+        PlainInstruction {
+            fault: plain_fault(error),
+            ..opcode(0, 0)
+        }
+    }
+}
+
+/// Reads the instruction at the start of `bytes`, of a constant expression (core specification, Binary format, Instructions). The
+/// last one has the opcode `PULLEYNAVY_OP_END`. The bytes are the remaining bytes of its section, at `offset` of the stream. After
+/// a fault all other fields are 0.
+#[unsafe(no_mangle)]
+pub extern "C" fn pulleynavy_read_instruction(
+    bytes: &[u8],
+    offset: u64,
+    features: u32,
+) -> PlainInstruction
+    ensures { result ≡ item_over plain_instruction instruction_at features offset bytes.now }
+{
+    read_at(Instructions, bytes, offset, features)
+}
