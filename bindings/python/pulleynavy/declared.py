@@ -111,6 +111,25 @@ class CoreStart(enum.IntEnum):
     FRAME = 4
 
 
+class SectionId(enum.IntEnum):
+    """The id of a section of a module."""
+
+    CUSTOM = 0
+    TYPE = 1
+    IMPORT = 2
+    FUNCTION = 3
+    TABLE = 4
+    MEMORY = 5
+    GLOBAL = 6
+    EXPORT = 7
+    START = 8
+    ELEMENT = 9
+    CODE = 10
+    DATA = 11
+    DATA_COUNT = 12
+    TAG = 13
+
+
 class TypeKind(enum.IntEnum):
     """The kind of a type."""
 
@@ -262,6 +281,46 @@ class CoreValueKind(enum.IntEnum):
     I64 = 2
     F32 = 3
     F64 = 4
+
+
+class NameId(enum.IntEnum):
+    """The id of a subsection of `name`."""
+
+    MODULE = 0
+    FUNCTION = 1
+    LOCAL = 2
+    LABEL = 3
+    TYPE = 4
+    TABLE = 5
+    MEMORY = 6
+    GLOBAL = 7
+    ELEMENT = 8
+    DATA = 9
+    FIELD = 10
+    TAG = 11
+    PARAMETER = 12
+    TAG_PARAMETER = 13
+
+
+class LinkingId(enum.IntEnum):
+    """The id of a subsection of `linking`."""
+
+    SEGMENT_INFO = 5
+    INIT_FUNCS = 6
+    COMDAT_INFO = 7
+    SYMBOL_TABLE = 8
+    TARGET_ARCH = 9
+
+
+class DylinkId(enum.IntEnum):
+    """The id of a subsection of `dylink.0`."""
+
+    MEM_INFO = 1
+    NEEDED = 2
+    EXPORT_INFO = 3
+    IMPORT_INFO = 4
+    RUNTIME_PATH = 5
+    TARGET_ARCH = 6
 
 
 class Opcode(enum.IntEnum):

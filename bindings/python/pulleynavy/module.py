@@ -10,11 +10,7 @@ from typing import Any, BinaryIO, Iterator, NamedTuple
 from ._events import Event, events
 from ._items import Items, fields
 from ._library import ALL_FEATURES, load
-from .declared import CustomKind, DataKind, ElementKind, EventKind, ExternalKind, HeapKind, TypeKind
-
-# Section ids (core specification, Binary format, Modules, Sections).
-IMPORTS, FUNCTIONS, TABLES, MEMORIES, GLOBALS, EXPORTS, ELEMENTS, DATAS, TAGS = 2, 3, 4, 5, 6, 7, 9, 11, 13
-MODULE_NAME, FUNCTION_NAMES = 0, 1
+from .declared import CustomKind, DataKind, ElementKind, EventKind, ExternalKind, HeapKind, NameId, SectionId, TypeKind
 
 
 @dataclasses.dataclass(frozen=True)
@@ -198,39 +194,39 @@ class Module:
     @functools.cached_property
     def imports(self) -> list[Import]:
         """The imports, those of bundles among them."""
-        return [one for items in self._lists(IMPORTS) for one in _imports(items)]
+        return [one for items in self._lists(SectionId.IMPORT) for one in _imports(items)]
 
     @functools.cached_property
     def functions(self) -> list[int]:
         """The index of the type of each function that the module defines."""
-        return [index for items in self._lists(FUNCTIONS) for index, in items.rows("numbers", "Number", _NUMBER)]
+        return [index for items in self._lists(SectionId.FUNCTION) for index, in items.rows("numbers", "Number", _NUMBER)]
 
     @functools.cached_property
     def tables(self) -> list[Table]:
         """The tables that the module defines."""
-        return [_table(one.ty) for items in self._lists(TABLES) for one in items.all("tables", "Table")]
+        return [_table(one.ty) for items in self._lists(SectionId.TABLE) for one in items.all("tables", "Table")]
 
     @functools.cached_property
     def memories(self) -> list[Memory]:
         """The memories that the module defines."""
-        return [_memory(one.ty) for items in self._lists(MEMORIES) for one in items.all("memories", "Memory")]
+        return [_memory(one.ty) for items in self._lists(SectionId.MEMORY) for one in items.all("memories", "Memory")]
 
     @functools.cached_property
     def globals(self) -> list[Global]:
         """The globals that the module defines."""
-        return [_global(one.ty) for items in self._lists(GLOBALS) for one in items.all("globals", "Global")]
+        return [_global(one.ty) for items in self._lists(SectionId.GLOBAL) for one in items.all("globals", "Global")]
 
     @functools.cached_property
     def tags(self) -> list[int]:
         """The index of the function type of each tag that the module defines."""
-        return [one.func_type_index for items in self._lists(TAGS) for one in items.all("tags", "Tag")]
+        return [one.func_type_index for items in self._lists(SectionId.TAG) for one in items.all("tags", "Tag")]
 
     @functools.cached_property
     def exports(self) -> list[Export]:
         """The exports."""
         return [
             Export(str(items.content[at : at + size], "utf-8"), _EXTERNAL_KINDS[kind], index)
-            for items in self._lists(EXPORTS)
+            for items in self._lists(SectionId.EXPORT)
             for at, size, kind, index in items.rows("exports", "Export", _EXPORT)
         ]
 
@@ -239,7 +235,7 @@ class Module:
         """The element segments."""
         return [
             Element(_ELEMENT_KINDS[kind], table if has_table else None, count)
-            for items in self._lists(ELEMENTS)
+            for items in self._lists(SectionId.ELEMENT)
             for kind, has_table, table, count in items.rows("elements", "Element", _ELEMENT)
         ]
 
@@ -248,7 +244,7 @@ class Module:
         """The data segments."""
         return [
             Data(_DATA_KINDS[kind], memory if kind == DataKind.ACTIVE else None, items.content[at : at + size])
-            for items in self._lists(DATAS)
+            for items in self._lists(SectionId.DATA)
             for kind, memory, at, size in items.rows("data", "Data", _DATA)
         ]
 
@@ -280,9 +276,9 @@ class Module:
         for section in self.custom_sections:
             if section.kind is CustomKind.NAME:
                 for number, contents in self._subsections(section):
-                    if number == MODULE_NAME:
+                    if number == NameId.MODULE:
                         module = contents.text(contents.read("name").name)
-                    elif number == FUNCTION_NAMES:
+                    elif number == NameId.FUNCTION:
                         functions.update(
                             (index, str(contents.content[at : at + size], "utf-8"))
                             for index, at, size in contents.counted().rows("namings", "Naming", _NAMING)
@@ -299,13 +295,13 @@ def _section(event: Event) -> Iterator[Section]:
     if event.kind is EventKind.SECTION:
         yield Section(event.id, event.start, event.end, event.count)
     elif event.kind is EventKind.CUSTOM:
-        yield Section(0, event.start, event.end, None, event.name)
+        yield Section(SectionId.CUSTOM, event.start, event.end, None, event.name)
     elif event.kind is EventKind.CODE:
-        yield Section(10, event.start, event.end, event.count)
+        yield Section(SectionId.CODE, event.start, event.end, event.count)
     elif event.kind is EventKind.START:
-        yield Section(8, event.start, event.end, None)
+        yield Section(SectionId.START, event.start, event.end, None)
     elif event.kind is EventKind.DATA_COUNT:
-        yield Section(12, event.start, event.end, None)
+        yield Section(SectionId.DATA_COUNT, event.start, event.end, None)
     elif event.kind is EventKind.UNKNOWN:
         yield Section(event.id, event.start, event.end, None)
 
