@@ -45,7 +45,6 @@ class Items:
     def __init__(self, library: Any, content: bytes, offset: int, features: int) -> None:
         self.library, self.content, self.offset, self.features = library, content, offset, features
         self.held = ctypes.create_string_buffer(content, max(1, len(content)))
-        self.before = 0
         self.cursor = library.pulleynavy_list_init(offset, 0, features)
 
     def skip(self, size: int, count: int) -> Items:
@@ -69,20 +68,19 @@ class Items:
         )
         if item.fault.kind:
             raise Fault(self.library, item.fault)
-        self.before = at
         self.skip(item.consumed, self.cursor.remaining)
         return item
 
-    def _batches(self, call: str, room: Any) -> Iterator[int]:
-        """Stores items by the call `pulleynavy_next_` with this name, and yields how many. Raises the first fault."""
+    def _batches(self, call: str, room: Any, cursor: Any) -> Iterator[int]:
+        """Stores items by the call `pulleynavy_next_` with this name, and yields how many."""
         store = getattr(self.library, "pulleynavy_next_" + call)
-        while count := store(self.cursor, self.held, len(self.content), room, len(room)):
+        while count := store(cursor, self.held, len(self.content), room, len(room)):
             yield count
 
-    def all(self, call: str, name: str) -> Iterator[Any]:
+    def all(self, call: str, name: str, cursor: Any = None) -> Iterator[Any]:
         """The items of the list, as structs. Raises the first fault, in its turn."""
         room = (getattr(declared, name) * 64)()
-        for count in self._batches(call, room):
+        for count in self._batches(call, room, cursor or self.cursor):
             for one in room[:count]:
                 if one.fault.kind:
                     raise Fault(self.library, one.fault)
@@ -92,7 +90,7 @@ class Items:
         """Some fields of the items of the list, ten times as fast as structs. Raises the first fault, in its turn."""
         room = (getattr(declared, name) * BATCH)()
         faults = fields(name, "fault.kind")
-        for count in self._batches(call, room):
+        for count in self._batches(call, room, self.cursor):
             bytes_of = memoryview(room).cast("B")[: count * layout.size]
             if any(kind for kind, in faults.iter_unpack(bytes_of)):
                 for one, row in zip(room[:count], layout.iter_unpack(bytes_of)):
@@ -101,12 +99,16 @@ class Items:
                     yield row
             yield from layout.iter_unpack(bytes_of)
 
-    def span(self, span: Any, base: int = 0) -> bytes:
-        """The bytes of a span of an item; of one that `read` returned, from `before` on."""
-        return self.content[base + span.at : base + span.at + span.size]
+    def imports(self) -> Iterator[Any]:
+        """The imports of a section, those of bundles one by one. Raises the first fault, in its turn."""
+        return self.all("flat_imports", "Import", declared.Imports(items=self.cursor))
 
-    def text(self, span: Any, base: int = 0) -> str:
-        return str(self.span(span, base), "utf-8")
+    def span(self, span: Any) -> bytes:
+        """The bytes of a span of an item of the list."""
+        return self.content[span.at : span.at + span.size]
+
+    def text(self, span: Any) -> str:
+        return str(self.span(span), "utf-8")
 
     def part(self, span: Any) -> Items:
         """The bytes of a span as a list of their own."""

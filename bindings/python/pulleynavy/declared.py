@@ -616,6 +616,14 @@ class Name(ctypes.Structure):
     ]
 
 
+class Imports(ctypes.Structure):
+    _fields_ = [
+        ("items", Items),
+        ("bundled", Items),
+        ("bundle", Import),
+    ]
+
+
 class Export(ctypes.Structure):
     _fields_ = [
         ("fault", Fault),
@@ -940,6 +948,8 @@ CALLS = {
     "pulleynavy_read_text": (Name, [ctypes.c_void_p, ctypes.c_size_t, ctypes.c_uint64, ctypes.c_uint32]),
     "pulleynavy_next_texts": (ctypes.c_size_t, [ctypes.POINTER(Items), ctypes.c_void_p, ctypes.c_size_t, ctypes.POINTER(Name), ctypes.c_size_t]),
     "pulleynavy_read_bundled_import": (ImportItem, [ctypes.POINTER(Import), ctypes.c_void_p, ctypes.c_size_t, ctypes.c_uint64, ctypes.c_uint32]),
+    "pulleynavy_imports_init": (Imports, [ctypes.POINTER(Event), ctypes.c_uint32]),
+    "pulleynavy_next_flat_imports": (ctypes.c_size_t, [ctypes.POINTER(Imports), ctypes.c_void_p, ctypes.c_size_t, ctypes.POINTER(Import), ctypes.c_size_t]),
     "pulleynavy_read_export": (Export, [ctypes.c_void_p, ctypes.c_size_t, ctypes.c_uint64, ctypes.c_uint32]),
     "pulleynavy_next_exports": (ctypes.c_size_t, [ctypes.POINTER(Items), ctypes.c_void_p, ctypes.c_size_t, ctypes.POINTER(Export), ctypes.c_size_t]),
     "pulleynavy_read_instruction": (Instruction, [ctypes.c_void_p, ctypes.c_size_t, ctypes.c_uint64, ctypes.c_uint32]),

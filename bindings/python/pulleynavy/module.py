@@ -194,7 +194,11 @@ class Module:
     @functools.cached_property
     def imports(self) -> list[Import]:
         """The imports, those of bundles among them."""
-        return [one for items in self._lists(SectionId.IMPORT) for one in _imports(items)]
+        return [
+            Import(items.text(one.module_name), items.text(one.name), ExternalKind(one.ty.kind), _imported(one.ty))
+            for items in self._lists(SectionId.IMPORT)
+            for one in items.imports()
+        ]
 
     @functools.cached_property
     def functions(self) -> list[int]:
@@ -315,15 +319,3 @@ def _imported(ty: Any) -> int | Table | Memory | Global:
     if kind is ExternalKind.GLOBAL:
         return _global(getattr(ty, "global"))
     return int(ty.index)
-
-
-def _imports(items: Items) -> Iterator[Import]:
-    for one in items.all("imports", "Import"):
-        module = items.text(one.module_name)
-        if not one.kind:
-            yield Import(module, items.text(one.name), ExternalKind(one.ty.kind), _imported(one.ty))
-            continue
-        bundle = items.part(one.items)
-        for _ in range(one.count):
-            item = bundle.read("bundled_import", one)
-            yield Import(module, bundle.text(item.name, bundle.before), ExternalKind(item.ty.kind), _imported(item.ty))

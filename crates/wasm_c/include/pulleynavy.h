@@ -980,6 +980,24 @@ size_t pulleynavy_next_texts(
 pulleynavy_import_item pulleynavy_read_bundled_import(
     const pulleynavy_import *bundle, const uint8_t *bytes, size_t bytes_size, uint64_t offset, uint32_t features);
 
+/* A cursor over the imports of a section, those of bundles one by one. It keeps no pointer. Any bytes are such a cursor. */
+typedef struct pulleynavy_imports {
+    /* The imports and bundles of the section. */
+    pulleynavy_items items;
+    /* The imports of the bundle that was read last. */
+    pulleynavy_items bundled;
+    /* That bundle. */
+    pulleynavy_import bundle;
+} pulleynavy_imports;
+
+/* Returns a cursor at the first import of an import section. Its bytes are those from `start` to `end` of the event. */
+pulleynavy_imports pulleynavy_imports_init(const pulleynavy_event *event, uint32_t features);
+
+/* Stores the next imports of a section in `out`, those of bundles one by one: `kind` is 0 in each (the proposal for compact imports).
+   Returns how many there were or there was room for: 0 at the end. `bytes` are those of the whole section. */
+size_t pulleynavy_next_flat_imports(
+    pulleynavy_imports *imports, const uint8_t *bytes, size_t bytes_size, pulleynavy_import *out, size_t out_count);
+
 /* An export, or its fault. */
 typedef struct pulleynavy_export {
     /* The fault, whose kind is 0 where there is none. */
@@ -1673,6 +1691,7 @@ PULLEYNAVY_ASSERT(sizeof(pulleynavy_import_type) == 120 && offsetof(pulleynavy_i
 PULLEYNAVY_ASSERT(sizeof(pulleynavy_import) == 208 && offsetof(pulleynavy_import, count) == 204, "layout");
 PULLEYNAVY_ASSERT(sizeof(pulleynavy_import_item) == 168 && offsetof(pulleynavy_import_item, ty) == 48, "layout");
 PULLEYNAVY_ASSERT(sizeof(pulleynavy_name) == 48 && offsetof(pulleynavy_name, name) == 32, "layout");
+PULLEYNAVY_ASSERT(sizeof(pulleynavy_imports) == 272 && offsetof(pulleynavy_imports, bundle) == 64, "layout");
 PULLEYNAVY_ASSERT(sizeof(pulleynavy_export) == 56 && offsetof(pulleynavy_export, index) == 52, "layout");
 PULLEYNAVY_ASSERT(sizeof(pulleynavy_instruction) == 80 && offsetof(pulleynavy_instruction, bytes) == 64, "layout");
 PULLEYNAVY_ASSERT(sizeof(pulleynavy_expression) == 32 && offsetof(pulleynavy_expression, consumed) == 24, "layout");

@@ -27,14 +27,16 @@ is_within c = if is_set c.bundled.is_ended then false else is_set c.bundled.rema
 -- a cursor that has moved to the first import of a bundle
 abbrev pub entered : (bundle : PlainImport) → StoredImports → StoredImports
 entered bundle c = record c {
-  bundled = starting (min (start_of c.items + bundle.items.at) (2 ^ 64 - 1)) bundle.items.at bundle.count c.items.features;
+  bundled = starting (min (start_of c.items + bundle.items.at) (2 ^ 64 - 1)) bundle.items.at bundle.count
+      c.items.features;
   bundle = bundle;
 }
 
 -- the import at which the cursor of a bundle is: a name of one type's bundle, and else a name and what it is
 abbrev pub bundled_by : PlainImport → StoredItems → List ℕ → Option PlainImportItem × StoredItems
-bundled_by bundle c rest = if nat_eq bundle.kind 2 then item_by (plain_named bundle.ty) (text_at (Some name_limit)) c rest else
-    item_by plain_import_item item_at c rest
+bundled_by bundle c rest = if nat_eq bundle.kind 2
+    then item_by (plain_named bundle.ty) (text_at (Some name_limit)) c rest
+    else item_by plain_import_item item_at c rest
 
 -- an import of a bundle, as an import on its own
 abbrev pub import_of : (bundle : PlainImport) → PlainImportItem → PlainImport
