@@ -88,7 +88,7 @@ class Export(NamedTuple):
 
     name: str
     kind: ExternalKind
-    index: int
+    index: int  # type: ignore[assignment]  # in place of tuple.index
 
 
 class Element(NamedTuple):
@@ -96,7 +96,7 @@ class Element(NamedTuple):
 
     kind: ElementKind
     table: int | None
-    count: int
+    count: int  # type: ignore[assignment]  # in place of tuple.count
 
 
 class Data(NamedTuple):
