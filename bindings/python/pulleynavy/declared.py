@@ -1,7 +1,10 @@
 """The declarations of the library, written by tools/c_header from its sources."""
 # SPDX-License-Identifier: Apache-2.0 OR MIT
+from __future__ import annotations
+
 import ctypes
 import enum
+from typing import Any
 
 VERSION = "0.1.0"
 
@@ -902,8 +905,8 @@ class Stripped(ctypes.Structure):
     ]
 
 
-# What each call answers and takes.
-CALLS = {
+# What each call returns and takes.
+CALLS: dict[str, tuple[Any, list[Any]]] = {
     "pulleynavy_version": (ctypes.c_uint32, []),
     "pulleynavy_format_message": (ctypes.c_size_t, [ctypes.c_uint32, ctypes.c_void_p, ctypes.c_size_t]),
     "pulleynavy_parser_init": (Parser, [ctypes.c_uint64, ctypes.c_uint32]),

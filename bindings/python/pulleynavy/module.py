@@ -179,7 +179,7 @@ class Module:
         """The items of each section with this id."""
         for event in self._events:
             if event.kind is EventKind.SECTION and event.id == number:
-                yield Items(self._library, event.content, event.start, self._features).skip(event.data_offset - event.start, event.count)
+                yield Items(event.content, event.start, self._features, self._library).skip(event.data_offset - event.start, event.count)
 
     @functools.cached_property
     def is_component(self) -> bool:
@@ -203,35 +203,35 @@ class Module:
     @functools.cached_property
     def functions(self) -> list[int]:
         """The index of the type of each function that the module defines."""
-        return [index for items in self._lists(SectionId.FUNCTION) for index, in items.rows("numbers", "Number", _NUMBER)]
+        return [index for items in self._lists(SectionId.FUNCTION) for index, in items.rows("numbers", _NUMBER)]
 
     @functools.cached_property
     def tables(self) -> list[Table]:
         """The tables that the module defines."""
-        return [_table(one.ty) for items in self._lists(SectionId.TABLE) for one in items.all("tables", "Table")]
+        return [_table(one.ty) for items in self._lists(SectionId.TABLE) for one in items.all("tables")]
 
     @functools.cached_property
     def memories(self) -> list[Memory]:
         """The memories that the module defines."""
-        return [_memory(one.ty) for items in self._lists(SectionId.MEMORY) for one in items.all("memories", "Memory")]
+        return [_memory(one.ty) for items in self._lists(SectionId.MEMORY) for one in items.all("memories")]
 
     @functools.cached_property
     def globals(self) -> list[Global]:
         """The globals that the module defines."""
-        return [_global(one.ty) for items in self._lists(SectionId.GLOBAL) for one in items.all("globals", "Global")]
+        return [_global(one.ty) for items in self._lists(SectionId.GLOBAL) for one in items.all("globals")]
 
     @functools.cached_property
     def tags(self) -> list[int]:
         """The index of the function type of each tag that the module defines."""
-        return [one.func_type_index for items in self._lists(SectionId.TAG) for one in items.all("tags", "Tag")]
+        return [one.func_type_index for items in self._lists(SectionId.TAG) for one in items.all("tags")]
 
     @functools.cached_property
     def exports(self) -> list[Export]:
         """The exports."""
         return [
-            Export(str(items.content[at : at + size], "utf-8"), _EXTERNAL_KINDS[kind], index)
+            Export(str(items.data[at : at + size], "utf-8"), _EXTERNAL_KINDS[kind], index)
             for items in self._lists(SectionId.EXPORT)
-            for at, size, kind, index in items.rows("exports", "Export", _EXPORT)
+            for at, size, kind, index in items.rows("exports", _EXPORT)
         ]
 
     @functools.cached_property
@@ -240,16 +240,16 @@ class Module:
         return [
             Element(_ELEMENT_KINDS[kind], table if has_table else None, count)
             for items in self._lists(SectionId.ELEMENT)
-            for kind, has_table, table, count in items.rows("elements", "Element", _ELEMENT)
+            for kind, has_table, table, count in items.rows("elements", _ELEMENT)
         ]
 
     @functools.cached_property
     def data(self) -> list[Data]:
         """The data segments."""
         return [
-            Data(_DATA_KINDS[kind], memory if kind == DataKind.ACTIVE else None, items.content[at : at + size])
+            Data(_DATA_KINDS[kind], memory if kind == DataKind.ACTIVE else None, items.data[at : at + size])
             for items in self._lists(SectionId.DATA)
-            for kind, memory, at, size in items.rows("data", "Data", _DATA)
+            for kind, memory, at, size in items.rows("data", _DATA)
         ]
 
     @functools.cached_property
@@ -284,14 +284,14 @@ class Module:
                         module = contents.text(contents.read("name").name)
                     elif number == NameId.FUNCTION:
                         functions.update(
-                            (index, str(contents.content[at : at + size], "utf-8"))
-                            for index, at, size in contents.counted().rows("namings", "Naming", _NAMING)
+                            (index, str(contents.data[at : at + size], "utf-8"))
+                            for index, at, size in contents.counted().rows("namings", _NAMING)
                         )
         return Names(module, functions)
 
     def _subsections(self, section: CustomSection) -> Iterator[tuple[int, Items]]:
-        items = Items(self._library, section.data, section.offset, self._features)
-        for one in items.all("name_subsections", "Subsection"):
+        items = Items(section.data, section.offset, self._features, self._library)
+        for one in items.all("name_subsections"):
             yield one.id, items.part(one.contents)
 
 
