@@ -80,6 +80,15 @@ ends {C} {T} next old c d before out count left e s = stored next old d before o
     (s.items ∙ (ap (λ (x : List T × C). take count out ++ x.0) (none next left c d e) ∙ append-nil (take count out)))
     (s.cursor ∙ ap (λ (x : List T × C). x.1) (none next left c d e))
 
+-- the same, by what is left to be filled
+pub ends_at : {C T : Type 0} (next : C → Option T × C) (old c d : C) (before out : List T) (count : ℕ)
+    → next c ≡ (None, d) → count < length out → Stored next old before count (length out - count) c out
+    → StoresItems next old before count d out
+ends_at {C} {T} next old c d before out count e within s =
+    let before_it : length out - count ≡ suc (length out - (count + 1)) = omega (arith, within) in
+    ends next old c d before out count (length out - (count + 1)) e
+    (subst (λ (n : ℕ). Stored next old before count n c out) before_it s)
+
 -- no room for more
 pub is_full : {C T : Type 0} (next : C → Option T × C) (old c : C) (before out : List T)
     (count : ℕ) → Stored next old before count zero c out → StoresItems next old before count c out
