@@ -97,9 +97,9 @@ impl Parser {
         let before = Window { bytes: data, offset: self.0.offset, features: self.0.features };
         let event = library::parse(&mut self.0, data, eof);
         match event.kind {
-            event_kind::NEED_MORE => Ok(Chunk::NeedMoreData(usize::try_from(event.hint).unwrap_or(usize::MAX))),
+            event_kind::NEED_MORE => Ok(Chunk::NeedMoreData(event.hint)),
             event_kind::FAULT => Err(Error::reported(event.fault)),
-            _ => Ok(Chunk::Parsed { consumed: event.consumed as usize, payload: payload(before, &event)? }),
+            _ => Ok(Chunk::Parsed { consumed: event.consumed, payload: payload(before, &event) }),
         }
     }
 
