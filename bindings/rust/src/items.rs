@@ -4,7 +4,7 @@ use crate::kinds::{global_type, table_type};
 use crate::library::Span;
 use crate::section::Window;
 use crate::types::ref_type;
-use crate::{BinaryReader, FromReader, GlobalType, Lead, RefType, Result, SectionLimited, TableType, library};
+use crate::{BinaryReader, FromReader, GlobalType, Lead, OperatorsReader, RefType, Result, SectionLimited, TableType, library};
 use core::ops::Range;
 
 /// A constant expression: its instructions, with the final `end`.
@@ -22,6 +22,11 @@ impl<'a> ConstExpr<'a> {
     /// Returns a reader of its bytes.
     pub fn get_binary_reader(&self) -> BinaryReader<'a> {
         BinaryReader::of(self.window)
+    }
+
+    /// Returns a reader of its instructions.
+    pub fn get_operators_reader(&self) -> OperatorsReader<'a> {
+        OperatorsReader::new(self.get_binary_reader())
     }
 
     /// The offsets of its bytes.

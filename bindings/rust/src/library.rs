@@ -2,7 +2,7 @@
 //!
 //! Every call passes slices that are borrowed for its duration. The library reads nothing beyond them and keeps no pointer to them.
 use crate::ffi;
-pub(crate) use crate::ffi::{DylinkMemory, Event, Fault, GlobalType, ImportType, MemoryType, Name, Parser, Relocation, Span, TableType, Type};
+pub(crate) use crate::ffi::{DylinkMemory, Event, Fault, GlobalType, ImportType, Instruction, MemoryType, Name, Parser, Relocation, Span, TableType, Type};
 use crate::section::Window;
 
 /// The result of a read: what it holds, or the fault of the library.
@@ -45,7 +45,7 @@ macro_rules! items {
 }
 
 items! {
-    Number Signed Value Field TypeGroup Subtype Table Memory Tag Global Import ImportItem Name Export Expression Element Data Subsection Naming
+    Number Signed Value Field TypeGroup Subtype Table Memory Tag Global Import ImportItem Name Export Instruction Expression Element Data Subsection Naming
     IndirectNaming ProducersField ProducersValue HintedFunction BranchHint DylinkMemory DylinkExport DylinkImport LinkingSegment InitFunction
     Comdat ComdatSymbol Symbol Relocation CoreProcess CoreModule CoreInstance CoreThread CoreFrame CoreValue
 }
@@ -73,6 +73,7 @@ reads! {
     name = pulleynavy_read_name() -> Name;
     text = pulleynavy_read_text() -> Name;
     export = pulleynavy_read_export() -> Export;
+    instruction = pulleynavy_read_instruction() -> Instruction;
     expression = pulleynavy_read_expression() -> Expression;
     element = pulleynavy_read_element() -> Element;
     data = pulleynavy_read_data() -> Data;

@@ -385,10 +385,14 @@ pub(crate) fn type_index(index: u32) -> PackedIndex {
     PackedIndex(index)
 }
 
+/// The heap type with this number in the library. The index is that of a type that a module defines.
+pub(crate) fn heap_type(number: u32, index: u32) -> HeapType {
+    let concrete = HeapType::Concrete(UnpackedIndex::Module(index));
+    AbstractHeapType::of(number).map_or(concrete, |ty| HeapType::Abstract { shared: false, ty })
+}
+
 pub(crate) fn ref_type(ty: library::Type) -> RefType {
-    let concrete = HeapType::Concrete(UnpackedIndex::Module(ty.index));
-    let heap = AbstractHeapType::of(ty.heap).map_or(concrete, |ty| HeapType::Abstract { shared: false, ty });
-    RefType { nullable: ty.nullable != 0, heap }
+    RefType { nullable: ty.nullable != 0, heap: heap_type(ty.heap, ty.index) }
 }
 
 pub(crate) fn val_type(ty: library::Type) -> ValType {
@@ -419,7 +423,7 @@ impl<'a> FromReader<'a> for RefType {
 impl<'a> FromReader<'a> for HeapType {
     fn from_reader(reader: &mut BinaryReader<'a>) -> Result<Self> {
         let (_, plain) = reader.item(library::heap_type)?;
-        Ok(ref_type(plain.ty).heap)
+        Ok(heap_type(plain.ty.heap, plain.ty.index))
     }
 }
 

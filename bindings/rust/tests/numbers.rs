@@ -1,4 +1,4 @@
-//! Numbers, raw reads and hints, which this crate reads without the library.
+//! Numbers, raw reads, hints, and the errors of items that continue.
 mod common;
 
 use common::*;

@@ -8,7 +8,7 @@ use common::*;
 use pulleynavy::*;
 
 /// Readers of every kind of item and section.
-const READERS: [Reader; 58] = [
+const READERS: [Reader; 59] = [
     |reader| item::<u32>(reader),
     |reader| item::<&str>(reader),
     |reader| item::<bool>(reader),
@@ -66,8 +66,14 @@ const READERS: [Reader; 58] = [
     core_modules,
     core_instances,
     core_stack,
+    operators,
     plain,
 ];
+
+/// The instructions of an expression that is not checked as a whole.
+fn operators(reader: BinaryReader<'_>) -> Result<String> {
+    OperatorsReader::new(reader).into_iter().try_fold(String::new(), |text, operator| Ok(text + &format!("{:?}", operator?)))
+}
 
 /// The reads of a reader that are no items.
 fn plain(reader: BinaryReader<'_>) -> Result<String> {
