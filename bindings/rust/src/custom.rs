@@ -78,8 +78,8 @@ pub trait Subsection<'a>: Sized {
     fn from_reader(id: u8, reader: BinaryReader<'a>) -> Result<Self>;
 }
 
-/// An iterator over subsections. After an error it continues behind what was read: behind a subsection whose content is malformed, and
-/// behind the bytes of an id or a size that is malformed.
+/// An iterator over subsections. After an error it continues after the consumed bytes: those of a subsection whose content is malformed, or
+/// of an id or a size that is malformed.
 pub struct Subsections<'a, T> {
     start: u64,
     rest: Window<'a>,
@@ -140,7 +140,7 @@ impl<'a, T: Subsection<'a>> Iterator for Subsections<'a, T> {
     }
 }
 
-/// The offset behind the bytes that were read of a malformed id or size.
+/// The offset after a malformed id or size.
 fn end_of_malformed(error: &Error) -> u64 {
     // The error is at the last byte that was read, or where bytes are missing.
     if error.fault() == Fault::UnexpectedEof { error.offset() } else { error.offset() + 1 }

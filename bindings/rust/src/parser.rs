@@ -108,7 +108,7 @@ impl Parser {
         (self.0.in_code != 0).then_some(self.0.code_bytes)
     }
 
-    /// Skips the remaining bytes of a code section: pass the bytes behind it next. Outside a code section it does nothing.
+    /// Skips the remaining bytes of a code section: pass the bytes after it next. Outside a code section it does nothing.
     pub fn skip_section(&mut self) {
         library::skip_section(&mut self.0);
     }

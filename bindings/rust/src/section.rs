@@ -77,7 +77,7 @@ impl<'a> FromReader<'a> for bool {
     }
 }
 
-/// An item and another one behind it.
+/// An item and the one after it.
 impl<'a, T: FromReader<'a>, U: FromReader<'a>> FromReader<'a> for (T, U) {
     fn from_reader(reader: &mut BinaryReader<'a>) -> Result<Self> {
         Ok((reader.read()?, reader.read()?))
@@ -120,7 +120,7 @@ impl<'a, T> SectionLimited<'a, T> {
         SectionLimited { whole: section.range(), rest: section.from(items), count, item: PhantomData }
     }
 
-    /// A list inside an item: this many items behind their count.
+    /// A list inside an item: this many items after their count.
     pub(crate) fn list(window: Window<'a>, items: Span, count: u32) -> Self {
         let rest = window.part(items);
         // No byte before a count has its top bit set, and of the count itself all but the last have.

@@ -6,7 +6,7 @@ use common::*;
 use pulleynavy::*;
 
 fn shown<'a, T: FromReader<'a> + Show>(bytes: &'a [u8]) -> String {
-    told(item::<T>(BinaryReader::new(bytes, 0)), |text| text)
+    text_of(item::<T>(BinaryReader::new(bytes, 0)), |text| text)
 }
 
 /// The abstract heap types by their bytes.
@@ -95,7 +95,7 @@ fn constant_instructions() {
         let size = bytes.len() - 1;
         assert_eq!(shown::<ConstExpr>(&bytes), format!("0..{size} used {size}"), "{digits}");
         let operators = ConstExpr::new(BinaryReader::new(&bytes[..size], 30)).get_operators_reader();
-        let texts = operators.into_iter_with_offsets().map(|operator| told(operator, |(operator, at)| format!("{at} {operator:?}"))).collect::<Vec<_>>();
+        let texts = operators.into_iter_with_offsets().map(|operator| text_of(operator, |(operator, at)| format!("{at} {operator:?}"))).collect::<Vec<_>>();
         let wanted = if text.is_empty() { vec![] } else { vec![format!("30 {text}")] };
         assert_eq!(texts, [wanted, vec![format!("{} End", 29 + size)]].concat(), "{digits}");
     }
@@ -151,7 +151,7 @@ fn kinds_of_imports_and_exports() {
         ("20 07", "funcexact 7"),
     ] {
         let bytes = bytes(&format!("01 6d 01 61 {digits}"));
-        assert_eq!(shown::<Imports>(&bytes), told_whole(&format!("single 0 import(x6d x61 {text} )"), &bytes));
+        assert_eq!(shown::<Imports>(&bytes), with_size(&format!("single 0 import(x6d x61 {text} )"), &bytes));
     }
     for (byte, kind) in [(0, "func"), (1, "table"), (2, "memory"), (3, "global"), (4, "tag")] {
         assert_eq!(shown::<Export>(&[1, b'e', byte, 7]), format!("export(x65 {kind} 7 ) used 4"));
@@ -160,7 +160,7 @@ fn kinds_of_imports_and_exports() {
 }
 
 /// A text of all bytes.
-fn told_whole(text: &str, bytes: &[u8]) -> String {
+fn with_size(text: &str, bytes: &[u8]) -> String {
     format!("{text} used {}", bytes.len())
 }
 
@@ -190,7 +190,7 @@ fn subsections_of_names() {
 fn indirect_names() {
     for id in 1..=13 {
         let part = [id, 6, 1, 5, 1, 7, 1, b'n'];
-        let text = told(names(BinaryReader::new(&part, 0)), |text| text);
+        let text = text_of(names(BinaryReader::new(&part, 0)), |text| text);
         assert_eq!(text == format!("<{id}{{names(5 {{name(7 x6e ) }} ) }} >"), [2, 3, 10, 12, 13].contains(&id), "{text}");
     }
 }

@@ -7,7 +7,7 @@ use pulleynavy::*;
 /// What is read, and at which offset the reader is afterwards.
 fn number<'a, T: ToString>(bytes: &'a [u8], read: fn(&mut BinaryReader<'a>) -> Result<T>) -> String {
     let mut reader = BinaryReader::new(bytes, 0);
-    let text = told(read(&mut reader), |value| value.to_string());
+    let text = text_of(read(&mut reader), |value| value.to_string());
     format!("{text} at {}", reader.original_position())
 }
 
@@ -104,7 +104,7 @@ fn subsections_after_a_malformed_one() {
     let parts = |digits: &str| {
         let bytes = bytes(digits);
         let parts = Subsections::<Name>::new(BinaryReader::new(&bytes, 0));
-        parts.map(|part| told(part, |part| part.show())).collect::<Vec<_>>()
+        parts.map(|part| text_of(part, |part| part.show())).collect::<Vec<_>>()
     };
     assert_eq!(parts("ff 01 01 00"), ["fault 0 invalid u7", "1{}"]);
     assert_eq!(parts("01 80 80 80 80 10 02 01 00"), ["fault 5 invalid var_u32: integer too large", "2{}"]);
@@ -126,7 +126,7 @@ fn texts_of_types() {
 fn plain_function_types() {
     let section = bytes("04 60 00 01 7f 50 00 60 00 00 4e 00 5f 00");
     let types = TypeSectionReader::new(BinaryReader::new(&section, 3)).unwrap().into_iter_err_on_gc_types();
-    let texts: Vec<_> = types.map(|ty| told(ty, |ty| owned(ty.results()))).collect();
+    let texts: Vec<_> = types.map(|ty| text_of(ty, |ty| owned(ty.results()))).collect();
     assert_eq!(texts, ["[i32 ]", "fault 8 gc proposal not supported", "fault 13 gc proposal not supported", "fault 15 gc proposal not supported"]);
 }
 
