@@ -91,8 +91,16 @@ fn hints_of_missing_bytes() {
     assert_eq!(hint(reader().read_u32().map(|number| number.to_string())), Some(2));
     assert_eq!(hint(reader().read_var_u32().map(|number| number.to_string())), Some(1));
     assert_eq!(hint(reader().read_var_i64().map(|number| number.to_string())), Some(1));
-    assert_eq!(hint(BinaryReader::new(b"\x05ab", 0).read_string().map(str::to_owned)), Some(3));
+    assert_eq!(hint(reader().read_var_s33().map(|number| number.to_string())), Some(1));
     assert_eq!(hint(reader().read_u7().map(|number| number.to_string())), None);
+    assert_eq!(hint(BinaryReader::new(&[0x80; 5], 0).read_var_u32().map(|number| number.to_string())), None);
+    for (digits, wanted) in [("", Some(1)), ("80", Some(1)), ("05 61 62", Some(3)), ("02 c3 28", None), ("ff ff ff ff 1f", None)] {
+        let bytes = bytes(digits);
+        let mut reader = BinaryReader::new(&bytes, 7);
+        let hints = (hint(reader.read_string().map(str::to_owned)), hint(reader.read_unlimited_string().map(str::to_owned)));
+        // After an error the string can be read again.
+        assert_eq!((hints, reader.original_position()), ((wanted, wanted), 7), "{digits}");
+    }
     let error = reader().read_bytes(5).unwrap_err();
     assert_eq!((error.without_needed_hint().needed_hint(), error.without_needed_hint()), (None, error));
     assert_eq!(Error::new(Fault::StringSize, 7).with_number(3).to_string(), "string size out of bounds: 3 (at offset 0x7)");
