@@ -210,7 +210,7 @@ impl<'a> BinaryReader<'a> {
         self.read_u32()
     }
 
-    /// Reads a LEB128 number with the library, which has no hints: a truncated number needs its next byte.
+    /// Reads a LEB128 number with the library, which returns no hints. A truncated number needs at least one more byte.
     fn number<T: Item>(&mut self, read: impl FnOnce(&Window<'a>) -> T) -> Result<T> {
         self.item(read).map(|(_, number)| number).map_err(|error| error.with_hint(1))
     }
@@ -280,7 +280,7 @@ impl<'a> BinaryReader<'a> {
         Ok(BinaryReader::of(self.take(size)?))
     }
 
-    /// Reads a string with the library, which has no hints: if bytes are missing, the read of the same bytes as a reader has one.
+    /// Reads a string with the library, which returns no hints. If bytes are missing, `read_reader` fails at the same offset, with a hint.
     fn text(&mut self, read: fn(&Window<'_>) -> library::Name) -> Result<&'a str> {
         match self.item(read) {
             Ok((window, plain)) => Ok(window.text(plain.name)),
