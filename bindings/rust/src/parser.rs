@@ -51,7 +51,7 @@ impl Default for Parser {
 impl Parser {
     /// Returns a parser of a stream that begins at this offset, with all features.
     pub fn new(offset: u64) -> Self {
-        Parser(library::parser_init(offset, WasmFeatures::all().bits()))
+        Parser(library::parser_init(offset, WasmFeatures::all().low_bits()))
     }
 
     /// Returns whether bytes begin with the header of a module.
@@ -79,12 +79,12 @@ impl Parser {
 
     /// The features of the next payloads.
     pub fn features(&self) -> WasmFeatures {
-        WasmFeatures::from_bits_retain(self.0.features)
+        WasmFeatures::of(self.0.features)
     }
 
     /// Sets the features of the next payloads.
     pub fn set_features(&mut self, features: WasmFeatures) {
-        self.0.features = features.bits();
+        self.0.features = features.low_bits();
     }
 
     /// Parses the next payload. The bytes are a prefix of the remaining input, or with `eof` all of it.

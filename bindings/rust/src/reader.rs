@@ -28,7 +28,7 @@ impl<'a> BinaryReader<'a> {
     /// If the bytes pass offset 2^64 - 1.
     pub fn new_features(bytes: &'a [u8], offset: u64, features: WasmFeatures) -> Self {
         assert!(offset.checked_add(bytes.len() as u64).is_some(), "data passes the offset range");
-        BinaryReader::of(Window { bytes, offset, features: features.bits() })
+        BinaryReader::of(Window { bytes, offset, features: features.low_bits() })
     }
 
     /// A reader of a whole window.
@@ -38,7 +38,7 @@ impl<'a> BinaryReader<'a> {
 
     /// The enabled features.
     pub fn features(&self) -> WasmFeatures {
-        WasmFeatures::from_bits_retain(self.rest.features)
+        WasmFeatures::of(self.rest.features)
     }
 
     /// Returns whether limits of memories and tables may have 64 bits.

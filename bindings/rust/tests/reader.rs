@@ -237,6 +237,8 @@ fn features_go_with_the_bytes() {
     assert_eq!((reader.features(), reader.memory64()), (WasmFeatures::MEMORY64, true));
     assert_eq!(reader.read_reader().unwrap().features(), features);
     assert!(!features.contains(WasmFeatures::all()) && features.union(WasmFeatures::COMPACT_IMPORTS) == WasmFeatures::all());
+    let many = WasmFeatures::from_bits_retain(1 << 40 | 1 << 31 | 1);
+    assert_eq!(BinaryReader::new_features(&[], 0, many).features(), WasmFeatures::from_bits_retain(1 << 31 | 1));
     let module = bytes("M 02 0e 01 01 6d 00 7f 02 01 61 00 03 01 62 00 04");
     let Some(Ok(Payload::ImportSection(imports))) = parser.parse_all(&module).nth(1) else { panic!() };
     let mut imports = imports.into_imports_with_offsets();
