@@ -15,13 +15,18 @@ fn next_event(parser: &mut Parser, bytes: &[u8], is_all: bool, base: usize) -> P
 {
     let offset = parser.offset();
     match parser.parse(bytes, is_all) {
-        Ok(Chunk::Parsed { consumed, payload }) => {
+        Ok(
+            Chunk::Parsed {
+                consumed,
+                ref payload,
+            },
+        ) => {
             let origin = Origin {
                 offset,
                 base,
                 consumed,
             };
-            parsed_event(origin, &payload)
+            parsed_event(origin, payload)
         }
         Ok(Chunk::NeedMoreData(hint)) => request_event(hint, base),
         Err(error) => fault_event(error, base),
