@@ -48,7 +48,7 @@ pub struct PlainEvent {
     pub fault: PlainFault,
 }
 
-const SILENT: PlainEvent = PlainEvent {
+pub(crate) const SILENT: PlainEvent = PlainEvent {
     kind: 0,
     id: 0,
     count: 0,
@@ -136,35 +136,38 @@ fn custom_event(origin: Origin, section: &CustomSectionReader) -> PlainEvent
     }
 }
 
-/// A payload that was read there.
-#[inline(always)]
-pub(crate) fn parsed_event(origin: Origin, payload: &Payload) -> PlainEvent
-    ensures { result ≡ parsed_event origin payload.now }
+/// Stores a payload that was read there. Each kind is stored on its own, so that its fields go straight to their places.
+pub(crate) fn put_parsed(out: &mut PlainEvent, origin: Origin, payload: &Payload)
+    ensures { out.new ≡ parsed_event origin payload.now }
 {
     match payload {
         Payload::Version {
             num,
             encoding,
             range,
-        } => PlainEvent {
+        } => *out = PlainEvent {
             count: u32::from(*num),
             ..event_between(origin, 1, encoding_code(*encoding), range.start, range.end)
         },
-        Payload::TypeSection(section) => counted_event(origin, TYPE_SECTION, section),
-        Payload::ImportSection(section) => counted_event(origin, IMPORT_SECTION, section),
-        Payload::FunctionSection(section) => counted_event(origin, FUNCTION_SECTION, section),
-        Payload::TableSection(section) => counted_event(origin, TABLE_SECTION, section),
-        Payload::MemorySection(section) => counted_event(origin, MEMORY_SECTION, section),
-        Payload::TagSection(section) => counted_event(origin, TAG_SECTION, section),
-        Payload::GlobalSection(section) => counted_event(origin, GLOBAL_SECTION, section),
-        Payload::ExportSection(section) => counted_event(origin, EXPORT_SECTION, section),
-        Payload::ElementSection(section) => counted_event(origin, ELEMENT_SECTION, section),
-        Payload::DataSection(section) => counted_event(origin, DATA_SECTION, section),
-        Payload::StartSection { func, range } => PlainEvent {
+        Payload::TypeSection(section) => *out = counted_event(origin, TYPE_SECTION, section),
+        Payload::ImportSection(section) => *out = counted_event(origin, IMPORT_SECTION, section),
+        Payload::FunctionSection(section) => *out = counted_event(
+            origin,
+            FUNCTION_SECTION,
+            section,
+        ),
+        Payload::TableSection(section) => *out = counted_event(origin, TABLE_SECTION, section),
+        Payload::MemorySection(section) => *out = counted_event(origin, MEMORY_SECTION, section),
+        Payload::TagSection(section) => *out = counted_event(origin, TAG_SECTION, section),
+        Payload::GlobalSection(section) => *out = counted_event(origin, GLOBAL_SECTION, section),
+        Payload::ExportSection(section) => *out = counted_event(origin, EXPORT_SECTION, section),
+        Payload::ElementSection(section) => *out = counted_event(origin, ELEMENT_SECTION, section),
+        Payload::DataSection(section) => *out = counted_event(origin, DATA_SECTION, section),
+        Payload::StartSection { func, range } => *out = PlainEvent {
             count: *func,
             ..event_between(origin, 3, u32::from(START_SECTION), range.start, range.end)
         },
-        Payload::DataCountSection { count, range } => PlainEvent {
+        Payload::DataCountSection { count, range } => *out = PlainEvent {
             count: *count,
             ..event_between(
                 origin,
@@ -178,7 +181,7 @@ pub(crate) fn parsed_event(origin: Origin, payload: &Payload) -> PlainEvent
             count,
             unchecked_range,
             size,
-        } => code_event(
+        } => *out = code_event(
             origin,
             *count,
             unchecked_range.start,
@@ -187,13 +190,13 @@ pub(crate) fn parsed_event(origin: Origin, payload: &Payload) -> PlainEvent
         ),
         Payload::CodeSectionEntry(body) => {
             let range = body.range();
-            event_between(origin, 6, u32::from(CODE_SECTION), range.start, range.end)
+            *out = event_between(origin, 6, u32::from(CODE_SECTION), range.start, range.end);
         }
-        Payload::CustomSection(section) => custom_event(origin, section),
+        Payload::CustomSection(section) => *out = custom_event(origin, section),
         Payload::UnknownSection { id, range, .. } => {
-            event_between(origin, 8, u32::from(*id), range.start, range.end)
+            *out = event_between(origin, 8, u32::from(*id), range.start, range.end);
         }
-        Payload::End(offset) => event_between(origin, 9, 0, *offset, *offset),
+        Payload::End(offset) => *out = event_between(origin, 9, 0, *offset, *offset),
     }
 }
 

@@ -1,6 +1,6 @@
 use Rattle.std.proofs.Common.{◌≡◌, ℕ, Bool, List, Result, Ok, sym, ap, subst, ◌∙◌}
 use Rattle.wasm_c.specs.Events.{answer_event}
-use Rattle.wasm_c.proofs.event_batches.next_event.Goals as goal
+use Rattle.wasm_c.proofs.event_batches.put_next.Goals as goal
 
 pub returns-in-Ok-Parsed : goal.returns-in-Ok-Parsed
 returns-in-Ok-Parsed c =
@@ -13,6 +13,6 @@ returns-in-Ok-Parsed c =
       asks = c.parse.ensures.asks;
       waits = c.parse.ensures.waits;
       faults = c.parse.ensures.faults;
-      is_event = subst (λ (o : ℕ). c.parsed_event.result ≡ answer_event c.args.base o c.parse.result) c.offset-offset.ensures
-          (c.parsed_event.ensures ∙ ap (answer_event c.args.base c.offset-offset.result) (sym answers));
+      is_event = subst (λ (o : ℕ). c.put_parsed.new.out ≡ answer_event c.args.base o c.parse.result) c.offset-offset.ensures
+          (c.put_parsed.ensures ∙ ap (answer_event c.args.base c.offset-offset.result) (sym answers));
     }
