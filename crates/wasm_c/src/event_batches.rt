@@ -3,10 +3,10 @@ ghost use Rattle.wasm_c.specs.EventBatches.{StoresEvents};
 ghost use Rattle.wasm_c.specs.Events.{ParsesPlain};
 ghost use Rattle.wasm_c.specs.Stored.{parser_of};
 
-use crate::events::{Origin, PlainEvent, fault_event, put_parsed, request_event};
+use crate::events::{PlainEvent, put_answer};
 use crate::spans::after;
 use crate::stored::StoredParser;
-use wasm_parser::{Chunk, Parser};
+use wasm_parser::Parser;
 
 // Stores the next event of a parser.
 #[inline(always)]
@@ -14,23 +14,8 @@ fn put_next(parser: &mut Parser, bytes: &[u8], is_all: bool, base: usize, out: &
     ensures { ParsesPlain base parser.old is_all bytes.now out.new parser.new }
 {
     let offset = parser.offset();
-    match parser.parse(bytes, is_all) {
-        Ok(
-            Chunk::Parsed {
-                consumed,
-                ref payload,
-            },
-        ) => {
-            let origin = Origin {
-                offset,
-                base,
-                consumed,
-            };
-            put_parsed(out, origin, payload);
-        }
-        Ok(Chunk::NeedMoreData(hint)) => *out = request_event(hint, base),
-        Err(error) => *out = fault_event(error, base),
-    }
+    let answer = parser.parse(bytes, is_all);
+    put_answer(out, offset, base, &answer);
 }
 
 // Stores the next events, up to one that consumes nothing, and returns how many.

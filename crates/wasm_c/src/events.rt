@@ -2,7 +2,7 @@
 ghost use Rattle.std.specs.Prelude.{◌≡◌};
 ghost use Rattle.wasm_base.specs.FaultAt.{fault_at};
 ghost use Rattle.wasm_parser.specs.ParseAnswer.{report_of};
-ghost use Rattle.wasm_c.specs.Events.{code_event, counted_event, encoding_code, event_between, fault_event, parsed_event, placed_at, report_event, request_event, silent};
+ghost use Rattle.wasm_c.specs.Events.{answer_event, code_event, counted_event, encoding_code, event_between, fault_event, parsed_event, placed_at, report_event, request_event, silent};
 ghost use Rattle.wasm_parser.specs.declared.payload.Payload.TheVariants.{CustomSection};
 
 use crate::faults::{NO_FAULT, PlainFault, plain_fault};
@@ -12,7 +12,7 @@ use wasm_grammar::{
     EXPORT_SECTION, FUNCTION_SECTION, GLOBAL_SECTION, IMPORT_SECTION, MEMORY_SECTION,
     START_SECTION, TABLE_SECTION, TAG_SECTION, TYPE_SECTION,
 };
-use wasm_parser::{CustomSectionReader, Encoding, Error, Payload, SectionLimited};
+use wasm_parser::{Chunk, CustomSectionReader, Encoding, Error, Payload, Result, SectionLimited};
 
 /// What a parser returns: an event, a fault or a request for more bytes. Fields that its kind doesn't use are 0. Offsets are in
 /// bytes from the start of the whole stream (core specification, Binary format, Modules).
@@ -63,12 +63,12 @@ pub(crate) const SILENT: PlainEvent = PlainEvent {
     fault: NO_FAULT,
 };
 
-/// Where an event was read: the offset of the first byte, where that is in memory, and how many bytes were consumed.
+// Where an event was read: the offset of the first byte, where that is in memory, and how many bytes were consumed.
 #[derive(Clone, Copy)]
-pub(crate) struct Origin {
-    pub(crate) offset: u64,
-    pub(crate) base: usize,
-    pub(crate) consumed: usize,
+struct Origin {
+    offset: u64,
+    base: usize,
+    consumed: usize,
 }
 
 // An event of this kind with these offsets.
@@ -136,10 +136,22 @@ fn custom_event(origin: Origin, section: &CustomSectionReader) -> PlainEvent
     }
 }
 
-/// Stores a payload that was read there. Each kind is stored on its own, so that its fields go straight to their places.
-pub(crate) fn put_parsed(out: &mut PlainEvent, origin: Origin, payload: &Payload)
-    ensures { out.new ≡ parsed_event origin payload.now }
+/// Stores a payload that was read at this offset, whose byte is at `base` in memory. Each kind is stored on its own, so that its
+/// fields go straight to their places.
+pub(crate) fn put_parsed(
+    out: &mut PlainEvent,
+    offset: u64,
+    base: usize,
+    consumed: usize,
+    payload: &Payload,
+)
+    ensures { out.new ≡ parsed_event base offset consumed payload.now }
 {
+    let origin = Origin {
+        offset,
+        base,
+        consumed,
+    };
     match payload {
         Payload::Version {
             num,
@@ -222,5 +234,19 @@ pub(crate) fn request_event(hint: usize, base: usize) -> PlainEvent
         at: base,
         hint,
         ..SILENT
+    }
+}
+
+/// What a parser returned at this offset, whose byte is at `base` in memory.
+#[inline(always)]
+pub(crate) fn put_answer(out: &mut PlainEvent, offset: u64, base: usize, answer: &Result<Chunk<'_>>)
+    ensures { out.new ≡ answer_event base offset answer.now }
+{
+    match answer {
+        Ok(Chunk::Parsed { consumed, payload }) => {
+            put_parsed(out, offset, base, *consumed, payload);
+        }
+        Ok(Chunk::NeedMoreData(hint)) => *out = request_event(*hint, base),
+        Err(error) => *out = fault_event(*error, base),
     }
 }

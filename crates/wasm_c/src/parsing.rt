@@ -5,7 +5,7 @@ ghost use Rattle.wasm_c.specs.Events.{ParsesPlain};
 ghost use Rattle.wasm_c.specs.Stored.{parser_of, skipped_of};
 ghost use Rattle.wasm_c.specs.Texts.{Says, SaysFault};
 
-use crate::events::{Origin, PlainEvent, SILENT, fault_event, put_parsed, request_event};
+use crate::events::{PlainEvent, SILENT, fault_event, put_parsed, request_event};
 use crate::stored::StoredParser;
 use crate::text::write_text;
 use bitflags::Flags;
@@ -42,13 +42,8 @@ pub(crate) fn parse_stored(
             },
         ) => {
             *stored = StoredParser::of(&parser);
-            let origin = Origin {
-                offset,
-                base,
-                consumed,
-            };
             let mut event = SILENT;
-            put_parsed(&mut event, origin, payload);
+            put_parsed(&mut event, offset, base, consumed, payload);
             event
         }
         // The parser is what it was, so it needn't be stored again.

@@ -1,18 +1,16 @@
-use Rattle.std.proofs.Common.{◌≡◌, ℕ, Bool, List, Result, Ok, sym, ap, subst, ◌∙◌}
+use Rattle.std.proofs.Common.{◌≡◌, ℕ, subst}
 use Rattle.wasm_c.specs.Events.{answer_event}
 use Rattle.wasm_c.proofs.event_batches.put_next.Goals as goal
 
-pub returns-in-Ok-Parsed : goal.returns-in-Ok-Parsed
-returns-in-Ok-Parsed c =
-    let answers = c.in-Ok-Parsed.is ∙ ap Ok c.in-Ok-Parsed.field-0-is in
-    record {
-      answer = c.parse.result;
-      answers = c.parse.ensures.answers;
-      gives = c.parse.ensures.gives;
-      consumes = c.parse.ensures.consumes;
-      asks = c.parse.ensures.asks;
-      waits = c.parse.ensures.waits;
-      faults = c.parse.ensures.faults;
-      is_event = subst (λ (o : ℕ). c.put_parsed.new.out ≡ answer_event c.args.base o c.parse.result) c.offset-offset.ensures
-          (c.put_parsed.ensures ∙ ap (answer_event c.args.base c.offset-offset.result) (sym answers));
-    }
+pub returns : goal.returns
+returns c = record {
+  answer = c.parse-answer.result;
+  answers = c.parse-answer.ensures.answers;
+  gives = c.parse-answer.ensures.gives;
+  consumes = c.parse-answer.ensures.consumes;
+  asks = c.parse-answer.ensures.asks;
+  waits = c.parse-answer.ensures.waits;
+  faults = c.parse-answer.ensures.faults;
+  is_event = subst (λ (o : ℕ). c.put_answer.new.out ≡ answer_event c.args.base o c.parse-answer.result) c.offset-offset.ensures
+      c.put_answer.ensures;
+}
