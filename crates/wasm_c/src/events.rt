@@ -138,6 +138,7 @@ fn custom_event(origin: Origin, section: &CustomSectionReader) -> PlainEvent
 
 /// Stores a payload that was read at this offset, whose byte is at `base` in memory. Each kind is stored on its own, so that its
 /// fields go straight to their places.
+#[inline(always)]
 pub(crate) fn put_parsed(
     out: &mut PlainEvent,
     offset: u64,
