@@ -77,6 +77,21 @@ static void places(void) {
     CHECK(items.offset == 15 && items.is_ended && !pulleynavy_next_exports(&items, bytes + 10, 5, out, 2));
 }
 
+/* A batch has the events up to one that consumes nothing, and says where each is in the bytes of the call. */
+static void batches(void) {
+    static const uint8_t bytes[] = {0x00, 0x61, 0x73, 0x6d, 0x01, 0x00, 0x00, 0x00, 0x00, 0x02, 0x01, 0x61, 0x00, 0x02, 0x01, 0x62};
+    pulleynavy_parser p = pulleynavy_parser_init(0, PULLEYNAVY_ALL_FEATURES);
+    pulleynavy_event e[5];
+    CHECK(!pulleynavy_next_events(&p, bytes, sizeof bytes, true, e, 0) && !p.offset);
+    CHECK(pulleynavy_next_events(&p, bytes, sizeof bytes - 1, false, e, 5) == 3 && e[2].kind == PULLEYNAVY_EVENT_NEED_MORE);
+    CHECK(e[1].at == 10 && e[1].start == 10 && e[2].at == 12 && p.offset == 12);
+    CHECK(pulleynavy_next_events(&p, bytes + 12, 4, true, e, 5) == 2 && e[0].start == 14 && e[0].at == 2);
+    CHECK(e[1].kind == PULLEYNAVY_EVENT_END && e[1].at == 4 && p.offset == 16);
+    CHECK(pulleynavy_next_events(&p, bytes, 0, true, e, 5) == 1 && e[0].kind == PULLEYNAVY_EVENT_END);
+    p = pulleynavy_parser_init(0, PULLEYNAVY_ALL_FEATURES);
+    CHECK(pulleynavy_next_events(&p, bytes, 9, true, e, 5) == 2 && e[1].kind == PULLEYNAVY_EVENT_FAULT && e[1].fault.offset == 9);
+}
+
 static uint32_t kind_of(pulleynavy_fault fault) { return PULLEYNAVY_FAULT_KIND(fault.kind); }
 
 /* A list ends at trailing bytes and at a fault, and a cursor stays as it is where there is no room. */
@@ -160,6 +175,6 @@ static void enumerators(void) {
 
 int main(void) {
     CHECK(pulleynavy_version() == PULLEYNAVY_VERSION_NUMBER);
-    core_modules(), parser(), feeder(), places(), lists(), entries(), parts(), ends(), enumerators();
+    core_modules(), parser(), feeder(), places(), batches(), lists(), entries(), parts(), ends(), enumerators();
     return status;
 }

@@ -295,6 +295,13 @@ static void custom(const pulleynavy_event *e) {
     used = 0;
 }
 
+/* An event, and its items. */
+static void show(const pulleynavy_event *e) {
+    show_event(e);
+    if (e->kind == PULLEYNAVY_EVENT_SECTION) items_of(e);
+    if (e->kind == PULLEYNAVY_EVENT_CUSTOM) custom(e);
+}
+
 /* Standard input, and how many bytes it has. */
 static size_t read_all(void) {
     size_t size = 0, most = 1 << 16, got;
@@ -313,15 +320,13 @@ int main(int count, char **words) {
     if (batch < 1 || batch > MOST) return 2;
     size_t size = read_all();
     pulleynavy_parser parser = pulleynavy_parser_init(0, PULLEYNAVY_ALL_FEATURES);
+    pulleynavy_event events[MOST];
     for (size_t at = 0;;) {
-        pulleynavy_event event = pulleynavy_parse(&parser, stream + at, size - at, true);
-        show_event(&event);
-        if (event.kind == PULLEYNAVY_EVENT_SECTION) items_of(&event);
-        if (event.kind == PULLEYNAVY_EVENT_CUSTOM) custom(&event);
-        if (event.kind >= PULLEYNAVY_EVENT_END) {
+        size_t n = pulleynavy_next_events(&parser, stream + at, size - at, true, events, batch);
+        for (size_t i = 0; i < n; at += events[i].consumed, i++) show(&events[i]);
+        if (events[n - 1].kind >= PULLEYNAVY_EVENT_END) {
             free(stream), free(line);
-            return event.kind == PULLEYNAVY_EVENT_FAULT;
+            return events[n - 1].kind == PULLEYNAVY_EVENT_FAULT;
         }
-        at += event.consumed;
     }
 }

@@ -1,10 +1,10 @@
 -- Events that calls of a parser store one after the other.
-use Rattle.std.proofs.Common.{◌≡◌, ◌∙◌, ◌+◌, ◌-◌, ◌<◌, ◌≤◌, ◌^◌, ◌∷◌, ◌++◌, ℕ, zero, suc, min, Bool, true, false, List, [], length, take, drop}
+use Rattle.std.proofs.Common.{◌≡◌, ◌∙◌, ◌+◌, ◌-◌, ◌<◌, ◌≤◌, ◌^◌, ◌∷◌, ◌++◌, ℕ, suc, min, Bool, true, false, List, [], length, take, drop}
 use Rattle.std.proofs.Common.{nat_eq, refl, sym, ap, arith, append_assoc, drop-drop, subst}
 use Rattle.std.proofs.Math.ListN.{set}
 use Rattle.std.proofs.lemmas.List.{append-nil, drop-set-lt, length-set, take_more_set}
 use Rattle.wasm_parser.specs.ParserState.{ParserState}
-use Rattle.wasm_c.specs.EventBatches.{GoesOn, ParsesEach, ParsesFirst, StoresEvents}
+use Rattle.wasm_c.specs.EventBatches.{GoesOn, ParsesEach, StoresEvents}
 use Rattle.wasm_c.specs.Events.{ParsesPlain}
 use Rattle.wasm_c.specs.declared.events.PlainEvent.{PlainEvent}
 

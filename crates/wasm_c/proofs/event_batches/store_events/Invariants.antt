@@ -1,4 +1,4 @@
-use Rattle.std.proofs.Common.{◌≡◌, ◌-◌, ◌≤◌, length}
+use Rattle.std.proofs.Common.{◌-◌, ◌≤◌, length}
 use Rattle.wasm_c.proofs.EventBatches.{Stored}
 use Rattle.wasm_c.proofs.event_batches.store_events.Given as goal
 
