@@ -1,6 +1,6 @@
 -- Events that one call stores.
-use Rattle.std.specs.Prelude.{◌≡◌, ℕ, zero, suc, ◌+◌, ◌-◌, ◌^◌, ◌≤◌, min, Bool, true, false, List, [], ◌∷◌, length, take}
-use Rattle.std.specs.Prelude.{drop, nat_eq}
+use Rattle.std.specs.Prelude.{◌≡◌, ℕ, zero, suc, ◌+◌, ◌-◌, ◌^◌, ◌≤◌, min, Bool, true, false, nat_eq}
+use Rattle.std.specs.Prelude.{List, [], ◌∷◌, length, take, drop}
 use Rattle.wasm_parser.specs.ParserState.{ParserState}
 use Rattle.wasm_c.specs.Events.{ParsesPlain}
 use Rattle.wasm_c.specs.declared.events.PlainEvent.{PlainEvent}
@@ -18,10 +18,10 @@ abbrev pub GoesOn : (is_last : Bool) (events : List PlainEvent) (new : ParserSta
 GoesOn true events new Others p = (events ≡ []) × (new ≡ p)
 GoesOn false events new Others p = Others p
 
--- These are the next events, of a parser that was here and is then there: as many as there is room for, or up to one that
--- consumed nothing. The first of the bytes is at `base` in memory.
-abbrev pub ParsesEach : (eof : Bool) → (room base : ℕ) → (old : ParserState) → (bytes : List ℕ) → (events : List PlainEvent)
-    → (new : ParserState) → Type 0
+-- These are the next events of a parser that was at `old` and is then at `new`: as many as there is room for, or up to one
+-- that consumed nothing. The first of the bytes is at `base` in memory.
+abbrev pub ParsesEach : (eof : Bool) → (room base : ℕ) → (old : ParserState) → (bytes : List ℕ)
+    → (events : List PlainEvent) → (new : ParserState) → Type 0
 ParsesEach eof zero base old bytes [] new = new ≡ old
 ParsesEach eof zero base old bytes (event ∷ events) new = ⊥
 ParsesEach eof (suc room) base old bytes [] new = ⊥
