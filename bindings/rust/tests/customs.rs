@@ -28,7 +28,7 @@ fn names_of_all_kinds() {
 fn a_fault_of_an_id_or_a_size_leaves_few_subsections() {
     for (digits, fault, most) in [("ff ff 00", "fault 0 invalid u7", 3), ("05 ff", "fault 2 unexpected end-of-file", 2)] {
         let bytes = bytes(digits);
-        let parts: Vec<_> = NameSectionReader::new(BinaryReader::new(&bytes, 0)).collect();
+        let parts: Vec<_> = NameSectionReader::new(BinaryReader::new(&bytes, 0)).take(9).collect();
         assert!(parts.len() <= most);
         assert_eq!(parts[0].as_ref().map_err(common::fault).unwrap_err(), fault);
     }

@@ -47,6 +47,46 @@ fn all_other_bytes_begin_no_value_type() {
 }
 
 #[test]
+fn parts_of_value_types() {
+    let index = PackedIndex::from_module_index(5).unwrap();
+    let (null, other) = (RefType::concrete(true, index), RefType::concrete(false, index));
+    assert_eq!((null.is_nullable(), null.as_non_null(), other.nullable(), other.as_non_null()), (true, other, null, other));
+    assert_eq!((null.type_index(), null.heap_type(), null.is_concrete_type_ref()), (Some(index), HeapType::Concrete(index.unpack()), true));
+    assert_eq!(RefType::new(false, HeapType::Concrete(index.unpack())), Some(other));
+    let kinds = |ty: RefType| [ty.is_func_ref(), ty.is_extern_ref(), ty.is_concrete_type_ref()];
+    assert_eq!([RefType::FUNCREF, RefType::EXTERN].map(kinds), [[true, false, false], [false, true, false]]);
+    assert_eq!([other, RefType::ANYREF].map(kinds), [[false, false, true], [false, false, false]]);
+    let (vector, reference) = (ValType::V128, ValType::from(other));
+    assert_eq!([vector.is_vector_type(), vector.is_reference_type(), vector.is_defaultable()], [true, false, true]);
+    assert_eq!([reference.is_vector_type(), reference.is_reference_type(), reference.is_defaultable()], [false, true, false]);
+    assert!(ValType::Ref(null).is_defaultable());
+}
+
+#[test]
+fn parts_of_indices_and_storage_types() {
+    let (module, group) = (UnpackedIndex::Module(5), UnpackedIndex::RecGroup(6));
+    assert_eq!((module.pack().map(|index| index.unpack()), group.pack()), (Some(module), None));
+    assert_eq!([module.as_module_index(), module.as_rec_group_index()], [Some(5), None]);
+    assert_eq!([group.as_module_index(), group.as_rec_group_index()], [None, Some(6)]);
+    assert_eq!([module.to_string(), group.to_string(), module.pack().unwrap().to_string()], ["(module 5)", "(recgroup 6)", "(module 5)"]);
+    let shared = HeapType::Abstract { shared: true, ty: AbstractHeapType::Any };
+    assert_eq!([HeapType::I31, shared, HeapType::Exact(module)].map(|ty| ty.to_string()), ["i31", "(shared any)", "(exact (module 5))"]);
+    let types = [StorageType::I8, StorageType::I16, StorageType::Val(ValType::F64)];
+    assert_eq!(types.map(|ty| ty.unpack()), [ValType::I32, ValType::I32, ValType::F64]);
+    assert_eq!(types.map(|ty| ty.to_string()), ["i8", "i16", "f64"]);
+    let read = |bytes| BinaryReader::new(bytes, 0).read::<StorageType>();
+    assert_eq!([read(&[0x78]), read(&[0x77]), read(&[0x7c])], types.map(Ok));
+}
+
+#[test]
+fn types_of_indices_and_addresses() {
+    for (flags, ty) in [(0, ValType::I32), (4, ValType::I64)] {
+        assert_eq!(BinaryReader::new(&[flags, 1], 0).read::<MemoryType>().unwrap().index_type(), ty);
+        assert_eq!(BinaryReader::new(&[0x70, flags, 1], 0).read::<TableType>().unwrap().index_type(), ty);
+    }
+}
+
+#[test]
 fn storage_types() {
     for (digits, text) in [
         ("5e 78 00", "array field(i8 false )"),
@@ -112,7 +152,7 @@ fn readers_of_instructions() {
     assert_eq!((operators.read(), operators.eof(), operators.is_end_then_eof()), (Ok(Operator::End), true, false));
     assert_eq!(operators.read().map_err(|error| fault(&error)), Err("fault 10 unexpected end-of-file".to_owned()));
     let mut operators = OperatorsReader::new(BinaryReader::new(&bytes, 7)).into_iter();
-    assert_eq!(operators.by_ref().filter(Result::is_ok).count(), 2);
+    assert_eq!(operators.by_ref().take(9).map(|operator| operator.is_ok()).collect::<Vec<_>>(), [true, true, false]);
     let mut operators = OperatorsReader::new(BinaryReader::new(&[0x10, 0x0b], 7)).into_iter();
     assert_eq!(operators.next().unwrap().map_err(|error| fault(&error)), Err("fault 7 not a constant instruction".to_owned()));
     assert_eq!(operators.next(), None);

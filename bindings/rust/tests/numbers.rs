@@ -112,7 +112,7 @@ fn subsections_after_a_malformed_one() {
     let parts = |digits: &str| {
         let bytes = bytes(digits);
         let parts = Subsections::<Name>::new(BinaryReader::new(&bytes, 0));
-        parts.map(|part| text_of(part, |part| part.show())).collect::<Vec<_>>()
+        parts.take(9).map(|part| text_of(part, |part| part.show())).collect::<Vec<_>>()
     };
     assert_eq!(parts("ff 01 01 00"), ["fault 0 invalid u7", "1{}"]);
     assert_eq!(parts("01 80 80 80 80 10 02 01 00"), ["fault 5 invalid var_u32: integer too large", "2{}"]);
