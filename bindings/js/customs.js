@@ -4,7 +4,8 @@ import * as d from "./declared.js";
 import { i64, u64 } from "./instance.js";
 
 const names = numbers => Object.freeze(Object.keys(numbers).map(name => name.toLowerCase()));
-const SYMBOLS = names(d.SymbolKind), COMDATS = names(d.ComdatKind), CORE_VALUES = names(d.CoreValueKind), RELOCATIONS = Object.keys(d.RelocationKind);
+const SYMBOLS = names(d.SymbolKind), COMDATS = names(d.ComdatKind), CORE_VALUES = names(d.CoreValueKind);
+const RELOCATIONS = Object.keys(d.RelocationKind);
 const flag = (view, p) => view.getUint32(p, true) !== 0;
 const u32 = (view, p) => view.getUint32(p, true);
 
@@ -85,8 +86,10 @@ function producers(w) {
 
 const HINTS = {
     call: "pulleynavy_next_branch_hints", layout: d.BranchHintLayout,
-    make: (w, view, p, start, end) =>
-        ({ kind: "hint", start, end, offset: u32(view, p + d.BranchHintLayout.funcOffset), taken: flag(view, p + d.BranchHintLayout.taken) }),
+    make: (w, view, p, start, end) => ({
+        kind: "hint", start, end, offset: u32(view, p + d.BranchHintLayout.funcOffset),
+        taken: flag(view, p + d.BranchHintLayout.taken),
+    }),
 };
 const HINTED_FUNCTIONS = {
     call: "pulleynavy_next_hinted_functions", layout: d.HintedFunctionLayout,
@@ -152,20 +155,23 @@ function dylinkPart(id, w) {
 const SEGMENTS = {
     call: "pulleynavy_next_linking_segments", layout: d.LinkingSegmentLayout,
     make: (w, view, p, start, end) => ({
-        kind: "segment", start, end, name: w.text(p + d.LinkingSegmentLayout.name), alignment: u32(view, p + d.LinkingSegmentLayout.alignment),
+        kind: "segment", start, end, name: w.text(p + d.LinkingSegmentLayout.name),
+        alignment: u32(view, p + d.LinkingSegmentLayout.alignment),
         flags: u32(view, p + d.LinkingSegmentLayout.flags),
     }),
 };
 const INIT_FUNCTIONS = {
     call: "pulleynavy_next_init_functions", layout: d.InitFunctionLayout,
     make: (w, view, p, start, end) => ({
-        kind: "init function", start, end, priority: u32(view, p + d.InitFunctionLayout.priority), symbol: u32(view, p + d.InitFunctionLayout.symbol),
+        kind: "init function", start, end, priority: u32(view, p + d.InitFunctionLayout.priority),
+        symbol: u32(view, p + d.InitFunctionLayout.symbol),
     }),
 };
 const COMDAT_SYMBOLS = {
     call: "pulleynavy_next_comdat_symbols", layout: d.ComdatSymbolLayout,
     make: (w, view, p, start, end) => ({
-        kind: "comdat symbol", start, end, symbol: COMDATS[u32(view, p + d.ComdatSymbolLayout.kind)], index: u32(view, p + d.ComdatSymbolLayout.index),
+        kind: "comdat symbol", start, end, symbol: COMDATS[u32(view, p + d.ComdatSymbolLayout.kind)],
+        index: u32(view, p + d.ComdatSymbolLayout.index),
     }),
 };
 const COMDAT_LIST = {
@@ -178,7 +184,8 @@ const COMDAT_LIST = {
 const SYMBOL_LIST = {
     call: "pulleynavy_next_symbols", layout: d.SymbolLayout,
     make: (w, view, p, start, end) => {
-        const kind = u32(view, p + d.SymbolLayout.kind), isData = kind === d.SymbolKind.DATA, isDefined = flag(view, p + d.SymbolLayout.isDefined);
+        const kind = u32(view, p + d.SymbolLayout.kind), isData = kind === d.SymbolKind.DATA;
+        const isDefined = flag(view, p + d.SymbolLayout.isDefined);
         return {
             kind: "symbol", start, end, symbol: SYMBOLS[kind], flags: u32(view, p + d.SymbolLayout.flags),
             name: flag(view, p + d.SymbolLayout.hasName) ? w.text(p + d.SymbolLayout.name) : null,
@@ -210,8 +217,9 @@ function linking(w) {
 const RELOCATION_LIST = {
     call: "pulleynavy_next_relocations", layout: d.RelocationLayout,
     make: (w, view, p, start, end) => ({
-        kind: "relocation", start, end, type: RELOCATIONS[u32(view, p + d.RelocationLayout.kind)], offset: u32(view, p + d.RelocationLayout.offset),
-        index: u32(view, p + d.RelocationLayout.index), addend: i64(view, p + d.RelocationLayout.addend),
+        kind: "relocation", start, end, type: RELOCATIONS[u32(view, p + d.RelocationLayout.kind)],
+        offset: u32(view, p + d.RelocationLayout.offset), index: u32(view, p + d.RelocationLayout.index),
+        addend: i64(view, p + d.RelocationLayout.addend),
         extent: u32(view, p + d.RelocationLayout.extent),
     }),
 };
@@ -279,7 +287,8 @@ function coreFrame(w) {
 }
 
 function coreStack(w) {
-    const p = w.read("pulleynavy_read_core_thread"), thread = p && w.text(p + d.CoreThreadLayout.name), frames = p ? repeated(w, coreFrame) : null;
+    const p = w.read("pulleynavy_read_core_thread"), thread = p && w.text(p + d.CoreThreadLayout.name);
+    const frames = p ? repeated(w, coreFrame) : null;
     return frames && { kind: "core stack", thread, frames };
 }
 

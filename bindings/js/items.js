@@ -135,8 +135,8 @@ function importItem(w, view, p, start, end) {
 }
 
 function exportItem(w, view, p, start, end) {
-    const external = EXTERNALS[view.getUint32(p + d.ExportLayout.kind, true)];
-    return { kind: "export", start, end, name: w.text(p + d.ExportLayout.name), external, index: view.getUint32(p + d.ExportLayout.index, true) };
+    const external = EXTERNALS[view.getUint32(p + d.ExportLayout.kind, true)], index = view.getUint32(p + d.ExportLayout.index, true);
+    return { kind: "export", start, end, name: w.text(p + d.ExportLayout.name), external, index };
 }
 
 // ---- segments
@@ -178,8 +178,8 @@ function data(w, view, p, start, end) {
 // ---- the sections
 
 function table(w, view, p, start, end) {
-    const hasInit = flag(view, p + d.TableLayout.hasInit);
-    return { kind: "table", start, end, type: tableType(view, p + d.TableLayout.ty), init: hasInit ? w.range(p + d.TableLayout.init) : null };
+    const init = flag(view, p + d.TableLayout.hasInit) ? w.range(p + d.TableLayout.init) : null;
+    return { kind: "table", start, end, type: tableType(view, p + d.TableLayout.ty), init };
 }
 
 const index = (view, p) => view.getUint32(p, true);

@@ -377,7 +377,13 @@ export type Contents =
     | { readonly kind: "branch hints"; readonly count: number; readonly functions: readonly (HintedFunction | Fault)[] }
     | { readonly kind: "dylink.0"; readonly subsections: readonly (DylinkSubsection | Fault)[] }
     | { readonly kind: "linking"; readonly version: number; readonly subsections: readonly (LinkingSubsection | Fault)[] }
-    | { readonly kind: "relocations"; readonly section: number; readonly count: number; readonly relocations: readonly (Relocation | Fault)[] }
+    | {
+          readonly kind: "relocations";
+          /** The index of the section that they are of. */
+          readonly section: number;
+          readonly count: number;
+          readonly relocations: readonly (Relocation | Fault)[];
+      }
     | { readonly kind: "core"; readonly name: string }
     | { readonly kind: "core modules"; readonly modules: readonly string[] }
     | { readonly kind: "core instances"; readonly instances: readonly CoreInstance[] }

@@ -56,9 +56,11 @@ class Reader {
     // Takes a chunk of at most CHUNK bytes, which the feeder appends to those that are not read yet.
     push(chunk) {
         const { instance } = this, { calls, feedPointer, storagePointer } = instance;
-        const piece = BigInt(instance.chunk), size = BigInt(chunk.length);
+        const piece = [BigInt(instance.chunk), BigInt(chunk.length)];
         instance.bytes.set(chunk, instance.chunk);
-        while (!calls.pulleynavy_feed_push(feedPointer, storagePointer, instance.capacitySize, piece, size)) instance.reserve(2 * instance.capacity);
+        while (!calls.pulleynavy_feed_push(feedPointer, storagePointer, instance.capacitySize, ...piece)) {
+            instance.reserve(2 * instance.capacity);
+        }
     }
 
     finish() {
@@ -174,7 +176,9 @@ class Feeder {
 
     push(bytes) {
         const events = [];
-        for (let at = 0; at < bytes.length && !this.isDone; at += CHUNK) this.run(events, reader => reader.push(bytes.subarray(at, at + CHUNK)));
+        for (let at = 0; at < bytes.length && !this.isDone; at += CHUNK) {
+            this.run(events, reader => reader.push(bytes.subarray(at, at + CHUNK)));
+        }
         return events;
     }
 
@@ -218,9 +222,9 @@ function checked(module) {
     const exported = new Set(WebAssembly.Module.exports(module).map(one => one.name));
     const missing = ["memory", "__heap_base", ...CALLS].find(name => !exported.has(name));
     if (missing) throw new TypeError(`not the module of pulleynavy ${VERSION}: it has no ${missing}`);
-    const pool = new Pool(module), instance = pool.take(), [major, minor, patch] = VERSION.split(".").map(Number);
-    const version = instance.calls.pulleynavy_version();
-    if (version !== major * 65536 + minor * 256 + patch) throw new TypeError(`not the module of pulleynavy ${VERSION}: its version is ${version}`);
+    const pool = new Pool(module), instance = pool.take(), version = instance.calls.pulleynavy_version();
+    const wanted = VERSION.split(".").reduce((number, part) => number * 256 + Number(part), 0);
+    if (version !== wanted) throw new TypeError(`not the module of pulleynavy ${VERSION}: its version is ${version}`);
     pool.give(instance);
     return pool;
 }

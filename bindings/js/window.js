@@ -59,15 +59,15 @@ export class Window {
 
     // Stores the next items, at most `most`, and returns how many.
     store(depth, call, most) {
-        const { instance } = this;
-        const stored = instance.calls[call](instance.cursorPointers[depth], this.pointer, this.length, instance.batchPointers[depth], BigInt(most));
-        return Number(stored);
+        const { instance } = this, cursor = instance.cursorPointers[depth], batch = instance.batchPointers[depth];
+        return Number(instance.calls[call](cursor, this.pointer, this.length, batch, BigInt(most)));
     }
 
     // All items of a list of `count` items up to its end, as `make` returns them, with faults among them. Where items may be out of
     // order, `tail` is the field with the span at the end of an item, which says where the item is.
     all(depth, { call, layout, make, tail = 0 }, count) {
-        const items = [], { instance, offset } = this, { view } = instance, size = layout.SIZE, first = instance.batches[depth], most = batchOf(size);
+        const items = [], { instance, offset } = this, { view } = instance;
+        const size = layout.SIZE, first = instance.batches[depth], most = batchOf(size);
         let at = this.at;
         this.begin(depth, count);
         for (let stored = most; stored === most;) {
@@ -88,7 +88,8 @@ export class Window {
 
     // The next `count` items, as `make` returns them. Returns null after a fault, which `fault` then is.
     some(depth, { call, layout, make }, count) {
-        const items = [], { instance } = this, { view } = instance, size = layout.SIZE, first = instance.batches[depth], most = batchOf(size);
+        const items = [], { instance } = this, { view } = instance;
+        const size = layout.SIZE, first = instance.batches[depth], most = batchOf(size);
         let at = this.at;
         if (count > 0) this.begin(depth, count);
         for (let left = count; left > 0;) {

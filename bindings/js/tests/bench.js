@@ -1,5 +1,6 @@
 // SPDX-License-Identifier: Apache-2.0 OR MIT
-// Times the parser on modules that it makes, or on files: node tests/bench.js [FILE..]. Each time is the least of the rounds of two seconds.
+// Times the parser on modules that it makes, or on files: node tests/bench.js [FILE..]
+// Each time is the least of the rounds of two seconds.
 import { readFileSync } from "node:fs";
 import { load } from "../pulleynavy.js";
 
@@ -28,9 +29,11 @@ function made() {
     return {
         "100,000 data segments": module(section(11, repeated(100_000, segment))),
         "40,000 functions and bodies, 20,000 exports and data segments": module(
-            section(1, repeated(20, i => [0x60, 2, 0x7f, 0x7e, ...(i & 1 ? [1, 0x7d] : [0])])), section(3, repeated(40_000, i => leb(i % 20))),
+            section(1, repeated(20, i => [0x60, 2, 0x7f, 0x7e, ...(i & 1 ? [1, 0x7d] : [0])])),
+            section(3, repeated(40_000, i => leb(i % 20))),
             section(5, [[1, 1, 2]]), section(6, repeated(10, () => [0x7f, 1, 0x41, 0, 0x0b])),
-            section(7, repeated(20_000, i => [...text(`function${i}`), 0, ...leb(i)])), section(10, bodies), section(11, repeated(20_000, segment))),
+            section(7, repeated(20_000, i => [...text(`function${i}`), 0, ...leb(i)])),
+            section(10, bodies), section(11, repeated(20_000, segment))),
     };
 }
 

@@ -20,7 +20,11 @@ const types = list => `[${list.map(t => type(t) + " ").join("")}] `;
 
 function subtype(s) {
     const fields = () => s.fields.map(field).join("");
-    const body = { func: () => `func(${types(s.params)}${types(s.results)}) `, array: () => `array ${fields()}`, struct: () => `struct [${fields()}] ` };
+    const body = {
+        func: () => `func(${types(s.params)}${types(s.results)}) `,
+        array: () => `array ${fields()}`,
+        struct: () => `struct [${fields()}] `,
+    };
     return `sub(${s.final} ${limit(s.supertype)}${body[s.kind]()}) `;
 }
 
@@ -68,7 +72,7 @@ const ITEMS = {
 // ---- custom sections
 
 const afterText = (bytes, at, text) => afterNumber(bytes, at) + Buffer.byteLength(text);
-const listed = (start, end, items, text, count = items.length) => `${start}..${end} #${count}[${each(items, it => `${it.start}:${text(it)}`)}]`;
+const listed = (start, end, items, text, count) => `${start}..${end} #${count}[${each(items, it => `${it.start}:${text(it)}`)}]`;
 const texts = list => `[${list.map(text => hex(text) + " ").join("")}]`;
 const naming = n => `name(${n.index} ${hex(n.name)} )`;
 const indirect = n => `names(${n.index} {${each(n.names, naming)}} )`;
@@ -150,7 +154,8 @@ function linkingPart(part, bytes) {
 
 function relocations(contents, bytes, start, end) {
     const one = r => `reloc(${RelocationKind[r.type]} ${r.offset} ${r.index} ${r.addend} )`;
-    return `section ${contents.section} ${start}..${end} ${listed(afterNumber(bytes, start), end, contents.relocations, one, contents.count)}`;
+    const list = listed(afterNumber(bytes, start), end, contents.relocations, one, contents.count);
+    return `section ${contents.section} ${start}..${end} ${list}`;
 }
 
 const numbers = list => `[${list.map(n => `${n} `).join("")}]`;

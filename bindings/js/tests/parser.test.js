@@ -30,13 +30,16 @@ test("imports, and those of bundles", () => {
 });
 
 test("tables, memories, tags and globals", () => {
-    const events = [...parse(bytes(HEADER + "\x04\x05\x01\x70\x01\x01\x02\x05\x04\x01\x03\x01\x02\x0d\x03\x01\0\x07\x06\x06\x01\x7f\x01\x41\0\x0b"))];
+    const sections = "\x04\x05\x01\x70\x01\x01\x02\x05\x04\x01\x03\x01\x02\x0d\x03\x01\0\x07\x06\x06\x01\x7f\x01\x41\0\x0b";
+    const events = [...parse(bytes(HEADER + sections))];
     const [table, memory, tag, global] = events.slice(1, 5).map(event => event.items[0]);
     const element = { nullable: true, heap: "func" };
-    assert.deepEqual(table, { kind: "table", start: 11, end: 15, type: { element, initial: 1, maximum: 2, table64: false, shared: false }, init: null });
+    const type = { element, initial: 1, maximum: 2, table64: false, shared: false };
+    assert.deepEqual(table, { kind: "table", start: 11, end: 15, type, init: null });
     assert.deepEqual(memory.type, { initial: 1, maximum: 2, memory64: false, shared: true, pageSizeLog2: null });
     assert.equal(tag.type, 7);
-    assert.deepEqual(content(global), { kind: "global", type: { content: "i32", mutable: true, shared: false }, init: { start: 33, end: 36 } });
+    assert.deepEqual(global.type, { content: "i32", mutable: true, shared: false });
+    assert.deepEqual(global.init, { start: 33, end: 36 });
     assert.deepEqual([typeText(element), typeText("i32"), typeText({ nullable: false, heap: 3 })], ["(ref null func)", "i32", "(ref 3)"]);
 });
 
@@ -77,7 +80,8 @@ test("events of functions and their bodies", () => {
 });
 
 test("names", () => {
-    const custom = [...parse(bytes(HEADER + "\0\x10\x04name\0\x02\x01m\x01\x05\x01\x07\x02\xc3\xa9\0\x02\x01x"))].filter(event => event.kind === "custom");
+    const events = [...parse(bytes(HEADER + "\0\x10\x04name\0\x02\x01m\x01\x05\x01\x07\x02\xc3\xa9\0\x02\x01x"))];
+    const custom = events.filter(event => event.kind === "custom");
     assert.deepEqual(custom.map(event => [event.name, event.dataStart]), [["name", 15], ["x", 28]]);
     assert.deepEqual(custom[0].contents.subsections, [
         { kind: "module", id: 0, start: 15, end: 19, contents: { start: 17, end: 19 }, name: "m" },
@@ -133,7 +137,8 @@ test("without items", () => {
 
 test("interleaved parsers are independent", () => {
     const texts = [FUNCTIONS, IMPORTS, HEADER + "\x80", FUNCTIONS + "\0\x02\x01x"], wanted = texts.map(text => [...parse(bytes(text))]);
-    const running = texts.map(text => parse(bytes(text))), parsers = texts.map(() => new Parser()), said = texts.map(() => []), pushed = texts.map(() => []);
+    const running = texts.map(text => parse(bytes(text))), parsers = texts.map(() => new Parser());
+    const said = texts.map(() => []), pushed = texts.map(() => []);
     for (let at = 0; at < IMPORTS.length; at++) {
         texts.forEach((text, i) => {
             const { value } = running[i].next();
@@ -242,7 +247,8 @@ test("a memory that cannot grow is a RangeError, and the next parse works", () =
     const script = `
         import assert from "node:assert/strict";
         import { load } from ${JSON.stringify(new URL("../pulleynavy.js", import.meta.url).href)};
-        const { parse, Parser, strip } = await load(), large = new Uint8Array(8_000_000), small = new Uint8Array([0, 97, 115, 109, 1, 0, 0, 0]);
+        const { parse, Parser, strip } = await load();
+        const large = new Uint8Array(8_000_000), small = new Uint8Array([0, 97, 115, 109, 1, 0, 0, 0]);
         large.set([...small, 0, 0xf4, 0xa3, 0xe8, 0x03, 1, 120]);
         for (let i = 0; i < 20; i++) {
             assert.throws(() => [...parse(large)], RangeError);
@@ -260,7 +266,8 @@ test("a memory that cannot grow is a RangeError, and the next parse works", () =
 test("a file that is not the module of this version", async () => {
     await assert.rejects(load(bytes(HEADER)), /not the module of pulleynavy/);
     await assert.rejects(load(bytes("abcd")), WebAssembly.CompileError);
-    watched(() => ({ pulleynavy_version: () => 7 }), () => assert.throws(() => fromModule(new WebAssembly.Module(wasm)), /its version is 7/));
+    const other = () => ({ pulleynavy_version: () => 7 });
+    watched(other, () => assert.throws(() => fromModule(new WebAssembly.Module(wasm)), /its version is 7/));
     assert.equal(JSON.parse(readFileSync(new URL("../package.json", import.meta.url), "utf8")).version, VERSION);
 });
 

@@ -11,14 +11,20 @@ import { fileURLToPath } from "node:url";
 
 const PACKAGE = fileURLToPath(new URL("..", import.meta.url));
 // The file a.wasm of the examples.
-const MODULE = Buffer.from("\0asm\x01\0\0\0\x01\x06\x01\x60\x01\x7f\x01\x7f\x03\x02\x01\0\x07\x07\x01\x03add\0\0\x0a\x09\x01\x07\0\x20\0\x20\0\x6a\x0b" +
-    "\0\x09\x08.comment", "latin1");
+const SECTIONS = [
+    "\x01\x06\x01\x60\x01\x7f\x01\x7f", "\x03\x02\x01\0", "\x07\x07\x01\x03add\0\0",
+    "\x0a\x09\x01\x07\0\x20\0\x20\0\x6a\x0b", "\0\x09\x08.comment",
+];
+const MODULE = Buffer.from("\0asm\x01\0\0\0" + SECTIONS.join(""), "latin1");
 const readme = readFileSync(join(PACKAGE, "README.md"), "utf8");
-const examples = [...readme.matchAll(/```(js|sh)\n(.*?)```\n\n```text\n(.*?)```/gs)].map(([, language, code, wanted]) => ({ language, code, wanted }));
+const blocks = [...readme.matchAll(/```(js|sh)\n(.*?)```\n\n```text\n(.*?)```/gs)];
+const examples = blocks.map(([, language, code, wanted]) => ({ language, code, wanted }));
 
 function run(command, words, cwd) {
     return new Promise(resolve => {
-        execFile(command, words, { cwd, encoding: "utf8" }, (error, stdout, stderr) => resolve({ status: error ? error.code : 0, stdout, stderr }));
+        execFile(command, words, { cwd, encoding: "utf8" }, (error, stdout, stderr) => {
+            resolve({ status: error ? error.code : 0, stdout, stderr });
+        });
     });
 }
 

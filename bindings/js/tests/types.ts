@@ -1,7 +1,8 @@
 // SPDX-License-Identifier: Apache-2.0 OR MIT
 // What `tsc --strict` accepts and refuses of a program that uses the package. It is compiled, and not run.
 import { EventKind, ExportLayout } from "../declared.js";
-import { type Contents, type Event, type Fault, type Import, type StorageType, MEMORY64, faultText, fromModule, load, typeText } from "../pulleynavy.js";
+import type { Contents, Event, Fault, Import, StorageType, TypeGroup } from "../pulleynavy.js";
+import { MEMORY64, faultText, fromModule, load, typeText } from "../pulleynavy.js";
 
 const never = (value: never): string => value;
 
@@ -21,12 +22,14 @@ function shown(event: Event): string {
     }
 }
 
+const widths = (group: TypeGroup): number[] => group.types.map(one => (one.kind === "func" ? one.params : one.fields).length);
+
 function section(event: Event & { kind: "section" }): string {
     switch (event.name) {
-        case "type": return event.items.map(it => (it.kind === "fault" ? it.text : it.types.map(t => (t.kind === "func" ? t.params : t.fields).length))).join();
+        case "type": return event.items.map(it => (it.kind === "fault" ? it.text : widths(it))).join();
         case "import": return event.items.map(it => (it.kind === "fault" ? it.text : imported(it))).join();
         case "global": return event.items.map(it => (it.kind === "fault" ? it.text : typeText(it.type.content))).join();
-        case "element": return event.items.map(it => (it.kind === "element" && it.mode === "active" ? it.offsetExpression.start : 0)).join();
+        case "element": return event.items.map(it => (it.kind === "element" && it.mode === "active" ? it.offsetExpression : 0)).join();
         case "data": return event.items.map(it => (it.kind === "data" && it.mode === "active" ? it.memory + it.bytes.end : 0)).join();
         default: return `${event.items.length}`;
     }
@@ -54,12 +57,14 @@ function contents(it: Contents | Fault): string {
 }
 
 export async function all(response: Response, module: WebAssembly.Module): Promise<string[]> {
-    const { parse, Parser, ParserStream, strip } = await load(), parser = new Parser({ features: MEMORY64, items: false }), lines: string[] = [];
+    const { parse, Parser, ParserStream, strip } = await load();
+    const parser = new Parser({ features: MEMORY64, items: false }), lines: string[] = [];
     for (const event of parse(new Uint8Array(8))) lines.push(shown(event));
     lines.push(...parser.push(new ArrayBuffer(8)).map(shown), ...parser.finish().map(shown));
     const events: ReadableStream<Event> | undefined = response.body?.pipeThrough(new ParserStream());
     const stripped = strip(new Uint8Array(8), { keepNames: true });
-    lines.push(stripped.fault ? faultText(stripped.fault) : `${stripped.bytes.length}`, `${events?.locked} ${EventKind.END} ${ExportLayout.SIZE}`);
+    lines.push(stripped.fault ? faultText(stripped.fault) : `${stripped.bytes.length}`);
+    lines.push(`${events?.locked} ${EventKind.END} ${ExportLayout.SIZE}`);
     return [...fromModule(module).parse(new DataView(new ArrayBuffer(8)))].map(shown).concat(lines);
 }
 
