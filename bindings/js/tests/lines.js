@@ -2,7 +2,9 @@
 // Events and their items as the lines of tools/golden.jsonl, which the models in tools/model write too.
 import { RelocationKind } from "../declared.js";
 
-const hex = bytes => "x" + Buffer.from(bytes).toString("hex");
+const encoder = new TextEncoder();
+const bytesOf = it => (typeof it === "string" ? encoder.encode(it) : it);
+const hex = it => "x" + Array.from(bytesOf(it), byte => byte.toString(16).padStart(2, "0")).join("");
 const range = r => `${r.start}..${r.end}`;
 const limit = n => (n === null ? "- " : `${n} `);
 const fault = f => `fault ${f.offset} ${f.text}${f.number === null ? "" : `: ${f.number}`}`;
@@ -71,7 +73,7 @@ const ITEMS = {
 
 // ---- custom sections
 
-const afterText = (bytes, at, text) => afterNumber(bytes, at) + Buffer.byteLength(text);
+const afterText = (bytes, at, text) => afterNumber(bytes, at) + bytesOf(text).length;
 const listed = (start, end, items, text, count) => `${start}..${end} #${count}[${each(items, it => `${it.start}:${text(it)}`)}]`;
 const texts = list => `[${list.map(text => hex(text) + " ").join("")}]`;
 const naming = n => `name(${n.index} ${hex(n.name)} )`;
