@@ -38,6 +38,7 @@ export class Instance {
         const { memory, __heap_base: base, ...calls } = new WebAssembly.Instance(module).exports;
         this.memory = memory;
         this.calls = calls;
+        this.step = calls.pulleynavy_feed_step;
         this.texts = new Map();
         this.free = Math.ceil(Number(base.value) / 16) * 16;
         this.answer = this.take(ANSWER);

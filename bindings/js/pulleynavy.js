@@ -70,7 +70,7 @@ class Reader {
     // The next event, or null where it takes more bytes to know it.
     step() {
         const { instance, offset } = this, { view } = instance, p = instance.answer;
-        instance.calls.pulleynavy_feed_step(instance.answerPointer, instance.feedPointer, instance.storagePointer, instance.capacitySize);
+        instance.step(instance.answerPointer, instance.feedPointer, instance.storagePointer, instance.capacitySize);
         const kind = view.getUint32(p + EventLayout.kind, true);
         this.offset += view.getUint32(p + EventLayout.consumed, true);
         const start = offsetAt(view, p + EventLayout.start), end = offsetAt(view, p + EventLayout.end);
