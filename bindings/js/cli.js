@@ -7,10 +7,9 @@ import { SECTIONS, faultText, load } from "./pulleynavy.js";
 const MALFORMED = 1, WRONG_USE = 2, UNREADABLE = 3;
 
 function line(event) {
-    const size = event.kind === "code" ? event.end - event.start + event.size : event.end - event.start;
-    const name = event.kind === "custom" ? event.name : SECTIONS[event.id] ?? `section ${event.id}`;
+    const name = event.kind === "custom" ? event.name : event.kind === "unknown" ? `section ${event.id}` : SECTIONS[event.id];
     const count = event.kind === "section" || event.kind === "code" ? ` (${event.count})` : "";
-    return `${size.toLocaleString("en").padStart(12)} ${`0x${event.start.toString(16)}`.padStart(12)}  ${name}${count}\n`;
+    return `${(event.end - event.start).toLocaleString("en").padStart(12)} ${`0x${event.start.toString(16)}`.padStart(12)}  ${name}${count}\n`;
 }
 
 // Prints the events of a chunk. Returns the fault that ends the stream, if there is one.

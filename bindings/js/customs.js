@@ -9,18 +9,19 @@ const RELOCATIONS = Object.keys(d.RelocationKind);
 const flag = (view, p) => view.getUint32(p, true) !== 0;
 const u32 = (view, p) => view.getUint32(p, true);
 
-// The subsections of a section, each as `make` returns it for its id, its contents and its place, or the fault of its contents.
-function subsections(w, call, make) {
-    const list = {
-        call, layout: d.SubsectionLayout, tail: d.SubsectionLayout.contents,
-        make: (outer, view, p, start, end) => {
-            const id = u32(view, p + d.SubsectionLayout.id), contents = outer.range(p + d.SubsectionLayout.contents);
-            const inner = outer.part(p + d.SubsectionLayout.contents), made = make(id, inner);
-            if (made === null) return inner.fault;
-            return { kind: "unknown", id, start, end, contents, ...made };
-        },
+// The subsections of a section, each as `read` returns it for its id and its contents, or the fault of its contents.
+function subsections(w, read, isOrdered = false) {
+    let last = -1;
+    const make = (outer, view, p, start, end) => {
+        const id = u32(view, p + d.SubsectionLayout.id), contents = outer.range(p + d.SubsectionLayout.contents);
+        const inner = outer.part(p + d.SubsectionLayout.contents), made = read(id, inner);
+        if (made === null) return inner.fault;
+        // The fault of the contents comes first, so `pulleynavy_next_name_subsections`, which doesn't look at them, is of no use here.
+        if (isOrdered && id <= last) return w.instance.faultOf(d.FaultKind.NAME_SECTION_ORDER, start);
+        last = id;
+        return { kind: "unknown", id, start, end, contents, ...made };
     };
-    return w.all(0, list, 0);
+    return w.all(0, { call: "pulleynavy_next_subsections", layout: d.SubsectionLayout, make, tail: d.SubsectionLayout.contents }, 0);
 }
 
 // A count and the items of a list up to its end, as `Window.all`, or null where the count has a fault.
@@ -211,7 +212,7 @@ function linking(w) {
     if (!p) return null;
     const version = u32(view, p + d.NumberLayout.value), start = w.position;
     const rest = new w.constructor(w.instance, w.address + start, w.size - start, w.at, w.features);
-    return { kind: "linking", version, subsections: subsections(rest, "pulleynavy_next_subsections", linkingPart) };
+    return { kind: "linking", version, subsections: subsections(rest, linkingPart) };
 }
 
 const RELOCATION_LIST = {
@@ -302,10 +303,10 @@ const whole = read => w => {
 // ---- all of them
 
 const READERS = {
-    [d.CustomKind.NAME]: w => ({ kind: "name", subsections: subsections(w, "pulleynavy_next_name_subsections", namePart) }),
+    [d.CustomKind.NAME]: w => ({ kind: "name", subsections: subsections(w, namePart, true) }),
     [d.CustomKind.BRANCH_HINTS]: branchHints,
     [d.CustomKind.PRODUCERS]: producers,
-    [d.CustomKind.DYLINK0]: w => ({ kind: "dylink.0", subsections: subsections(w, "pulleynavy_next_subsections", dylinkPart) }),
+    [d.CustomKind.DYLINK0]: w => ({ kind: "dylink.0", subsections: subsections(w, dylinkPart) }),
     [d.CustomKind.LINKING]: linking,
     [d.CustomKind.RELOC]: relocations,
     [d.CustomKind.CORE]: whole(coreProcess),

@@ -7,7 +7,7 @@ const PAGE = 65536;
 export const CHUNK = 65536;
 // How many bytes of items one call stores, and how deep lists of items nest.
 const BATCH = 32768, DEPTHS = 3;
-const ANSWER = 256, FEED = 128, CURSOR = 32, TEXT = 80;
+const ANSWER = 512, FEED = 128, CURSOR = 32, TEXT = 80;
 // Beyond this an address has more than 32 bits.
 const MOST = 2 ** 32;
 // A name may start with a byte order mark, which is part of it.
@@ -114,9 +114,12 @@ export class Instance {
 
     // The fault at an address, whose kind is not 0.
     fault(p) {
-        const { view } = this, code = view.getUint32(p + FaultLayout.kind, true), text = this.message(code);
-        const number = view.getUint32(p + FaultLayout.hasNumber, true) ? u64(view, p + FaultLayout.number) : null;
-        return { kind: "fault", offset: offsetAt(view, p + FaultLayout.offset), fault: FAULTS.get(code & 255), code, number, text };
+        const { view } = this, number = view.getUint32(p + FaultLayout.hasNumber, true) ? u64(view, p + FaultLayout.number) : null;
+        return this.faultOf(view.getUint32(p + FaultLayout.kind, true), offsetAt(view, p + FaultLayout.offset), number);
+    }
+
+    faultOf(code, offset, number = null) {
+        return { kind: "fault", offset, fault: FAULTS.get(code & 255), code, number, text: this.message(code) };
     }
 }
 

@@ -48,7 +48,7 @@ export interface DataCount extends Part {
     readonly id: 12;
     readonly count: number;
 }
-/** The start of a code section, up to its count. As many events of kind "body" follow. */
+/** The start of a code section, whose content is that of the whole section. `count` events of kind "body" follow. */
 export interface Code extends Part {
     readonly kind: "code";
     readonly id: 10;

@@ -35,7 +35,7 @@ test("a malformed module: what was read, one line, and status 1", () =>
         const done = run(path);
         assert.equal(done.status, 1);
         assert.match(done.stdout, /^ +2 +0xa {2}function \(1\)\n$/);
-        assert.equal(done.stderr, `${path}: malformed section id: 128 (at offset 0xc)\n`);
+        assert.equal(done.stderr, `${path}: malformed section id (at offset 0xc)\n`);
     }));
 
 test("wrong use is status 2, and a file that cannot be read status 3, each with one line", () => {

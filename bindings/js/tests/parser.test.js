@@ -39,7 +39,7 @@ test("tables, memories, tags and globals", () => {
     assert.deepEqual(memory.type, { initial: 1, maximum: 2, memory64: false, shared: true, pageSizeLog2: null });
     assert.equal(tag.type, 7);
     assert.deepEqual(global.type, { content: "i32", mutable: true, shared: false });
-    assert.deepEqual(global.init, { start: 33, end: 36 });
+    assert.deepEqual(global.init, { start: 31, end: 34 });
     assert.deepEqual([typeText(element), typeText("i32"), typeText({ nullable: false, heap: 3 })], ["(ref null func)", "i32", "(ref 3)"]);
 });
 
@@ -73,7 +73,7 @@ test("events of functions and their bodies", () => {
         { kind: "version", offset: 0, start: 0, end: 8, version: 1, encoding: "module" },
         { kind: "section", offset: 8, start: 10, end: 12, id: 3, name: "function", count: 1,
             items: [{ kind: "function", start: 11, end: 12, type: 0 }] },
-        { kind: "code", offset: 12, start: 14, end: 15, id: 10, count: 1, size: 3 },
+        { kind: "code", offset: 12, start: 14, end: 18, id: 10, count: 1, size: 3 },
         { kind: "body", offset: 15, start: 16, end: 18 },
         { kind: "end", offset: 18 },
     ]);
@@ -82,7 +82,7 @@ test("events of functions and their bodies", () => {
 test("names", () => {
     const events = [...parse(bytes(HEADER + "\0\x10\x04name\0\x02\x01m\x01\x05\x01\x07\x02\xc3\xa9\0\x02\x01x"))];
     const custom = events.filter(event => event.kind === "custom");
-    assert.deepEqual(custom.map(event => [event.name, event.dataStart]), [["name", 15], ["x", 28]]);
+    assert.deepEqual(custom.map(event => [event.name, event.dataStart]), [["name", 15], ["x", 30]]);
     assert.deepEqual(custom[0].contents.subsections, [
         { kind: "module", id: 0, start: 15, end: 19, contents: { start: 17, end: 19 }, name: "m" },
         { kind: "names", id: 1, start: 19, end: 26, contents: { start: 21, end: 26 }, of: "function",
