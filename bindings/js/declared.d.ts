@@ -103,6 +103,24 @@ export declare const CoreStart: {
     readonly FRAME: 4;
 };
 
+/** The id of a section of a module. */
+export declare const SectionId: {
+    readonly CUSTOM: 0;
+    readonly TYPE: 1;
+    readonly IMPORT: 2;
+    readonly FUNCTION: 3;
+    readonly TABLE: 4;
+    readonly MEMORY: 5;
+    readonly GLOBAL: 6;
+    readonly EXPORT: 7;
+    readonly START: 8;
+    readonly ELEMENT: 9;
+    readonly CODE: 10;
+    readonly DATA: 11;
+    readonly DATA_COUNT: 12;
+    readonly TAG: 13;
+};
+
 /** The kind of a type. */
 export declare const TypeKind: {
     readonly I32: 0;
@@ -242,6 +260,43 @@ export declare const CoreValueKind: {
     readonly I64: 2;
     readonly F32: 3;
     readonly F64: 4;
+};
+
+/** The id of a subsection of `name`. */
+export declare const NameId: {
+    readonly MODULE: 0;
+    readonly FUNCTION: 1;
+    readonly LOCAL: 2;
+    readonly LABEL: 3;
+    readonly TYPE: 4;
+    readonly TABLE: 5;
+    readonly MEMORY: 6;
+    readonly GLOBAL: 7;
+    readonly ELEMENT: 8;
+    readonly DATA: 9;
+    readonly FIELD: 10;
+    readonly TAG: 11;
+    readonly PARAMETER: 12;
+    readonly TAG_PARAMETER: 13;
+};
+
+/** The id of a subsection of `linking`. */
+export declare const LinkingId: {
+    readonly SEGMENT_INFO: 5;
+    readonly INIT_FUNCS: 6;
+    readonly COMDAT_INFO: 7;
+    readonly SYMBOL_TABLE: 8;
+    readonly TARGET_ARCH: 9;
+};
+
+/** The id of a subsection of `dylink.0`. */
+export declare const DylinkId: {
+    readonly MEM_INFO: 1;
+    readonly NEEDED: 2;
+    readonly EXPORT_INFO: 3;
+    readonly IMPORT_INFO: 4;
+    readonly RUNTIME_PATH: 5;
+    readonly TARGET_ARCH: 6;
 };
 
 /** The opcode of an instruction of a constant expression. */
@@ -508,6 +563,13 @@ export declare const NameLayout: {
     readonly fault: 0;
     readonly consumed: 24;
     readonly name: 32;
+};
+
+export declare const ImportsLayout: {
+    readonly SIZE: 272;
+    readonly items: 0;
+    readonly bundled: 32;
+    readonly bundle: 64;
 };
 
 export declare const ExportLayout: {

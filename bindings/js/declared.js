@@ -103,6 +103,24 @@ export const CoreStart = Object.freeze({
     FRAME: 4,
 });
 
+// The id of a section of a module.
+export const SectionId = Object.freeze({
+    CUSTOM: 0,
+    TYPE: 1,
+    IMPORT: 2,
+    FUNCTION: 3,
+    TABLE: 4,
+    MEMORY: 5,
+    GLOBAL: 6,
+    EXPORT: 7,
+    START: 8,
+    ELEMENT: 9,
+    CODE: 10,
+    DATA: 11,
+    DATA_COUNT: 12,
+    TAG: 13,
+});
+
 // The kind of a type.
 export const TypeKind = Object.freeze({
     I32: 0,
@@ -242,6 +260,43 @@ export const CoreValueKind = Object.freeze({
     I64: 2,
     F32: 3,
     F64: 4,
+});
+
+// The id of a subsection of `name`.
+export const NameId = Object.freeze({
+    MODULE: 0,
+    FUNCTION: 1,
+    LOCAL: 2,
+    LABEL: 3,
+    TYPE: 4,
+    TABLE: 5,
+    MEMORY: 6,
+    GLOBAL: 7,
+    ELEMENT: 8,
+    DATA: 9,
+    FIELD: 10,
+    TAG: 11,
+    PARAMETER: 12,
+    TAG_PARAMETER: 13,
+});
+
+// The id of a subsection of `linking`.
+export const LinkingId = Object.freeze({
+    SEGMENT_INFO: 5,
+    INIT_FUNCS: 6,
+    COMDAT_INFO: 7,
+    SYMBOL_TABLE: 8,
+    TARGET_ARCH: 9,
+});
+
+// The id of a subsection of `dylink.0`.
+export const DylinkId = Object.freeze({
+    MEM_INFO: 1,
+    NEEDED: 2,
+    EXPORT_INFO: 3,
+    IMPORT_INFO: 4,
+    RUNTIME_PATH: 5,
+    TARGET_ARCH: 6,
 });
 
 // The opcode of an instruction of a constant expression.
@@ -487,6 +542,12 @@ export const NameLayout = Object.freeze({
     fault: 0,
     consumed: 24,
     name: 32,
+});
+export const ImportsLayout = Object.freeze({
+    SIZE: 272,
+    items: 0,
+    bundled: 32,
+    bundle: 64,
 });
 export const ExportLayout = Object.freeze({
     SIZE: 56,
@@ -757,6 +818,8 @@ export const CALLS = Object.freeze([
     "pulleynavy_read_text",
     "pulleynavy_next_texts",
     "pulleynavy_read_bundled_import",
+    "pulleynavy_imports_init",
+    "pulleynavy_next_flat_imports",
     "pulleynavy_read_export",
     "pulleynavy_next_exports",
     "pulleynavy_read_instruction",

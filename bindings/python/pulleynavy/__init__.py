@@ -22,8 +22,24 @@ from typing import Any
 
 from . import declared
 from ._events import Event, events
+from ._items import Items
 from ._library import ALL_FEATURES, COMPACT_IMPORTS, MEMORY64, Fault, load
-from .declared import CustomKind, DataKind, ElementKind, EventKind, ExternalKind, FaultKind, HeapKind, TypeKind
+from .declared import (
+    CustomKind,
+    DataKind,
+    DylinkId,
+    ElementKind,
+    EventKind,
+    ExternalKind,
+    FaultKind,
+    HeapKind,
+    LinkingId,
+    NameId,
+    RelocationKind,
+    SectionId,
+    SymbolKind,
+    TypeKind,
+)
 from .module import (
     CustomSection,
     Data,
@@ -43,8 +59,9 @@ from .module import (
 __version__ = declared.VERSION
 __all__ = [
     "ALL_FEATURES", "COMPACT_IMPORTS", "MEMORY64",
-    "CustomKind", "CustomSection", "Data", "DataKind", "Element", "ElementKind", "Event", "EventKind", "Export", "ExternalKind", "Fault",
-    "FaultKind", "Global", "HeapKind", "Import", "Limits", "Memory", "Module", "Names", "Section", "Table", "TypeKind", "ValueType",
+    "CustomKind", "CustomSection", "Data", "DataKind", "DylinkId", "Element", "ElementKind", "Event", "EventKind", "Export",
+    "ExternalKind", "Fault", "FaultKind", "Global", "HeapKind", "Import", "Items", "Limits", "LinkingId", "Memory", "Module",
+    "NameId", "Names", "RelocationKind", "Section", "SectionId", "SymbolKind", "Table", "TypeKind", "ValueType",
     "events", "load", "strip",
 ]  # fmt: skip
 

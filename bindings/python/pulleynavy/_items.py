@@ -8,10 +8,10 @@ import struct
 from typing import Any, Iterator
 
 from . import declared
-from ._library import Fault
+from ._library import ALL_FEATURES, Fault, load
 
-# How many items a call stores.
-BATCH = 4096
+# How many items a call stores: structs, and rows of their fields.
+STRUCTS, ROWS = 64, 4096
 
 
 @functools.lru_cache(maxsize=None)
@@ -39,60 +39,75 @@ def _code(kind: Any) -> str:
     return code if kind(-1).value < 0 else code.upper()
 
 
+def _stored_by(call: str) -> Any:
+    """The struct of the items that the call `pulleynavy_next_` with this name stores."""
+    return declared.CALLS["pulleynavy_next_" + call][1][-2]._type_
+
+
 class Items:
-    """The items in `content`, which begins at `offset` of the stream."""
+    """A cursor over `data`, which begins at `offset` of the stream, for the lists of a custom section.
 
-    def __init__(self, library: Any, content: bytes, offset: int, features: int) -> None:
-        self.library, self.content, self.offset, self.features = library, content, offset, features
-        self.held = ctypes.create_string_buffer(content, max(1, len(content)))
-        self.before = 0
-        self.cursor = library.pulleynavy_list_init(offset, 0, features)
+    `call` is the rest of the name of a call of the C library: `all("symbols")` is `pulleynavy_next_symbols`, and `read("number")` is
+    `pulleynavy_read_number`. The structs are those of the C header.
 
-    def skip(self, size: int, count: int) -> Items:
-        """Moves past these bytes, to a list of `count` items."""
-        self.cursor.offset += size
-        self.cursor.position += size
-        self.cursor.remaining = count
+    >>> items = Items(b"\\2\\5\\1a\\7\\1b", 100)
+    >>> [(one.index, items.text(one.name)) for one in items.counted().all("namings")]
+    [(5, 'a'), (7, 'b')]
+    """
+
+    def __init__(self, data: bytes, offset: int, features: int = ALL_FEATURES, library: Any = None) -> None:
+        self.library, self.data, self.offset, self.features = library or load(), data, offset, features
+        self._held = ctypes.create_string_buffer(data, max(1, len(data)))
+        self._cursor = self.library.pulleynavy_list_init(offset, 0, features)
+
+    @property
+    def position(self) -> int:
+        """Where the next item begins, in bytes from the start of `data`."""
+        return int(self._cursor.position)
+
+    def skip(self, size: int, count: int = 0) -> Items:
+        """Moves past `size` bytes, to a list of `count` items."""
+        self._cursor.offset += size
+        self._cursor.position += size
+        self._cursor.remaining = count
         return self
 
     def counted(self) -> Items:
-        """Moves past a count, to its items."""
-        count = self.read("number")
-        self.cursor.remaining = count.value
+        """Moves past a count, to its items. Raises `Fault` if it is malformed."""
+        self._cursor.remaining = self.read("number").value
         return self
 
-    def read(self, call: str, *first: Any) -> Any:
-        """Reads the item that comes next by the call `pulleynavy_read_` with this name. Raises its fault."""
-        at = self.cursor.position
+    def read(self, call: str) -> Any:
+        """Reads a single item. Its spans count from its first byte. Raises `Fault` if it is malformed."""
+        at = self.position
         item = getattr(self.library, "pulleynavy_read_" + call)(
-            *first, ctypes.addressof(self.held) + at, len(self.content) - at, self.offset + at, self.features
+            ctypes.addressof(self._held) + at, len(self.data) - at, self.offset + at, self.features
         )
         if item.fault.kind:
             raise Fault(self.library, item.fault)
-        self.before = at
-        self.skip(item.consumed, self.cursor.remaining)
+        self.skip(item.consumed)
         return item
 
-    def _batches(self, call: str, room: Any) -> Iterator[int]:
-        """Stores items by the call `pulleynavy_next_` with this name, and yields how many. Raises the first fault."""
+    def _batches(self, call: str, room: Any, cursor: Any) -> Iterator[int]:
+        """Stores items and yields how many."""
         store = getattr(self.library, "pulleynavy_next_" + call)
-        while count := store(self.cursor, self.held, len(self.content), room, len(room)):
+        while count := store(cursor, self._held, len(self.data), room, len(room)):
             yield count
 
-    def all(self, call: str, name: str) -> Iterator[Any]:
-        """The items of the list, as structs. Raises the first fault, in its turn."""
-        room = (getattr(declared, name) * 64)()
-        for count in self._batches(call, room):
+    def all(self, call: str, cursor: Any = None) -> Iterator[Any]:
+        """Yields the items of the list. Their spans count from the start of `data`. Raises the first fault, in its turn."""
+        room = (_stored_by(call) * STRUCTS)()
+        for count in self._batches(call, room, cursor or self._cursor):
             for one in room[:count]:
                 if one.fault.kind:
                     raise Fault(self.library, one.fault)
                 yield one
 
-    def rows(self, call: str, name: str, layout: struct.Struct) -> Iterator[tuple[Any, ...]]:
-        """Some fields of the items of the list, ten times as fast as structs. Raises the first fault, in its turn."""
-        room = (getattr(declared, name) * BATCH)()
-        faults = fields(name, "fault.kind")
-        for count in self._batches(call, room):
+    def rows(self, call: str, layout: struct.Struct) -> Iterator[tuple[Any, ...]]:
+        """Yields some fields of each item, ten times as fast as structs. Raises the first fault, in its turn."""
+        kind = _stored_by(call)
+        room, faults = (kind * ROWS)(), fields(kind.__name__, "fault.kind")
+        for count in self._batches(call, room, self._cursor):
             bytes_of = memoryview(room).cast("B")[: count * layout.size]
             if any(kind for kind, in faults.iter_unpack(bytes_of)):
                 for one, row in zip(room[:count], layout.iter_unpack(bytes_of)):
@@ -101,13 +116,18 @@ class Items:
                     yield row
             yield from layout.iter_unpack(bytes_of)
 
-    def span(self, span: Any, base: int = 0) -> bytes:
-        """The bytes of a span of an item; of one that `read` returned, from `before` on."""
-        return self.content[base + span.at : base + span.at + span.size]
+    def imports(self) -> Iterator[Any]:
+        """Yields the imports of a section, those of bundles one by one. Raises the first fault, in its turn."""
+        return self.all("flat_imports", declared.Imports(items=self._cursor))
 
-    def text(self, span: Any, base: int = 0) -> str:
-        return str(self.span(span, base), "utf-8")
+    def bytes_of(self, span: Any) -> bytes:
+        """The bytes of a span of an item of the list."""
+        return self.data[span.at : span.at + span.size]
+
+    def text(self, span: Any) -> str:
+        """The text of a span."""
+        return str(self.bytes_of(span), "utf-8")
 
     def part(self, span: Any) -> Items:
-        """The bytes of a span as a list of their own."""
-        return Items(self.library, self.span(span), self.offset + span.at, self.features)
+        """A cursor over the bytes of a span."""
+        return Items(self.bytes_of(span), self.offset + span.at, self.features, self.library)

@@ -1,7 +1,10 @@
 """The declarations of the library, written by tools/c_header from its sources."""
 # SPDX-License-Identifier: Apache-2.0 OR MIT
+from __future__ import annotations
+
 import ctypes
 import enum
+from typing import Any
 
 VERSION = "0.1.0"
 
@@ -109,6 +112,25 @@ class CoreStart(enum.IntEnum):
     INSTANCE = 2
     STACK_NAME = 3
     FRAME = 4
+
+
+class SectionId(enum.IntEnum):
+    """The id of a section of a module."""
+
+    CUSTOM = 0
+    TYPE = 1
+    IMPORT = 2
+    FUNCTION = 3
+    TABLE = 4
+    MEMORY = 5
+    GLOBAL = 6
+    EXPORT = 7
+    START = 8
+    ELEMENT = 9
+    CODE = 10
+    DATA = 11
+    DATA_COUNT = 12
+    TAG = 13
 
 
 class TypeKind(enum.IntEnum):
@@ -262,6 +284,46 @@ class CoreValueKind(enum.IntEnum):
     I64 = 2
     F32 = 3
     F64 = 4
+
+
+class NameId(enum.IntEnum):
+    """The id of a subsection of `name`."""
+
+    MODULE = 0
+    FUNCTION = 1
+    LOCAL = 2
+    LABEL = 3
+    TYPE = 4
+    TABLE = 5
+    MEMORY = 6
+    GLOBAL = 7
+    ELEMENT = 8
+    DATA = 9
+    FIELD = 10
+    TAG = 11
+    PARAMETER = 12
+    TAG_PARAMETER = 13
+
+
+class LinkingId(enum.IntEnum):
+    """The id of a subsection of `linking`."""
+
+    SEGMENT_INFO = 5
+    INIT_FUNCS = 6
+    COMDAT_INFO = 7
+    SYMBOL_TABLE = 8
+    TARGET_ARCH = 9
+
+
+class DylinkId(enum.IntEnum):
+    """The id of a subsection of `dylink.0`."""
+
+    MEM_INFO = 1
+    NEEDED = 2
+    EXPORT_INFO = 3
+    IMPORT_INFO = 4
+    RUNTIME_PATH = 5
+    TARGET_ARCH = 6
 
 
 class Opcode(enum.IntEnum):
@@ -557,6 +619,14 @@ class Name(ctypes.Structure):
     ]
 
 
+class Imports(ctypes.Structure):
+    _fields_ = [
+        ("items", Items),
+        ("bundled", Items),
+        ("bundle", Import),
+    ]
+
+
 class Export(ctypes.Structure):
     _fields_ = [
         ("fault", Fault),
@@ -835,8 +905,8 @@ class Stripped(ctypes.Structure):
     ]
 
 
-# What each call answers and takes.
-CALLS = {
+# What each call returns and takes.
+CALLS: dict[str, tuple[Any, list[Any]]] = {
     "pulleynavy_version": (ctypes.c_uint32, []),
     "pulleynavy_format_message": (ctypes.c_size_t, [ctypes.c_uint32, ctypes.c_void_p, ctypes.c_size_t]),
     "pulleynavy_parser_init": (Parser, [ctypes.c_uint64, ctypes.c_uint32]),
@@ -881,6 +951,8 @@ CALLS = {
     "pulleynavy_read_text": (Name, [ctypes.c_void_p, ctypes.c_size_t, ctypes.c_uint64, ctypes.c_uint32]),
     "pulleynavy_next_texts": (ctypes.c_size_t, [ctypes.POINTER(Items), ctypes.c_void_p, ctypes.c_size_t, ctypes.POINTER(Name), ctypes.c_size_t]),
     "pulleynavy_read_bundled_import": (ImportItem, [ctypes.POINTER(Import), ctypes.c_void_p, ctypes.c_size_t, ctypes.c_uint64, ctypes.c_uint32]),
+    "pulleynavy_imports_init": (Imports, [ctypes.POINTER(Event), ctypes.c_uint32]),
+    "pulleynavy_next_flat_imports": (ctypes.c_size_t, [ctypes.POINTER(Imports), ctypes.c_void_p, ctypes.c_size_t, ctypes.POINTER(Import), ctypes.c_size_t]),
     "pulleynavy_read_export": (Export, [ctypes.c_void_p, ctypes.c_size_t, ctypes.c_uint64, ctypes.c_uint32]),
     "pulleynavy_next_exports": (ctypes.c_size_t, [ctypes.POINTER(Items), ctypes.c_void_p, ctypes.c_size_t, ctypes.POINTER(Export), ctypes.c_size_t]),
     "pulleynavy_read_instruction": (Instruction, [ctypes.c_void_p, ctypes.c_size_t, ctypes.c_uint64, ctypes.c_uint32]),

@@ -10,11 +10,7 @@ from typing import Any, BinaryIO, Iterator, NamedTuple
 from ._events import Event, events
 from ._items import Items, fields
 from ._library import ALL_FEATURES, load
-from .declared import CustomKind, DataKind, ElementKind, EventKind, ExternalKind, HeapKind, TypeKind
-
-# Section ids (core specification, Binary format, Modules, Sections).
-IMPORTS, FUNCTIONS, TABLES, MEMORIES, GLOBALS, EXPORTS, ELEMENTS, DATAS, TAGS = 2, 3, 4, 5, 6, 7, 9, 11, 13
-MODULE_NAME, FUNCTION_NAMES = 0, 1
+from .declared import CustomKind, DataKind, ElementKind, EventKind, ExternalKind, HeapKind, NameId, SectionId, TypeKind
 
 
 @dataclasses.dataclass(frozen=True)
@@ -92,7 +88,7 @@ class Export(NamedTuple):
 
     name: str
     kind: ExternalKind
-    index: int
+    index: int  # type: ignore[assignment]  # in place of tuple.index
 
 
 class Element(NamedTuple):
@@ -100,7 +96,7 @@ class Element(NamedTuple):
 
     kind: ElementKind
     table: int | None
-    count: int
+    count: int  # type: ignore[assignment]  # in place of tuple.count
 
 
 class Data(NamedTuple):
@@ -183,7 +179,7 @@ class Module:
         """The items of each section with this id."""
         for event in self._events:
             if event.kind is EventKind.SECTION and event.id == number:
-                yield Items(self._library, event.content, event.start, self._features).skip(event.data_offset - event.start, event.count)
+                yield Items(event.content, event.start, self._features, self._library).skip(event.data_offset - event.start, event.count)
 
     @functools.cached_property
     def is_component(self) -> bool:
@@ -198,40 +194,44 @@ class Module:
     @functools.cached_property
     def imports(self) -> list[Import]:
         """The imports, those of bundles among them."""
-        return [one for items in self._lists(IMPORTS) for one in _imports(items)]
+        return [
+            Import(items.text(one.module_name), items.text(one.name), ExternalKind(one.ty.kind), _imported(one.ty))
+            for items in self._lists(SectionId.IMPORT)
+            for one in items.imports()
+        ]
 
     @functools.cached_property
     def functions(self) -> list[int]:
         """The index of the type of each function that the module defines."""
-        return [index for items in self._lists(FUNCTIONS) for index, in items.rows("numbers", "Number", _NUMBER)]
+        return [index for items in self._lists(SectionId.FUNCTION) for index, in items.rows("numbers", _NUMBER)]
 
     @functools.cached_property
     def tables(self) -> list[Table]:
         """The tables that the module defines."""
-        return [_table(one.ty) for items in self._lists(TABLES) for one in items.all("tables", "Table")]
+        return [_table(one.ty) for items in self._lists(SectionId.TABLE) for one in items.all("tables")]
 
     @functools.cached_property
     def memories(self) -> list[Memory]:
         """The memories that the module defines."""
-        return [_memory(one.ty) for items in self._lists(MEMORIES) for one in items.all("memories", "Memory")]
+        return [_memory(one.ty) for items in self._lists(SectionId.MEMORY) for one in items.all("memories")]
 
     @functools.cached_property
     def globals(self) -> list[Global]:
         """The globals that the module defines."""
-        return [_global(one.ty) for items in self._lists(GLOBALS) for one in items.all("globals", "Global")]
+        return [_global(one.ty) for items in self._lists(SectionId.GLOBAL) for one in items.all("globals")]
 
     @functools.cached_property
     def tags(self) -> list[int]:
         """The index of the function type of each tag that the module defines."""
-        return [one.func_type_index for items in self._lists(TAGS) for one in items.all("tags", "Tag")]
+        return [one.func_type_index for items in self._lists(SectionId.TAG) for one in items.all("tags")]
 
     @functools.cached_property
     def exports(self) -> list[Export]:
         """The exports."""
         return [
-            Export(str(items.content[at : at + size], "utf-8"), _EXTERNAL_KINDS[kind], index)
-            for items in self._lists(EXPORTS)
-            for at, size, kind, index in items.rows("exports", "Export", _EXPORT)
+            Export(str(items.data[at : at + size], "utf-8"), _EXTERNAL_KINDS[kind], index)
+            for items in self._lists(SectionId.EXPORT)
+            for at, size, kind, index in items.rows("exports", _EXPORT)
         ]
 
     @functools.cached_property
@@ -239,17 +239,17 @@ class Module:
         """The element segments."""
         return [
             Element(_ELEMENT_KINDS[kind], table if has_table else None, count)
-            for items in self._lists(ELEMENTS)
-            for kind, has_table, table, count in items.rows("elements", "Element", _ELEMENT)
+            for items in self._lists(SectionId.ELEMENT)
+            for kind, has_table, table, count in items.rows("elements", _ELEMENT)
         ]
 
     @functools.cached_property
     def data(self) -> list[Data]:
         """The data segments."""
         return [
-            Data(_DATA_KINDS[kind], memory if kind == DataKind.ACTIVE else None, items.content[at : at + size])
-            for items in self._lists(DATAS)
-            for kind, memory, at, size in items.rows("data", "Data", _DATA)
+            Data(_DATA_KINDS[kind], memory if kind == DataKind.ACTIVE else None, items.data[at : at + size])
+            for items in self._lists(SectionId.DATA)
+            for kind, memory, at, size in items.rows("data", _DATA)
         ]
 
     @functools.cached_property
@@ -280,18 +280,18 @@ class Module:
         for section in self.custom_sections:
             if section.kind is CustomKind.NAME:
                 for number, contents in self._subsections(section):
-                    if number == MODULE_NAME:
+                    if number == NameId.MODULE:
                         module = contents.text(contents.read("name").name)
-                    elif number == FUNCTION_NAMES:
+                    elif number == NameId.FUNCTION:
                         functions.update(
-                            (index, str(contents.content[at : at + size], "utf-8"))
-                            for index, at, size in contents.counted().rows("namings", "Naming", _NAMING)
+                            (index, str(contents.data[at : at + size], "utf-8"))
+                            for index, at, size in contents.counted().rows("namings", _NAMING)
                         )
         return Names(module, functions)
 
     def _subsections(self, section: CustomSection) -> Iterator[tuple[int, Items]]:
-        items = Items(self._library, section.data, section.offset, self._features)
-        for one in items.all("name_subsections", "Subsection"):
+        items = Items(section.data, section.offset, self._features, self._library)
+        for one in items.all("name_subsections"):
             yield one.id, items.part(one.contents)
 
 
@@ -299,13 +299,13 @@ def _section(event: Event) -> Iterator[Section]:
     if event.kind is EventKind.SECTION:
         yield Section(event.id, event.start, event.end, event.count)
     elif event.kind is EventKind.CUSTOM:
-        yield Section(0, event.start, event.end, None, event.name)
+        yield Section(SectionId.CUSTOM, event.start, event.end, None, event.name)
     elif event.kind is EventKind.CODE:
-        yield Section(10, event.start, event.end, event.count)
+        yield Section(SectionId.CODE, event.start, event.end, event.count)
     elif event.kind is EventKind.START:
-        yield Section(8, event.start, event.end, None)
+        yield Section(SectionId.START, event.start, event.end, None)
     elif event.kind is EventKind.DATA_COUNT:
-        yield Section(12, event.start, event.end, None)
+        yield Section(SectionId.DATA_COUNT, event.start, event.end, None)
     elif event.kind is EventKind.UNKNOWN:
         yield Section(event.id, event.start, event.end, None)
 
@@ -319,15 +319,3 @@ def _imported(ty: Any) -> int | Table | Memory | Global:
     if kind is ExternalKind.GLOBAL:
         return _global(getattr(ty, "global"))
     return int(ty.index)
-
-
-def _imports(items: Items) -> Iterator[Import]:
-    for one in items.all("imports", "Import"):
-        module = items.text(one.module_name)
-        if not one.kind:
-            yield Import(module, items.text(one.name), ExternalKind(one.ty.kind), _imported(one.ty))
-            continue
-        bundle = items.part(one.items)
-        for _ in range(one.count):
-            item = bundle.read("bundled_import", one)
-            yield Import(module, bundle.text(item.name, bundle.before), ExternalKind(item.ty.kind), _imported(item.ty))

@@ -21,6 +21,7 @@ from pulleynavy import (
     Global,
     HeapKind,
     Import,
+    Items,
     Limits,
     Memory,
     Module,
@@ -36,7 +37,7 @@ FUNCREF = ValueType(TypeKind.REF, True, HeapKind.FUNC)
 
 
 def load_tests(loader, tests, pattern):
-    for module in (pulleynavy, pulleynavy._events, pulleynavy.module):
+    for module in (pulleynavy, pulleynavy._events, pulleynavy._items, pulleynavy.module):
         tests.addTests(doctest.DocTestSuite(module))
     return tests
 
@@ -78,6 +79,27 @@ class Items(unittest.TestCase):
         self.assertEqual((module.names.module, module.names.functions), ("m", {7: "é"}))
         self.assertEqual([section.name for section in module.custom_sections], ["name", "x"])
         self.assertEqual(Module(HEADER).names.functions, {})
+
+    def test_many_items(self):
+        names = [b"%d" % number for number in range(10_000)]
+        content = b"\x90\x4e" + b"".join(bytes([len(name)]) + name + b"\0\0" for name in names)
+        size = bytes([len(content) & 0x7F | 0x80, len(content) >> 7 & 0x7F | 0x80, len(content) >> 14])
+        module = Module(HEADER + b"\7" + size + content)
+        self.assertEqual([one.name.encode() for one in module.exports], names)
+        malformed = Module(HEADER + b"\7" + size + content[:-2] + b"\5\0")
+        with self.assertRaises(Fault) as caught:
+            malformed.exports
+        self.assertEqual(caught.exception.offset, 8 + 4 + len(content) - 2)
+
+    def test_lists_of_custom_sections(self):
+        items = Items(b"\2\3\2\1a\2\1a\1b", 50)
+        self.assertEqual((items.read("number").value, items.position), (2, 1))
+        self.assertEqual(items.offset, 50)
+        names = Items(b"\2\1\1a\1\1b", 0).counted().all("namings")
+        self.assertEqual(next(names).index, 1)
+        with self.assertRaises(Fault) as caught:
+            next(names)
+        self.assertEqual((caught.exception.kind, caught.exception.offset), (FaultKind.NAMES_ORDER, 4))
 
     def test_a_component_has_no_items(self):
         module = Module(b"\0asm\x0d\0\1\0\1\1\0")

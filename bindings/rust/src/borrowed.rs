@@ -1,9 +1,8 @@
 //! Items whose lists borrow from the input, for builds without the feature `alloc`.
 use crate::codes::composite_kind;
 use crate::error::Result;
-use crate::section::call;
 use crate::types::type_index;
-use crate::{ArrayType, BinaryReader, ContType, CoreDumpValue, Fault, FieldType, FromReader, List, PackedIndex, SectionLimited, ValType};
+use crate::{ArrayType, BinaryReader, ContType, CoreDumpValue, FieldType, FromReader, List, PackedIndex, SectionLimited, ValType, library};
 
 /// A list inside an item that borrows from the input anyway.
 pub(crate) type Items<'a, T> = List<'a, T>;
@@ -171,7 +170,7 @@ impl<'a> SubType<'a> {
 
 impl<'a> FromReader<'a> for SubType<'a> {
     fn from_reader(reader: &mut BinaryReader<'a>) -> Result<Self> {
-        let (_, head) = call!(subtype, reader);
+        let (_, head) = reader.item(library::subtype)?;
         let inner = match head.kind {
             composite_kind::FUNC => CompositeInnerType::Func(FuncType::read(reader, head.count)?),
             composite_kind::ARRAY => CompositeInnerType::Array(reader.read()?),
@@ -208,7 +207,7 @@ impl<'a> RecGroup<'a> {
 
 impl<'a> FromReader<'a> for RecGroup<'a> {
     fn from_reader(reader: &mut BinaryReader<'a>) -> Result<Self> {
-        let (_, head) = call!(type_group, reader);
+        let (_, head) = reader.item(library::type_group)?;
         Ok(RecGroup { explicit: head.is_explicit != 0, types: read_items(reader, head.count, SubType::from_reader, SubType::from_reader)? })
     }
 }
@@ -227,7 +226,7 @@ impl<'a> CoreDumpInstancesSection<'a> {
     /// If an instance is malformed, or if bytes remain after the last one.
     pub fn new(mut reader: BinaryReader<'a>) -> Result<Self> {
         let instances = reader.read()?;
-        reader.expect_end(Fault::CustomTrailing)?;
+        reader.expect_end(library::custom_end)?;
         Ok(CoreDumpInstancesSection { instances })
     }
 }
@@ -245,7 +244,7 @@ pub struct CoreDumpInstance<'a> {
 
 impl<'a> FromReader<'a> for CoreDumpInstance<'a> {
     fn from_reader(reader: &mut BinaryReader<'a>) -> Result<Self> {
-        let (_, plain) = call!(core_instance, reader);
+        let (_, plain) = reader.item(library::core_instance)?;
         Ok(CoreDumpInstance { module_index: plain.module_index, memories: reader.read()?, globals: reader.read()? })
     }
 }
@@ -267,7 +266,7 @@ pub struct CoreDumpStackFrame<'a> {
 
 impl<'a> FromReader<'a> for CoreDumpStackFrame<'a> {
     fn from_reader(reader: &mut BinaryReader<'a>) -> Result<Self> {
-        let (_, plain) = call!(core_frame, reader);
+        let (_, plain) = reader.item(library::core_frame)?;
         let (instanceidx, funcidx, codeoffset) = (plain.instance, plain.func, plain.code_offset);
         Ok(CoreDumpStackFrame { instanceidx, funcidx, codeoffset, locals: reader.read()?, stack: reader.read()? })
     }

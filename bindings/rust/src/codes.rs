@@ -95,6 +95,23 @@ pub(crate) mod core_start {
     pub(crate) const FRAME: u32 = 4;
 }
 
+pub(crate) mod section_id {
+    pub(crate) const CUSTOM: u32 = 0;
+    pub(crate) const TYPE: u32 = 1;
+    pub(crate) const IMPORT: u32 = 2;
+    pub(crate) const FUNCTION: u32 = 3;
+    pub(crate) const TABLE: u32 = 4;
+    pub(crate) const MEMORY: u32 = 5;
+    pub(crate) const GLOBAL: u32 = 6;
+    pub(crate) const EXPORT: u32 = 7;
+    pub(crate) const START: u32 = 8;
+    pub(crate) const ELEMENT: u32 = 9;
+    pub(crate) const CODE: u32 = 10;
+    pub(crate) const DATA: u32 = 11;
+    pub(crate) const DATA_COUNT: u32 = 12;
+    pub(crate) const TAG: u32 = 13;
+}
+
 pub(crate) mod type_kind {
     pub(crate) const I32: u32 = 0;
     pub(crate) const I64: u32 = 1;
@@ -222,6 +239,40 @@ pub(crate) mod core_value_kind {
     pub(crate) const I64: u32 = 2;
     pub(crate) const F32: u32 = 3;
     pub(crate) const F64: u32 = 4;
+}
+
+pub(crate) mod name_id {
+    pub(crate) const MODULE: u32 = 0;
+    pub(crate) const FUNCTION: u32 = 1;
+    pub(crate) const LOCAL: u32 = 2;
+    pub(crate) const LABEL: u32 = 3;
+    pub(crate) const TYPE: u32 = 4;
+    pub(crate) const TABLE: u32 = 5;
+    pub(crate) const MEMORY: u32 = 6;
+    pub(crate) const GLOBAL: u32 = 7;
+    pub(crate) const ELEMENT: u32 = 8;
+    pub(crate) const DATA: u32 = 9;
+    pub(crate) const FIELD: u32 = 10;
+    pub(crate) const TAG: u32 = 11;
+    pub(crate) const PARAMETER: u32 = 12;
+    pub(crate) const TAG_PARAMETER: u32 = 13;
+}
+
+pub(crate) mod linking_id {
+    pub(crate) const SEGMENT_INFO: u32 = 5;
+    pub(crate) const INIT_FUNCS: u32 = 6;
+    pub(crate) const COMDAT_INFO: u32 = 7;
+    pub(crate) const SYMBOL_TABLE: u32 = 8;
+    pub(crate) const TARGET_ARCH: u32 = 9;
+}
+
+pub(crate) mod dylink_id {
+    pub(crate) const MEM_INFO: u32 = 1;
+    pub(crate) const NEEDED: u32 = 2;
+    pub(crate) const EXPORT_INFO: u32 = 3;
+    pub(crate) const IMPORT_INFO: u32 = 4;
+    pub(crate) const RUNTIME_PATH: u32 = 5;
+    pub(crate) const TARGET_ARCH: u32 = 6;
 }
 
 pub(crate) mod opcode {

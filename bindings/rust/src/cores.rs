@@ -1,8 +1,7 @@
 //! Core dumps.
 use crate::codes::core_value_kind;
 use crate::composites::{Frame, Items, read_items, read_list};
-use crate::section::call;
-use crate::{BinaryReader, Fault, FromReader, Ieee32, Ieee64, Result};
+use crate::{BinaryReader, FromReader, Ieee32, Ieee64, Result, library};
 
 /// The section `core`.
 #[derive(Clone, Copy, Debug, PartialEq, Eq, Hash)]
@@ -17,8 +16,8 @@ impl<'a> CoreDumpSection<'a> {
     /// # Errors
     /// If the name is malformed, or if bytes remain.
     pub fn new(mut reader: BinaryReader<'a>) -> Result<Self> {
-        let (window, plain) = call!(core_process, reader);
-        reader.expect_end(Fault::CustomTrailing)?;
+        let (window, plain) = reader.item(library::core_process)?;
+        reader.expect_end(library::custom_end)?;
         Ok(CoreDumpSection { name: window.text(plain.name) })
     }
 }
@@ -40,14 +39,14 @@ impl<'a> CoreDumpModulesSection<'a> {
         let count = reader.read_var_u32()?;
         // Only a list that borrows reads its items again. They have no fault then, so the offset is not used.
         let modules = read_items(&mut reader, count, |reader| module(reader, data_offset), |reader| module(reader, 0))?;
-        reader.expect_end(Fault::CustomTrailing)?;
+        reader.expect_end(library::custom_end)?;
         Ok(CoreDumpModulesSection { modules })
     }
 }
 
 /// The name of a module of the section whose data begins at this offset.
 fn module<'a>(reader: &mut BinaryReader<'a>, data_offset: u64) -> Result<&'a str> {
-    let (window, plain) = call!(core_module, reader, data_offset);
+    let (window, plain) = reader.item(|window| library::core_module(window, data_offset))?;
     Ok(window.text(plain.name))
 }
 
@@ -66,9 +65,9 @@ impl<'a> CoreDumpStackSection<'a> {
     /// # Errors
     /// If the name or a frame is malformed, or if bytes remain.
     pub fn new(mut reader: BinaryReader<'a>) -> Result<Self> {
-        let (window, plain) = call!(core_thread, reader);
+        let (window, plain) = reader.item(library::core_thread)?;
         let frames = read_list(&mut reader, Frame::from_reader)?;
-        reader.expect_end(Fault::CustomTrailing)?;
+        reader.expect_end(library::custom_end)?;
         Ok(CoreDumpStackSection { name: window.text(plain.name), frames })
     }
 }
@@ -90,7 +89,7 @@ pub enum CoreDumpValue {
 
 impl<'a> FromReader<'a> for CoreDumpValue {
     fn from_reader(reader: &mut BinaryReader<'a>) -> Result<Self> {
-        let (_, plain) = call!(core_value, reader);
+        let (_, plain) = reader.item(library::core_value)?;
         Ok(match plain.kind {
             core_value_kind::I32 => CoreDumpValue::I32(plain.integer as i32),
             core_value_kind::I64 => CoreDumpValue::I64(plain.integer),

@@ -1,6 +1,6 @@
 //! Custom sections and subsections.
-use crate::library::{self, Span};
-use crate::section::{Window, read_size};
+use crate::library::{self, Item, Span};
+use crate::section::Window;
 use crate::{BinaryReader, Error, Fault, Result};
 use core::fmt;
 use core::marker::PhantomData;
@@ -32,10 +32,10 @@ impl<'a> CustomSectionReader<'a> {
     }
 
     /// The section in a window, by the offset of its data and the size of the name before it.
-    pub(crate) fn of(whole: Window<'a>, data_offset: u64, name_size: u64) -> Self {
-        let at = data_offset - whole.offset;
-        let name = whole.text(Span { at: at - name_size, size: name_size });
-        CustomSectionReader { whole, name, data: whole.after(at) }
+    pub(crate) fn of(whole: Window<'a>, data_offset: u64, name_size: usize) -> Self {
+        let data = whole.from(data_offset);
+        let name = whole.text(Span { at: whole.bytes.len() - data.bytes.len() - name_size, size: name_size });
+        CustomSectionReader { whole, name, data }
     }
 
     /// Its name.
@@ -78,8 +78,8 @@ pub trait Subsection<'a>: Sized {
     fn from_reader(id: u8, reader: BinaryReader<'a>) -> Result<Self>;
 }
 
-/// An iterator over subsections. After an error it continues behind what was read: behind a subsection whose content is malformed, and
-/// behind the bytes of an id or a size that is malformed.
+/// An iterator over subsections. After an error it continues after the consumed bytes: those of a subsection whose content is malformed, or
+/// of an id or a size that is malformed.
 pub struct Subsections<'a, T> {
     start: u64,
     rest: Window<'a>,
@@ -123,8 +123,8 @@ impl<'a, T> Subsections<'a, T> {
     fn read(&mut self) -> Result<(u8, BinaryReader<'a>)> {
         let window = self.rest;
         let plain = library::subsection(&window);
-        let size = read_size(&plain).inspect_err(|error| self.rest = window.after(malformed_size(error, window.offset)))?;
-        self.rest = window.after(size);
+        Error::check(plain.fault()).inspect_err(|error| self.rest = window.from(end_of_malformed(error)))?;
+        self.rest = window.after(plain.consumed());
         Ok((plain.id as u8, BinaryReader::of(window.part(plain.contents))))
     }
 }
@@ -140,9 +140,8 @@ impl<'a, T: Subsection<'a>> Iterator for Subsections<'a, T> {
     }
 }
 
-/// How many bytes were read before an error of an id or a size at this offset.
-fn malformed_size(error: &Error, offset: u64) -> u64 {
-    let size = error.offset() - offset;
-    // The error is at a byte that was read, or where bytes are missing.
-    if error.fault() == Fault::UnexpectedEof { size } else { size + 1 }
+/// The offset after a malformed id or size.
+fn end_of_malformed(error: &Error) -> u64 {
+    // The error is at the last byte that was read, or where bytes are missing.
+    if error.fault() == Fault::UnexpectedEof { error.offset() } else { error.offset() + 1 }
 }

@@ -31,6 +31,12 @@ impl Error {
         Error { number: Some(number), text: Text::of(self.fault, number), ..self }
     }
 
+    /// Returns the error of a fault, unless the library reports none.
+    #[inline]
+    pub(crate) fn check(fault: library::Fault) -> Result<()> {
+        if fault.kind == 0 { Ok(()) } else { Err(Error::reported(fault)) }
+    }
+
     /// The error of a fault that the library reports.
     #[cold]
     pub(crate) fn reported(fault: library::Fault) -> Self {
@@ -43,14 +49,9 @@ impl Error {
         Error::new(Fault::LeadingByte(lead), offset).with_number(byte.into())
     }
 
-    /// The same error at another offset.
-    pub(crate) fn at(self, offset: u64) -> Self {
-        Error { offset, ..self }
-    }
-
-    /// The same error with this hint.
+    /// The same error with this hint, if it is that of missing bytes.
     pub(crate) fn with_hint(self, hint: usize) -> Self {
-        Error { needed_hint: Some(hint), ..self }
+        Error { needed_hint: (self.fault == Fault::UnexpectedEof).then_some(hint), ..self }
     }
 
     /// The same error without a hint.

@@ -246,6 +246,14 @@ pub struct Name {
 
 #[repr(C)]
 #[derive(Clone, Copy, Debug)]
+pub struct Imports {
+    pub items: Items,
+    pub bundled: Items,
+    pub bundle: Import,
+}
+
+#[repr(C)]
+#[derive(Clone, Copy, Debug)]
 pub struct Export {
     pub fault: Fault,
     pub consumed: usize,
@@ -756,6 +764,14 @@ unsafe extern "C" {
         offset: u64,
         features: u32,
     ) -> ImportItem;
+    pub fn pulleynavy_imports_init(event: &Event, features: u32) -> Imports;
+    pub fn pulleynavy_next_flat_imports(
+        imports: &mut Imports,
+        bytes: *const u8,
+        bytes_size: usize,
+        out: *mut Import,
+        out_count: usize,
+    ) -> usize;
     pub fn pulleynavy_read_export(
         bytes: *const u8,
         bytes_size: usize,

@@ -6,10 +6,10 @@ use core::ops::{BitAnd, BitAndAssign, BitOr, BitOrAssign, BitXor, BitXorAssign, 
 
 /// Declares a set of flags with the calls of the crate `bitflags`. Bits without a name are kept.
 macro_rules! flags {
-    ($(#[$doc:meta])* $name:ident { $($(#[$flag_doc:meta])* $flag:ident = $bits:expr;)* }) => {
+    ($(#[$doc:meta])* $name:ident: $number:ty { $($(#[$flag_doc:meta])* $flag:ident = $bits:expr;)* }) => {
         $(#[$doc])*
         #[derive(Clone, Copy, PartialEq, Eq, Hash)]
-        pub struct $name(u32);
+        pub struct $name($number);
 
         impl $name {
             $($(#[$flag_doc])* pub const $flag: $name = $name($bits);)*
@@ -28,17 +28,17 @@ macro_rules! flags {
             }
 
             /// The set with exactly these bits.
-            pub const fn from_bits_retain(bits: u32) -> Self {
+            pub const fn from_bits_retain(bits: $number) -> Self {
                 $name(bits)
             }
 
             /// The set with these bits, if all of them have a name.
-            pub const fn from_bits(bits: u32) -> Option<Self> {
+            pub const fn from_bits(bits: $number) -> Option<Self> {
                 if bits & !$name::all().0 == 0 { Some($name(bits)) } else { None }
             }
 
             /// The set with those of these bits that have a name.
-            pub const fn from_bits_truncate(bits: u32) -> Self {
+            pub const fn from_bits_truncate(bits: $number) -> Self {
                 $name(bits & $name::all().0)
             }
 
@@ -48,7 +48,7 @@ macro_rules! flags {
             }
 
             /// The bits of the set.
-            pub const fn bits(&self) -> u32 {
+            pub const fn bits(&self) -> $number {
                 self.0
             }
 
@@ -275,8 +275,8 @@ impl<T: Set> Iterator for FlagsIterNames<T> {
 }
 
 flags! {
-    /// A set of features.
-    WasmFeatures {
+    /// A set of features. Readers and parsers keep its lowest 32 bits.
+    WasmFeatures: u64 {
         /// Memories and tables of 64 bits.
         MEMORY64 = 1;
         /// Groups of compact imports.
@@ -287,7 +287,7 @@ flags! {
 flags! {
     /// The flags of a symbol.
     #[derive(Default, PartialOrd, Ord)]
-    SymbolFlags {
+    SymbolFlags: u32 {
         /// A weak symbol: it gives way to another definition.
         BINDING_WEAK = symbol_flags::BINDING_WEAK;
         /// A local symbol: it is visible in its own file only.
@@ -312,11 +312,23 @@ flags! {
 flags! {
     /// The flags of a data segment.
     #[derive(Default)]
-    SegmentFlags {
+    SegmentFlags: u32 {
         /// It holds strings that end with a zero byte.
         STRINGS = segment_flags::STRINGS;
         /// It is thread-local.
         TLS = segment_flags::TLS;
+    }
+}
+
+impl WasmFeatures {
+    /// The set with these bits of the library.
+    pub(crate) fn of(bits: u32) -> Self {
+        WasmFeatures(bits.into())
+    }
+
+    /// The bits for the library, which has 32. Higher ones have no name.
+    pub(crate) fn low_bits(self) -> u32 {
+        self.0 as u32
     }
 }
 

@@ -2,7 +2,7 @@
 use crate::codes::{external_kind, import_kind};
 use crate::kinds::{exception_tag, global_type, memory_type, table_type};
 use crate::library;
-use crate::section::{SectionLimitedIntoIter, SectionLimitedIntoIterWithOffsets, call};
+use crate::section::{SectionLimitedIntoIter, SectionLimitedIntoIterWithOffsets};
 use crate::{BinaryReader, ExternalKind, FromReader, GlobalType, MemoryType, Result, SectionLimited, TableType, TagType};
 
 /// The type of an import.
@@ -98,7 +98,7 @@ impl<'a> FromReader<'a> for Import<'a> {
 
 impl<'a> FromReader<'a> for Imports<'a> {
     fn from_reader(reader: &mut BinaryReader<'a>) -> Result<Self> {
-        let (window, plain) = call!(import, reader);
+        let (window, plain) = reader.item(library::import)?;
         let (module, ty) = (window.text(plain.module_name), type_ref(&plain.ty));
         let group = match plain.kind {
             import_kind::SINGLE => Imports::Single(window.offset, Import { module, name: window.text(plain.name), ty }),
@@ -111,7 +111,7 @@ impl<'a> FromReader<'a> for Imports<'a> {
 
 impl<'a> FromReader<'a> for ImportItemCompact<'a> {
     fn from_reader(reader: &mut BinaryReader<'a>) -> Result<Self> {
-        let (window, plain) = call!(import_item, reader);
+        let (window, plain) = reader.item(library::import_item)?;
         Ok(ImportItemCompact { name: window.text(plain.name), ty: type_ref(&plain.ty) })
     }
 }

@@ -2,9 +2,9 @@
 use crate::codes::{data_kind, element_kind, external_kind};
 use crate::kinds::{global_type, table_type};
 use crate::library::Span;
-use crate::section::{Window, call};
+use crate::section::Window;
 use crate::types::ref_type;
-use crate::{BinaryReader, FromReader, GlobalType, Lead, RefType, Result, SectionLimited, TableType};
+use crate::{BinaryReader, FromReader, GlobalType, Lead, OperatorsReader, RefType, Result, SectionLimited, TableType, library};
 use core::ops::Range;
 
 /// A constant expression: its instructions, with the final `end`.
@@ -24,6 +24,11 @@ impl<'a> ConstExpr<'a> {
         BinaryReader::of(self.window)
     }
 
+    /// Returns a reader of its instructions.
+    pub fn get_operators_reader(&self) -> OperatorsReader<'a> {
+        OperatorsReader::new(self.get_binary_reader())
+    }
+
     /// The offsets of its bytes.
     pub fn range(&self) -> Range<u64> {
         self.window.range()
@@ -37,7 +42,7 @@ impl<'a> ConstExpr<'a> {
 
 impl<'a> FromReader<'a> for ConstExpr<'a> {
     fn from_reader(reader: &mut BinaryReader<'a>) -> Result<Self> {
-        let (window, plain) = call!(expression, reader);
+        let (window, plain) = reader.item(library::expression)?;
         Ok(ConstExpr { window: window.part(Span { at: 0, size: plain.consumed }) })
     }
 }
@@ -62,7 +67,7 @@ pub enum TableInit<'a> {
 
 impl<'a> FromReader<'a> for Table<'a> {
     fn from_reader(reader: &mut BinaryReader<'a>) -> Result<Self> {
-        let (window, plain) = call!(table, reader);
+        let (window, plain) = reader.item(library::table)?;
         let init = if plain.has_init == 0 { TableInit::RefNull } else { TableInit::Expr(ConstExpr { window: window.part(plain.init) }) };
         Ok(Table { ty: table_type(plain.ty), init })
     }
@@ -79,7 +84,7 @@ pub struct Global<'a> {
 
 impl<'a> FromReader<'a> for Global<'a> {
     fn from_reader(reader: &mut BinaryReader<'a>) -> Result<Self> {
-        let (window, plain) = call!(global, reader);
+        let (window, plain) = reader.item(library::global)?;
         Ok(Global { ty: global_type(plain.ty), init_expr: ConstExpr { window: window.part(plain.init) } })
     }
 }
@@ -137,7 +142,7 @@ pub struct Export<'a> {
 
 impl<'a> FromReader<'a> for Export<'a> {
     fn from_reader(reader: &mut BinaryReader<'a>) -> Result<Self> {
-        let (window, plain) = call!(export, reader);
+        let (window, plain) = reader.item(library::export)?;
         let kind = ExternalKind::of(plain.kind).unwrap_or(ExternalKind::FuncExact);
         Ok(Export { name: window.text(plain.name), kind, index: plain.index })
     }
@@ -181,7 +186,7 @@ pub enum ElementItems<'a> {
 
 impl<'a> FromReader<'a> for Element<'a> {
     fn from_reader(reader: &mut BinaryReader<'a>) -> Result<Self> {
-        let (window, plain) = call!(element, reader);
+        let (window, plain) = reader.item(library::element)?;
         let kind = match plain.kind {
             element_kind::PASSIVE => ElementKind::Passive,
             element_kind::ACTIVE => ElementKind::Active {
@@ -226,7 +231,7 @@ pub enum DataKind<'a> {
 
 impl<'a> FromReader<'a> for Data<'a> {
     fn from_reader(reader: &mut BinaryReader<'a>) -> Result<Self> {
-        let (window, plain) = call!(data, reader);
+        let (window, plain) = reader.item(library::data)?;
         let kind = match plain.kind {
             data_kind::PASSIVE => DataKind::Passive,
             _ => DataKind::Active { memory_index: plain.memory, offset_expr: ConstExpr { window: window.part(plain.offset_expression) } },

@@ -1,7 +1,6 @@
 //! Types of tables, memories, globals and tags.
-use crate::section::call;
 use crate::types::{ref_type, val_type};
-use crate::{BinaryReader, Error, Fault, FromReader, Lead, RefType, Result, Table, ValType, library};
+use crate::{BinaryReader, FromReader, RefType, Result, ValType, library};
 
 /// The type of a table.
 #[derive(Clone, Copy, Debug, PartialEq, Eq, Hash)]
@@ -103,39 +102,30 @@ pub(crate) fn global_type(ty: library::GlobalType) -> GlobalType {
     GlobalType { content_type: val_type(ty.content), mutable: ty.is_mutable != 0, shared: ty.shared != 0 }
 }
 
-/// The first of the two bytes before the type of a table that has an expression.
-const WITH_EXPRESSION: u8 = 0x40;
-
 impl<'a> FromReader<'a> for TableType {
     fn from_reader(reader: &mut BinaryReader<'a>) -> Result<Self> {
-        if reader.peek()? == WITH_EXPRESSION {
-            return Err(Error::leading_byte(Lead::Reference, WITH_EXPRESSION, reader.original_position()));
-        }
-        Ok(reader.read::<Table>()?.ty)
+        let (_, plain) = reader.item(library::table_type)?;
+        Ok(table_type(plain.ty))
     }
 }
 
 impl<'a> FromReader<'a> for GlobalType {
     fn from_reader(reader: &mut BinaryReader<'a>) -> Result<Self> {
-        let content_type = reader.read()?;
-        let offset = reader.original_position();
-        match reader.read_u8()? {
-            flags @ 0..=3 => Ok(GlobalType { content_type, mutable: flags & 1 != 0, shared: flags & 2 != 0 }),
-            _ => Err(Error::new(Fault::GlobalFlags, offset)),
-        }
+        let (_, plain) = reader.item(library::global_type)?;
+        Ok(global_type(plain.ty))
     }
 }
 
 impl<'a> FromReader<'a> for MemoryType {
     fn from_reader(reader: &mut BinaryReader<'a>) -> Result<Self> {
-        let (_, plain) = call!(memory, reader);
+        let (_, plain) = reader.item(library::memory)?;
         Ok(memory_type(plain.ty))
     }
 }
 
 impl<'a> FromReader<'a> for TagType {
     fn from_reader(reader: &mut BinaryReader<'a>) -> Result<Self> {
-        let (_, plain) = call!(tag, reader);
+        let (_, plain) = reader.item(library::tag)?;
         Ok(exception_tag(plain.func_type_index))
     }
 }

@@ -4,7 +4,6 @@ use crate::composites::{Instances, Items, read_list};
 use crate::cores::{CoreDumpModulesSection, CoreDumpSection, CoreDumpStackSection};
 use crate::linking::LinkingSectionReader;
 use crate::relocations::RelocSectionReader;
-use crate::section::call;
 use crate::{BinaryReader, CustomSectionReader, FromReader, NameSectionReader, Result, SectionLimited, Subsection, Subsections, SymbolFlags, library};
 use core::ops::Range;
 
@@ -75,7 +74,7 @@ pub struct ProducersField<'a> {
 
 impl<'a> FromReader<'a> for ProducersField<'a> {
     fn from_reader(reader: &mut BinaryReader<'a>) -> Result<Self> {
-        let (window, plain) = call!(producers_field, reader);
+        let (window, plain) = reader.item(library::producers_field)?;
         let values = SectionLimited::list(window, plain.values, plain.count);
         Ok(ProducersField { name: window.text(plain.name), values })
     }
@@ -92,7 +91,7 @@ pub struct ProducersFieldValue<'a> {
 
 impl<'a> FromReader<'a> for ProducersFieldValue<'a> {
     fn from_reader(reader: &mut BinaryReader<'a>) -> Result<Self> {
-        let (window, plain) = call!(producers_value, reader);
+        let (window, plain) = reader.item(library::producers_value)?;
         Ok(ProducersFieldValue { name: window.text(plain.name), version: window.text(plain.version) })
     }
 }
@@ -111,7 +110,7 @@ pub struct BranchHintFunction<'a> {
 
 impl<'a> FromReader<'a> for BranchHintFunction<'a> {
     fn from_reader(reader: &mut BinaryReader<'a>) -> Result<Self> {
-        let (window, plain) = call!(hinted_function, reader);
+        let (window, plain) = reader.item(library::hinted_function)?;
         let hints = SectionLimited::list(window, plain.hints, plain.count);
         Ok(BranchHintFunction { func: plain.func, hints })
     }
@@ -128,7 +127,7 @@ pub struct BranchHint {
 
 impl<'a> FromReader<'a> for BranchHint {
     fn from_reader(reader: &mut BinaryReader<'a>) -> Result<Self> {
-        let (_, plain) = call!(branch_hint, reader);
+        let (_, plain) = reader.item(library::branch_hint)?;
         Ok(BranchHint { func_offset: plain.func_offset, taken: plain.taken != 0 })
     }
 }
@@ -200,7 +199,7 @@ pub struct MemInfo {
 
 impl<'a> FromReader<'a> for MemInfo {
     fn from_reader(reader: &mut BinaryReader<'a>) -> Result<Self> {
-        let (_, plain) = call!(dylink_memory, reader);
+        let (_, plain) = reader.item(library::dylink_memory)?;
         let library::DylinkMemory { memory_size, memory_alignment, table_size, table_alignment, .. } = plain;
         Ok(MemInfo { memory_size, memory_alignment, table_size, table_alignment })
     }
@@ -217,7 +216,7 @@ pub struct ExportInfo<'a> {
 
 impl<'a> FromReader<'a> for ExportInfo<'a> {
     fn from_reader(reader: &mut BinaryReader<'a>) -> Result<Self> {
-        let (window, plain) = call!(dylink_export, reader);
+        let (window, plain) = reader.item(library::dylink_export)?;
         Ok(ExportInfo { name: window.text(plain.name), flags: SymbolFlags::from_bits_retain(plain.flags) })
     }
 }
@@ -235,7 +234,7 @@ pub struct ImportInfo<'a> {
 
 impl<'a> FromReader<'a> for ImportInfo<'a> {
     fn from_reader(reader: &mut BinaryReader<'a>) -> Result<Self> {
-        let (window, plain) = call!(dylink_import, reader);
+        let (window, plain) = reader.item(library::dylink_import)?;
         Ok(ImportInfo { module: window.text(plain.module_name), field: window.text(plain.field), flags: SymbolFlags::from_bits_retain(plain.flags) })
     }
 }

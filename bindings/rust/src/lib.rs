@@ -58,6 +58,7 @@ mod linking;
 mod list;
 mod names;
 mod numbers;
+mod operators;
 mod parser;
 mod payload;
 mod reader;
@@ -90,6 +91,7 @@ pub use linking::{
 pub use list::List;
 pub use names::{IndirectNameMap, IndirectNaming, Name, NameMap, NameSectionReader, Naming};
 pub use numbers::{Ieee32, Ieee64};
+pub use operators::{Operator, OperatorsIterator, OperatorsIteratorWithOffsets, OperatorsReader, V128};
 pub use parser::{Chunk, ParseAll, Parser};
 pub use payload::{
     DataSectionReader, ElementSectionReader, Encoding, ExportSectionReader, FunctionBody, FunctionSectionReader, GlobalSectionReader, ImportSectionReader,

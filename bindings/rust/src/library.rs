@@ -2,8 +2,7 @@
 //!
 //! Every call passes slices that are borrowed for its duration. The library reads nothing beyond them and keeps no pointer to them.
 use crate::ffi;
-pub(crate) use crate::ffi::GlobalType;
-pub(crate) use crate::ffi::{DylinkMemory, Event, Fault, ImportType, MemoryType, Parser, Relocation, Span, TableType, Type};
+pub(crate) use crate::ffi::{DylinkMemory, Event, Fault, GlobalType, ImportType, Instruction, MemoryType, Name, Parser, Relocation, Span, TableType, Type};
 use crate::section::Window;
 
 /// The result of a read: what it holds, or the fault of the library.
@@ -12,7 +11,7 @@ pub(crate) trait Item: Copy {
     fn fault(&self) -> Fault;
 
     /// How many bytes the item takes.
-    fn consumed(&self) -> u64;
+    fn consumed(&self) -> usize;
 }
 
 /// Declares a safe function for each read of an item in a window.
@@ -37,7 +36,7 @@ macro_rules! items {
                     self.fault
                 }
 
-                fn consumed(&self) -> u64 {
+                fn consumed(&self) -> usize {
                     self.consumed
                 }
             }
@@ -46,14 +45,20 @@ macro_rules! items {
 }
 
 items! {
-    Number Value Field TypeGroup Subtype Table Memory Tag Global Import ImportItem Name Export Expression Element Data Subsection Naming
+    Number Signed Value Field TypeGroup Subtype Table Memory Tag Global Import ImportItem Name Export Instruction Expression Element Data Subsection Naming
     IndirectNaming ProducersField ProducersValue HintedFunction BranchHint DylinkMemory DylinkExport DylinkImport LinkingSegment InitFunction
     Comdat ComdatSymbol Symbol Relocation CoreProcess CoreModule CoreInstance CoreThread CoreFrame CoreValue
 }
 
 reads! {
-    number = pulleynavy_read_number() -> Number;
+    var_u32 = pulleynavy_read_number() -> Number;
+    var_u64 = pulleynavy_read_u64() -> Number;
+    var_s32 = pulleynavy_read_s32() -> Signed;
+    var_s33 = pulleynavy_read_s33() -> Signed;
+    var_s64 = pulleynavy_read_s64() -> Signed;
     value_type = pulleynavy_read_value_type() -> Value;
+    heap_type = pulleynavy_read_heap_type() -> Value;
+    reference_type = pulleynavy_read_reference_type() -> Value;
     field_type = pulleynavy_read_field_type() -> Field;
     type_group = pulleynavy_read_type_group() -> TypeGroup;
     subtype = pulleynavy_read_subtype() -> Subtype;
@@ -61,10 +66,14 @@ reads! {
     memory = pulleynavy_read_memory() -> Memory;
     tag = pulleynavy_read_tag() -> Tag;
     global = pulleynavy_read_global() -> Global;
+    table_type = pulleynavy_read_table_type() -> Table;
+    global_type = pulleynavy_read_global_type() -> Global;
     import = pulleynavy_read_import() -> Import;
     import_item = pulleynavy_read_import_item() -> ImportItem;
     name = pulleynavy_read_name() -> Name;
+    text = pulleynavy_read_text() -> Name;
     export = pulleynavy_read_export() -> Export;
+    instruction = pulleynavy_read_instruction() -> Instruction;
     expression = pulleynavy_read_expression() -> Expression;
     element = pulleynavy_read_element() -> Element;
     data = pulleynavy_read_data() -> Data;
@@ -110,6 +119,18 @@ pub(crate) fn parse(parser: &mut Parser, bytes: &[u8], eof: bool) -> Event {
 pub(crate) fn skip_section(parser: &mut Parser) {
     // SAFETY: the declaration is generated from the library's sources, and nobody else has the parser.
     unsafe { ffi::pulleynavy_skip_section(parser) };
+}
+
+/// The fault of bytes that remain at the end of a section of a core dump, or none.
+pub(crate) fn custom_end(remaining: &Window<'_>) -> Fault {
+    // SAFETY: the declaration is generated from the library's sources. Pointer and length are those of a slice that is borrowed for the call.
+    unsafe { ffi::pulleynavy_check_custom_end(remaining.bytes.as_ptr(), remaining.bytes.len(), remaining.offset) }
+}
+
+/// The fault of bytes that remain after the name of a module, or none.
+pub(crate) fn name_end(remaining: &Window<'_>) -> Fault {
+    // SAFETY: the declaration is generated from the library's sources. Pointer and length are those of a slice that is borrowed for the call.
+    unsafe { ffi::pulleynavy_check_name_end(remaining.bytes.as_ptr(), remaining.bytes.len(), remaining.offset) }
 }
 
 /// The number of the kind of custom section that has this name.

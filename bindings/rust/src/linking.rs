@@ -1,7 +1,6 @@
 //! Sections for linkers.
 use crate::codes::{comdat_kind, symbol_kind};
-use crate::section::call;
-use crate::{BinaryReader, FromReader, Lead, Result, SectionLimited, SegmentFlags, Subsection, Subsections, SymbolFlags};
+use crate::{BinaryReader, FromReader, Lead, Result, SectionLimited, SegmentFlags, Subsection, Subsections, SymbolFlags, library};
 use core::ops::Range;
 
 /// The section `linking`.
@@ -19,7 +18,7 @@ impl<'a> LinkingSectionReader<'a> {
     /// If the version is malformed, or is not 2.
     pub fn new(mut reader: BinaryReader<'a>) -> Result<Self> {
         let range = reader.remaining_range();
-        let (_, plain) = call!(linking_version, reader);
+        let (_, plain) = reader.item(library::linking_version)?;
         Ok(LinkingSectionReader { version: plain.value as u32, range, subsections: Subsections::new(reader.shrink()) })
     }
 
@@ -113,7 +112,7 @@ pub struct Segment<'a> {
 
 impl<'a> FromReader<'a> for Segment<'a> {
     fn from_reader(reader: &mut BinaryReader<'a>) -> Result<Self> {
-        let (window, plain) = call!(linking_segment, reader);
+        let (window, plain) = reader.item(library::linking_segment)?;
         Ok(Segment { name: window.text(plain.name), alignment: plain.alignment, flags: SegmentFlags::from_bits_retain(plain.flags) })
     }
 }
@@ -129,7 +128,7 @@ pub struct InitFunc {
 
 impl<'a> FromReader<'a> for InitFunc {
     fn from_reader(reader: &mut BinaryReader<'a>) -> Result<Self> {
-        let (_, plain) = call!(init_function, reader);
+        let (_, plain) = reader.item(library::init_function)?;
         Ok(InitFunc { priority: plain.priority, symbol_index: plain.symbol })
     }
 }
@@ -147,7 +146,7 @@ pub struct Comdat<'a> {
 
 impl<'a> FromReader<'a> for Comdat<'a> {
     fn from_reader(reader: &mut BinaryReader<'a>) -> Result<Self> {
-        let (window, plain) = call!(comdat, reader);
+        let (window, plain) = reader.item(library::comdat)?;
         let symbols = SectionLimited::list(window, plain.symbols, plain.count);
         Ok(Comdat { name: window.text(plain.name), flags: plain.flags, symbols })
     }
@@ -202,7 +201,7 @@ impl<'a> FromReader<'a> for ComdatSymbolKind {
 
 impl<'a> FromReader<'a> for ComdatSymbol {
     fn from_reader(reader: &mut BinaryReader<'a>) -> Result<Self> {
-        let (_, plain) = call!(comdat_symbol, reader);
+        let (_, plain) = reader.item(library::comdat_symbol)?;
         Ok(ComdatSymbol { kind: ComdatSymbolKind::of(plain.kind).expect("the library refuses other kinds"), index: plain.index })
     }
 }
@@ -244,7 +243,7 @@ impl<'a> FromReader<'a> for DefinedDataSymbol {
 
 impl<'a> FromReader<'a> for SymbolInfo<'a> {
     fn from_reader(reader: &mut BinaryReader<'a>) -> Result<Self> {
-        let (window, plain) = call!(symbol, reader);
+        let (window, plain) = reader.item(library::symbol)?;
         let (flags, index) = (SymbolFlags::from_bits_retain(plain.flags), plain.index);
         let name = (plain.has_name != 0).then(|| window.text(plain.name));
         let place = DefinedDataSymbol { index, offset: plain.data_offset, size: plain.data_size };

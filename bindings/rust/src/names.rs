@@ -1,6 +1,5 @@
 //! The section `name`.
-use crate::section::call;
-use crate::{BinaryReader, Error, Fault, FromReader, Result, SectionLimited, SectionLimitedIntoIter, Subsection, Subsections};
+use crate::{BinaryReader, Error, Fault, FromReader, Result, SectionLimited, SectionLimitedIntoIter, Subsection, Subsections, library};
 use core::ops::Range;
 
 /// An index and its name.
@@ -14,7 +13,7 @@ pub struct Naming<'a> {
 
 impl<'a> FromReader<'a> for Naming<'a> {
     fn from_reader(reader: &mut BinaryReader<'a>) -> Result<Self> {
-        let (window, plain) = call!(naming, reader);
+        let (window, plain) = reader.item(library::naming)?;
         Ok(Naming { index: plain.index, name: window.text(plain.name) })
     }
 }
@@ -30,7 +29,7 @@ pub struct IndirectNaming<'a> {
 
 impl<'a> FromReader<'a> for IndirectNaming<'a> {
     fn from_reader(reader: &mut BinaryReader<'a>) -> Result<Self> {
-        let (window, plain) = call!(indirect_naming, reader);
+        let (window, plain) = reader.item(library::indirect_naming)?;
         Ok(IndirectNaming { index: plain.index, names: NameMap::of(SectionLimited::list(window, plain.names, plain.count)) })
     }
 }
@@ -214,6 +213,6 @@ impl<'a> Subsection<'a> for Name<'a> {
 fn module(mut reader: BinaryReader<'_>) -> Result<Name<'_>> {
     let name_range = reader.remaining_range();
     let name = reader.read_string()?;
-    reader.expect_end(Fault::NameTrailing)?;
+    reader.expect_end(library::name_end)?;
     Ok(Name::Module { name, name_range })
 }

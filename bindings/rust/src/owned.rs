@@ -1,9 +1,8 @@
 //! Items that own lists.
 use crate::codes::composite_kind;
 use crate::error::Result;
-use crate::section::call;
 use crate::types::type_index;
-use crate::{ArrayType, BinaryReader, ContType, CoreDumpValue, Fault, FieldType, FromReader, PackedIndex, SectionLimited, ValType};
+use crate::{ArrayType, BinaryReader, ContType, CoreDumpValue, FieldType, FromReader, PackedIndex, SectionLimited, ValType, library};
 use alloc::boxed::Box;
 use alloc::vec::{self, Vec};
 use core::slice;
@@ -196,7 +195,7 @@ impl SubType {
 
 impl<'a> FromReader<'a> for SubType {
     fn from_reader(reader: &mut BinaryReader<'a>) -> Result<Self> {
-        let (_, head) = call!(subtype, reader);
+        let (_, head) = reader.item(library::subtype)?;
         let inner = match head.kind {
             composite_kind::FUNC => CompositeInnerType::Func(FuncType::read(reader, head.count)?),
             composite_kind::ARRAY => CompositeInnerType::Array(reader.read()?),
@@ -233,7 +232,7 @@ impl RecGroup {
 
 impl<'a> FromReader<'a> for RecGroup {
     fn from_reader(reader: &mut BinaryReader<'a>) -> Result<Self> {
-        let (_, head) = call!(type_group, reader);
+        let (_, head) = reader.item(library::type_group)?;
         Ok(RecGroup { explicit: head.is_explicit != 0, types: read_items(reader, head.count, SubType::from_reader, SubType::from_reader)? })
     }
 }
@@ -252,7 +251,7 @@ impl CoreDumpInstancesSection {
     /// If an instance is malformed, or if bytes remain after the last one.
     pub fn new(mut reader: BinaryReader<'_>) -> Result<Self> {
         let instances = read_counted(&mut reader)?;
-        reader.expect_end(Fault::CustomTrailing)?;
+        reader.expect_end(library::custom_end)?;
         Ok(CoreDumpInstancesSection { instances })
     }
 }
@@ -270,7 +269,7 @@ pub struct CoreDumpInstance {
 
 impl<'a> FromReader<'a> for CoreDumpInstance {
     fn from_reader(reader: &mut BinaryReader<'a>) -> Result<Self> {
-        let (_, plain) = call!(core_instance, reader);
+        let (_, plain) = reader.item(library::core_instance)?;
         Ok(CoreDumpInstance { module_index: plain.module_index, memories: read_counted(reader)?, globals: read_counted(reader)? })
     }
 }
@@ -292,7 +291,7 @@ pub struct CoreDumpStackFrame {
 
 impl<'a> FromReader<'a> for CoreDumpStackFrame {
     fn from_reader(reader: &mut BinaryReader<'a>) -> Result<Self> {
-        let (_, plain) = call!(core_frame, reader);
+        let (_, plain) = reader.item(library::core_frame)?;
         let (instanceidx, funcidx, codeoffset) = (plain.instance, plain.func, plain.code_offset);
         Ok(CoreDumpStackFrame { instanceidx, funcidx, codeoffset, locals: read_counted(reader)?, stack: read_counted(reader)? })
     }

@@ -51,7 +51,7 @@ impl Default for Parser {
 impl Parser {
     /// Returns a parser of a stream that begins at this offset, with all features.
     pub fn new(offset: u64) -> Self {
-        Parser(library::parser_init(offset, WasmFeatures::all().bits()))
+        Parser(library::parser_init(offset, WasmFeatures::all().low_bits()))
     }
 
     /// Returns whether bytes begin with the header of a module.
@@ -79,12 +79,12 @@ impl Parser {
 
     /// The features of the next payloads.
     pub fn features(&self) -> WasmFeatures {
-        WasmFeatures::from_bits_retain(self.0.features)
+        WasmFeatures::of(self.0.features)
     }
 
     /// Sets the features of the next payloads.
     pub fn set_features(&mut self, features: WasmFeatures) {
-        self.0.features = features.bits();
+        self.0.features = features.low_bits();
     }
 
     /// Parses the next payload. The bytes are a prefix of the remaining input, or with `eof` all of it.
@@ -97,9 +97,9 @@ impl Parser {
         let before = Window { bytes: data, offset: self.0.offset, features: self.0.features };
         let event = library::parse(&mut self.0, data, eof);
         match event.kind {
-            event_kind::NEED_MORE => Ok(Chunk::NeedMoreData(usize::try_from(event.hint).unwrap_or(usize::MAX))),
+            event_kind::NEED_MORE => Ok(Chunk::NeedMoreData(event.hint)),
             event_kind::FAULT => Err(Error::reported(event.fault)),
-            _ => Ok(Chunk::Parsed { consumed: event.consumed as usize, payload: payload(before, &event)? }),
+            _ => Ok(Chunk::Parsed { consumed: event.consumed, payload: payload(before, &event) }),
         }
     }
 
@@ -108,7 +108,7 @@ impl Parser {
         (self.0.in_code != 0).then_some(self.0.code_bytes)
     }
 
-    /// Skips the remaining bytes of a code section: pass the bytes behind it next. Outside a code section it does nothing.
+    /// Skips the remaining bytes of a code section: pass the bytes after it next. Outside a code section it does nothing.
     pub fn skip_section(&mut self) {
         library::skip_section(&mut self.0);
     }

@@ -226,17 +226,17 @@ impl fmt::Debug for Payload<'_> {
 }
 
 /// The payload of an event, of bytes that begin at the parser's offset.
-pub(crate) fn payload<'a>(before: Window<'a>, event: &Event) -> Result<Payload<'a>> {
+pub(crate) fn payload<'a>(bytes: Window<'a>, event: &Event) -> Payload<'a> {
     let range = event.start..event.end;
     // The end has no bytes, and the range of a code section goes beyond those that were consumed.
-    let size = event.end.min(before.range().end) - event.start;
-    let window = before.part(Span { at: event.start - before.offset, size });
-    Ok(match event.kind {
+    let size = event.end.min(bytes.range().end) - event.start;
+    let window = bytes.part(Span { at: event.at, size: size as usize });
+    match event.kind {
         event_kind::VERSION => {
             let encoding = if event.id == 0 { Encoding::Module } else { Encoding::Component };
             Payload::Version { num: event.count as u16, encoding, range }
         }
-        event_kind::SECTION => return counted(event.id, window),
+        event_kind::SECTION => counted(window, event),
         event_kind::START => Payload::StartSection { func: event.count, range },
         event_kind::DATA_COUNT => Payload::DataCountSection { count: event.count, range },
         event_kind::CODE => Payload::CodeSectionStart { count: event.count, unchecked_range: range, size: event.size },
@@ -244,23 +244,23 @@ pub(crate) fn payload<'a>(before: Window<'a>, event: &Event) -> Result<Payload<'
         event_kind::CUSTOM => Payload::CustomSection(CustomSectionReader::of(window, event.data_offset, event.name_size)),
         event_kind::END => Payload::End(event.start),
         _ => Payload::UnknownSection { id: event.id as u8, contents: window.bytes, range },
-    })
+    }
 }
 
-/// A section that begins with a count.
-fn counted(id: u32, window: Window<'_>) -> Result<Payload<'_>> {
-    let reader = BinaryReader::of(window);
-    Ok(match id {
-        1 => Payload::TypeSection(SectionLimited::new(reader)?),
-        2 => Payload::ImportSection(SectionLimited::new(reader)?),
-        3 => Payload::FunctionSection(SectionLimited::new(reader)?),
-        4 => Payload::TableSection(SectionLimited::new(reader)?),
-        5 => Payload::MemorySection(SectionLimited::new(reader)?),
-        6 => Payload::GlobalSection(SectionLimited::new(reader)?),
-        7 => Payload::ExportSection(SectionLimited::new(reader)?),
-        9 => Payload::ElementSection(SectionLimited::new(reader)?),
-        11 => Payload::DataSection(SectionLimited::new(reader)?),
-        13 => Payload::TagSection(SectionLimited::new(reader)?),
-        _ => Payload::UnknownSection { id: id as u8, contents: window.bytes, range: window.range() },
-    })
+/// The section of an event that begins with a count.
+fn counted<'a>(section: Window<'a>, event: &Event) -> Payload<'a> {
+    let &Event { id, count, data_offset: items, .. } = event;
+    match id {
+        1 => Payload::TypeSection(SectionLimited::counted(section, items, count)),
+        2 => Payload::ImportSection(SectionLimited::counted(section, items, count)),
+        3 => Payload::FunctionSection(SectionLimited::counted(section, items, count)),
+        4 => Payload::TableSection(SectionLimited::counted(section, items, count)),
+        5 => Payload::MemorySection(SectionLimited::counted(section, items, count)),
+        6 => Payload::GlobalSection(SectionLimited::counted(section, items, count)),
+        7 => Payload::ExportSection(SectionLimited::counted(section, items, count)),
+        9 => Payload::ElementSection(SectionLimited::counted(section, items, count)),
+        11 => Payload::DataSection(SectionLimited::counted(section, items, count)),
+        13 => Payload::TagSection(SectionLimited::counted(section, items, count)),
+        _ => Payload::UnknownSection { id: id as u8, contents: section.bytes, range: section.range() },
+    }
 }

@@ -1,8 +1,7 @@
 //! A reader of bytes.
-use crate::library::Span;
-use crate::numbers::leb128;
-use crate::section::{Window, call};
-use crate::{Error, Fault, FromReader, Ieee32, Ieee64, Lead, MAX_WASM_STRING_SIZE, NumberKind, Result, WasmFeatures};
+use crate::library::{self, Item, Span};
+use crate::section::Window;
+use crate::{Error, Fault, FromReader, Ieee32, Ieee64, Lead, MAX_WASM_STRING_SIZE, Result, WasmFeatures};
 use core::ops::Range;
 
 /// A reader of bytes of a stream, which keeps its position.
@@ -29,7 +28,7 @@ impl<'a> BinaryReader<'a> {
     /// If the bytes pass offset 2^64 - 1.
     pub fn new_features(bytes: &'a [u8], offset: u64, features: WasmFeatures) -> Self {
         assert!(offset.checked_add(bytes.len() as u64).is_some(), "data passes the offset range");
-        BinaryReader::of(Window { bytes, offset, features: features.bits() })
+        BinaryReader::of(Window { bytes, offset, features: features.low_bits() })
     }
 
     /// A reader of a whole window.
@@ -39,7 +38,7 @@ impl<'a> BinaryReader<'a> {
 
     /// The enabled features.
     pub fn features(&self) -> WasmFeatures {
-        WasmFeatures::from_bits_retain(self.rest.features)
+        WasmFeatures::of(self.rest.features)
     }
 
     /// Returns whether limits of memories and tables may have 64 bits.
@@ -88,39 +87,48 @@ impl<'a> BinaryReader<'a> {
     }
 
     /// Moves past this many bytes, which are there.
-    pub(crate) fn pass(&mut self, count: u64) -> Window<'a> {
+    pub(crate) fn pass(&mut self, count: usize) -> Window<'a> {
         let passed = self.rest.part(Span { at: 0, size: count });
         self.rest = self.rest.after(count);
         passed
     }
 
     /// Returns an error if fewer than this many bytes remain.
-    fn expect(&self, count: u64) -> Result<()> {
-        match count.checked_sub(self.rest.bytes.len() as u64) {
-            None | Some(0) => Ok(()),
-            Some(missing) => Err(self.error(Fault::UnexpectedEof).with_hint(usize::try_from(missing).unwrap_or(usize::MAX))),
+    fn expect(&self, count: usize) -> Result<()> {
+        match count.saturating_sub(self.rest.bytes.len()) {
+            0 => Ok(()),
+            missing => Err(self.error(Fault::UnexpectedEof).with_hint(missing)),
         }
     }
 
     /// Moves past this many bytes.
-    fn take(&mut self, count: u64) -> Result<Window<'a>> {
+    fn take(&mut self, count: usize) -> Result<Window<'a>> {
         self.expect(count)?;
         Ok(self.pass(count))
     }
 
     /// The next bytes as an array.
     fn array<const N: usize>(&mut self) -> Result<[u8; N]> {
-        Ok(self.take(N as u64)?.bytes.try_into().expect("the bytes are as many as were taken"))
+        Ok(self.take(N)?.bytes.try_into().expect("the bytes are as many as were taken"))
     }
 
     /// This fault at the current offset.
-    fn error(&self, fault: Fault) -> Error {
+    pub(crate) fn error(&self, fault: Fault) -> Error {
         Error::new(fault, self.rest.offset)
     }
 
-    /// Returns this fault at the current offset if bytes remain.
-    pub(crate) fn expect_end(&self, fault: Fault) -> Result<()> {
-        if self.eof() { Ok(()) } else { Err(self.error(fault)) }
+    /// Returns the fault that the library reports for the remaining bytes, if there are any.
+    pub(crate) fn expect_end(&self, check: fn(&Window<'_>) -> library::Fault) -> Result<()> {
+        Error::check(check(&self.rest))
+    }
+
+    /// Reads an item with the library and moves past it. Returns the bytes before the call, to which its spans refer, and the item.
+    pub(crate) fn item<T: Item>(&mut self, read: impl FnOnce(&Window<'a>) -> T) -> Result<(Window<'a>, T)> {
+        let window = self.rest;
+        let item = read(&window);
+        Error::check(item.fault())?;
+        self.rest = window.after(item.consumed());
+        Ok((window, item))
     }
 
     /// Returns the next byte without consuming it.
@@ -136,7 +144,7 @@ impl<'a> BinaryReader<'a> {
     /// # Errors
     /// If fewer bytes remain.
     pub fn peek_bytes(&self, size: usize) -> Result<&'a [u8]> {
-        self.expect(size as u64)?;
+        self.expect(size)?;
         Ok(&self.rest.bytes[..size])
     }
 
@@ -170,7 +178,7 @@ impl<'a> BinaryReader<'a> {
     /// # Errors
     /// If fewer bytes remain.
     pub fn read_bytes(&mut self, size: usize) -> Result<&'a [u8]> {
-        Ok(self.take(size as u64)?.bytes)
+        Ok(self.take(size)?.bytes)
     }
 
     /// Reads a little-endian number of 4 bytes.
@@ -202,11 +210,9 @@ impl<'a> BinaryReader<'a> {
         self.read_u32()
     }
 
-    /// Reads a LEB128 number.
-    fn read_number(&mut self, kind: NumberKind) -> Result<u64> {
-        let (value, size) = leb128(&self.rest, kind)?;
-        self.pass(size);
-        Ok(value)
+    /// Reads a LEB128 number with the library, which returns no hints. A truncated number needs at least one more byte.
+    fn number<T: Item>(&mut self, read: impl FnOnce(&Window<'a>) -> T) -> Result<T> {
+        self.item(read).map(|(_, number)| number).map_err(|error| error.with_hint(1))
     }
 
     /// Reads an unsigned LEB128 number of 32 bits.
@@ -214,13 +220,7 @@ impl<'a> BinaryReader<'a> {
     /// # Errors
     /// If the number is truncated, too long or too large.
     pub fn read_var_u32(&mut self) -> Result<u32> {
-        self.read_plain_u32().map_err(|error| if error.fault() == Fault::UnexpectedEof { error.with_hint(1) } else { error })
-    }
-
-    /// Reads the number with the library, which reads no other kind of number alone and has no hints.
-    fn read_plain_u32(&mut self) -> Result<u32> {
-        let (_, plain) = call!(number, self);
-        Ok(plain.value as u32)
+        Ok(self.number(library::var_u32)?.value as u32)
     }
 
     /// Reads a signed LEB128 number of 32 bits.
@@ -228,7 +228,7 @@ impl<'a> BinaryReader<'a> {
     /// # Errors
     /// If the number is truncated, too long or too large.
     pub fn read_var_i32(&mut self) -> Result<i32> {
-        Ok(self.read_number(NumberKind::VarI32)? as i32)
+        Ok(self.number(library::var_s32)?.value as i32)
     }
 
     /// Reads an unsigned LEB128 number of 64 bits.
@@ -236,7 +236,7 @@ impl<'a> BinaryReader<'a> {
     /// # Errors
     /// If the number is truncated, too long or too large.
     pub fn read_var_u64(&mut self) -> Result<u64> {
-        self.read_number(NumberKind::VarU64)
+        Ok(self.number(library::var_u64)?.value)
     }
 
     /// Reads a signed LEB128 number of 64 bits.
@@ -244,7 +244,7 @@ impl<'a> BinaryReader<'a> {
     /// # Errors
     /// If the number is truncated, too long or too large.
     pub fn read_var_i64(&mut self) -> Result<i64> {
-        Ok(self.read_number(NumberKind::VarI64)? as i64)
+        Ok(self.number(library::var_s64)?.value)
     }
 
     /// Reads a signed LEB128 number of 33 bits.
@@ -252,7 +252,7 @@ impl<'a> BinaryReader<'a> {
     /// # Errors
     /// If the number is truncated, too long or too large.
     pub fn read_var_s33(&mut self) -> Result<i64> {
-        Ok(self.read_number(NumberKind::VarS33)? as i64)
+        Ok(self.number(library::var_s33)?.value)
     }
 
     /// Reads the bits of a float of 32 bits.
@@ -276,8 +276,17 @@ impl<'a> BinaryReader<'a> {
     /// # Errors
     /// If the size is malformed, or if bytes are missing.
     pub fn read_reader(&mut self) -> Result<Self> {
-        let size = self.read_var_u32()?;
-        Ok(BinaryReader::of(self.take(size.into())?))
+        let size = self.read_var_u32()? as usize;
+        Ok(BinaryReader::of(self.take(size)?))
+    }
+
+    /// Reads a string with the library, which returns no hints. If bytes are missing, `read_reader` fails at the same offset, with a hint.
+    fn text(&mut self, read: fn(&Window<'_>) -> library::Name) -> Result<&'a str> {
+        match self.item(read) {
+            Ok((window, plain)) => Ok(window.text(plain.name)),
+            Err(error) if error.fault() == Fault::UnexpectedEof => Err(self.clone().read_reader().err().unwrap_or(error)),
+            Err(error) => Err(error),
+        }
     }
 
     /// Reads a string of at most 100,000 bytes.
@@ -285,17 +294,7 @@ impl<'a> BinaryReader<'a> {
     /// # Errors
     /// If the size is malformed, if bytes are missing, or if they are not UTF-8.
     pub fn read_string(&mut self) -> Result<&'a str> {
-        match self.read_plain_string() {
-            // The same error, with a hint.
-            Err(error) if error.fault() == Fault::UnexpectedEof => Err(self.clone().skip_string().err().unwrap_or(error)),
-            result => result,
-        }
-    }
-
-    /// Reads the string with the library, which has no hints.
-    fn read_plain_string(&mut self) -> Result<&'a str> {
-        let (window, plain) = call!(name, self);
-        Ok(window.text(plain.name))
+        self.text(library::name)
     }
 
     /// Reads a string of any size.
@@ -303,9 +302,7 @@ impl<'a> BinaryReader<'a> {
     /// # Errors
     /// If the size is malformed, if bytes are missing, or if they are not UTF-8.
     pub fn read_unlimited_string(&mut self) -> Result<&'a str> {
-        let text = self.read_reader()?.rest;
-        // If it is not UTF-8, the error is at its last byte.
-        core::str::from_utf8(text.bytes).map_err(|_| Error::new(Fault::MalformedUtf8, text.range().end - 1))
+        self.text(library::text)
     }
 
     /// Skips a string of at most 100,000 bytes, which need not be UTF-8.
@@ -313,8 +310,8 @@ impl<'a> BinaryReader<'a> {
     /// # Errors
     /// If the size is malformed, or if bytes are missing.
     pub fn skip_string(&mut self) -> Result<()> {
-        let size = u64::from(self.read_var_u32()?);
-        if size > MAX_WASM_STRING_SIZE as u64 {
+        let size = self.read_var_u32()? as usize;
+        if size > MAX_WASM_STRING_SIZE {
             return Err(Error::new(Fault::StringSize, self.rest.offset - 1));
         }
         self.take(size).map(drop)
@@ -339,6 +336,6 @@ impl<'a> BinaryReader<'a> {
         let before = self.rest;
         pass(self)?;
         let size = self.rest.offset.checked_sub(before.offset).expect("the function moves forwards");
-        Ok(BinaryReader::of(before.part(Span { at: 0, size })))
+        Ok(BinaryReader::of(before.part(Span { at: 0, size: size as usize })))
     }
 }

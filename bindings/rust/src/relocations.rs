@@ -1,5 +1,4 @@
 //! Relocations.
-use crate::section::call;
 use crate::{BinaryReader, Error, Fault, FromReader, Lead, Result, SectionLimited, library};
 use core::ops::Range;
 
@@ -155,7 +154,7 @@ impl RelocationEntry {
 
 impl<'a> FromReader<'a> for RelocationEntry {
     fn from_reader(reader: &mut BinaryReader<'a>) -> Result<Self> {
-        let (_, plain) = call!(relocation, reader);
+        let (_, plain) = reader.item(library::relocation)?;
         let library::Relocation { kind, offset, index, addend, .. } = plain;
         let ty = RelocationType::try_from(kind as u8).expect("the library refuses other types");
         Ok(RelocationEntry { ty, offset, index, addend })

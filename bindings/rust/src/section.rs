@@ -1,5 +1,5 @@
 //! Counted items in a window.
-use crate::library::{self, Item, Span};
+use crate::library::Span;
 use crate::{BinaryReader, Error, Fault, Result};
 use core::fmt;
 use core::iter::FusedIterator;
@@ -21,39 +21,24 @@ impl<'a> Window<'a> {
     }
 
     /// The remaining bytes after this many.
-    pub(crate) fn after(&self, count: u64) -> Self {
-        Window { bytes: &self.bytes[count as usize..], offset: self.offset + count, features: self.features }
+    pub(crate) fn after(&self, count: usize) -> Self {
+        Window { bytes: &self.bytes[count..], offset: self.offset + count as u64, features: self.features }
+    }
+
+    /// The remaining bytes from this offset on, which lies in the window or at its end.
+    pub(crate) fn from(&self, offset: u64) -> Self {
+        self.after((offset - self.offset) as usize)
     }
 
     /// A part of it.
     pub(crate) fn part(&self, span: Span) -> Self {
         let rest = self.after(span.at);
-        Window { bytes: &rest.bytes[..span.size as usize], ..rest }
+        Window { bytes: &rest.bytes[..span.size], ..rest }
     }
 
     /// A string in it, which the library has found to be UTF-8.
     pub(crate) fn text(&self, span: Span) -> &'a str {
         core::str::from_utf8(self.part(span).bytes).unwrap_or_default()
-    }
-}
-
-/// Calls the library for the item at a reader's position and moves past it. Returns the window before the call, and the item.
-macro_rules! call {
-    ($name:ident, $reader:expr $(, $more:expr)*) => {{
-        let window = $reader.rest;
-        let item = crate::library::$name(&window $(, $more)*);
-        $reader.rest = window.after(crate::section::read_size(&item)?);
-        (window, item)
-    }};
-}
-pub(crate) use call;
-
-/// How many bytes an item takes, or the fault that the library reports in its place.
-#[inline]
-pub(crate) fn read_size(item: &impl Item) -> Result<u64> {
-    match item.fault() {
-        library::Fault { kind: 0, .. } => Ok(item.consumed()),
-        fault => Err(Error::reported(fault)),
     }
 }
 
@@ -92,7 +77,7 @@ impl<'a> FromReader<'a> for bool {
     }
 }
 
-/// An item and another one behind it.
+/// An item and the one after it.
 impl<'a, T: FromReader<'a>, U: FromReader<'a>> FromReader<'a> for (T, U) {
     fn from_reader(reader: &mut BinaryReader<'a>) -> Result<Self> {
         Ok((reader.read()?, reader.read()?))
@@ -130,11 +115,16 @@ impl<'a, T> SectionLimited<'a, T> {
         Ok(SectionLimited { whole, rest: reader.rest, count, item: PhantomData })
     }
 
-    /// A list inside an item: this many items behind their count.
+    /// A section whose count the library has read: its items begin at this offset.
+    pub(crate) fn counted(section: Window<'a>, items: u64, count: u32) -> Self {
+        SectionLimited { whole: section.range(), rest: section.from(items), count, item: PhantomData }
+    }
+
+    /// A list inside an item: this many items after their count.
     pub(crate) fn list(window: Window<'a>, items: Span, count: u32) -> Self {
         let rest = window.part(items);
         // No byte before a count has its top bit set, and of the count itself all but the last have.
-        let before = &window.bytes[..(items.at as usize).saturating_sub(1)];
+        let before = &window.bytes[..items.at.saturating_sub(1)];
         let size = 1 + before.iter().rev().take_while(|byte| **byte >= 128).count() as u64;
         SectionLimited { whole: rest.offset - size..rest.range().end, rest, count, item: PhantomData }
     }
@@ -207,7 +197,7 @@ impl<'a, T: FromReader<'a>> Iterator for SectionLimitedIntoIter<'a, T> {
         let mut reader = BinaryReader::of(self.section.rest);
         let Some(left) = self.left.checked_sub(1) else {
             self.ended = true;
-            return reader.expect_end(Fault::SizeMismatch).err().map(Err);
+            return (!reader.eof()).then(|| Err(reader.error(Fault::SizeMismatch)));
         };
         self.left = left;
         let item = reader.read();

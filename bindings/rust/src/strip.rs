@@ -5,7 +5,7 @@ use crate::{Error, Result, library};
 /// stay.
 ///
 /// # Errors
-/// The error of a stream that is not accepted, which is left as it was.
+/// The error of a stream that is not accepted. The bytes are then unchanged.
 pub fn strip(bytes: &mut [u8], keep_names: bool) -> Result<&mut [u8]> {
     let size = library::strip(bytes, keep_names).map_err(Error::reported)?;
     Ok(&mut bytes[..size])

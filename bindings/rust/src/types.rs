@@ -1,7 +1,6 @@
 //! Value types, reference types and heap types.
 use crate::codes::{heap_kind, type_kind};
-use crate::section::call;
-use crate::{BinaryReader, Error, Fault, FromReader, Lead, Result, library};
+use crate::{BinaryReader, FromReader, Result, library};
 use core::fmt;
 
 /// The type of a value.
@@ -71,9 +70,6 @@ impl fmt::Display for ValType {
         }
     }
 }
-
-/// The byte before the heap type of a reference that may be null.
-const NULLABLE: u8 = 0x63;
 
 /// The type of a reference.
 #[derive(Clone, Copy, Debug, PartialEq, Eq, Hash, PartialOrd, Ord)]
@@ -389,10 +385,14 @@ pub(crate) fn type_index(index: u32) -> PackedIndex {
     PackedIndex(index)
 }
 
+/// The heap type with this number in the library. The index is that of a type that a module defines.
+pub(crate) fn heap_type(number: u32, index: u32) -> HeapType {
+    let concrete = HeapType::Concrete(UnpackedIndex::Module(index));
+    AbstractHeapType::of(number).map_or(concrete, |ty| HeapType::Abstract { shared: false, ty })
+}
+
 pub(crate) fn ref_type(ty: library::Type) -> RefType {
-    let concrete = HeapType::Concrete(UnpackedIndex::Module(ty.index));
-    let heap = AbstractHeapType::of(ty.heap).map_or(concrete, |ty| HeapType::Abstract { shared: false, ty });
-    RefType { nullable: ty.nullable != 0, heap }
+    RefType { nullable: ty.nullable != 0, heap: heap_type(ty.heap, ty.index) }
 }
 
 pub(crate) fn val_type(ty: library::Type) -> ValType {
@@ -408,33 +408,22 @@ pub(crate) fn val_type(ty: library::Type) -> ValType {
 
 impl<'a> FromReader<'a> for ValType {
     fn from_reader(reader: &mut BinaryReader<'a>) -> Result<Self> {
-        let (_, plain) = call!(value_type, reader);
+        let (_, plain) = reader.item(library::value_type)?;
         Ok(val_type(plain.ty))
     }
 }
 
 impl<'a> FromReader<'a> for RefType {
     fn from_reader(reader: &mut BinaryReader<'a>) -> Result<Self> {
-        let (offset, byte) = (reader.original_position(), reader.peek()?);
-        match reader.read() {
-            Ok(ValType::Ref(ty)) => Ok(ty),
-            Err(error) if error.fault() != Fault::LeadingByte(Lead::Value) => Err(error),
-            _ => Err(Error::leading_byte(Lead::Reference, byte, offset)),
-        }
+        let (_, plain) = reader.item(library::reference_type)?;
+        Ok(ref_type(plain.ty))
     }
 }
 
 impl<'a> FromReader<'a> for HeapType {
     fn from_reader(reader: &mut BinaryReader<'a>) -> Result<Self> {
-        // The library reads heap types in references: one to it is made, of a first byte and at most 5 more.
-        let (offset, size) = (reader.original_position(), reader.bytes_remaining().min(5));
-        let mut bytes = [NULLABLE, 0, 0, 0, 0, 0];
-        bytes[1..=size].copy_from_slice(&reader.remaining_buffer()[..size]);
-        let mut reference = BinaryReader::new(&bytes[..=size], 0);
-        // The first byte has no fault: the offset of each is at least 1, and the sum is at most the end of the bytes.
-        let ty: RefType = reference.read().map_err(|error: Error| error.at(offset + (error.offset() - 1)))?;
-        reader.pass(reference.original_position() - 1);
-        Ok(ty.heap)
+        let (_, plain) = reader.item(library::heap_type)?;
+        Ok(heap_type(plain.ty.heap, plain.ty.index))
     }
 }
 
@@ -452,7 +441,7 @@ impl<'a> FromReader<'a> for StorageType {
 
 impl<'a> FromReader<'a> for FieldType {
     fn from_reader(reader: &mut BinaryReader<'a>) -> Result<Self> {
-        let (_, plain) = call!(field_type, reader);
+        let (_, plain) = reader.item(library::field_type)?;
         let element_type = match plain.ty.kind {
             type_kind::I8 => StorageType::I8,
             type_kind::I16 => StorageType::I16,

@@ -29,7 +29,7 @@ fn features_say_what_a_limit_may_be() {
     }
 }
 
-/// A stream, whether names are kept, and what is left of it, or its fault.
+/// A stream, whether names are kept, and the remaining bytes or the fault.
 #[test]
 fn streams_are_stripped_in_their_own_bytes() {
     const COMPONENT: &str = "00 61 73 6d 0d 00 01 00 01 01 00";

@@ -19,7 +19,7 @@ fn names_of_all_kinds() {
         (names, "00 02 01 6d 02 0a 01 03 02 00 01 61 81 00 01 62", "<module x6d 2..4 2{names(3 {name(0 x61 ) name(1 x62 ) } ) } >"),
         (names, "0c 02 01 00 0d 01 00", "<12{fault 4 unexpected end-of-file } 13{} >"),
         (indirect_name_map, "02 01 01 00 01 61 00 00", "{names(1 {name(0 x61 ) } ) fault 6 indirect names out of order }"),
-        // Inner names are passed over first, whatever their bytes are.
+        // Inner names are skipped first, whatever their bytes are.
         (indirect_name_map, "02 01 01 00 01 ff 02 00", "{names(1 {fault 5 malformed UTF-8 encoding } ) names(2 {} ) }"),
     ]);
 }
@@ -58,7 +58,7 @@ fn section_of_hints(reader: BinaryReader<'_>) -> Result<String> {
 #[test]
 fn what_a_dynamic_linker_reads() {
     agree(&[
-        // Bytes after what a subsection says are passed over.
+        // Trailing bytes of a subsection are skipped.
         (dylink, "01 05 10 02 01 00 ff", "<1 meminfo(16 2 1 0 ) >"),
         (dylink, "02 04 01 01 61 ff", "<2 [x61 ] >"),
         (dylink, "02 03 01 01 61 03 04 01 01 66 02", "<2 [x61 ] 3 [export(x66 2 ) ] >"),
@@ -86,7 +86,7 @@ fn what_a_linker_reads() {
         (symbol, "01 00 01 64 02 00 04", "data 0 x64 defined(2 0 4 ) used 7"),
         (symbol, "03 80 20 05", "section 4096 5 used 4"),
         (symbol, "06 00", "fault 0 invalid leading byte for symbol kind: 6"),
-        // The kind is told after the flags.
+        // A kind is checked after the flags are read.
         (symbol, "06", "fault 1 unexpected end-of-file"),
     ]);
 }
@@ -118,7 +118,7 @@ fn core_dumps() {
         (core, "00 00 ff", "fault 2 trailing bytes at end of custom section"),
         (core, "01 00", "fault 0 invalid start byte for core dump name"),
         (core_modules, "01 00 04 74 65 73 74", "[x74657374 ]"),
-        // The byte of a later module is told at the start of the section too.
+        // The fault of a later module's byte is at the start of the section too.
         (core_modules, "02 00 01 61 01", "fault 0 invalid start byte for coremodule"),
         (core_modules, "01 00 00 05", "fault 3 trailing bytes at end of custom section"),
         (core_instances, "01 00 02 01 00 01 03", "[instance(2 [0 ] [3 ] ) ]"),

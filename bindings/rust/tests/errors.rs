@@ -1,4 +1,4 @@
-//! Every kind of fault: its number, its text, and what else it tells.
+//! Every kind of fault: its number, its text, its offset, and the number that belongs to it.
 mod common;
 
 use common::*;

@@ -6,7 +6,7 @@ use common::*;
 use pulleynavy::*;
 
 fn shown<'a, T: FromReader<'a> + Show>(bytes: &'a [u8]) -> String {
-    told(item::<T>(BinaryReader::new(bytes, 0)), |text| text)
+    text_of(item::<T>(BinaryReader::new(bytes, 0)), |text| text)
 }
 
 /// The abstract heap types by their bytes.
@@ -59,47 +59,79 @@ fn storage_types() {
     }
 }
 
-/// The bytes of each constant instruction.
-const INSTRUCTIONS: [&str; 25] = [
-    "41 ff 00",
-    "42 ff 00",
-    "43 00 00 00 80",
-    "44 00 00 00 00 00 00 00 80",
-    "fd 0c 00 01 02 03 04 05 06 07 08 09 0a 0b 0c 0d 0e 0f",
-    "23 80 01",
-    "d0 70",
-    "d0 05",
-    "d2 05",
-    "6a",
-    "6b",
-    "6c",
-    "7c",
-    "7d",
-    "7e",
-    "fb 00 05",
-    "fb 01 05",
-    "fb 06 05",
-    "fb 07 05",
-    "fb 08 05 06",
-    "fb 1a",
-    "fb 1b",
-    "fb 9c 00",
-    "fd 8c 00 00 01 02 03 04 05 06 07 08 09 0a 0b 0c 0d 0e 0f",
-    "",
+/// The bytes of each constant instruction, and what it is read as.
+const INSTRUCTIONS: [(&str, &str); 25] = [
+    ("41 ff 00", "I32Const { value: 127 }"),
+    ("42 80 80 80 80 80 80 80 80 80 7f", "I64Const { value: -9223372036854775808 }"),
+    ("43 00 00 00 80", "F32Const { value: Ieee32(2147483648) }"),
+    ("44 00 00 00 00 00 00 00 80", "F64Const { value: Ieee64(9223372036854775808) }"),
+    ("fd 0c 00 01 02 03 04 05 06 07 08 09 0a 0b 0c 0d 0e 0f", "V128Const { value: V128([0, 1, 2, 3, 4, 5, 6, 7, 8, 9, 10, 11, 12, 13, 14, 15]) }"),
+    ("23 80 01", "GlobalGet { global_index: 128 }"),
+    ("d0 6e", "RefNull { hty: Abstract { shared: false, ty: Any } }"),
+    ("d0 05", "RefNull { hty: Concrete(Module(5)) }"),
+    ("d2 06", "RefFunc { function_index: 6 }"),
+    ("6a", "I32Add"),
+    ("6b", "I32Sub"),
+    ("6c", "I32Mul"),
+    ("7c", "I64Add"),
+    ("7d", "I64Sub"),
+    ("7e", "I64Mul"),
+    ("fb 00 05", "StructNew { struct_type_index: 5 }"),
+    ("fb 01 06", "StructNewDefault { struct_type_index: 6 }"),
+    ("fb 06 07", "ArrayNew { array_type_index: 7 }"),
+    ("fb 07 08", "ArrayNewDefault { array_type_index: 8 }"),
+    ("fb 08 05 06", "ArrayNewFixed { array_type_index: 5, array_size: 6 }"),
+    ("fb 1a", "AnyConvertExtern"),
+    ("fb 1b", "ExternConvertAny"),
+    ("fb 9c 00", "RefI31"),
+    ("fd 8c 00 01 00 00 00 00 00 00 00 00 00 00 00 00 00 00 80", "V128Const { value: V128([1, 0, 0, 0, 0, 0, 0, 0, 0, 0, 0, 0, 0, 0, 0, 128]) }"),
+    ("", ""),
 ];
 
 #[test]
 fn constant_instructions() {
-    for digits in INSTRUCTIONS {
+    for (digits, text) in INSTRUCTIONS {
         let bytes = bytes(&format!("{digits} 0b 0b"));
         let size = bytes.len() - 1;
         assert_eq!(shown::<ConstExpr>(&bytes), format!("0..{size} used {size}"), "{digits}");
+        let operators = ConstExpr::new(BinaryReader::new(&bytes[..size], 30)).get_operators_reader();
+        let texts = operators.into_iter_with_offsets().map(|operator| text_of(operator, |(operator, at)| format!("{at} {operator:?}"))).collect::<Vec<_>>();
+        let wanted = if text.is_empty() { vec![] } else { vec![format!("30 {text}")] };
+        assert_eq!(texts, [wanted, vec![format!("{} End", 29 + size)]].concat(), "{digits}");
     }
+}
+
+/// A reader of instructions goes as far as its bytes, or to its first error.
+#[test]
+fn readers_of_instructions() {
+    let bytes = bytes("41 05 0b 23");
+    let mut operators = OperatorsReader::new(BinaryReader::new(&bytes[..3], 7));
+    assert_eq!((operators.original_position(), operators.is_end_then_eof(), operators.eof()), (7, false, false));
+    assert_eq!(operators.read_with_offset(), Ok((Operator::I32Const { value: 5 }, 7)));
+    assert_eq!((operators.original_position(), operators.is_end_then_eof(), operators.get_binary_reader().range()), (9, true, 7..10));
+    assert_eq!((operators.read(), operators.eof(), operators.is_end_then_eof()), (Ok(Operator::End), true, false));
+    assert_eq!(operators.read().map_err(|error| fault(&error)), Err("fault 10 unexpected end-of-file".to_owned()));
+    let mut operators = OperatorsReader::new(BinaryReader::new(&bytes, 7)).into_iter();
+    assert_eq!(operators.by_ref().filter(Result::is_ok).count(), 2);
+    let mut operators = OperatorsReader::new(BinaryReader::new(&[0x10, 0x0b], 7)).into_iter();
+    assert_eq!(operators.next().unwrap().map_err(|error| fault(&error)), Err("fault 7 not a constant instruction".to_owned()));
+    assert_eq!(operators.next(), None);
+}
+
+#[test]
+fn vectors_are_bytes_and_numbers() {
+    let mut bytes = [0; 19];
+    (bytes[0], bytes[1], bytes[2], bytes[17], bytes[18]) = (0xfd, 0x0c, 1, 0x80, 0x0b);
+    let Ok(Operator::V128Const { value }) = OperatorsReader::new(BinaryReader::new(&bytes, 0)).read() else { panic!() };
+    assert_eq!(
+        (value.bytes(), value.i128(), i128::from(value), u128::from(value)),
+        (bytes[2..18].try_into().unwrap(), i128::MIN + 1, i128::MIN + 1, 1 << 127 | 1)
+    );
 }
 
 #[test]
 fn all_other_bytes_are_no_constant_instruction() {
-    let known: Vec<u8> = INSTRUCTIONS.iter().filter_map(|digits| bytes(digits).first().copied()).chain([0x0b]).collect();
+    let known: Vec<u8> = INSTRUCTIONS.iter().filter_map(|(digits, _)| bytes(digits).first().copied()).chain([0x0b]).collect();
     for byte in (0..=u8::MAX).filter(|byte| !known.contains(byte)) {
         assert_eq!(shown::<ConstExpr>(&[byte, 0, 0, 0, 0x0b]), "fault 0 not a constant instruction");
     }
@@ -119,7 +151,7 @@ fn kinds_of_imports_and_exports() {
         ("20 07", "funcexact 7"),
     ] {
         let bytes = bytes(&format!("01 6d 01 61 {digits}"));
-        assert_eq!(shown::<Imports>(&bytes), told_whole(&format!("single 0 import(x6d x61 {text} )"), &bytes));
+        assert_eq!(shown::<Imports>(&bytes), with_size(&format!("single 0 import(x6d x61 {text} )"), &bytes));
     }
     for (byte, kind) in [(0, "func"), (1, "table"), (2, "memory"), (3, "global"), (4, "tag")] {
         assert_eq!(shown::<Export>(&[1, b'e', byte, 7]), format!("export(x65 {kind} 7 ) used 4"));
@@ -128,7 +160,7 @@ fn kinds_of_imports_and_exports() {
 }
 
 /// A text of all bytes.
-fn told_whole(text: &str, bytes: &[u8]) -> String {
+fn with_size(text: &str, bytes: &[u8]) -> String {
     format!("{text} used {}", bytes.len())
 }
 
@@ -158,7 +190,7 @@ fn subsections_of_names() {
 fn indirect_names() {
     for id in 1..=13 {
         let part = [id, 6, 1, 5, 1, 7, 1, b'n'];
-        let text = told(names(BinaryReader::new(&part, 0)), |text| text);
+        let text = text_of(names(BinaryReader::new(&part, 0)), |text| text);
         assert_eq!(text == format!("<{id}{{names(5 {{name(7 x6e ) }} ) }} >"), [2, 3, 10, 12, 13].contains(&id), "{text}");
     }
 }

@@ -1,11 +1,11 @@
-//! What `parse` answers behind the beginning of a stream, and what whole streams are.
+//! What `parse` returns after a prefix of a stream, and the events of complete streams.
 mod common;
 
 use common::*;
 use pulleynavy::*;
 
-/// A parser of a stream that begins at this offset, behind its first bytes, which are whole parts.
-fn behind(offset: u64, front: &[u8]) -> Parser {
+/// A parser of a stream that begins at this offset, after it has consumed these bytes, which are complete parts.
+fn parser_after(offset: u64, front: &[u8]) -> Parser {
     let (mut parser, mut rest) = (Parser::new(offset), front);
     while !rest.is_empty() {
         let Chunk::Parsed { consumed, .. } = parser.parse(rest, true).unwrap() else { panic!() };
@@ -14,19 +14,19 @@ fn behind(offset: u64, front: &[u8]) -> Parser {
     parser
 }
 
-/// What is answered behind a front. A request and a fault leave the parser as it was, and come again.
+/// What `parse` returns after a prefix. After a request or a fault the parser is unchanged, and returns the same again.
 fn ask(offset: u64, front: &str, data: &str, eof: bool) -> String {
-    let (mut parser, data) = (behind(offset, &bytes(front)), bytes(data));
+    let (mut parser, data) = (parser_after(offset, &bytes(front)), bytes(data));
     let before = format!("{parser:?}");
-    let text = answer(parser.parse(&data, eof));
+    let text = outcome(parser.parse(&data, eof));
     if text.starts_with("need") || text.starts_with("fault") {
         assert_eq!(format!("{parser:?}"), before);
-        assert_eq!(answer(parser.parse(&data, eof)), text);
+        assert_eq!(outcome(parser.parse(&data, eof)), text);
     }
     text
 }
 
-/// Rows of a front, data, whether they are all there, and the answer.
+/// Rows of a prefix, data, whether the data is the rest of the stream, and the outcome.
 fn agree(rows: &[(&str, &str, bool, &str)]) {
     for (front, data, eof, text) in rows {
         assert_eq!(ask(0, front, data, *eof), *text, "{front}, {data}, {eof}");
@@ -94,7 +94,7 @@ fn code_sections() {
         (FUNCTION, "0a ff ff ff ff 0f 01", false, "code 18 4294967313 1 4294967294"),
         ("M 03 02 01 00 0a 01 01", "00", false, "fault 15 unexpected end-of-file"),
         ("M 03 02 01 00 0a 03 01", "00", false, "body 16 16"),
-        // Bytes that are left of the section, told on any data.
+        // Trailing bytes of the section, a fault whatever follows.
         ("M 03 02 01 00 0a 03 01 00", "00", false, "fault 16 trailing bytes at end of section"),
         ("M 03 02 01 00 0a 03 01 00", "", false, "fault 16 trailing bytes at end of section"),
         ("M 03 02 02 00 0a 02 02", "00", false, "body 16 16"),
@@ -131,9 +131,9 @@ fn great_offsets() {
     }
 }
 
-/// Waiting is no longer than it must be: each request has two endings, after which different answers come.
+/// A parser requests bytes only if those so far do not decide: after each request two suffixes have different outcomes.
 #[test]
-fn each_request_has_two_endings() {
+fn each_request_has_two_suffixes() {
     let (version, body) = ("version 0 8 1 module", "body 16 18");
     for (front, data, endings) in [
         ("", "", [("M", version), ("00 00 00 00", "fault 0 magic header not detected: bad magic number")]),
@@ -153,10 +153,10 @@ fn each_request_has_two_endings() {
     }
 }
 
-/// Of two faults at once the first of these is told: a magic, an id, a size, the end of all offsets, an order, bytes that aren't there,
-/// and what the content says.
+/// Of two faults the first of these is returned: a magic, an id, a size, the end of the offset range, an order, missing bytes, and those of
+/// the content.
 #[test]
-fn of_two_faults_the_first_is_told() {
+fn of_two_faults_the_first_is_returned() {
     agree(&[
         ("M", "80 80 80 80 80 80", true, "fault 8 malformed section id"),
         ("M 01 01 00", "01 80 80 80 80 10", true, "fault 16 invalid var_u32: integer too large"),
@@ -165,12 +165,12 @@ fn of_two_faults_the_first_is_told() {
         ("M 01 01 00", "01 00", true, "fault 13 section out of order"),
         ("M", "01 02 80", true, "fault 10 unexpected end-of-file"),
         ("M", "00 02 a1 8d", true, "fault 12 unexpected end-of-file"),
-        // A count that passes its section, and that differs from the function section's.
+        // A count that overruns its section, and one that differs from the function section's.
         (FUNCTION, "0a 00 02", true, "fault 14 unexpected end-of-file"),
         (FUNCTION, "0a 05 02", true, "fault 14 function and code section have inconsistent lengths"),
         // At the end both counts have no section.
         ("M 03 02 01 00 0c 01 01", "", true, "fault 15 function section has non-zero count but code section is absent"),
-        // A body's size is read before its section's end is looked at.
+        // A body's size is read before it is compared with the end of its section.
         ("M 03 02 01 00 0a 02 01", "80 80 80 80 80", true, "fault 19 invalid var_u32: integer representation too long"),
         ("M 03 02 01 00 0a 01 01", "80", true, "fault 16 unexpected end-of-file"),
     ]);
@@ -227,7 +227,7 @@ fn a_stream_with_a_body() {
     assert_eq!(sections, [(3, 10..12), (10, 14..18)]);
 }
 
-/// The custom section whose bytes are there, and the contents of an unknown one.
+/// The bytes of a custom section and of an unknown one.
 #[test]
 fn contents_are_given() {
     let (module, component) = (bytes("M 00 01 00"), bytes("00 61 73 6d 0d 00 01 00 01 01 00"));
@@ -239,34 +239,34 @@ fn contents_are_given() {
 
 #[test]
 fn a_code_section_is_skipped() {
-    let end = |parser: &mut Parser| answer(parser.parse(&[], true));
-    let mut parser = behind(0, &bytes(HEAD));
+    let end = |parser: &mut Parser| outcome(parser.parse(&[], true));
+    let mut parser = parser_after(0, &bytes(HEAD));
     assert_eq!((parser.offset(), parser.skippable()), (15, Some(3)));
-    // A request for more and a fault leave the section's bytes where they were.
+    // After a request or a fault the parser is still in the section.
     for (data, eof) in [(&[2][..], false), (&[5], true)] {
-        assert!(!answer(parser.parse(data, eof)).starts_with("body"));
+        assert!(!outcome(parser.parse(data, eof)).starts_with("body"));
         assert_eq!((parser.offset(), parser.skippable()), (15, Some(3)));
     }
     let checkpoint = parser.clone();
     parser.skip_section();
     assert_eq!((parser.offset(), end(&mut parser).as_str()), (18, "end 18"));
-    assert_eq!((checkpoint.offset(), answer(checkpoint.clone().parse(&[2, 0, 11], false)).as_str()), (15, "body 16 18"));
-    let mut parser = behind(0, &bytes(WHOLE));
+    assert_eq!((checkpoint.offset(), outcome(checkpoint.clone().parse(&[2, 0, 11], false)).as_str()), (15, "body 16 18"));
+    let mut parser = parser_after(0, &bytes(WHOLE));
     assert_eq!(parser.skippable(), Some(0));
     assert_eq!(end(&mut parser), "end 18");
     assert_eq!(parser.skippable(), None);
 }
 
-/// After the end the end comes again, and after a fault the same fault; a walk ends with the first of either.
+/// After the end `parse` returns the end again, and after a fault the same fault. `parse_all` ends with the first of either.
 #[test]
 fn what_comes_last_comes_again() {
     for text in ["M", WHOLE, FUNCTION] {
         let stream = bytes(text);
-        let mut parser = behind(0, &stream);
-        let first = answer(parser.parse(&[], true));
-        assert_eq!(answer(parser.parse(&[], true)), first);
+        let mut parser = parser_after(0, &stream);
+        let first = outcome(parser.parse(&[], true));
+        assert_eq!(outcome(parser.parse(&[], true)), first);
         let mut walk = Parser::new(0).parse_all(&stream);
-        assert_eq!(told(walk.by_ref().last().unwrap(), |payload| event(&payload)), first);
+        assert_eq!(text_of(walk.by_ref().last().unwrap(), |payload| event(&payload)), first);
         assert!((0..3).all(|_| walk.next().is_none()));
     }
 }

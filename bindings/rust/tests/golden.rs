@@ -2,12 +2,12 @@
 mod common;
 
 use common::customs::known;
-use common::{Show, event, fault, golden, hex, told};
+use common::{Show, event, fault, golden, hex, text_of};
 use pulleynavy::*;
 
 /// The items of a section, each as a line.
 fn items<T: Show>(items: impl Iterator<Item = Result<(u64, T)>>) -> Vec<String> {
-    items.map(|item| format!("  {}", told(item, |(at, item)| format!("{at} {}", item.show())))).collect()
+    items.map(|item| format!("  {}", text_of(item, |(at, item)| format!("{at} {}", item.show())))).collect()
 }
 
 /// The lines below that of a payload.

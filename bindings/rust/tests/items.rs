@@ -149,7 +149,7 @@ fn segments() {
     agree(rows);
 }
 
-/// So many items of one text, at one offset after the other.
+/// The same item at consecutive offsets.
 fn many(from: u64, count: u64, text: &str) -> String {
     joined((from..from + count).map(|at| format!("{at}:{text}")))
 }
@@ -178,7 +178,7 @@ fn types() {
         (item!(RecGroup), "50 02 00 00", "fault 1 more than one supertype"),
         (item!(RecGroup), "5f 01 7f 02", "fault 3 invalid leading byte for field mutability: 2"),
         (item!(RecGroup), "40", "fault 0 invalid leading byte for composite type: 64"),
-        // A count by itself takes no memory and no time.
+        // A count alone allocates nothing.
         (item!(RecGroup), "4e ff ff ff ff 0f", "fault 6 unexpected end-of-file"),
         (item!(ValType), "64 6e", "ref:any used 2"),
         (item!(ValType), "63 05", "null:5 used 2"),

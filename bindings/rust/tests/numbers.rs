@@ -1,4 +1,4 @@
-//! Numbers, raw reads and hints, which this crate reads without the library.
+//! Numbers, raw reads, hints, and the errors of items that continue.
 mod common;
 
 use common::*;
@@ -7,7 +7,7 @@ use pulleynavy::*;
 /// What is read, and at which offset the reader is afterwards.
 fn number<'a, T: ToString>(bytes: &'a [u8], read: fn(&mut BinaryReader<'a>) -> Result<T>) -> String {
     let mut reader = BinaryReader::new(bytes, 0);
-    let text = told(read(&mut reader), |value| value.to_string());
+    let text = text_of(read(&mut reader), |value| value.to_string());
     format!("{text} at {}", reader.original_position())
 }
 
@@ -91,8 +91,16 @@ fn hints_of_missing_bytes() {
     assert_eq!(hint(reader().read_u32().map(|number| number.to_string())), Some(2));
     assert_eq!(hint(reader().read_var_u32().map(|number| number.to_string())), Some(1));
     assert_eq!(hint(reader().read_var_i64().map(|number| number.to_string())), Some(1));
-    assert_eq!(hint(BinaryReader::new(b"\x05ab", 0).read_string().map(str::to_owned)), Some(3));
+    assert_eq!(hint(reader().read_var_s33().map(|number| number.to_string())), Some(1));
     assert_eq!(hint(reader().read_u7().map(|number| number.to_string())), None);
+    assert_eq!(hint(BinaryReader::new(&[0x80; 5], 0).read_var_u32().map(|number| number.to_string())), None);
+    for (digits, wanted) in [("", Some(1)), ("80", Some(1)), ("05 61 62", Some(3)), ("02 c3 28", None), ("ff ff ff ff 1f", None)] {
+        let bytes = bytes(digits);
+        let mut reader = BinaryReader::new(&bytes, 7);
+        let hints = (hint(reader.read_string().map(str::to_owned)), hint(reader.read_unlimited_string().map(str::to_owned)));
+        // After an error the string can be read again.
+        assert_eq!((hints, reader.original_position()), ((wanted, wanted), 7), "{digits}");
+    }
     let error = reader().read_bytes(5).unwrap_err();
     assert_eq!((error.without_needed_hint().needed_hint(), error.without_needed_hint()), (None, error));
     assert_eq!(Error::new(Fault::StringSize, 7).with_number(3).to_string(), "string size out of bounds: 3 (at offset 0x7)");
@@ -104,7 +112,7 @@ fn subsections_after_a_malformed_one() {
     let parts = |digits: &str| {
         let bytes = bytes(digits);
         let parts = Subsections::<Name>::new(BinaryReader::new(&bytes, 0));
-        parts.map(|part| told(part, |part| part.show())).collect::<Vec<_>>()
+        parts.map(|part| text_of(part, |part| part.show())).collect::<Vec<_>>()
     };
     assert_eq!(parts("ff 01 01 00"), ["fault 0 invalid u7", "1{}"]);
     assert_eq!(parts("01 80 80 80 80 10 02 01 00"), ["fault 5 invalid var_u32: integer too large", "2{}"]);
@@ -126,7 +134,7 @@ fn texts_of_types() {
 fn plain_function_types() {
     let section = bytes("04 60 00 01 7f 50 00 60 00 00 4e 00 5f 00");
     let types = TypeSectionReader::new(BinaryReader::new(&section, 3)).unwrap().into_iter_err_on_gc_types();
-    let texts: Vec<_> = types.map(|ty| told(ty, |ty| owned(ty.results()))).collect();
+    let texts: Vec<_> = types.map(|ty| text_of(ty, |ty| owned(ty.results()))).collect();
     assert_eq!(texts, ["[i32 ]", "fault 8 gc proposal not supported", "fault 13 gc proposal not supported", "fault 15 gc proposal not supported"]);
 }
 

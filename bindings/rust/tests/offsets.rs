@@ -8,7 +8,7 @@ use common::*;
 use pulleynavy::*;
 
 /// Readers of every kind of item and section.
-const READERS: [Reader; 58] = [
+const READERS: [Reader; 59] = [
     |reader| item::<u32>(reader),
     |reader| item::<&str>(reader),
     |reader| item::<bool>(reader),
@@ -66,8 +66,14 @@ const READERS: [Reader; 58] = [
     core_modules,
     core_instances,
     core_stack,
+    operators,
     plain,
 ];
+
+/// The instructions of an expression that is not checked as a whole.
+fn operators(reader: BinaryReader<'_>) -> Result<String> {
+    OperatorsReader::new(reader).into_iter().try_fold(String::new(), |text, operator| Ok(text + &format!("{:?}", operator?)))
+}
 
 /// The reads of a reader that are no items.
 fn plain(reader: BinaryReader<'_>) -> Result<String> {
@@ -121,7 +127,7 @@ fn inputs() -> u64 {
     std::env::var("PULLEYNAVY_INPUTS").map_or(4_000, |count| count.parse().unwrap())
 }
 
-/// Reads bytes that end so many before the greatest offset as everything that they could be.
+/// Reads bytes as every kind of item and section. They end `gap` bytes before the greatest offset.
 fn read(bytes: &[u8], gap: u64, features: WasmFeatures) {
     let offset = u64::MAX - gap - bytes.len() as u64;
     for read in READERS {
@@ -131,10 +137,10 @@ fn read(bytes: &[u8], gap: u64, features: WasmFeatures) {
     }
 }
 
-/// Parses a stream that ends so many bytes before the greatest offset, whole and byte by byte.
+/// Parses a stream that ends `gap` bytes before the greatest offset, complete and byte by byte.
 fn parse(bytes: &[u8], gap: u64) {
     let offset = u64::MAX - gap - bytes.len() as u64;
-    let whole: Vec<_> = Parser::new(offset).parse_all(bytes).map(|payload| told(payload, |payload| event(&payload))).collect();
+    let whole: Vec<_> = Parser::new(offset).parse_all(bytes).map(|payload| text_of(payload, |payload| event(&payload))).collect();
     let (mut parser, mut start, mut end, mut lines) = (Parser::new(offset), 0, 0, vec![]);
     while lines.last().is_none_or(|line: &String| !line.starts_with("end") && !line.starts_with("fault")) {
         match parser.parse(&bytes[start..end], end == bytes.len()) {

@@ -72,7 +72,7 @@ fn parts_and_their_faults() {
     for (read, digits, wanted) in rows {
         let bytes = bytes(digits);
         let mut reader = BinaryReader::new(&bytes, 0);
-        assert_eq!(told(read(&mut reader), |text| format!("{text}, {} left", reader.bytes_remaining())), *wanted, "{digits}");
+        assert_eq!(text_of(read(&mut reader), |text| format!("{text}, {} left", reader.bytes_remaining())), *wanted, "{digits}");
     }
 }
 
@@ -80,7 +80,7 @@ fn parts_and_their_faults() {
 fn long_names_are_bounded() {
     let name = |size: usize| [&[size as u8 | 0x80, (size >> 7) as u8 | 0x80, (size >> 14) as u8][..], &vec![b'a'; size]].concat();
     let (most, more) = (name(MAX_WASM_STRING_SIZE), name(MAX_WASM_STRING_SIZE + 1));
-    let read = |bytes: &[u8]| told(BinaryReader::new(bytes, 0).read_string(), |text| text.len().to_string());
+    let read = |bytes: &[u8]| text_of(BinaryReader::new(bytes, 0).read_string(), |text| text.len().to_string());
     assert_eq!((read(&most).as_str(), read(&more).as_str()), ("100000", "fault 2 string size out of bounds"));
     assert_eq!(BinaryReader::new(&more, 0).read_unlimited_string().map(str::len), Ok(MAX_WASM_STRING_SIZE + 1));
 }
@@ -92,7 +92,7 @@ fn bounds_of_items_that_are_left() {
     for wanted in [Some("5"), Some("128"), Some("fault 104 section size mismatch: unexpected data at the end of the section"), None] {
         hints.push(items.size_hint());
         lengths.push(items.len());
-        assert_eq!(items.next().map(|item| told(item, |item| item.to_string())).as_deref(), wanted);
+        assert_eq!(items.next().map(|item| text_of(item, |item| item.to_string())).as_deref(), wanted);
     }
     assert_eq!((hints, lengths), ([2, 1, 0, 0].map(|left| (left, Some(left))).to_vec(), vec![2, 1, 0, 0]));
     let mut items = SectionLimited::<bool>::new(BinaryReader::new(b"\xff\xff\xff\xff\x0f", 0)).unwrap().into_iter();
@@ -237,6 +237,8 @@ fn features_go_with_the_bytes() {
     assert_eq!((reader.features(), reader.memory64()), (WasmFeatures::MEMORY64, true));
     assert_eq!(reader.read_reader().unwrap().features(), features);
     assert!(!features.contains(WasmFeatures::all()) && features.union(WasmFeatures::COMPACT_IMPORTS) == WasmFeatures::all());
+    let many = WasmFeatures::from_bits_retain(1 << 40 | 1 << 31 | 1);
+    assert_eq!(BinaryReader::new_features(&[], 0, many).features(), WasmFeatures::from_bits_retain(1 << 31 | 1));
     let module = bytes("M 02 0e 01 01 6d 00 7f 02 01 61 00 03 01 62 00 04");
     let Some(Ok(Payload::ImportSection(imports))) = parser.parse_all(&module).nth(1) else { panic!() };
     let mut imports = imports.into_imports_with_offsets();

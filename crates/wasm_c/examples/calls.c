@@ -1,4 +1,4 @@
-/* Checks what the header says of faults and requests, on worked bytes. The status is 1 if something differs. */
+/* Checks what the header says of faults, requests and cursors, on worked bytes. The status is 1 if something differs. */
 #include <pulleynavy.h>
 #include <stdio.h>
 #include <string.h>
@@ -57,6 +57,92 @@ static void feeder(void) {
     CHECK(pulleynavy_feed_step(&f, storage, sizeof storage).kind == PULLEYNAVY_EVENT_VERSION);
 }
 
+/* An event says where its bytes are, in those of the call or in the storage, and a section where its first item begins. */
+static void places(void) {
+    static const uint8_t bytes[] = {0x00, 0x61, 0x73, 0x6d, 0x01, 0x00, 0x00, 0x00, 0x07, 0x05, 0x01, 0x01, 0x61, 0x00, 0x00};
+    pulleynavy_parser p = pulleynavy_parser_init(0, PULLEYNAVY_ALL_FEATURES);
+    CHECK(pulleynavy_parse(&p, bytes, sizeof bytes, true).consumed == 8);
+    pulleynavy_event e = pulleynavy_parse(&p, bytes + 8, sizeof bytes - 8, true);
+    CHECK(e.kind == PULLEYNAVY_EVENT_SECTION && e.id == PULLEYNAVY_SECTION_EXPORT && e.count == 1);
+    CHECK(e.start == 10 && e.data_offset == 11 && e.end == 15 && e.at == 2 && e.consumed == 7);
+    uint8_t storage[sizeof bytes];
+    pulleynavy_feed f = pulleynavy_feed_init(0, PULLEYNAVY_ALL_FEATURES);
+    CHECK(pulleynavy_feed_push(&f, storage, sizeof storage, bytes, sizeof bytes));
+    CHECK(pulleynavy_feed_step(&f, storage, sizeof storage).kind == PULLEYNAVY_EVENT_VERSION);
+    CHECK(pulleynavy_feed_step(&f, storage, sizeof storage).at == 10);
+    pulleynavy_items items = pulleynavy_items_init(&e, PULLEYNAVY_ALL_FEATURES);
+    pulleynavy_export out[2];
+    CHECK(items.offset == 11 && items.position == 1 && items.remaining == 1);
+    CHECK(pulleynavy_next_exports(&items, bytes + 10, 5, out, 2) == 1 && out[0].name.at == 2 && out[0].name.size == 1);
+    CHECK(items.offset == 15 && items.is_ended && !pulleynavy_next_exports(&items, bytes + 10, 5, out, 2));
+}
+
+static uint32_t kind_of(pulleynavy_fault fault) { return PULLEYNAVY_FAULT_KIND(fault.kind); }
+
+/* A list ends at trailing bytes and at a fault, and a cursor stays as it is where there is no room. */
+static void lists(void) {
+    static const uint8_t numbers[] = {0x05, 0x06, 0x80};
+    pulleynavy_number out[3];
+    pulleynavy_items items = pulleynavy_list_init(9, 1, 0), before = items;
+    CHECK(!pulleynavy_next_numbers(&items, numbers, 2, out, 0) && items.offset == before.offset && !items.is_ended);
+    CHECK(pulleynavy_next_numbers(&items, numbers, 2, out, 3) == 2 && out[0].value == 5);
+    CHECK(kind_of(out[1].fault) == PULLEYNAVY_FAULT_SIZE_MISMATCH && out[1].fault.offset == 10 && !out[1].consumed);
+    CHECK(!pulleynavy_next_numbers(&items, numbers, 2, out, 3));
+    items = pulleynavy_list_init(0, 9, 0);
+    CHECK(pulleynavy_next_numbers(&items, numbers, 3, out, 3) == 3 && kind_of(out[2].fault) == PULLEYNAVY_FAULT_UNEXPECTED_EOF);
+    CHECK(items.is_ended && !pulleynavy_next_numbers(&items, numbers, 3, out, 3));
+    items = pulleynavy_list_init(UINT64_MAX, 1, 0);
+    CHECK(pulleynavy_next_numbers(&items, numbers, 1, out, 3) == 1 && kind_of(out[0].fault) == PULLEYNAVY_FAULT_OFFSET_RANGE);
+    memset(&items, 0xff, sizeof items);
+    CHECK(!pulleynavy_next_numbers(&items, numbers, 3, out, 3));
+    memset(&items, 0xff, sizeof items), items.is_ended = 0;
+    CHECK(pulleynavy_next_numbers(&items, numbers, 3, out, 3) == 1 && kind_of(out[0].fault) == PULLEYNAVY_FAULT_UNEXPECTED_EOF);
+}
+
+/* Names and subsections continue after an entry out of order, and subsections after a malformed one. */
+static void entries(void) {
+    static const uint8_t names[] = {0x01, 0x01, 'a', 0x01, 0x01, 'b', 0x02, 0x01, 'c'};
+    static const uint8_t parts[] = {0x01, 0x7f, 0x02, 0x00, 0x01, 0x01, 'a'};
+    pulleynavy_naming named[4];
+    pulleynavy_items items = pulleynavy_list_init(5, 3, 0);
+    CHECK(pulleynavy_next_namings(&items, names, sizeof names, named, 4) == 3 && named[0].index == 1 && named[2].index == 2);
+    CHECK(kind_of(named[1].fault) == PULLEYNAVY_FAULT_NAMES_ORDER && named[1].fault.offset == 8 && named[2].name.at == 8);
+    pulleynavy_subsection part[4];
+    items = pulleynavy_list_init(0, 0, 0);
+    CHECK(pulleynavy_next_subsections(&items, parts, sizeof parts, part, 4) == 3 && part[1].id == 2 && part[2].contents.at == 6);
+    CHECK(kind_of(part[0].fault) == PULLEYNAVY_FAULT_UNEXPECTED_EOF && !part[0].id && !part[1].fault.kind);
+    items = pulleynavy_list_init(0, 0, 0);
+    CHECK(pulleynavy_next_name_subsections(&items, parts, sizeof parts, part, 4) == 3 && !part[1].fault.kind);
+    CHECK(kind_of(part[2].fault) == PULLEYNAVY_FAULT_NAME_SECTION_ORDER && part[2].fault.offset == 4);
+}
+
+/* Numbers with a sign, texts without a limit, types on their own and instructions. */
+static void parts(void) {
+    static const uint8_t number[] = {0x7f}, table[] = {0x70, 0x00, 0x03}, global[] = {0x7f, 0x01}, null[] = {0xd0, 0x70}, array[] = {0xfb, 0x06, 0x05};
+    static const uint8_t wide[] = {0xff, 0xff, 0xff, 0xff, 0xff, 0xff, 0xff, 0xff, 0xff, 0x01};
+    static uint8_t text[100004] = {0xa1, 0x8d, 0x06};
+    CHECK(pulleynavy_read_s32(number, 1, 0, 0).value == -1 && pulleynavy_read_s33(number, 1, 0, 0).value == -1);
+    CHECK(pulleynavy_read_s64(number, 1, 0, 0).value == -1 && pulleynavy_read_u64(wide, sizeof wide, 0, 0).value == UINT64_MAX);
+    CHECK(kind_of(pulleynavy_read_name(text, sizeof text, 0, 0).fault) == PULLEYNAVY_FAULT_STRING_SIZE);
+    CHECK(pulleynavy_read_text(text, sizeof text, 0, 0).name.size == 100001);
+    CHECK(pulleynavy_read_heap_type(table, 1, 0, 0).ty.heap == PULLEYNAVY_HEAP_FUNC);
+    CHECK(pulleynavy_read_reference_type(table, 1, 0, 0).ty.nullable);
+    CHECK(pulleynavy_read_table_type(table, sizeof table, 0, 0).ty.initial == 3);
+    CHECK(pulleynavy_read_global_type(global, sizeof global, 0, 0).ty.is_mutable);
+    CHECK(pulleynavy_read_instruction(null, sizeof null, 0, 0).opcode == PULLEYNAVY_OP_REF_NULL);
+    pulleynavy_instruction one = pulleynavy_read_instruction(array, sizeof array, 0, 0);
+    CHECK(one.opcode == PULLEYNAVY_OP_ARRAY_NEW && one.index == 5 && one.consumed == 3);
+}
+
+/* The ends of parts that have no count. */
+static void ends(void) {
+    static const uint8_t left[] = {0};
+    CHECK(!pulleynavy_check_custom_end(left, 0, 7).kind && !pulleynavy_check_name_end(left, 0, 7).kind);
+    CHECK(kind_of(pulleynavy_check_custom_end(left, 1, 7)) == PULLEYNAVY_FAULT_CUSTOM_TRAILING);
+    CHECK(kind_of(pulleynavy_check_name_end(left, 1, 7)) == PULLEYNAVY_FAULT_NAME_TRAILING);
+    CHECK(pulleynavy_check_name_end(left, 1, 7).offset == 7);
+}
+
 /* The enumerators of coded fields, on worked items. */
 static void enumerators(void) {
     static const uint8_t export[] = {0x01, 0x61, 0x04, 0x05}, symbol[] = {0x03, 0x10, 0x05}, relocation[] = {0x0d, 0x01, 0x02};
@@ -74,6 +160,6 @@ static void enumerators(void) {
 
 int main(void) {
     CHECK(pulleynavy_version() == PULLEYNAVY_VERSION_NUMBER);
-    core_modules(), parser(), feeder(), enumerators();
+    core_modules(), parser(), feeder(), places(), lists(), entries(), parts(), ends(), enumerators();
     return status;
 }

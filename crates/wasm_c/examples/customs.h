@@ -12,8 +12,8 @@ typedef bool part_reader(uint32_t id, struct window *w);
 /* The subsections of a section: pulleynavy_next_subsections or pulleynavy_next_name_subsections. */
 typedef size_t subsections(pulleynavy_items *, const uint8_t *, size_t, pulleynavy_subsection *, size_t);
 
-/* Stores the next item of the list that is the window; spans begin where it does. */
-#define NEXT(call, items, w, one) call(&items, stream + (w).at, (size_t)((w).end - (w).at), &one, 1)
+/* Stores the next items of the list that is the window; spans begin where it does. */
+#define NEXT(call, items, w, out) call(&items, stream + (w).at, (size_t)((w).end - (w).at), out, batch)
 
 static struct window window_of(uint64_t from, pulleynavy_span span) {
     return (struct window){from + span.at, from + span.at + span.size};
@@ -25,13 +25,14 @@ static bool read_number(struct window *w, uint64_t *value) {
     return passed(w, n.fault, n.consumed);
 }
 
-static bool text(struct window *w) {
-    pulleynavy_name n = READ(pulleynavy_read_text, w);
+static bool put_name(struct window *w, pulleynavy_name n) {
     uint64_t from = w->at;
     if (!passed(w, n.fault, n.consumed)) return false;
     put_bytes(from, n.name);
     return true;
 }
+
+static bool text(struct window *w) { return put_name(w, READ(pulleynavy_read_text, w)); }
 
 /* Puts a fault in place of what was put since `before`. */
 static void put_fault_over(size_t before) {
@@ -72,32 +73,38 @@ static bool owned(struct window *w, reader *item) {
 #define LISTED(name, kind, next) \
     static bool name(struct window w) { \
         pulleynavy_items items; \
-        pulleynavy_##kind one; \
+        pulleynavy_##kind out[MOST]; \
         put("%" PRIu64 "..%" PRIu64 " ", w.at, w.end); \
         if (!begin(&w, &items)) return false; \
         put("#%" PRIu32 "[", items.remaining); \
-        for (uint64_t at = items.offset; NEXT(next, items, w, one); at = items.offset) { \
-            if (put_if_fault(one.fault)) continue; \
-            put("%" PRIu64 ":", at); \
-            put_##kind(w.at, at, &one); \
-            put(" "); \
-        } \
+        uint64_t at = w.at; \
+        for (size_t n; (n = NEXT(next, items, w, out)) > 0;) \
+            for (size_t i = 0; i < n; at += out[i].consumed, i++) { \
+                if (put_if_fault(out[i].fault)) continue; \
+                put("%" PRIu64 ":", at); \
+                put_##kind(w.at, at, &out[i]); \
+                put(" "); \
+            } \
         put("]"); \
         return true; \
     }
 
-/* Defines a function that puts the entries of a map: those out of order are faults among the others. */
+/* Defines functions that put the entries of a map: those out of order are faults among the others. */
 #define MAPPED(name, kind, next) \
+    static void put_##kind##s(struct window w, pulleynavy_items items) { \
+        pulleynavy_##kind out[MOST]; \
+        for (size_t n; (n = NEXT(next, items, w, out)) > 0;) \
+            for (size_t i = 0; i < n; i++) { \
+                if (put_if_fault(out[i].fault)) continue; \
+                put_##kind(w.at, &out[i]); \
+                put(" "); \
+            } \
+    } \
     static bool name(struct window w) { \
         pulleynavy_items items; \
-        pulleynavy_##kind one; \
         if (!begin(&w, &items)) return false; \
         put("{"); \
-        while (NEXT(next, items, w, one)) { \
-            if (put_if_fault(one.fault)) continue; \
-            put_##kind(w.at, &one); \
-            put(" "); \
-        } \
+        put_##kind##s(w, items); \
         put("}"); \
         return true; \
     }
@@ -105,15 +112,16 @@ static bool owned(struct window *w, reader *item) {
 /* Subsections; after one that can't be read the next one follows. */
 static void parts(struct window w, part_reader *part, subsections *next) {
     pulleynavy_items items = pulleynavy_list_init(w.at, 0, PULLEYNAVY_ALL_FEATURES);
-    pulleynavy_subsection one;
+    pulleynavy_subsection out[MOST];
     put("<");
-    while (NEXT(next, items, w, one)) {
-        size_t before = used;
-        if (put_if_fault(one.fault)) continue;
-        struct window contents = window_of(w.at, one.contents);
-        if (part(one.id, &contents)) put(" ");
-        else put_fault_over(before);
-    }
+    for (size_t n; (n = NEXT(next, items, w, out)) > 0;)
+        for (size_t i = 0; i < n; i++) {
+            size_t before = used;
+            if (put_if_fault(out[i].fault)) continue;
+            struct window contents = window_of(w.at, out[i].contents);
+            if (part(out[i].id, &contents)) put(" ");
+            else put_fault_over(before);
+        }
     put(">");
 }
 
@@ -136,14 +144,8 @@ MAPPED(name_map, naming, pulleynavy_next_namings)
 
 static void put_indirect_naming(uint64_t from, const pulleynavy_indirect_naming *n) {
     struct window names = window_of(from, n->names);
-    pulleynavy_items items = pulleynavy_list_init(names.at, n->count, PULLEYNAVY_ALL_FEATURES);
-    pulleynavy_naming one;
     put("names(%" PRIu32 " {", n->index);
-    while (NEXT(pulleynavy_next_namings, items, names, one)) {
-        if (put_if_fault(one.fault)) continue;
-        put_naming(names.at, &one);
-        put(" ");
-    }
+    put_namings(names, pulleynavy_list_init(names.at, n->count, PULLEYNAVY_ALL_FEATURES));
     put("} )");
 }
 
@@ -314,7 +316,7 @@ static bool linking_part(uint32_t id, struct window *w) {
     static bool (*const lists[])(struct window) = {linking_segments, init_functions, comdats, symbols};
     if (id < 5 || id > 9) return unknown_part(id, w);
     put("%" PRIu32 " ", id);
-    return id == 9 ? text(w) : lists[id - 5](*w);
+    return id == 9 ? put_name(w, READ(pulleynavy_read_name, w)) : lists[id - 5](*w);
 }
 
 static bool linking(struct window w) {

@@ -1,4 +1,5 @@
-/* Lists the module on standard input, and under each section its items, each at its offset. */
+/* Lists the module on standard input, and under each section its items, each at its offset. The argument is how many items a call stores
+   at most: up to 64. */
 #include "customs.h"
 #include "show.h"
 
@@ -94,48 +95,46 @@ static bool type_group(struct window *w) {
     return true;
 }
 
-static bool table(struct window *w) {
-    pulleynavy_table t = READ(pulleynavy_read_table, w);
-    uint64_t from = w->at;
-    if (!passed(w, t.fault, t.consumed)) return false;
+static void put_table_item(uint64_t from, uint64_t at, const pulleynavy_table *t) {
+    (void)at;
     put("table(");
-    put_table(t.ty);
+    put_table(t->ty);
     put(" ");
-    if (t.has_init) put_range(from, t.init);
+    if (t->has_init) put_range(from, t->init);
     else put("null");
     put(" )");
-    return true;
 }
 
-static bool memory(struct window *w) {
-    pulleynavy_memory m = READ(pulleynavy_read_memory, w);
-    put_memory(m.ty);
-    return passed(w, m.fault, m.consumed);
+static void put_memory_item(uint64_t from, uint64_t at, const pulleynavy_memory *m) {
+    (void)from, (void)at;
+    put_memory(m->ty);
 }
 
-static bool tag(struct window *w) {
-    pulleynavy_tag t = READ(pulleynavy_read_tag, w);
-    put("tag(exception %" PRIu32 " )", t.func_type_index);
-    return passed(w, t.fault, t.consumed);
+static void put_tag_item(uint64_t from, uint64_t at, const pulleynavy_tag *t) {
+    (void)from, (void)at;
+    put("tag(exception %" PRIu32 " )", t->func_type_index);
 }
 
-static bool global(struct window *w) {
-    pulleynavy_global g = READ(pulleynavy_read_global, w);
+static void put_number_item(uint64_t from, uint64_t at, const pulleynavy_number *n) {
+    (void)from, (void)at;
+    put("%" PRIu64, n->value);
+}
+
+static void put_global_item(uint64_t from, uint64_t at, const pulleynavy_global *g) {
+    (void)at;
     put("global(");
-    put_global(g.ty);
+    put_global(g->ty);
     put(" ");
-    put_range(w->at, g.init);
+    put_range(from, g->init);
     put(" )");
-    return passed(w, g.fault, g.consumed);
 }
 
-static bool export(struct window *w) {
+static void put_export_item(uint64_t from, uint64_t at, const pulleynavy_export *e) {
+    (void)at;
     static const char *kinds[] = {"func", "table", "memory", "global", "tag"};
-    pulleynavy_export e = READ(pulleynavy_read_export, w);
     put("export(");
-    put_bytes(w->at, e.name);
-    put(" %s %" PRIu32 " )", kinds[e.kind], e.index);
-    return passed(w, e.fault, e.consumed);
+    put_bytes(from, e->name);
+    put(" %s %" PRIu32 " )", kinds[e->kind], e->index);
 }
 
 /* The elements of a segment, which have no fault. */
@@ -157,38 +156,30 @@ static void put_elements(uint64_t from, const pulleynavy_element *e) {
     put("]");
 }
 
-static bool element(struct window *w) {
+static void put_element_item(uint64_t from, uint64_t at, const pulleynavy_element *e) {
     static const char *kinds[] = {"passive ", "active ", "declared "};
-    pulleynavy_element e = READ(pulleynavy_read_element, w);
-    uint64_t from = w->at;
-    if (!passed(w, e.fault, e.consumed)) return false;
-    put("element(%s", kinds[e.kind]);
-    if (e.kind == 1) {
-        put_limit(e.has_table, e.table);
-        put_range(from, e.offset_expression);
+    put("element(%s", kinds[e->kind]);
+    if (e->kind == PULLEYNAVY_ELEMENT_ACTIVE) {
+        put_limit(e->has_table, e->table);
+        put_range(from, e->offset_expression);
         put(" ");
     }
-    if (e.has_expressions) {
-        put_type(e.ty);
+    if (e->has_expressions) {
+        put_type(e->ty);
         put(" ");
     }
-    put_elements(from, &e);
-    put(" %" PRIu64 "..%" PRIu64 " )", from, w->at);
-    return true;
+    put_elements(from, e);
+    put(" %" PRIu64 "..%" PRIu64 " )", at, at + e->consumed);
 }
 
-static bool data(struct window *w) {
-    pulleynavy_data d = READ(pulleynavy_read_data, w);
-    uint64_t from = w->at;
-    if (!passed(w, d.fault, d.consumed)) return false;
-    put(d.kind ? "data(active %" PRIu32 " " : "data(passive ", d.memory);
-    if (d.kind) {
-        put_range(from, d.offset_expression);
+static void put_data_item(uint64_t from, uint64_t at, const pulleynavy_data *d) {
+    put(d->kind ? "data(active %" PRIu32 " " : "data(passive ", d->memory);
+    if (d->kind) {
+        put_range(from, d->offset_expression);
         put(" ");
     }
-    put_bytes(from, d.bytes);
-    put(" %" PRIu64 "..%" PRIu64 " )", from, w->at);
-    return true;
+    put_bytes(from, d->bytes);
+    put(" %" PRIu64 "..%" PRIu64 " )", at, at + d->consumed);
 }
 
 static void put_import(uint64_t from, pulleynavy_span module_name, uint64_t name_from, pulleynavy_span name,
@@ -206,55 +197,87 @@ static void put_import(uint64_t from, pulleynavy_span module_name, uint64_t name
     put(" )");
 }
 
-static void tell(uint64_t at, bool is_read) {
-    if (is_read) printf("  %" PRIu64 " %.*s\n", at, (int)used, line);
-    else printf("  "), show_fault(fault);
-    used = 0;
+static void put_import_item(uint64_t from, uint64_t at, const pulleynavy_import *i) {
+    (void)at;
+    put_import(from, i->module_name, from, i->name, &i->ty);
 }
 
-/* The imports of a group, up to the first fault. */
-static void group(uint64_t from, const pulleynavy_import *g) {
-    struct window w = {from + g->items.at, from + g->items.at + g->items.size};
+/* Prints the line of the item at an offset, or its fault. */
+static bool tell(uint64_t at, pulleynavy_fault found) {
+    if (!found.kind) printf("  %" PRIu64 " %.*s\n", at, (int)used, line);
+    else printf("  "), show_fault(found);
+    used = 0;
+    return !found.kind;
+}
+
+/* The imports of a bundle. */
+static void bundle(uint64_t from, const pulleynavy_import *g) {
+    struct window w = window_of(from, g->items);
     for (uint32_t i = 0; i < g->count; i++) {
         uint64_t at = w.at;
         pulleynavy_import_item one =
             pulleynavy_read_bundled_import(g, stream + at, (size_t)(w.end - at), at, PULLEYNAVY_ALL_FEATURES);
-        bool is_read = passed(&w, one.fault, one.consumed);
-        if (is_read) put_import(from, g->module_name, at, one.name, &one.ty);
-        tell(at, is_read);
-        if (!is_read) return;
+        if (passed(&w, one.fault, one.consumed)) put_import(from, g->module_name, at, one.name, &one.ty);
+        if (!tell(at, one.fault)) return;
     }
 }
 
-static bool import(struct window *w) {
-    pulleynavy_import i = READ(pulleynavy_read_import, w);
-    uint64_t from = w->at;
-    if (!passed(w, i.fault, i.consumed)) return false;
-    if (i.kind) {
-        group(from, &i);
-        return true;
+/* Defines a function that prints the items of a section, as many at a time as a batch has. */
+#define SECTION(item, next) \
+    static void item##_section(const pulleynavy_event *e) { \
+        pulleynavy_items items = pulleynavy_items_init(e, PULLEYNAVY_ALL_FEATURES); \
+        pulleynavy_##item out[MOST]; \
+        uint64_t at = items.offset; \
+        for (size_t n; (n = next(&items, stream + e->start, (size_t)(e->end - e->start), out, batch)) > 0;) \
+            for (size_t i = 0; i < n; at += out[i].consumed, i++) { \
+                if (!out[i].fault.kind) put_##item##_item(e->start, at, &out[i]); \
+                tell(at, out[i].fault); \
+            } \
     }
-    put_import(from, i.module_name, from, i.name, &i.ty);
-    tell(from, true);
-    return true;
+
+SECTION(number, pulleynavy_next_numbers)
+SECTION(table, pulleynavy_next_tables)
+SECTION(memory, pulleynavy_next_memories)
+SECTION(tag, pulleynavy_next_tags)
+SECTION(global, pulleynavy_next_globals)
+SECTION(export, pulleynavy_next_exports)
+SECTION(element, pulleynavy_next_elements)
+SECTION(data, pulleynavy_next_data)
+
+/* Imports, those of bundles one by one. */
+static void import_section(const pulleynavy_event *e) {
+    pulleynavy_items items = pulleynavy_items_init(e, PULLEYNAVY_ALL_FEATURES);
+    pulleynavy_import one;
+    size_t size = (size_t)(e->end - e->start);
+    for (uint64_t at = items.offset; pulleynavy_next_imports(&items, stream + e->start, size, &one, 1); at = items.offset) {
+        if (one.kind) {
+            bundle(e->start, &one);
+            continue;
+        }
+        if (!one.fault.kind) put_import_item(e->start, at, &one);
+        tell(at, one.fault);
+    }
+}
+
+/* Types, whose groups have no cursor: the offset of the first item, and each group by the calls for its parts. */
+static void type_section(const pulleynavy_event *e) {
+    struct window w = {e->data_offset, e->end};
+    for (uint32_t i = 0; i < e->count; i++) {
+        uint64_t at = w.at;
+        type_group(&w);
+        if (!tell(at, fault)) return;
+    }
+    set_fault(PULLEYNAVY_FAULT_SIZE_MISMATCH, w.at);
+    if (w.at < w.end) tell(w.at, fault);
 }
 
 /* The items of a section, up to the first fault; bytes after them are one. */
-static void items(const pulleynavy_event *e) {
-    static bool (*const readers[])(struct window *) = {0, type_group, import, number, table, memory, global, export, 0, element, 0, data, 0, tag};
-    struct window w = {e->start, e->end};
-    pulleynavy_number count = READ(pulleynavy_read_number, &w);
-    if (!passed(&w, count.fault, count.consumed)) return;
-    for (uint64_t i = 0; i < count.value; i++) {
-        uint64_t at = w.at;
-        bool is_read = readers[e->id](&w);
-        if (!is_read || e->id != 2) tell(at, is_read);
-        if (!is_read) return;
-    }
-    if (w.at < w.end) {
-        set_fault(PULLEYNAVY_FAULT_SIZE_MISMATCH, w.at);
-        tell(0, false);
-    }
+static void items_of(const pulleynavy_event *e) {
+    static void (*const sections[])(const pulleynavy_event *) = {
+        0, type_section, import_section, number_section, table_section, memory_section, global_section, export_section, 0, element_section,
+        0, data_section, 0, tag_section,
+    };
+    sections[e->id](e);
 }
 
 /* The name and the items of a custom section on one line. */
@@ -264,7 +287,7 @@ static void custom(const pulleynavy_event *e) {
     put_bytes(e->data_offset - e->name_size, (pulleynavy_span){0, e->name_size});
     put(" ");
     size_t before = used;
-    if (!put_custom(pulleynavy_classify_custom(name, (size_t)e->name_size), data)) {
+    if (!put_custom(pulleynavy_classify_custom(name, e->name_size), data)) {
         used = before;
         put("unknown");
     }
@@ -285,13 +308,15 @@ static size_t read_all(void) {
     return size;
 }
 
-int main(void) {
+int main(int count, char **words) {
+    if (count > 1) batch = strtoul(words[1], NULL, 10);
+    if (batch < 1 || batch > MOST) return 2;
     size_t size = read_all();
     pulleynavy_parser parser = pulleynavy_parser_init(0, PULLEYNAVY_ALL_FEATURES);
     for (size_t at = 0;;) {
         pulleynavy_event event = pulleynavy_parse(&parser, stream + at, size - at, true);
         show_event(&event);
-        if (event.kind == PULLEYNAVY_EVENT_SECTION) items(&event);
+        if (event.kind == PULLEYNAVY_EVENT_SECTION) items_of(&event);
         if (event.kind == PULLEYNAVY_EVENT_CUSTOM) custom(&event);
         if (event.kind >= PULLEYNAVY_EVENT_END) {
             free(stream), free(line);

@@ -5,7 +5,7 @@
 #include <stdio.h>
 #include <stdlib.h>
 
-enum { CHUNK = 4096, BATCH = 64, FUNCTION_NAMES = 1 };
+enum { CHUNK = 4096, BATCH = 64 };
 
 /* Prints the names in a subsection, which begins at `offset` of the stream. */
 static void print_functions(const uint8_t *bytes, size_t size, uint64_t offset) {
@@ -28,7 +28,7 @@ static void print_names(const pulleynavy_event *event, const uint8_t *bytes) {
     pulleynavy_subsection one;
     while (pulleynavy_next_name_subsections(&items, bytes, size, &one, 1)) {
         if (one.fault.kind) return;
-        if (one.id == FUNCTION_NAMES) print_functions(bytes + one.contents.at, one.contents.size, event->start + one.contents.at);
+        if (one.id == PULLEYNAVY_NAME_FUNCTION) print_functions(bytes + one.contents.at, one.contents.size, event->start + one.contents.at);
     }
 }
 

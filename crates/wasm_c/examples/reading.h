@@ -7,10 +7,15 @@
 #include <stdio.h>
 #include <stdlib.h>
 
+enum { MOST = 64 };
+
 /* The remaining bytes of a section, as offsets in the stream. */
 struct window {
     uint64_t at, end;
 };
+
+/* How many items a call stores at most. */
+static size_t batch = MOST;
 
 static uint8_t *stream;
 static pulleynavy_fault fault;

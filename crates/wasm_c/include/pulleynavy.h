@@ -1,49 +1,54 @@
 /* SPDX-License-Identifier: Apache-2.0 OR MIT */
 /* Pulleynavy: a streaming parser for WebAssembly modules, for C and C++. Written by tools/c_header from the sources of wasm_c.
 
-   Link libwasm_c.a and nothing else: no call allocates, keeps a pointer, or fails to return. For x86-64 (v2) on Linux.
+   Link libwasm_c.a and nothing else: no call allocates, keeps a pointer, or fails to return. docs/C.md has a table of all calls.
 
        pulleynavy_parser parser = pulleynavy_parser_init(0, PULLEYNAVY_ALL_FEATURES);
        for (size_t at = 0;;) {
            pulleynavy_event event = pulleynavy_parse(&parser, bytes + at, size - at, true);
            if (event.kind >= PULLEYNAVY_EVENT_END) return event.kind == PULLEYNAVY_EVENT_FAULT;
            printf("%u at %llu\n", event.id, (unsigned long long)event.start);
+           if (event.kind == PULLEYNAVY_EVENT_SECTION && event.id == PULLEYNAVY_SECTION_EXPORT)
+               print_exports(&event, bytes + at + event.at);
            at += event.consumed;
        }
 
-   For chunked input, a feeder keeps the bytes that aren't read yet in memory of the caller's, as in examples/list.c:
+   A cursor walks the items of a section, and each call stores as many as there is room for. It gets the bytes of the section, those
+   from `start` to `end` of its event:
+
+       void print_exports(const pulleynavy_event *event, const uint8_t *section) {
+           pulleynavy_items items = pulleynavy_items_init(event, PULLEYNAVY_ALL_FEATURES);
+           pulleynavy_export out[64];
+           for (size_t n; (n = pulleynavy_next_exports(&items, section, event->end - event->start, out, 64)) > 0;)
+               for (size_t i = 0; i < n && !out[i].fault.kind; i++)
+                   printf("%.*s is %u\n", (int)out[i].name.size, (const char *)section + out[i].name.at, out[i].index);
+       }
+
+   For chunked input, a feeder keeps the bytes that aren't consumed yet in storage of yours, as in examples/list.c:
 
        pulleynavy_feed feed = pulleynavy_feed_init(0, PULLEYNAVY_ALL_FEATURES);
        pulleynavy_event event;
-       while ((event = pulleynavy_feed_step(&feed, room, room_size)).kind < PULLEYNAVY_EVENT_END) {
+       while ((event = pulleynavy_feed_step(&feed, storage, storage_size)).kind < PULLEYNAVY_EVENT_END) {
            if (event.kind != PULLEYNAVY_EVENT_NEED_MORE) continue;
-           size_t size = fread(piece, 1, sizeof piece, file);
+           size_t size = fread(chunk, 1, sizeof chunk, file);
            if (!size) pulleynavy_feed_finish(&feed);
-           else if (!pulleynavy_feed_push(&feed, room, room_size, piece, size)) return 3;
+           else if (!pulleynavy_feed_push(&feed, storage, storage_size, chunk, size)) return 3;
        }
 
-   Every call for an item is used in one way: it gets the remaining bytes of its section, and returns how many bytes it consumed, or its
-   fault. For an event that is an export section:
+   Offsets are uint64_t and count bytes from the start of the stream; sizes and positions in memory are size_t. A span is a place in
+   the bytes that the call got. Bytes past the offset 2^64 - 1 are the fault OFFSET_RANGE.
 
-       size_t at = event.start, end = event.end;
-       at += pulleynavy_read_number(bytes + at, end - at, at, PULLEYNAVY_ALL_FEATURES).consumed; // the count
-       for (uint32_t i = 0; i < event.count; i++) {
-           pulleynavy_export one = pulleynavy_read_export(bytes + at, end - at, at, PULLEYNAVY_ALL_FEATURES);
-           if (one.fault.kind) return 1;
-           printf("%.*s is %u\n", (int)one.name.size, (const char *)bytes + at + one.name.at, one.index);
-           at += one.consumed;
-       }
+   What you owe each call: no pointer is null, not even with a size of 0; a pointer leads to as much as the size says; what a call
+   writes overlaps nothing else that it is given; nobody writes the bytes during a call; a `bool` is 0 or 1. Nothing else is asked:
+   any bytes are a parser, a feeder and a cursor.
 
-   Offsets count bytes from the start of the whole stream, sizes count bytes, and a span is a place in the bytes that a call was given.
-   Bytes that pass the offset 2^64 - 1 are the fault OFFSET_RANGE.
-   The caller owes: no pointer is null, not even with a size of 0; what a pointer leads to has the size that is given; what a call
-   writes overlaps nothing else that it is given; nobody writes the bytes during a call; a `bool` is 0 or 1. Nothing else is asked.
+   A request for more bytes and a fault leave a parser and a feeder unchanged. An item with a fault has 0 in all its other fields,
+   `consumed` included.
 
-   After a fault or a request for more bytes a parser and a feeder are unchanged. After the fault of an item all its other fields are 0,
-   `consumed` among them.
+   Threads: the library has no state of its own. Different threads may use different parsers, feeders and cursors at once; each of
+   them, with its storage, belongs to one thread at a time. Calls that read an item only read their arguments.
 
-   Threads: the library has no state of its own. Different parsers and feeders may be used by different threads at once; each of them, with
-   its storage, by one thread at a time. Calls for items only read their arguments.
+   Structs never grow: a new field means a new struct with a new name.
 
    The numbers of kinds, faults and flags never change. */
 #ifndef PULLEYNAVY_H
@@ -172,6 +177,24 @@ typedef enum pulleynavy_core_start {
     PULLEYNAVY_CORE_START_STACK_NAME = 3,
     PULLEYNAVY_CORE_START_FRAME = 4
 } pulleynavy_core_start;
+
+/* The id of a section of a module. */
+typedef enum pulleynavy_section_id {
+    PULLEYNAVY_SECTION_CUSTOM = 0,
+    PULLEYNAVY_SECTION_TYPE = 1,
+    PULLEYNAVY_SECTION_IMPORT = 2,
+    PULLEYNAVY_SECTION_FUNCTION = 3,
+    PULLEYNAVY_SECTION_TABLE = 4,
+    PULLEYNAVY_SECTION_MEMORY = 5,
+    PULLEYNAVY_SECTION_GLOBAL = 6,
+    PULLEYNAVY_SECTION_EXPORT = 7,
+    PULLEYNAVY_SECTION_START = 8,
+    PULLEYNAVY_SECTION_ELEMENT = 9,
+    PULLEYNAVY_SECTION_CODE = 10,
+    PULLEYNAVY_SECTION_DATA = 11,
+    PULLEYNAVY_SECTION_DATA_COUNT = 12,
+    PULLEYNAVY_SECTION_TAG = 13
+} pulleynavy_section_id;
 
 /* The kind of a type: of a value, or of what a field holds. */
 typedef enum pulleynavy_type_kind {
@@ -313,6 +336,43 @@ typedef enum pulleynavy_core_value_kind {
     PULLEYNAVY_CORE_VALUE_F32 = 3,
     PULLEYNAVY_CORE_VALUE_F64 = 4
 } pulleynavy_core_value_kind;
+
+/* The id of a subsection of `name`. */
+typedef enum pulleynavy_name_id {
+    PULLEYNAVY_NAME_MODULE = 0,
+    PULLEYNAVY_NAME_FUNCTION = 1,
+    PULLEYNAVY_NAME_LOCAL = 2,
+    PULLEYNAVY_NAME_LABEL = 3,
+    PULLEYNAVY_NAME_TYPE = 4,
+    PULLEYNAVY_NAME_TABLE = 5,
+    PULLEYNAVY_NAME_MEMORY = 6,
+    PULLEYNAVY_NAME_GLOBAL = 7,
+    PULLEYNAVY_NAME_ELEMENT = 8,
+    PULLEYNAVY_NAME_DATA = 9,
+    PULLEYNAVY_NAME_FIELD = 10,
+    PULLEYNAVY_NAME_TAG = 11,
+    PULLEYNAVY_NAME_PARAMETER = 12,
+    PULLEYNAVY_NAME_TAG_PARAMETER = 13
+} pulleynavy_name_id;
+
+/* The id of a subsection of `linking`. */
+typedef enum pulleynavy_linking_id {
+    PULLEYNAVY_LINKING_SEGMENT_INFO = 5,
+    PULLEYNAVY_LINKING_INIT_FUNCS = 6,
+    PULLEYNAVY_LINKING_COMDAT_INFO = 7,
+    PULLEYNAVY_LINKING_SYMBOL_TABLE = 8,
+    PULLEYNAVY_LINKING_TARGET_ARCH = 9
+} pulleynavy_linking_id;
+
+/* The id of a subsection of `dylink.0`. */
+typedef enum pulleynavy_dylink_id {
+    PULLEYNAVY_DYLINK_MEM_INFO = 1,
+    PULLEYNAVY_DYLINK_NEEDED = 2,
+    PULLEYNAVY_DYLINK_EXPORT_INFO = 3,
+    PULLEYNAVY_DYLINK_IMPORT_INFO = 4,
+    PULLEYNAVY_DYLINK_RUNTIME_PATH = 5,
+    PULLEYNAVY_DYLINK_TARGET_ARCH = 6
+} pulleynavy_dylink_id;
 
 /* The opcode of an instruction of a constant expression. */
 typedef enum pulleynavy_opcode {
@@ -919,6 +979,24 @@ size_t pulleynavy_next_texts(
    `offset` of the stream. After a fault all other fields are 0. */
 pulleynavy_import_item pulleynavy_read_bundled_import(
     const pulleynavy_import *bundle, const uint8_t *bytes, size_t bytes_size, uint64_t offset, uint32_t features);
+
+/* A cursor over the imports of a section, those of bundles one by one. It keeps no pointer. Any bytes are such a cursor. */
+typedef struct pulleynavy_imports {
+    /* The imports and bundles of the section. */
+    pulleynavy_items items;
+    /* The imports of the bundle that was read last. */
+    pulleynavy_items bundled;
+    /* That bundle. */
+    pulleynavy_import bundle;
+} pulleynavy_imports;
+
+/* Returns a cursor at the first import of an import section. Its bytes are those from `start` to `end` of the event. */
+pulleynavy_imports pulleynavy_imports_init(const pulleynavy_event *event, uint32_t features);
+
+/* Stores the next imports of a section in `out`, those of bundles one by one: `kind` is 0 in each (the proposal for compact imports).
+   Returns how many there were or there was room for: 0 at the end. `bytes` are those of the whole section. */
+size_t pulleynavy_next_flat_imports(
+    pulleynavy_imports *imports, const uint8_t *bytes, size_t bytes_size, pulleynavy_import *out, size_t out_count);
 
 /* An export, or its fault. */
 typedef struct pulleynavy_export {
@@ -1613,6 +1691,7 @@ PULLEYNAVY_ASSERT(sizeof(pulleynavy_import_type) == 120 && offsetof(pulleynavy_i
 PULLEYNAVY_ASSERT(sizeof(pulleynavy_import) == 208 && offsetof(pulleynavy_import, count) == 204, "layout");
 PULLEYNAVY_ASSERT(sizeof(pulleynavy_import_item) == 168 && offsetof(pulleynavy_import_item, ty) == 48, "layout");
 PULLEYNAVY_ASSERT(sizeof(pulleynavy_name) == 48 && offsetof(pulleynavy_name, name) == 32, "layout");
+PULLEYNAVY_ASSERT(sizeof(pulleynavy_imports) == 272 && offsetof(pulleynavy_imports, bundle) == 64, "layout");
 PULLEYNAVY_ASSERT(sizeof(pulleynavy_export) == 56 && offsetof(pulleynavy_export, index) == 52, "layout");
 PULLEYNAVY_ASSERT(sizeof(pulleynavy_instruction) == 80 && offsetof(pulleynavy_instruction, bytes) == 64, "layout");
 PULLEYNAVY_ASSERT(sizeof(pulleynavy_expression) == 32 && offsetof(pulleynavy_expression, consumed) == 24, "layout");

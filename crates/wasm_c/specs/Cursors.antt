@@ -153,20 +153,20 @@ next_name_subsection bytes c = in_order subsection_id (λ f. item_of plain_subse
 -- ---- batches
 
 -- what a call returned, and what the others return
-abbrev pub first_then : {T : Type 0} → (others : StoredItems → List T × StoredItems) → Option T × StoredItems
-    → List T × StoredItems
+abbrev pub first_then : {C T : Type 0} → (others : C → List T × C) → Option T × C
+    → List T × C
 first_then others (None, d) = ([], d)
 first_then others (Some item, d) = (item ∷ (others d).0, (others d).1)
 
 -- all items that so many calls return, and the cursor after them
-abbrev pub items_by : {T : Type 0} → (next : StoredItems → Option T × StoredItems) → ℕ → StoredItems
-    → List T × StoredItems
+abbrev pub items_by : {C T : Type 0} → (next : C → Option T × C) → ℕ → C
+    → List T × C
 items_by next zero c = ([], c)
 items_by next (suc n) c = first_then (λ d. items_by next n d) (next c)
 
 -- One call stored as many items as so many calls for one return, and returned how many.
-pub record StoresItems {T : Type 0} (next : StoredItems → Option T × StoredItems) (old : StoredItems) (before : List T)
-    (count : ℕ) (new : StoredItems) (after : List T) : Type 0 where
+pub record StoresItems {C T : Type 0} (next : C → Option T × C) (old : C) (before : List T)
+    (count : ℕ) (new : C) (after : List T) : Type 0 where
   pub items : after ≡ (items_by next (length before) old).0 ++ drop count before
   pub counted : count ≡ length (items_by next (length before) old).0
   pub cursor : new ≡ (items_by next (length before) old).1

@@ -8,6 +8,7 @@ pub mod Events
 pub mod Exports
 pub mod Faults
 pub mod Feeds
+pub mod FlatImports
 pub mod Hints
 pub mod Imports
 pub mod Instructions

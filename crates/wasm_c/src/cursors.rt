@@ -35,11 +35,14 @@ pub(crate) trait Walk: Copy {
     /// The struct of an item.
     type Plain: Copy;
 
+    /// Where a walk is.
+    type Cursor;
+
     /// What one call returns.
-    ghost next: { Self → List ℕ → StoredItems → Option Self.Plain × StoredItems };
+    ghost next: { Self → List ℕ → Self.Cursor → Option Self.Plain × Self.Cursor };
 
     /// Returns the next item, or its fault. `None` after the end.
-    fn next(self, items: &mut StoredItems, bytes: &[u8]) -> Option<Self::Plain>
+    fn next(self, items: &mut Self::Cursor, bytes: &[u8]) -> Option<Self::Plain>
         ensures { (result, items.new) ≡ next self bytes.now items.old };
 }
 
@@ -49,6 +52,8 @@ pub(crate) struct Counted<R>(pub(crate) R);
 
 impl<R: Readable> Walk for Counted<R> {
     type Plain = R::Plain;
+
+    type Cursor = StoredItems;
 
     ghost next = { λ walk. next_by (R.plain walk.0) (R.reading walk.0) };
 
@@ -80,6 +85,8 @@ pub(crate) struct Ascending<R>(pub(crate) R);
 
 impl<R: Indexed> Walk for Ascending<R> {
     type Plain = R::Plain;
+
+    type Cursor = StoredItems;
 
     ghost next = { λ walk bytes items. in_order R.index (λ f. item_of (R.plain walk.0) items [] (Err f))
         (at_offset R.order items.offset) (next_by (R.plain walk.0) (R.reading walk.0) bytes items) };
@@ -139,7 +146,7 @@ fn end<R: Readable>(kind: R, items: &mut StoredItems, rest: &[u8]) -> Option<R::
 }
 
 // The item at which the cursor is.
-fn item<R: Readable>(kind: R, items: &mut StoredItems, rest: &[u8]) -> Option<R::Plain>
+pub(crate) fn item<R: Readable>(kind: R, items: &mut StoredItems, rest: &[u8]) -> Option<R::Plain>
     ensures { (result, items.new) ≡ item_by (R.plain kind) (R.reading kind) items.old rest.now }
 {
     if !fits(items.offset, rest.len()) {
@@ -181,7 +188,7 @@ pub(crate) fn next_item<R: Readable>(
 /// Stores the next items, as many as there are or as there is room for, and returns how many.
 pub(crate) fn store_items<W: Walk>(
     walk: W,
-    items: &mut StoredItems,
+    items: &mut W::Cursor,
     bytes: &[u8],
     out: &mut [W::Plain],
 ) -> usize

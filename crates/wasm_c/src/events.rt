@@ -2,7 +2,7 @@
 ghost use Rattle.std.specs.Prelude.{◌≡◌};
 ghost use Rattle.wasm_base.specs.FaultAt.{fault_at};
 ghost use Rattle.wasm_parser.specs.ParseAnswer.{report_of};
-ghost use Rattle.wasm_c.specs.Events.{code_event, counted_event, encoding_code, event_between, fault_event, parsed_event, payload_event, report_event, request_event, silent};
+ghost use Rattle.wasm_c.specs.Events.{code_event, counted_event, encoding_code, event_between, fault_event, parsed_event, placed_at, report_event, request_event, silent};
 ghost use Rattle.wasm_parser.specs.declared.payload.Payload.TheVariants.{CustomSection};
 
 use crate::faults::{NO_FAULT, PlainFault, plain_fault};
@@ -63,16 +63,26 @@ const SILENT: PlainEvent = PlainEvent {
     fault: NO_FAULT,
 };
 
+/// Where an event was read: the offset of the first byte, where that is in memory, and how many bytes were consumed.
+#[derive(Clone, Copy)]
+pub(crate) struct Origin {
+    pub(crate) offset: u64,
+    pub(crate) base: usize,
+    pub(crate) consumed: usize,
+}
+
 // An event of this kind with these offsets.
 #[inline(always)]
-fn event_between(kind: u32, id: u32, from: u64, to: u64) -> PlainEvent
-    ensures { result ≡ event_between kind id from to }
+fn event_between(origin: Origin, kind: u32, id: u32, from: u64, to: u64) -> PlainEvent
+    ensures { result ≡ placed_at origin (event_between kind id from to) }
 {
     PlainEvent {
         kind,
         id,
         start: from,
         end: to,
+        at: origin.base.saturating_add(distance(origin.offset, from)),
+        consumed: origin.consumed,
         ..SILENT
     }
 }
@@ -88,46 +98,47 @@ fn encoding_code(encoding: Encoding) -> u32
 
 // A section that begins with a count.
 #[inline(always)]
-fn counted_event<T>(id: u8, section: &SectionLimited<'_, T>) -> PlainEvent
-    ensures { result ≡ counted_event id section.now }
+fn counted_event<T>(origin: Origin, id: u8, section: &SectionLimited<'_, T>) -> PlainEvent
+    ensures { result ≡ placed_at origin (counted_event id section.now) }
 {
     let range = section.range();
     PlainEvent {
         count: section.count(),
         data_offset: section.original_position(),
-        ..event_between(2, u32::from(id), range.start, range.end)
+        ..event_between(origin, 2, u32::from(id), range.start, range.end)
     }
 }
 
 // The start of a code section.
 #[inline(always)]
-fn code_event(count: u32, from: u64, to: u64, size: u32) -> PlainEvent
-    ensures { result ≡ code_event count from to size }
+fn code_event(origin: Origin, count: u32, from: u64, to: u64, size: u32) -> PlainEvent
+    ensures { result ≡ placed_at origin (code_event count from to size) }
 {
     PlainEvent {
         count,
         size,
         data_offset: to.saturating_sub(u64::from(size)),
-        ..event_between(5, u32::from(CODE_SECTION), from, to)
+        ..event_between(origin, 5, u32::from(CODE_SECTION), from, to)
     }
 }
 
 // A custom section.
 #[inline(always)]
-fn custom_event(section: &CustomSectionReader) -> PlainEvent
-    ensures { result ≡ report_event (report_of (CustomSection section.now)) }
+fn custom_event(origin: Origin, section: &CustomSectionReader) -> PlainEvent
+    ensures { result ≡ placed_at origin
+        (report_event (report_of (CustomSection section.now))) }
 {
     let range = section.range();
     PlainEvent {
         data_offset: section.data_offset(),
         name_size: section.name().len(),
-        ..event_between(7, u32::from(CUSTOM_SECTION), range.start, range.end)
+        ..event_between(origin, 7, u32::from(CUSTOM_SECTION), range.start, range.end)
     }
 }
 
-// A payload, without what it consumed.
-fn payload_event(payload: &Payload) -> PlainEvent
-    ensures { result ≡ payload_event payload.now }
+/// A payload that was read there.
+pub(crate) fn parsed_event(origin: Origin, payload: &Payload) -> PlainEvent
+    ensures { result ≡ parsed_event origin payload.now }
 {
     match payload {
         Payload::Version {
@@ -136,40 +147,52 @@ fn payload_event(payload: &Payload) -> PlainEvent
             range,
         } => PlainEvent {
             count: u32::from(*num),
-            ..event_between(1, encoding_code(*encoding), range.start, range.end)
+            ..event_between(origin, 1, encoding_code(*encoding), range.start, range.end)
         },
-        Payload::TypeSection(section) => counted_event(TYPE_SECTION, section),
-        Payload::ImportSection(section) => counted_event(IMPORT_SECTION, section),
-        Payload::FunctionSection(section) => counted_event(FUNCTION_SECTION, section),
-        Payload::TableSection(section) => counted_event(TABLE_SECTION, section),
-        Payload::MemorySection(section) => counted_event(MEMORY_SECTION, section),
-        Payload::TagSection(section) => counted_event(TAG_SECTION, section),
-        Payload::GlobalSection(section) => counted_event(GLOBAL_SECTION, section),
-        Payload::ExportSection(section) => counted_event(EXPORT_SECTION, section),
-        Payload::ElementSection(section) => counted_event(ELEMENT_SECTION, section),
-        Payload::DataSection(section) => counted_event(DATA_SECTION, section),
+        Payload::TypeSection(section) => counted_event(origin, TYPE_SECTION, section),
+        Payload::ImportSection(section) => counted_event(origin, IMPORT_SECTION, section),
+        Payload::FunctionSection(section) => counted_event(origin, FUNCTION_SECTION, section),
+        Payload::TableSection(section) => counted_event(origin, TABLE_SECTION, section),
+        Payload::MemorySection(section) => counted_event(origin, MEMORY_SECTION, section),
+        Payload::TagSection(section) => counted_event(origin, TAG_SECTION, section),
+        Payload::GlobalSection(section) => counted_event(origin, GLOBAL_SECTION, section),
+        Payload::ExportSection(section) => counted_event(origin, EXPORT_SECTION, section),
+        Payload::ElementSection(section) => counted_event(origin, ELEMENT_SECTION, section),
+        Payload::DataSection(section) => counted_event(origin, DATA_SECTION, section),
         Payload::StartSection { func, range } => PlainEvent {
             count: *func,
-            ..event_between(3, u32::from(START_SECTION), range.start, range.end)
+            ..event_between(origin, 3, u32::from(START_SECTION), range.start, range.end)
         },
         Payload::DataCountSection { count, range } => PlainEvent {
             count: *count,
-            ..event_between(4, u32::from(DATA_COUNT_SECTION), range.start, range.end)
+            ..event_between(
+                origin,
+                4,
+                u32::from(DATA_COUNT_SECTION),
+                range.start,
+                range.end,
+            )
         },
         Payload::CodeSectionStart {
             count,
             unchecked_range,
             size,
-        } => code_event(*count, unchecked_range.start, unchecked_range.end, *size),
+        } => code_event(
+            origin,
+            *count,
+            unchecked_range.start,
+            unchecked_range.end,
+            *size,
+        ),
         Payload::CodeSectionEntry(body) => {
             let range = body.range();
-            event_between(6, u32::from(CODE_SECTION), range.start, range.end)
+            event_between(origin, 6, u32::from(CODE_SECTION), range.start, range.end)
         }
-        Payload::CustomSection(section) => custom_event(section),
+        Payload::CustomSection(section) => custom_event(origin, section),
         Payload::UnknownSection { id, range, .. } => {
-            event_between(8, u32::from(*id), range.start, range.end)
+            event_between(origin, 8, u32::from(*id), range.start, range.end)
         }
-        Payload::End(offset) => event_between(9, 0, *offset, *offset),
+        Payload::End(offset) => event_between(origin, 9, 0, *offset, *offset),
     }
 }
 
@@ -178,9 +201,12 @@ pub(crate) fn fault_event(error: Error, base: usize) -> PlainEvent
     ensures { result ≡ fault_event base (fault_at error) }
 {
     PlainEvent {
+        kind: 10,
+        start: error.offset(),
+        end: error.offset(),
         at: base,
         fault: plain_fault(error),
-        ..event_between(10, 0, error.offset(), error.offset())
+        ..SILENT
     }
 }
 
@@ -192,22 +218,5 @@ pub(crate) fn request_event(hint: usize, base: usize) -> PlainEvent
         at: base,
         hint,
         ..SILENT
-    }
-}
-
-/// A payload, and what it consumed from this offset on, whose byte is at `base` in memory.
-pub(crate) fn parsed_event(
-    consumed: usize,
-    payload: &Payload,
-    offset: u64,
-    base: usize,
-) -> PlainEvent
-    ensures { result ≡ parsed_event base offset consumed payload.now }
-{
-    let event = payload_event(payload);
-    PlainEvent {
-        at: base.saturating_add(distance(offset, event.start)),
-        consumed,
-        ..event
     }
 }

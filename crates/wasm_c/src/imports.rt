@@ -87,7 +87,7 @@ pub struct PlainName {
 }
 
 /// The kind of a bundle of one module and one type.
-const OF_TYPE: u32 = 2;
+pub(crate) const OF_TYPE: u32 = 2;
 
 const NO_TYPE: PlainImportType = PlainImportType {
     kind: 0,
@@ -97,7 +97,7 @@ const NO_TYPE: PlainImportType = PlainImportType {
     global: NO_GLOBAL_TYPE,
 };
 
-const NO_IMPORT: PlainImport = PlainImport {
+pub(crate) const NO_IMPORT: PlainImport = PlainImport {
     fault: NO_FAULT,
     consumed: 0,
     module_name: NO_SPAN,
@@ -389,7 +389,7 @@ pub extern "C" fn pulleynavy_next_texts(
 // The imports of a bundle of one type, which are names.
 #[derive(Clone, Copy)]
 pub(crate) struct TypedNames {
-    ty: PlainImportType,
+    pub(crate) ty: PlainImportType,
 }
 
 impl Readable for TypedNames {

@@ -344,6 +344,8 @@ struct Subsections;
 impl Walk for Subsections {
     type Plain = PlainSubsection;
 
+    type Cursor = StoredItems;
+
     ghost next = { λ _. next_subsection };
 
     fn next(self, items: &mut StoredItems, bytes: &[u8]) -> Option<PlainSubsection> {
@@ -365,6 +367,8 @@ struct NameSubsections;
 
 impl Walk for NameSubsections {
     type Plain = PlainSubsection;
+
+    type Cursor = StoredItems;
 
     ghost next = { λ _. next_name_subsection };
 

@@ -5,7 +5,7 @@ ghost use Rattle.wasm_c.specs.Events.{ParsesPlain};
 ghost use Rattle.wasm_c.specs.Stored.{parser_of, skipped_of};
 ghost use Rattle.wasm_c.specs.Texts.{Says, SaysFault};
 
-use crate::events::{PlainEvent, fault_event, parsed_event, request_event};
+use crate::events::{Origin, PlainEvent, fault_event, parsed_event, request_event};
 use crate::stored::StoredParser;
 use crate::text::write_text;
 use bitflags::Flags;
@@ -37,7 +37,12 @@ pub(crate) fn parse_stored(
     match parser.parse(bytes, is_all) {
         Ok(Chunk::Parsed { consumed, payload }) => {
             *stored = StoredParser::of(&parser);
-            parsed_event(consumed, &payload, offset, base)
+            let origin = Origin {
+                offset,
+                base,
+                consumed,
+            };
+            parsed_event(origin, &payload)
         }
         // The parser is what it was, so it needn't be stored again.
         Ok(Chunk::NeedMoreData(hint)) => request_event(hint, base),

@@ -9,8 +9,6 @@ mod linking;
 mod outside;
 mod printing;
 mod streams;
-#[cfg(test)]
-mod tests;
 mod visits;
 mod walks;
 

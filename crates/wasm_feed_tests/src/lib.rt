@@ -1,4 +1,4 @@
-//! Worked examples of `wasm_feed`, by its public surface alone: proving them anew doesn't prove the library anew.
+//! Tests of `wasm_feed` and `wasm_examples`, by what they export: proving the tests doesn't prove the libraries again.
 #![tactic(auto)]
 
 #[cfg(test)]

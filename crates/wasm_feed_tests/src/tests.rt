@@ -2,6 +2,7 @@
 mod devices;
 mod digits;
 mod equal_events;
+mod examples;
 mod feeding;
 mod lending;
 mod listings;

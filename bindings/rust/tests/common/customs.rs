@@ -15,7 +15,7 @@ impl Show for IndirectNaming<'_> {
 
 /// Names, and the faults among them.
 pub fn named<T: Show>(names: impl Iterator<Item = Result<T>>) -> String {
-    format!("{{{}}}", joined(names.map(|name| told(name, |name| name.show()))))
+    format!("{{{}}}", joined(names.map(|name| text_of(name, |name| name.show()))))
 }
 
 /// What direct names are read as.
@@ -30,7 +30,7 @@ pub fn indirect_name_map(reader: BinaryReader<'_>) -> Result<String> {
 
 /// Subsections, and the faults among them.
 fn parts<T: Show>(parts: impl Iterator<Item = Result<T>>) -> String {
-    format!("<{}>", joined(parts.map(|part| told(part, |part| part.show()))))
+    format!("<{}>", joined(parts.map(|part| text_of(part, |part| part.show()))))
 }
 
 fn unknown(ty: u8, data: &[u8], place: &Range<u64>) -> String {

@@ -43,8 +43,8 @@ pub fn joined(texts: impl Iterator<Item = String>) -> String {
     texts.fold(String::new(), |all, text| all + &text + " ")
 }
 
-/// What a result says: what is shown of it, or its fault.
-pub fn told<T>(result: Result<T>, show: impl FnOnce(T) -> String) -> String {
+/// A result as a text, or its fault.
+pub fn text_of<T>(result: Result<T>, show: impl FnOnce(T) -> String) -> String {
     result.map_or_else(|error| fault(&error), show)
 }
 
@@ -56,7 +56,7 @@ pub fn owned<T: Show>(items: impl IntoIterator<Item = T>) -> String {
 /// The range, the count and the items of a list, each item after its offset.
 pub fn listed<'a, T: FromReader<'a> + Show>(list: SectionLimited<'a, T>) -> String {
     let head = format!("{} #{}", range(list.range()), list.count());
-    head + "[" + &joined(list.into_iter_with_offsets().map(|item| told(item, |(at, item)| format!("{at}:{}", item.show())))) + "]"
+    head + "[" + &joined(list.into_iter_with_offsets().map(|item| text_of(item, |(at, item)| format!("{at}:{}", item.show())))) + "]"
 }
 
 /// What an item is read as, and how many bytes it takes.
@@ -73,7 +73,7 @@ pub fn section<'a, T: FromReader<'a> + Show>(reader: BinaryReader<'a>) -> Result
 /// What imports are read as, whatever groups they are in.
 pub fn flat(reader: BinaryReader<'_>) -> Result<String> {
     let imports = ImportSectionReader::new(reader)?.into_imports_with_offsets();
-    Ok(joined(imports.map(|import| told(import, |(at, import)| format!("{at}:{}", import.show())))))
+    Ok(joined(imports.map(|import| text_of(import, |(at, import)| format!("{at}:{}", import.show())))))
 }
 
 /// What bytes are read as.
@@ -83,7 +83,7 @@ pub type Reader = for<'a> fn(BinaryReader<'a>) -> Result<String>;
 pub fn agree_at(rows: &[(Reader, &str, &str)], offset: u64, features: WasmFeatures) {
     for (read, digits, text) in rows {
         let bytes = bytes(digits);
-        assert_eq!(told(read(BinaryReader::new_features(&bytes, offset, features)), |text| text), *text, "{digits}");
+        assert_eq!(text_of(read(BinaryReader::new_features(&bytes, offset, features)), |text| text), *text, "{digits}");
     }
 }
 
@@ -128,12 +128,12 @@ fn uncounted(payload: &Payload<'_>) -> String {
 
 /// The lines of the payloads of a whole stream, the last of them its end or its fault.
 pub fn events(stream: &[u8]) -> Vec<String> {
-    Parser::new(0).parse_all(stream).map(|payload| told(payload, |payload| event(&payload))).collect()
+    Parser::new(0).parse_all(stream).map(|payload| text_of(payload, |payload| event(&payload))).collect()
 }
 
-/// What a call of `parse` answers.
-pub fn answer(result: Result<Chunk<'_>>) -> String {
-    told(result, |chunk| match chunk {
+/// What a call of `parse` returns, as a text.
+pub fn outcome(result: Result<Chunk<'_>>) -> String {
+    text_of(result, |chunk| match chunk {
         Chunk::NeedMoreData(hint) => format!("need {hint}"),
         Chunk::Parsed { payload, .. } => event(&payload),
     })

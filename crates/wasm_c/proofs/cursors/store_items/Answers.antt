@@ -1,6 +1,6 @@
-use Rattle.std.proofs.Common.{◌≡◌, ◌+◌, ◌≤◌, ◌∙◌, Option, Some, length, sym, ap, arith}
+use Rattle.std.proofs.Common.{◌≡◌, ◌+◌, ◌≤◌, ◌∙◌, Option, Some, None, length, sym, ap, arith}
 use Rattle.std.proofs.lemmas.List.{length-set}
-use Rattle.wasm_c.proofs.Batches.{goes_on_at}
+use Rattle.wasm_c.proofs.Batches.{ends_at, goes_on_at}
 use Rattle.wasm_c.proofs.cursors.store_items.Goals as goal
 
 pub loop-count-preserved : goal.loop-count-preserved
@@ -11,3 +11,7 @@ loop-count-preserved g c =
       stored = goes_on_at _ _ _ _ _ _ _ _ (sym c.next.ensures ∙ ap (λ r. (r, c.next.new.items)) c.in-Some.is) within
           c.loop-count.invariant.stored;
     }
+
+pub returns-in-None : goal.returns-in-None
+returns-in-None g c = ends_at _ _ _ _ _ _ _ (sym c.next.ensures ∙ ap (λ r. (r, c.next.new.items)) c.in-None.is) c.loop-count-test.true
+    c.loop-count.invariant.stored

@@ -30,6 +30,39 @@ impl Module {
         }
     }
 
+    /// Adds the types and definitions of a section.
+    fn define(&mut self, payload: Payload<'_>) -> wasmparser::Result<()> {
+        match payload {
+            Payload::TypeSection(section) => {
+                for group in section {
+                    self.types.extend(group?.into_types().map(|ty| match ty.composite_type.inner {
+                        CompositeInnerType::Func(ty) => Some(ty),
+                        _ => None,
+                    }));
+                }
+            }
+            Payload::FunctionSection(section) => self.functions.extend(section.into_iter().collect::<Result<Vec<_>, _>>()?),
+            Payload::TableSection(section) => {
+                for table in section {
+                    self.tables.push(table?.ty);
+                }
+            }
+            Payload::MemorySection(section) => self.memories.extend(section.into_iter().collect::<Result<Vec<_>, _>>()?),
+            Payload::GlobalSection(section) => {
+                for global in section {
+                    self.globals.push(global?.ty);
+                }
+            }
+            Payload::TagSection(section) => {
+                for tag in section {
+                    self.tags.push(tag?.func_type_idx);
+                }
+            }
+            _ => {}
+        }
+        Ok(())
+    }
+
     fn function(&self, index: u32) -> String {
         match self.types.get(index as usize) {
             Some(Some(ty)) => format!("({}) -> ({})", list(ty.params()), list(ty.results())),
@@ -69,36 +102,11 @@ pub fn show(bytes: &[u8]) -> wasmparser::Result<()> {
     let mut module = Module::default();
     for payload in Parser::new(0).parse_all(bytes) {
         match payload? {
-            Payload::TypeSection(section) => {
-                for group in section {
-                    module.types.extend(group?.into_types().map(|ty| match ty.composite_type.inner {
-                        CompositeInnerType::Func(ty) => Some(ty),
-                        _ => None,
-                    }));
-                }
-            }
             Payload::ImportSection(section) => {
                 for import in section.into_imports() {
                     let import = import?;
                     println!("import {:?} {:?}: {}", import.module, import.name, module.text(import.ty));
                     module.add(import.ty);
-                }
-            }
-            Payload::FunctionSection(section) => module.functions.extend(section.into_iter().collect::<Result<Vec<_>, _>>()?),
-            Payload::TableSection(section) => {
-                for table in section {
-                    module.tables.push(table?.ty);
-                }
-            }
-            Payload::MemorySection(section) => module.memories.extend(section.into_iter().collect::<Result<Vec<_>, _>>()?),
-            Payload::GlobalSection(section) => {
-                for global in section {
-                    module.globals.push(global?.ty);
-                }
-            }
-            Payload::TagSection(section) => {
-                for tag in section {
-                    module.tags.push(tag?.func_type_idx);
                 }
             }
             Payload::ExportSection(section) => {
@@ -108,7 +116,7 @@ pub fn show(bytes: &[u8]) -> wasmparser::Result<()> {
                     println!("export {:?}: {ty}", export.name);
                 }
             }
-            _ => {}
+            other => module.define(other)?,
         }
     }
     Ok(())

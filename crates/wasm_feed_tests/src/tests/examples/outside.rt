@@ -1,10 +1,10 @@
 // A module's outside.
-use crate::outside::{Misfit, Outside, Spans, outside_of};
-use crate::tests::same;
+use super::same;
 use std::alloc::{AllocError, Global};
 use std::process::Abort;
 use std::test::Fail;
 use wasm_base::{Error, Fault};
+use wasm_examples::{Misfit, Outside, Spans, outside_of};
 use wasm_items::{Export, ExternalKind, Import, TypeRef};
 
 // A function and a global are imported, the function by a bundle; a function, a table and a tag are its own.

@@ -1,10 +1,10 @@
-//! Streams that come in pieces: the events are those of the whole.
+//! Chunked input: the events are those of the complete input.
 mod common;
 
 use common::*;
 use pulleynavy::*;
 
-/// Whole streams and malformed ones.
+/// Complete streams and malformed ones.
 const STREAMS: [&str; 34] = [
     "",
     "00",
@@ -45,15 +45,15 @@ const STREAMS: [&str; 34] = [
 /// A stream of a function section and a code section with one body, 18 bytes.
 const BODY: &str = "M 03 02 01 00 0a 04 01 02 00 0b";
 
-/// What a parser answers that gets more bytes whenever it asks for them: the lines of its events, and its requests among them.
-fn answers(offset: u64, pieces: &[&[u8]]) -> Vec<String> {
+/// What a parser returns that gets the next chunk whenever it requests more: the lines of its events and of its requests.
+fn outcomes(offset: u64, chunks: &[&[u8]]) -> Vec<String> {
     let (mut parser, mut held, mut lines) = (Parser::new(offset), Vec::new(), vec![]);
-    let mut pieces = pieces.iter();
+    let mut chunks = chunks.iter();
     let mut is_all = false;
     loop {
         let result = parser.parse(&held, is_all);
         let consumed = if let Ok(Chunk::Parsed { consumed, .. }) = &result { *consumed } else { 0 };
-        let line = answer(result);
+        let line = outcome(result);
         let (is_last, is_request) = (line.starts_with("end") || line.starts_with("fault"), line.starts_with("need"));
         lines.push(line);
         if is_last {
@@ -62,20 +62,20 @@ fn answers(offset: u64, pieces: &[&[u8]]) -> Vec<String> {
         held.drain(..consumed);
         if is_request {
             assert!(!is_all);
-            let piece = pieces.next();
-            is_all = piece.is_none();
-            held.extend_from_slice(piece.unwrap_or(&&[][..]));
+            let chunk = chunks.next();
+            is_all = chunk.is_none();
+            held.extend_from_slice(chunk.unwrap_or(&&[][..]));
         }
     }
 }
 
 /// The events alone.
-fn fed(offset: u64, pieces: &[&[u8]]) -> Vec<String> {
-    answers(offset, pieces).into_iter().filter(|line| !line.starts_with("need")).collect()
+fn fed(offset: u64, chunks: &[&[u8]]) -> Vec<String> {
+    outcomes(offset, chunks).into_iter().filter(|line| !line.starts_with("need")).collect()
 }
 
 #[test]
-fn pieces_of_any_size() {
+fn chunks_of_any_size() {
     for text in STREAMS {
         let stream = bytes(text);
         for size in 1..=stream.len().max(1) {
@@ -85,7 +85,7 @@ fn pieces_of_any_size() {
 }
 
 #[test]
-fn pieces_of_golden_streams() {
+fn golden_streams_in_chunks() {
     for (stream, lines) in golden() {
         let whole: Vec<_> = lines.into_iter().filter(|line| !line.starts_with(' ')).collect();
         for size in [1, 7, 100] {
@@ -95,27 +95,27 @@ fn pieces_of_golden_streams() {
 }
 
 #[test]
-fn empty_pieces_change_nothing() {
+fn empty_chunks_change_nothing() {
     for text in STREAMS {
         let stream = bytes(text);
-        let pieces: Vec<&[u8]> = stream.chunks(1).flat_map(|piece| [&[][..], piece, &[]]).collect();
-        assert_eq!(fed(0, &pieces), events(&stream), "{text}");
+        let chunks: Vec<&[u8]> = stream.chunks(1).flat_map(|chunk| [&[][..], chunk, &[]]).collect();
+        assert_eq!(fed(0, &chunks), events(&stream), "{text}");
     }
 }
 
 #[test]
 fn requests_byte_by_byte() {
     let stream = bytes(BODY);
-    let answers = answers(0, &stream[..12].chunks(1).collect::<Vec<_>>());
-    let hints: Vec<_> = answers.iter().filter_map(|line| line.strip_prefix("need ")).take(12).collect();
+    let outcomes = outcomes(0, &stream[..12].chunks(1).collect::<Vec<_>>());
+    let hints: Vec<_> = outcomes.iter().filter_map(|line| line.strip_prefix("need ")).take(12).collect();
     assert_eq!(hints, ["4", "3", "2", "1", "4", "3", "2", "1", "1", "1", "2", "1"]);
 }
 
 #[test]
-fn pieces_of_five_bytes() {
+fn chunks_of_five_bytes() {
     let stream = bytes(BODY);
     let lines = ["need 4", "need 3", "version 0 8 1 module", "need 2", "section 3 10 12 1", "code 14 18 1 3", "need 1", "body 16 18", "need 1", "end 18"];
-    assert_eq!(answers(0, &stream.chunks(5).collect::<Vec<_>>()), lines);
+    assert_eq!(outcomes(0, &stream.chunks(5).collect::<Vec<_>>()), lines);
 }
 
 /// The kind of an event with its place from the start of the stream.
@@ -143,15 +143,15 @@ fn offsets_count_from_the_start_of_the_whole_stream() {
     }
 }
 
-/// A copy of a parser goes on from where it was made.
+/// A copy of a parser continues from where it was made.
 #[test]
 fn copies_are_checkpoints() {
     for text in STREAMS {
         let stream = bytes(text);
         let (mut parser, mut rest, whole) = (Parser::new(0), &stream[..], events(&stream));
         for passed in 0..whole.len() {
-            let told: Vec<_> = parser.clone().parse_all(rest).map(|payload| told(payload, |payload| event(&payload))).collect();
-            assert_eq!(told, whole[passed..], "{text}");
+            let left: Vec<_> = parser.clone().parse_all(rest).map(|payload| text_of(payload, |payload| event(&payload))).collect();
+            assert_eq!(left, whole[passed..], "{text}");
             if let Ok(Chunk::Parsed { consumed, .. }) = parser.parse(rest, true) {
                 rest = &rest[consumed..];
             }
@@ -159,9 +159,9 @@ fn copies_are_checkpoints() {
     }
 }
 
-/// What is told of the beginning of the rest is told of more of it too.
+/// Appending bytes never changes what a parser has returned.
 #[test]
-fn answers_last() {
+fn more_bytes_change_no_outcome() {
     for text in STREAMS {
         let stream = bytes(text);
         for cut in 0..=stream.len() {
@@ -170,12 +170,12 @@ fn answers_last() {
                 let mut copies = [parser.clone(), parser.clone()];
                 let result = parser.parse(&stream[at..cut], false);
                 let consumed = if let Ok(Chunk::Parsed { consumed, .. }) = &result { *consumed } else { 0 };
-                let line = answer(result);
+                let line = outcome(result);
                 if line.starts_with("need") {
                     break;
                 }
                 for (copy, eof) in copies.iter_mut().zip([false, true]) {
-                    assert_eq!(answer(copy.parse(&stream[at..], eof)), line, "{text} to {cut}");
+                    assert_eq!(outcome(copy.parse(&stream[at..], eof)), line, "{text} to {cut}");
                 }
                 if line.starts_with("fault") {
                     break;

@@ -1,12 +1,12 @@
 // Relocations with their symbols and the bytes that they fill in.
-use crate::linking::{Fixup, Linked, linked_of};
-use crate::tests::same;
+use super::same;
 use std::alloc::{AllocError, Global};
 use std::ops::Range;
 use std::process::Abort;
 use std::test::Fail;
 use wasm_base::{Error, Fault, Lead};
 use wasm_custom::{RelocationType, SymbolInfo};
+use wasm_examples::{Fixup, Linked, linked_of};
 
 // A type, a function and its body, which calls function 0 by a number of 5 bytes.
 const HEAD: &[u8] =

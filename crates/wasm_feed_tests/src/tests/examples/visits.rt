@@ -1,11 +1,10 @@
 // Visits of streams that come in pieces.
-use crate::compiling::{Compiler, Compiling, compile_pieces};
-use crate::customs::{CustomSize, custom_sizes};
-use crate::tests::same;
+use super::same;
 use bitflags::Flags;
 use std::alloc::{AllocError, Global};
 use std::test::Fail;
 use wasm_base::{Error, Fault, Result, WasmFeatures};
+use wasm_examples::{Compiler, Compiling, CustomSize, compile_pieces, custom_sizes};
 use wasm_items::FunctionBody;
 
 // Two functions, a custom section before them and one after.

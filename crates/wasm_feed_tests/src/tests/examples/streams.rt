@@ -1,7 +1,7 @@
 // Walks over the parts of a stream.
-use crate::streams::{end_of, start_of};
-use crate::tests::same;
+use super::same;
 use wasm_base::{Error, Fault, Result};
+use wasm_examples::{end_of, start_of};
 
 fn end(bytes: &[u8]) -> Result<u64> {
     end_of(bytes)

@@ -1,4 +1,4 @@
-// Worked examples.
+// What callers write.
 mod imports;
 mod linking;
 mod outside;
@@ -8,15 +8,13 @@ mod visits;
 
 ghost use Rattle.std.specs.Prelude.{◌<◌, ◌^◌, length};
 
-use crate::{AnyByte, Nothing, check, check_in, imports_memory, total};
 use std::alloc::Global;
 use std::fmt::Debug;
 use std::process::Abort;
 use std::test::Fail;
 use wasm_base::{BinaryReader, Error, Fault, Lead, Result, SectionLimited};
+use wasm_examples::{AnyByte, Nothing, check, check_in, imports_memory, total};
 use wasm_items::RecGroup;
-
-// Here and in the modules a call with a long contract is in a function without one, which is cheaper to prove over.
 
 // That a value is the one that is wanted.
 fn same<T: PartialEq + Debug + Drop>(rt: &impl Abort, found: T, wanted: T) {

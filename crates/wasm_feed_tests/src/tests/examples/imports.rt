@@ -1,9 +1,9 @@
 // The imports of a module, as text.
-use crate::imports_text;
-use crate::tests::same;
+use super::same;
 use std::alloc::Global;
 use std::test::Fail;
 use wasm_base::{Error, Fault};
+use wasm_examples::imports_text;
 
 // A module that imports a memory alone, two functions from one module, and two globals of one type.
 const IMPORTS: &[u8] = b"\0asm\x01\0\0\0\x01\x04\x01\x60\0\0\x02\x29\x03\

@@ -1,10 +1,10 @@
 // The names of functions.
-use crate::function_names;
-use crate::tests::same;
+use super::same;
 use std::alloc::{AllocError, Global};
 use std::process::Abort;
 use std::test::Fail;
 use wasm_base::{Error, Fault};
+use wasm_examples::function_names;
 
 // A module that imports two functions and a global and has two functions, with parts before its functions and after them.
 fn module(alloc: Global, before: &[u8], after: &[u8]) -> Result<Vec<u8>, AllocError> {

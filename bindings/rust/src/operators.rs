@@ -1,0 +1,204 @@
+//! The instructions of constant expressions.
+use crate::codes::opcode;
+use crate::library::{self, Instruction};
+use crate::section::Window;
+use crate::types::heap_type;
+use crate::{BinaryReader, HeapType, Ieee32, Ieee64, Result};
+use core::convert::Infallible;
+use core::iter::FusedIterator;
+use core::marker::PhantomData;
+
+/// The bits of a vector.
+#[derive(Clone, Copy, Debug, PartialEq, Eq, Hash, PartialOrd, Ord)]
+pub struct V128([u8; 16]);
+
+impl V128 {
+    /// The bytes, in the order in which they are written.
+    pub fn bytes(&self) -> &[u8; 16] {
+        &self.0
+    }
+
+    /// The bits as a number.
+    pub fn i128(&self) -> i128 {
+        i128::from_le_bytes(self.0)
+    }
+}
+
+impl From<V128> for i128 {
+    fn from(vector: V128) -> i128 {
+        vector.i128()
+    }
+}
+
+impl From<V128> for u128 {
+    fn from(vector: V128) -> u128 {
+        u128::from_le_bytes(vector.0)
+    }
+}
+
+/// An instruction of a constant expression.
+#[derive(Clone, Debug, PartialEq, Eq)]
+#[non_exhaustive]
+#[allow(missing_docs)]
+#[rustfmt::skip]
+pub enum Operator<'a> {
+    End,
+    GlobalGet { global_index: u32 },
+    I32Const { value: i32 },
+    I64Const { value: i64 },
+    F32Const { value: Ieee32 },
+    F64Const { value: Ieee64 },
+    V128Const { value: V128 },
+    I32Add,
+    I32Sub,
+    I32Mul,
+    I64Add,
+    I64Sub,
+    I64Mul,
+    RefNull { hty: HeapType },
+    RefFunc { function_index: u32 },
+    RefI31,
+    StructNew { struct_type_index: u32 },
+    StructNewDefault { struct_type_index: u32 },
+    ArrayNew { array_type_index: u32 },
+    ArrayNewDefault { array_type_index: u32 },
+    ArrayNewFixed { array_type_index: u32, array_size: u32 },
+    AnyConvertExtern,
+    ExternConvertAny,
+    // Never made: it gives the type the lifetime that it has in `wasmparser`, where some instructions borrow from the input.
+    #[doc(hidden)]
+    Borrowed(Infallible, PhantomData<&'a ()>),
+}
+
+/// The instruction that the library read at the start of these bytes.
+fn operator<'a>(window: Window<'a>, plain: &Instruction) -> Operator<'a> {
+    let Instruction { index, count: array_size, integer, bits, .. } = *plain;
+    match plain.opcode {
+        opcode::GLOBAL_GET => Operator::GlobalGet { global_index: index },
+        opcode::I32_CONST => Operator::I32Const { value: integer as i32 },
+        opcode::I64_CONST => Operator::I64Const { value: integer },
+        opcode::F32_CONST => Operator::F32Const { value: Ieee32(bits as u32) },
+        opcode::F64_CONST => Operator::F64Const { value: Ieee64(bits) },
+        opcode::V128_CONST => Operator::V128Const { value: V128(window.part(plain.bytes).bytes.try_into().expect("a vector has 16 bytes")) },
+        opcode::I32_ADD => Operator::I32Add,
+        opcode::I32_SUB => Operator::I32Sub,
+        opcode::I32_MUL => Operator::I32Mul,
+        opcode::I64_ADD => Operator::I64Add,
+        opcode::I64_SUB => Operator::I64Sub,
+        opcode::I64_MUL => Operator::I64Mul,
+        opcode::REF_NULL => Operator::RefNull { hty: heap_type(plain.heap, index) },
+        opcode::REF_FUNC => Operator::RefFunc { function_index: index },
+        opcode::REF_I31 => Operator::RefI31,
+        opcode::STRUCT_NEW => Operator::StructNew { struct_type_index: index },
+        opcode::STRUCT_NEW_DEFAULT => Operator::StructNewDefault { struct_type_index: index },
+        opcode::ARRAY_NEW => Operator::ArrayNew { array_type_index: index },
+        opcode::ARRAY_NEW_DEFAULT => Operator::ArrayNewDefault { array_type_index: index },
+        opcode::ARRAY_NEW_FIXED => Operator::ArrayNewFixed { array_type_index: index, array_size },
+        opcode::ANY_CONVERT_EXTERN => Operator::AnyConvertExtern,
+        opcode::EXTERN_CONVERT_ANY => Operator::ExternConvertAny,
+        _ => Operator::End,
+    }
+}
+
+/// A reader of the instructions of a constant expression. Any other instruction is an error.
+#[derive(Clone, Debug)]
+pub struct OperatorsReader<'a> {
+    reader: BinaryReader<'a>,
+}
+
+impl<'a> OperatorsReader<'a> {
+    /// Returns a reader of the remaining bytes of another one.
+    pub fn new(reader: BinaryReader<'a>) -> Self {
+        OperatorsReader { reader }
+    }
+
+    /// Returns whether no byte remains.
+    pub fn eof(&self) -> bool {
+        self.reader.eof()
+    }
+
+    /// The offset at which the next instruction begins.
+    pub fn original_position(&self) -> u64 {
+        self.reader.original_position()
+    }
+
+    /// Returns whether the next instruction is `end` and is the last one.
+    pub fn is_end_then_eof(&self) -> bool {
+        self.reader.remaining_buffer() == [opcode::END as u8]
+    }
+
+    /// Returns a reader of the remaining bytes.
+    pub fn get_binary_reader(&self) -> BinaryReader<'a> {
+        self.reader.clone()
+    }
+
+    /// Reads an instruction.
+    ///
+    /// # Errors
+    /// If bytes are missing, if an operand is malformed, or if the instruction is not allowed in a constant expression.
+    pub fn read(&mut self) -> Result<Operator<'a>> {
+        let (window, plain) = self.reader.item(library::instruction)?;
+        Ok(operator(window, &plain))
+    }
+
+    /// Reads an instruction. Returns it with its offset.
+    ///
+    /// # Errors
+    /// Those of [`OperatorsReader::read`].
+    pub fn read_with_offset(&mut self) -> Result<(Operator<'a>, u64)> {
+        let offset = self.original_position();
+        Ok((self.read()?, offset))
+    }
+
+    /// Iterates over the instructions, each with its offset.
+    pub fn into_iter_with_offsets(self) -> OperatorsIteratorWithOffsets<'a> {
+        OperatorsIteratorWithOffsets { reader: self, ended: false }
+    }
+}
+
+impl<'a> IntoIterator for OperatorsReader<'a> {
+    type Item = Result<Operator<'a>>;
+    type IntoIter = OperatorsIterator<'a>;
+
+    fn into_iter(self) -> Self::IntoIter {
+        OperatorsIterator { operators: self.into_iter_with_offsets() }
+    }
+}
+
+/// An iterator over instructions, up to the end of the bytes or the first error.
+#[derive(Clone, Debug)]
+pub struct OperatorsIterator<'a> {
+    operators: OperatorsIteratorWithOffsets<'a>,
+}
+
+impl<'a> Iterator for OperatorsIterator<'a> {
+    type Item = Result<Operator<'a>>;
+
+    fn next(&mut self) -> Option<Self::Item> {
+        Some(self.operators.next()?.map(|(operator, _)| operator))
+    }
+}
+
+impl FusedIterator for OperatorsIterator<'_> {}
+
+/// An iterator over instructions with their offsets, up to the end of the bytes or the first error.
+#[derive(Clone, Debug)]
+pub struct OperatorsIteratorWithOffsets<'a> {
+    reader: OperatorsReader<'a>,
+    ended: bool,
+}
+
+impl<'a> Iterator for OperatorsIteratorWithOffsets<'a> {
+    type Item = Result<(Operator<'a>, u64)>;
+
+    fn next(&mut self) -> Option<Self::Item> {
+        if self.ended || self.reader.eof() {
+            return None;
+        }
+        let operator = self.reader.read_with_offset();
+        self.ended = operator.is_err();
+        Some(operator)
+    }
+}
+
+impl FusedIterator for OperatorsIteratorWithOffsets<'_> {}
