@@ -36,7 +36,7 @@ in_section : (left : ℕ) (bytes : List ℕ) (c : StoredImports) (d : StoredItem
 in_section left bytes c d one r b lt e next kind same =
     let more : StoredImports → Option PlainImport × StoredImports = λ x. flat_by (left - 1) bytes x in
     sym (ap (λ (o : Option PlainImport × StoredItems). of_section more c o) next
-        ∙ ap (λ (x : Bool). if x then (Some one, record c { items = d }) else more (entered one (record c { items = d }))) kind)
+    ∙ ap (λ (x : Bool). if x then (Some one, record c { items = d }) else more (entered one (record c { items = d }))) kind)
     ∙ from left bytes c r false lt e same
 
 pub at_import : (left : ℕ) (bytes : List ℕ) (c : StoredImports) (d : StoredItems) (one : PlainImport)

@@ -1,5 +1,5 @@
 -- The beginnings of what core dumps hold, before its lists. Tool conventions, Coredump.
-use Rattle.std.specs.Prelude.{ℕ, ◌-◌, ℤ, pos, List, None, Ok}
+use Rattle.std.specs.Prelude.{ℕ, ℤ, pos, List, None, Ok}
 use Rattle.wasm_base.specs.Name.{text_at}
 use Rattle.wasm_base.specs.Number.{unsigned_at}
 use Rattle.wasm_base.specs.Outcome.{Outcome, ◌>>=◌}
@@ -8,7 +8,6 @@ use Rattle.wasm_base.specs.declared.fault.CoreStart.{CoreStart}
 use Rattle.wasm_base.specs.declared.fault.CoreStart.TheVariants.{Instance, Frame}
 use Rattle.wasm_base.specs.declared.fault.NumberKind.TheVariants.{VarU32}
 use Rattle.wasm_custom.specs.Coredumps.{ValueParts, missing, i32, i64, f32, f64, start_at}
-use Rattle.wasm_c.specs.declared.spans.PlainSpan.{PlainSpan}
 
 -- a text after the byte 0 with which it begins; another byte is a fault at it
 unfoldable pub started_text_at : CoreStart → Place → Outcome (List ℕ)

@@ -6,7 +6,6 @@ use Rattle.wasm_base.specs.FaultAt.{FaultAt, at_offset}
 use Rattle.wasm_base.specs.Outcome.{Outcome}
 use Rattle.wasm_base.specs.Subsections.{after_refused, subsection_at}
 use Rattle.wasm_base.specs.Window.{Place, Window}
-use Rattle.wasm_base.specs.declared.fault.Fault.{Fault}
 use Rattle.wasm_base.specs.declared.fault.Fault.TheVariants.{IndirectOrder, NameSectionOrder, NamesOrder}
 use Rattle.wasm_base.specs.declared.fault.Fault.TheVariants.{OffsetRange, SizeMismatch}
 use Rattle.wasm_c.specs.Names.{plain_indirect, plain_naming, plain_subsection}

@@ -1,5 +1,5 @@
 -- The imports of a section one by one, those of bundles among them (the proposal for compact imports).
-use Rattle.std.specs.Prelude.{ℕ, zero, suc, ◌+◌, ◌-◌, ◌^◌, min, Bool, true, false, List, drop, Option, Some, None}
+use Rattle.std.specs.Prelude.{ℕ, zero, suc, ◌+◌, ◌-◌, ◌^◌, min, Bool, false, List, drop, Option, Some, None}
 use Rattle.std.specs.Prelude.{nat_eq, if◌then◌else◌}
 use Rattle.wasm_base.specs.Name.{name_limit, text_at}
 use Rattle.wasm_items.specs.Imports.{bundle_at, item_at}

@@ -1,5 +1,5 @@
 -- What a module was produced with, as plain numbers.
-use Rattle.std.specs.Prelude.{ℕ, ◌-◌, length, None, Ok, Err}
+use Rattle.std.specs.Prelude.{ℕ, ◌-◌, length, Ok, Err}
 use Rattle.wasm_base.specs.Outcome.{Outcome}
 use Rattle.wasm_base.specs.Window.{Place}
 use Rattle.wasm_c.specs.Faults.{no_fault, plain_fault}

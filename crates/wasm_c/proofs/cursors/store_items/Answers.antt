@@ -1,4 +1,4 @@
-use Rattle.std.proofs.Common.{◌≡◌, ◌+◌, ◌≤◌, ◌∙◌, Option, Some, None, length, sym, ap, arith}
+use Rattle.std.proofs.Common.{◌∙◌, sym, ap, arith}
 use Rattle.std.proofs.lemmas.List.{length-set}
 use Rattle.wasm_c.proofs.Batches.{ends_at, goes_on_at}
 use Rattle.wasm_c.proofs.cursors.store_items.Goals as goal

@@ -1,4 +1,4 @@
-use Rattle.std.proofs.Common.{◌≡◌, ◌-◌, ◌≤◌, length}
+use Rattle.std.proofs.Common.{◌-◌, ◌≤◌, length}
 use Rattle.wasm_c.proofs.Batches.{Stored}
 use Rattle.wasm_c.proofs.cursors.store_items.Given as goal
 

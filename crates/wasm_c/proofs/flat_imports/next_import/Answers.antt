@@ -1,12 +1,12 @@
-use Rattle.std.proofs.Common.{◌≡◌, ◌∙◌, ◌-◌, Some, nat_eq, sym, ap, arith}
+use Rattle.std.proofs.Common.{◌∙◌, ◌-◌, nat_eq, sym, ap, arith}
 use Rattle.std.proofs.lemmas.Bool.{ne_eqb}
 use Rattle.wasm_c.specs.FlatImports.{flat_by}
 use Rattle.wasm_c.proofs.FlatImports.{at_bundle, at_import, at_within}
 use Rattle.wasm_c.proofs.flat_imports.next_import.Goals as goal
 
 pub returns-then-is_within : goal.returns-then-is_within
-returns-then-is_within c = c.within.ensures ∙ at_within c.loop-left.left c.args.bytes.now c.loop-left.imports _ (omega (arith, c.loop-left-test.true))
-    (sym c.is_within.ensures ∙ c.if-is_within.true) c.loop-left.invariant.same
+returns-then-is_within c = c.within.ensures ∙ at_within c.loop-left.left c.args.bytes.now c.loop-left.imports _
+    (omega (arith, c.loop-left-test.true)) (sym c.is_within.ensures ∙ c.if-is_within.true) c.loop-left.invariant.same
 
 pub returns-then-one-eq0 : goal.returns-then-one-eq0
 returns-then-one-eq0 c = at_import c.loop-left.left c.args.bytes.now c.loop-left.imports c.next_item.new.items c.in_ok-one.one _

@@ -1,4 +1,4 @@
-use Rattle.std.proofs.Common.{◌≡◌, ◌+◌}
+use Rattle.std.proofs.Common.{◌≡◌}
 use Rattle.wasm_c.specs.FlatImports.{flat_by, next_flat}
 use Rattle.wasm_c.proofs.flat_imports.next_import.Given as goal
 
