@@ -4,6 +4,7 @@ import assert from "node:assert/strict";
 import { spawnSync } from "node:child_process";
 import { readFileSync } from "node:fs";
 import test from "node:test";
+import { CALLS } from "../declared.js";
 import { ALL_FEATURES, COMPACT_IMPORTS, MEMORY64, VERSION, faultText, fromModule, load, typeText } from "../pulleynavy.js";
 
 const wasm = readFileSync(new URL("../pulleynavy.wasm", import.meta.url));
@@ -216,6 +217,29 @@ function watched(calls, body) {
         WebAssembly.Instance = Instance;
     }
 }
+
+test("the module has no imports, two pages of memory, and traps for good after a trap", () => {
+    const module = new WebAssembly.Module(wasm), { exports } = new WebAssembly.Instance(module);
+    assert.deepEqual(WebAssembly.Module.imports(module), []);
+    assert.deepEqual(Object.keys(exports).sort(), ["__heap_base", "memory", ...CALLS].sort());
+    assert.equal(exports.memory.buffer.byteLength, 2 * 65536);
+    assert.equal(exports.pulleynavy_read_number.length, 5);
+    assert.ok(exports.pulleynavy_version() > 0);
+    assert.throws(() => exports.pulleynavy_parser_init(0xfffffff0n, 0n, 0), WebAssembly.RuntimeError);
+    assert.throws(() => exports.pulleynavy_version(), WebAssembly.RuntimeError);
+});
+
+test("a parser keeps the bytes of one section alone", () => {
+    watched(() => ({}), made => {
+        const { Parser } = fromModule(new WebAssembly.Module(wasm)), parser = new Parser();
+        const section = new Uint8Array(10_000), names = new Set();
+        section.set(bytes("\0\x8d\x4e\x01x"));
+        parser.push(bytes(HEADER));
+        for (let i = 0; i < 5000; i++) for (const event of parser.push(section)) names.add(`${event.kind} ${event.end - event.start}`);
+        assert.deepEqual([...names], ["custom 9997"]);
+        assert.ok(made.at(-1).exports.memory.buffer.byteLength < 500_000);
+    });
+});
 
 test("an instance is used again, also after a loop that ends early", () => {
     watched(() => ({}), made => {
