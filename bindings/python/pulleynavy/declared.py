@@ -913,6 +913,7 @@ CALLS: dict[str, tuple[Any, list[Any]]] = {
     "pulleynavy_parse": (Event, [ctypes.POINTER(Parser), ctypes.c_void_p, ctypes.c_size_t, ctypes.c_bool]),
     "pulleynavy_skip_section": (ctypes.c_uint32, [ctypes.POINTER(Parser)]),
     "pulleynavy_format_fault": (ctypes.c_size_t, [ctypes.POINTER(Parser), ctypes.c_void_p, ctypes.c_size_t, ctypes.c_bool, ctypes.c_void_p, ctypes.c_size_t]),
+    "pulleynavy_next_events": (ctypes.c_size_t, [ctypes.POINTER(Parser), ctypes.c_void_p, ctypes.c_size_t, ctypes.c_bool, ctypes.POINTER(Event), ctypes.c_size_t]),
     "pulleynavy_feed_init": (Feed, [ctypes.c_uint64, ctypes.c_uint32]),
     "pulleynavy_feed_step": (Event, [ctypes.POINTER(Feed), ctypes.c_void_p, ctypes.c_size_t]),
     "pulleynavy_feed_finish": (None, [ctypes.POINTER(Feed)]),

@@ -21,7 +21,6 @@ from pulleynavy import (
     Global,
     HeapKind,
     Import,
-    Items,
     Limits,
     Memory,
     Module,
@@ -91,15 +90,12 @@ class Items(unittest.TestCase):
             malformed.exports
         self.assertEqual(caught.exception.offset, 8 + 4 + len(content) - 2)
 
-    def test_lists_of_custom_sections(self):
-        items = Items(b"\2\3\2\1a\2\1a\1b", 50)
-        self.assertEqual((items.read("number").value, items.position), (2, 1))
-        self.assertEqual(items.offset, 50)
-        names = Items(b"\2\1\1a\1\1b", 0).counted().all("namings")
+    def test_entries_out_of_order(self):
+        names = pulleynavy.Items(b"\2\1\1a\1\1b", 100).counted().all("namings")
         self.assertEqual(next(names).index, 1)
         with self.assertRaises(Fault) as caught:
             next(names)
-        self.assertEqual((caught.exception.kind, caught.exception.offset), (FaultKind.NAMES_ORDER, 4))
+        self.assertEqual((caught.exception.kind, caught.exception.offset), (FaultKind.NAMES_ORDER, 104))
 
     def test_a_component_has_no_items(self):
         module = Module(b"\0asm\x0d\0\1\0\1\1\0")

@@ -549,6 +549,14 @@ unsafe extern "C" {
         out: *mut u8,
         out_size: usize,
     ) -> usize;
+    pub fn pulleynavy_next_events(
+        parser: &mut Parser,
+        bytes: *const u8,
+        bytes_size: usize,
+        is_all: bool,
+        out: *mut Event,
+        out_count: usize,
+    ) -> usize;
     pub fn pulleynavy_feed_init(offset: u64, features: u32) -> Feed;
     pub fn pulleynavy_feed_step(feed: &mut Feed, storage: *const u8, storage_size: usize) -> Event;
     pub fn pulleynavy_feed_finish(feed: &mut Feed);

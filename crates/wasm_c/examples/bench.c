@@ -1,4 +1,4 @@
-/* Times the events of the module on standard input: whole, by the word `parse`, or in pieces of so many bytes. Of each word it prints how
+/* Times the events of the module on standard input: whole, by the word `parse` or, many at a time, `batch`, or in chunks of so many bytes. Of each word it prints how
    many events there are, their bytes, and the nanoseconds of the fastest of the rounds of a second. */
 #include <pulleynavy.h>
 #include <stdio.h>
@@ -15,7 +15,7 @@ static uint64_t now(void) {
     return (uint64_t)at.tv_sec * 1000000000 + (uint64_t)at.tv_nsec;
 }
 
-/* Both readers stay functions of their own, so that a profile shows what a round takes. */
+/* The readers stay functions of their own, so that a profile shows what a round takes. */
 __attribute__((noinline)) static size_t whole(const uint8_t *bytes, size_t size) {
     pulleynavy_parser parser = pulleynavy_parser_init(0, PULLEYNAVY_ALL_FEATURES);
     for (size_t at = 0, count = 1;; count++) {
@@ -23,6 +23,17 @@ __attribute__((noinline)) static size_t whole(const uint8_t *bytes, size_t size)
         seen += event.start ^ event.end;
         if (event.kind >= PULLEYNAVY_EVENT_END) return count;
         at += event.consumed;
+    }
+}
+
+__attribute__((noinline)) static size_t in_batches(const uint8_t *bytes, size_t size) {
+    pulleynavy_parser parser = pulleynavy_parser_init(0, PULLEYNAVY_ALL_FEATURES);
+    static pulleynavy_event events[64];
+    for (size_t at = 0, count = 0;;) {
+        size_t n = pulleynavy_next_events(&parser, bytes + at, size - at, true, events, 64);
+        for (size_t i = 0; i < n; at += events[i].consumed, i++) seen += events[i].start ^ events[i].end;
+        count += n;
+        if (events[n - 1].kind >= PULLEYNAVY_EVENT_END) return count;
     }
 }
 
@@ -54,7 +65,8 @@ int main(int count, char **words) {
         uint64_t least = UINT64_MAX;
         for (uint64_t end = now() + 1000000000; now() < end;) {
             uint64_t start = now();
-            events = piece ? in_pieces(bytes, size, piece, storage, size + 65536) : whole(bytes, size);
+            if (piece) events = in_pieces(bytes, size, piece, storage, size + 65536);
+            else events = strcmp(words[i], "batch") ? whole(bytes, size) : in_batches(bytes, size);
             uint64_t took = now() - start;
             if (took < least) least = took;
         }

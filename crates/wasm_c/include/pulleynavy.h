@@ -528,6 +528,12 @@ uint32_t pulleynavy_skip_section(pulleynavy_parser *parser);
 size_t pulleynavy_format_fault(
     const pulleynavy_parser *parser, const uint8_t *bytes, size_t bytes_size, bool is_all, uint8_t *out, size_t out_size);
 
+/* Stores the next events of a stream in `out`, as so many calls of `pulleynavy_parse` return them, and returns how many: as many as
+   there is room for, or up to a request for more bytes, a fault or the end. `at` of each counts from the first of `bytes`. Call it
+   next with the bytes after all that these events consumed. */
+size_t pulleynavy_next_events(
+    pulleynavy_parser *parser, const uint8_t *bytes, size_t bytes_size, bool is_all, pulleynavy_event *out, size_t out_count);
+
 /* A feeder: its parser, and where in the caller's storage the bytes are that were pushed and not consumed. Any bytes are a feeder.
    Between calls leave the storage alone, or move it as a whole (`realloc`): the next call reads its bytes from `mark` to `end`. */
 typedef struct pulleynavy_feed {

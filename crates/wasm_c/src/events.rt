@@ -137,6 +137,7 @@ fn custom_event(origin: Origin, section: &CustomSectionReader) -> PlainEvent
 }
 
 /// A payload that was read there.
+#[inline(always)]
 pub(crate) fn parsed_event(origin: Origin, payload: &Payload) -> PlainEvent
     ensures { result ≡ parsed_event origin payload.now }
 {

@@ -1,0 +1,73 @@
+// Many events by one call.
+ghost use Rattle.wasm_c.specs.EventBatches.{StoresEvents};
+ghost use Rattle.wasm_c.specs.Events.{ParsesPlain};
+ghost use Rattle.wasm_c.specs.Stored.{parser_of};
+
+use crate::events::{Origin, PlainEvent, fault_event, parsed_event, request_event};
+use crate::spans::after;
+use crate::stored::StoredParser;
+use wasm_parser::{Chunk, Parser};
+
+// The next event of a parser.
+#[inline(always)]
+fn next_event(parser: &mut Parser, bytes: &[u8], is_all: bool, base: usize) -> PlainEvent
+    ensures { ParsesPlain base parser.old is_all bytes.now result parser.new }
+{
+    let offset = parser.offset();
+    match parser.parse(bytes, is_all) {
+        Ok(
+            Chunk::Parsed {
+                consumed,
+                ref payload,
+            },
+        ) => {
+            let origin = Origin {
+                offset,
+                base,
+                consumed,
+            };
+            parsed_event(origin, payload)
+        }
+        Ok(Chunk::NeedMoreData(hint)) => request_event(hint, base),
+        Err(error) => fault_event(error, base),
+    }
+}
+
+// Stores the next events, up to one that consumes nothing, and returns how many.
+fn store_events(parser: &mut Parser, bytes: &[u8], is_all: bool, out: &mut [PlainEvent]) -> usize
+    ensures { StoresEvents is_all parser.old bytes.now out.old result parser.new out.new }
+{
+    let mut rest = bytes;
+    let mut at = 0;
+    let mut count = 0;
+    while count < out.len() {
+        let event = next_event(parser, rest, is_all, at);
+        out[count] = event;
+        count += 1;
+        if event.consumed == 0 {
+            return count;
+        }
+        rest = after(rest, event.consumed);
+        at = usize::saturating_add(at, event.consumed);
+    }
+    count
+}
+
+/// Stores the next events of a stream in `out`, as so many calls of `pulleynavy_parse` return them, and returns how many: as many
+/// as there is room for, or up to a request for more bytes, a fault or the end. `at` of each counts from the first of `bytes`. Call
+/// it next with the bytes after all that these events consumed.
+#[unsafe(no_mangle)]
+pub extern "C" fn pulleynavy_next_events(
+    parser: &mut StoredParser,
+    bytes: &[u8],
+    is_all: bool,
+    out: &mut [PlainEvent],
+) -> usize
+    ensures { StoresEvents is_all (parser_of parser.old) bytes.now out.old result
+        (parser_of parser.new) out.new }
+{
+    let mut current = parser.parser();
+    let count = store_events(&mut current, bytes, is_all, out);
+    *parser = StoredParser::of(&current);
+    count
+}
