@@ -9,7 +9,8 @@ const MALFORMED = 1, WRONG_USE = 2, UNREADABLE = 3;
 function line(event) {
     const name = event.kind === "custom" ? event.name : event.kind === "unknown" ? `section ${event.id}` : SECTIONS[event.id];
     const count = event.kind === "section" || event.kind === "code" ? ` (${event.count})` : "";
-    return `${(event.end - event.start).toLocaleString("en").padStart(12)} ${`0x${event.start.toString(16)}`.padStart(12)}  ${name}${count}\n`;
+    const size = (event.end - event.start).toLocaleString("en"), start = `0x${event.start.toString(16)}`;
+    return `${size.padStart(12)} ${start.padStart(12)}  ${name}${count}\n`;
 }
 
 // Prints the events of a chunk. Returns the fault that ends the stream, if there is one.

@@ -780,6 +780,7 @@ export const CALLS = Object.freeze([
     "pulleynavy_parse",
     "pulleynavy_skip_section",
     "pulleynavy_format_fault",
+    "pulleynavy_next_events",
     "pulleynavy_feed_init",
     "pulleynavy_feed_step",
     "pulleynavy_feed_finish",

@@ -5,7 +5,7 @@ import { FaultKind, FaultLayout } from "./declared.js";
 const PAGE = 65536;
 // The most bytes that a chunk brings at once.
 export const CHUNK = 65536;
-// How many bytes of items one call stores, and how deep lists of items nest.
+// How many bytes of events or items one call stores, and how deep lists of items nest.
 const BATCH = 32768, DEPTHS = 3;
 const ANSWER = 512, FEED = 128, CURSOR = 32, TEXT = 80;
 // Beyond this an address has more than 32 bits.
@@ -38,7 +38,7 @@ export class Instance {
         const { memory, __heap_base: base, ...calls } = new WebAssembly.Instance(module).exports;
         this.memory = memory;
         this.calls = calls;
-        this.step = calls.pulleynavy_feed_step;
+        this.nextEvents = calls.pulleynavy_next_events;
         this.texts = new Map();
         this.free = Math.ceil(Number(base.value) / 16) * 16;
         this.answer = this.take(ANSWER);
@@ -46,6 +46,7 @@ export class Instance {
         this.text = this.take(TEXT);
         this.cursors = Array.from({ length: DEPTHS }, () => this.take(CURSOR));
         this.batches = Array.from({ length: DEPTHS }, () => this.take(BATCH));
+        this.events = this.take(BATCH);
         this.chunk = this.take(CHUNK);
         this.storage = this.free;
         this.capacity = 0;
@@ -62,6 +63,7 @@ export class Instance {
     pointers() {
         this.answerPointer = BigInt(this.answer);
         this.feedPointer = BigInt(this.feed);
+        this.eventsPointer = BigInt(this.events);
         this.storagePointer = BigInt(this.storage);
         this.cursorPointers = this.cursors.map(BigInt);
         this.batchPointers = this.batches.map(BigInt);

@@ -2,7 +2,7 @@
 // A streaming parser for WebAssembly binaries. README.md says how to use it, pulleynavy.d.ts what every object has.
 import { CALLS, CustomKind, EventLayout, FeedLayout, StrippedLayout, VERSION } from "./declared.js";
 import { contentsOf } from "./customs.js";
-import { CHUNK, Instance, offsetAt } from "./instance.js";
+import { CHUNK, Instance, batchOf, offsetAt } from "./instance.js";
 import { itemsOf } from "./items.js";
 import { Window } from "./window.js";
 
@@ -16,6 +16,7 @@ export const SECTIONS = Object.freeze([
 ]);
 // At most this many instances wait for their next use, none with more memory than this.
 const MOST_IDLE = 8, MOST_MEMORY = 2 ** 26;
+const MOST_EVENTS = BigInt(batchOf(EventLayout.SIZE));
 
 /** A type in the text format, as `i32` or `(ref null func)`. */
 export function typeText(type) {
@@ -34,13 +35,16 @@ function bytesOf(source) {
     throw new TypeError("the input is not a typed array or an ArrayBuffer");
 }
 
-// Reads one event after the other of the bytes that an instance stores.
+// Reads one event after the other of the bytes that the feeder of an instance holds.
 class Reader {
     constructor(instance, { features = ALL_FEATURES, items = true } = {}) {
         this.instance = instance;
         this.features = features;
         this.hasItems = items;
         this.offset = 0;
+        // The events that are stored and not read, and the address that their bytes are counted from.
+        this.next = this.last = 0;
+        this.base = 0;
         instance.calls.pulleynavy_feed_init(instance.feedPointer, 0n, features);
     }
 
@@ -67,12 +71,25 @@ class Reader {
         this.instance.calls.pulleynavy_feed_finish(this.instance.feedPointer);
     }
 
+    // Stores the next events. A feeder begins with its parser, whose bytes are those from `mark` to `end`.
+    fill() {
+        const { instance } = this, { view, feed } = instance, mark = view.getUint32(feed + FeedLayout.mark, true);
+        const size = view.getUint32(feed + FeedLayout.end, true) - mark, isAll = view.getUint8(feed + FeedLayout.isFinished);
+        this.base = instance.storage + mark;
+        const bytes = [BigInt(this.base), BigInt(size)];
+        const stored = instance.nextEvents(instance.feedPointer, ...bytes, isAll, instance.eventsPointer, MOST_EVENTS);
+        this.next = instance.events;
+        this.last = this.next + Number(stored) * EventLayout.SIZE;
+    }
+
     // The next event, or null where it takes more bytes to know it.
     step() {
-        const { instance, offset } = this, { view } = instance, p = instance.answer;
-        instance.step(instance.answerPointer, instance.feedPointer, instance.storagePointer, instance.capacitySize);
-        const kind = view.getUint32(p + EventLayout.kind, true);
-        this.offset += view.getUint32(p + EventLayout.consumed, true);
+        if (this.next === this.last) this.fill();
+        const { instance, offset, next: p } = this, { view } = instance, mark = instance.feed + FeedLayout.mark;
+        const kind = view.getUint32(p + EventLayout.kind, true), consumed = view.getUint32(p + EventLayout.consumed, true);
+        this.next += EventLayout.SIZE;
+        this.offset += consumed;
+        view.setUint32(mark, view.getUint32(mark, true) + consumed, true);
         const start = offsetAt(view, p + EventLayout.start), end = offsetAt(view, p + EventLayout.end);
         switch (kind) {
             case 0: return null;
@@ -99,7 +116,7 @@ class Reader {
     // The content of the section that was read, from an offset on.
     content(p, start, end) {
         const { instance, features } = this, at = instance.view.getUint32(p + EventLayout.at, true);
-        return new Window(instance, instance.storage + at, end - start, start, features);
+        return new Window(instance, this.base + at, end - start, start, features);
     }
 
     section(id, count, p, offset, start, end) {

@@ -252,7 +252,7 @@ test("an instance is used again, also after a loop that ends early", () => {
 test("an instance that trapped is discarded", () => {
     let isBroken = false;
     const trapping = exports => ({
-        pulleynavy_feed_step: (answer, ...rest) => exports.pulleynavy_feed_step(isBroken ? 0xfffffff0n : answer, ...rest),
+        pulleynavy_next_events: (parser, ...rest) => exports.pulleynavy_next_events(isBroken ? 0xfffffff0n : parser, ...rest),
     });
     watched(trapping, made => {
         const { parse, Parser } = fromModule(new WebAssembly.Module(wasm)), wanted = [...parse(bytes(FUNCTIONS))], parser = new Parser();
