@@ -98,8 +98,8 @@ abbrev pub placed_at : Origin → PlainEvent → PlainEvent
 placed_at o event = placed_event o.base o.offset o.consumed event
 
 -- a payload that was read there
-abbrev pub parsed_event : Origin → Payload → PlainEvent
-parsed_event o payload = placed_at o (payload_event payload)
+abbrev pub parsed_event : (base offset consumed : ℕ) → Payload → PlainEvent
+parsed_event base offset consumed payload = placed_event base offset consumed (payload_event payload)
 
 -- a request for more bytes
 abbrev pub request_event : (base hint : ℕ) → PlainEvent
@@ -108,8 +108,7 @@ request_event base hint = record silent { at = base; hint = hint }
 -- what a parser answered at this offset, whose byte is at `base` in memory
 abbrev pub answer_event : (base offset : ℕ) → Result Chunk Error → PlainEvent
 answer_event base offset (Ok (NeedMoreData hint)) = request_event base hint
-answer_event base offset (Ok (Parsed consumed payload)) =
-    parsed_event (record { offset = offset; base = base; consumed = consumed }) payload
+answer_event base offset (Ok (Parsed consumed payload)) = parsed_event base offset consumed payload
 answer_event base offset (Err e) = fault_event base (fault_at e)
 
 -- The parser answered this on these bytes, which are all of the rest of the stream or a prefix of it and begin at

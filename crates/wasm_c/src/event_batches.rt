@@ -3,34 +3,19 @@ ghost use Rattle.wasm_c.specs.EventBatches.{StoresEvents};
 ghost use Rattle.wasm_c.specs.Events.{ParsesPlain};
 ghost use Rattle.wasm_c.specs.Stored.{parser_of};
 
-use crate::events::{Origin, PlainEvent, fault_event, parsed_event, request_event};
+use crate::events::{PlainEvent, put_answer};
 use crate::spans::after;
 use crate::stored::StoredParser;
-use wasm_parser::{Chunk, Parser};
+use wasm_parser::Parser;
 
-// The next event of a parser.
+// Stores the next event of a parser.
 #[inline(always)]
-fn next_event(parser: &mut Parser, bytes: &[u8], is_all: bool, base: usize) -> PlainEvent
-    ensures { ParsesPlain base parser.old is_all bytes.now result parser.new }
+fn put_next(parser: &mut Parser, bytes: &[u8], is_all: bool, base: usize, out: &mut PlainEvent)
+    ensures { ParsesPlain base parser.old is_all bytes.now out.new parser.new }
 {
     let offset = parser.offset();
-    match parser.parse(bytes, is_all) {
-        Ok(
-            Chunk::Parsed {
-                consumed,
-                ref payload,
-            },
-        ) => {
-            let origin = Origin {
-                offset,
-                base,
-                consumed,
-            };
-            parsed_event(origin, payload)
-        }
-        Ok(Chunk::NeedMoreData(hint)) => request_event(hint, base),
-        Err(error) => fault_event(error, base),
-    }
+    let answer = parser.parse(bytes, is_all);
+    put_answer(out, offset, base, &answer);
 }
 
 // Stores the next events, up to one that consumes nothing, and returns how many.
@@ -41,14 +26,14 @@ fn store_events(parser: &mut Parser, bytes: &[u8], is_all: bool, out: &mut [Plai
     let mut at = 0;
     let mut count = 0;
     while count < out.len() {
-        let event = next_event(parser, rest, is_all, at);
-        out[count] = event;
+        put_next(parser, rest, is_all, at, &mut out[count]);
+        let consumed = out[count].consumed;
         count += 1;
-        if event.consumed == 0 {
+        if consumed == 0 {
             return count;
         }
-        rest = after(rest, event.consumed);
-        at = usize::saturating_add(at, event.consumed);
+        rest = after(rest, consumed);
+        at = usize::saturating_add(at, consumed);
     }
     count
 }

@@ -2,7 +2,7 @@
 ghost use Rattle.std.specs.Prelude.{◌≡◌};
 ghost use Rattle.wasm_base.specs.FaultAt.{fault_at};
 ghost use Rattle.wasm_parser.specs.ParseAnswer.{report_of};
-ghost use Rattle.wasm_c.specs.Events.{code_event, counted_event, encoding_code, event_between, fault_event, parsed_event, placed_at, report_event, request_event, silent};
+ghost use Rattle.wasm_c.specs.Events.{answer_event, code_event, counted_event, encoding_code, event_between, fault_event, parsed_event, placed_at, report_event, request_event, silent};
 ghost use Rattle.wasm_parser.specs.declared.payload.Payload.TheVariants.{CustomSection};
 
 use crate::faults::{NO_FAULT, PlainFault, plain_fault};
@@ -12,7 +12,7 @@ use wasm_grammar::{
     EXPORT_SECTION, FUNCTION_SECTION, GLOBAL_SECTION, IMPORT_SECTION, MEMORY_SECTION,
     START_SECTION, TABLE_SECTION, TAG_SECTION, TYPE_SECTION,
 };
-use wasm_parser::{CustomSectionReader, Encoding, Error, Payload, SectionLimited};
+use wasm_parser::{Chunk, CustomSectionReader, Encoding, Error, Payload, Result, SectionLimited};
 
 /// What a parser returns: an event, a fault or a request for more bytes. Fields that its kind doesn't use are 0. Offsets are in
 /// bytes from the start of the whole stream (core specification, Binary format, Modules).
@@ -48,7 +48,7 @@ pub struct PlainEvent {
     pub fault: PlainFault,
 }
 
-const SILENT: PlainEvent = PlainEvent {
+pub(crate) const SILENT: PlainEvent = PlainEvent {
     kind: 0,
     id: 0,
     count: 0,
@@ -63,12 +63,12 @@ const SILENT: PlainEvent = PlainEvent {
     fault: NO_FAULT,
 };
 
-/// Where an event was read: the offset of the first byte, where that is in memory, and how many bytes were consumed.
+// Where an event was read: the offset of the first byte, where that is in memory, and how many bytes were consumed.
 #[derive(Clone, Copy)]
-pub(crate) struct Origin {
-    pub(crate) offset: u64,
-    pub(crate) base: usize,
-    pub(crate) consumed: usize,
+struct Origin {
+    offset: u64,
+    base: usize,
+    consumed: usize,
 }
 
 // An event of this kind with these offsets.
@@ -136,35 +136,50 @@ fn custom_event(origin: Origin, section: &CustomSectionReader) -> PlainEvent
     }
 }
 
-/// A payload that was read there.
-#[inline(always)]
-pub(crate) fn parsed_event(origin: Origin, payload: &Payload) -> PlainEvent
-    ensures { result ≡ parsed_event origin payload.now }
+/// Stores a payload that was read at this offset, whose byte is at `base` in memory. Each kind is stored on its own, so that its
+/// fields go straight to their places.
+pub(crate) fn put_parsed(
+    out: &mut PlainEvent,
+    offset: u64,
+    base: usize,
+    consumed: usize,
+    payload: &Payload,
+)
+    ensures { out.new ≡ parsed_event base offset consumed payload.now }
 {
+    let origin = Origin {
+        offset,
+        base,
+        consumed,
+    };
     match payload {
         Payload::Version {
             num,
             encoding,
             range,
-        } => PlainEvent {
+        } => *out = PlainEvent {
             count: u32::from(*num),
             ..event_between(origin, 1, encoding_code(*encoding), range.start, range.end)
         },
-        Payload::TypeSection(section) => counted_event(origin, TYPE_SECTION, section),
-        Payload::ImportSection(section) => counted_event(origin, IMPORT_SECTION, section),
-        Payload::FunctionSection(section) => counted_event(origin, FUNCTION_SECTION, section),
-        Payload::TableSection(section) => counted_event(origin, TABLE_SECTION, section),
-        Payload::MemorySection(section) => counted_event(origin, MEMORY_SECTION, section),
-        Payload::TagSection(section) => counted_event(origin, TAG_SECTION, section),
-        Payload::GlobalSection(section) => counted_event(origin, GLOBAL_SECTION, section),
-        Payload::ExportSection(section) => counted_event(origin, EXPORT_SECTION, section),
-        Payload::ElementSection(section) => counted_event(origin, ELEMENT_SECTION, section),
-        Payload::DataSection(section) => counted_event(origin, DATA_SECTION, section),
-        Payload::StartSection { func, range } => PlainEvent {
+        Payload::TypeSection(section) => *out = counted_event(origin, TYPE_SECTION, section),
+        Payload::ImportSection(section) => *out = counted_event(origin, IMPORT_SECTION, section),
+        Payload::FunctionSection(section) => *out = counted_event(
+            origin,
+            FUNCTION_SECTION,
+            section,
+        ),
+        Payload::TableSection(section) => *out = counted_event(origin, TABLE_SECTION, section),
+        Payload::MemorySection(section) => *out = counted_event(origin, MEMORY_SECTION, section),
+        Payload::TagSection(section) => *out = counted_event(origin, TAG_SECTION, section),
+        Payload::GlobalSection(section) => *out = counted_event(origin, GLOBAL_SECTION, section),
+        Payload::ExportSection(section) => *out = counted_event(origin, EXPORT_SECTION, section),
+        Payload::ElementSection(section) => *out = counted_event(origin, ELEMENT_SECTION, section),
+        Payload::DataSection(section) => *out = counted_event(origin, DATA_SECTION, section),
+        Payload::StartSection { func, range } => *out = PlainEvent {
             count: *func,
             ..event_between(origin, 3, u32::from(START_SECTION), range.start, range.end)
         },
-        Payload::DataCountSection { count, range } => PlainEvent {
+        Payload::DataCountSection { count, range } => *out = PlainEvent {
             count: *count,
             ..event_between(
                 origin,
@@ -178,7 +193,7 @@ pub(crate) fn parsed_event(origin: Origin, payload: &Payload) -> PlainEvent
             count,
             unchecked_range,
             size,
-        } => code_event(
+        } => *out = code_event(
             origin,
             *count,
             unchecked_range.start,
@@ -187,13 +202,13 @@ pub(crate) fn parsed_event(origin: Origin, payload: &Payload) -> PlainEvent
         ),
         Payload::CodeSectionEntry(body) => {
             let range = body.range();
-            event_between(origin, 6, u32::from(CODE_SECTION), range.start, range.end)
+            *out = event_between(origin, 6, u32::from(CODE_SECTION), range.start, range.end);
         }
-        Payload::CustomSection(section) => custom_event(origin, section),
+        Payload::CustomSection(section) => *out = custom_event(origin, section),
         Payload::UnknownSection { id, range, .. } => {
-            event_between(origin, 8, u32::from(*id), range.start, range.end)
+            *out = event_between(origin, 8, u32::from(*id), range.start, range.end);
         }
-        Payload::End(offset) => event_between(origin, 9, 0, *offset, *offset),
+        Payload::End(offset) => *out = event_between(origin, 9, 0, *offset, *offset),
     }
 }
 
@@ -219,5 +234,19 @@ pub(crate) fn request_event(hint: usize, base: usize) -> PlainEvent
         at: base,
         hint,
         ..SILENT
+    }
+}
+
+/// What a parser returned at this offset, whose byte is at `base` in memory.
+#[inline(always)]
+pub(crate) fn put_answer(out: &mut PlainEvent, offset: u64, base: usize, answer: &Result<Chunk<'_>>)
+    ensures { out.new ≡ answer_event base offset answer.now }
+{
+    match answer {
+        Ok(Chunk::Parsed { consumed, payload }) => {
+            put_parsed(out, offset, base, *consumed, payload);
+        }
+        Ok(Chunk::NeedMoreData(hint)) => *out = request_event(*hint, base),
+        Err(error) => *out = fault_event(*error, base),
     }
 }

@@ -5,7 +5,7 @@ ghost use Rattle.wasm_c.specs.Events.{ParsesPlain};
 ghost use Rattle.wasm_c.specs.Stored.{parser_of, skipped_of};
 ghost use Rattle.wasm_c.specs.Texts.{Says, SaysFault};
 
-use crate::events::{Origin, PlainEvent, fault_event, parsed_event, request_event};
+use crate::events::{PlainEvent, SILENT, fault_event, put_parsed, request_event};
 use crate::stored::StoredParser;
 use crate::text::write_text;
 use bitflags::Flags;
@@ -35,14 +35,16 @@ pub(crate) fn parse_stored(
     let mut parser = stored.parser();
     let offset = parser.offset();
     match parser.parse(bytes, is_all) {
-        Ok(Chunk::Parsed { consumed, payload }) => {
-            *stored = StoredParser::of(&parser);
-            let origin = Origin {
-                offset,
-                base,
+        Ok(
+            Chunk::Parsed {
                 consumed,
-            };
-            parsed_event(origin, &payload)
+                ref payload,
+            },
+        ) => {
+            *stored = StoredParser::of(&parser);
+            let mut event = SILENT;
+            put_parsed(&mut event, offset, base, consumed, payload);
+            event
         }
         // The parser is what it was, so it needn't be stored again.
         Ok(Chunk::NeedMoreData(hint)) => request_event(hint, base),

@@ -1,22 +1,29 @@
-use Rattle.std.proofs.Common.{◌≡◌, nat_eq, ap, arith}
+use Rattle.std.proofs.Common.{◌≡◌, ◌∙◌, nat_eq, sym, ap, arith}
 use Rattle.std.proofs.lemmas.Bool.{ne_eqb}
-use Rattle.std.proofs.lemmas.List.{length-set}
+use Rattle.std.proofs.lemmas.List.{get_or-set_same, length-set}
+use Rattle.wasm_c.specs.Events.{silent}
+use Rattle.wasm_c.specs.declared.events.PlainEvent.{PlainEvent}
 use Rattle.wasm_c.proofs.EventBatches.{ends_at, goes_on_at, is_full}
 use Rattle.wasm_c.proofs.event_batches.store_events.Goals as goal
 
 pub loop-count-preserved : goal.loop-count-preserved
 loop-count-preserved c =
     let within = c.loop-count-test.true in
+    let same = get_or-set_same c.loop-count.out c.loop-count.count c.put_next.new.out silent within in
     record {
-      within = omega (arith, length-set c.loop-count.out c.loop-count.count c.next_event-event.result, within);
-      stored = rw (c.saturating_add-at.ensures, c.after-rest.ensures) (goes_on_at c.args.is_all _ c.loop-count.parser _ _ _ _
-          c.loop-count.out c.loop-count.count c.loop-count.at c.next_event-event.result c.next_event-event.ensures
-          (ne_eqb _ 0 c.if-event-eq0.false) within c.loop-count.invariant.stored);
+      within = omega (arith, length-set c.loop-count.out c.loop-count.count c.put_next.new.out, within);
+      stored = rw (c.saturating_add-at.ensures, c.after-rest.ensures, same) (goes_on_at c.args.is_all _ c.loop-count.parser _ _ _ _
+          c.loop-count.out c.loop-count.count c.loop-count.at c.put_next.new.out c.put_next.ensures
+          (sym (ap (λ (e : PlainEvent). nat_eq e.consumed 0) same) ∙ ne_eqb _ 0 c.if-consumed-eq0.false) within
+          c.loop-count.invariant.stored);
     }
 
-pub returns-then-event-eq0 : goal.returns-then-event-eq0
-returns-then-event-eq0 c = ends_at c.args.is_all _ c.loop-count.parser _ _ _ _ c.loop-count.out c.loop-count.count c.loop-count.at
-    c.next_event-event.result c.next_event-event.ensures (ap (λ k. nat_eq k 0) c.if-event-eq0.true) c.loop-count-test.true
+pub returns-then-consumed-eq0 : goal.returns-then-consumed-eq0
+returns-then-consumed-eq0 c =
+    let same = get_or-set_same c.loop-count.out c.loop-count.count c.put_next.new.out silent c.loop-count-test.true in
+    ends_at c.args.is_all _ c.loop-count.parser _ _ _ _ c.loop-count.out c.loop-count.count c.loop-count.at
+    c.put_next.new.out c.put_next.ensures
+    (sym (ap (λ (e : PlainEvent). nat_eq e.consumed 0) same) ∙ ap (λ k. nat_eq k 0) c.if-consumed-eq0.true) c.loop-count-test.true
     c.loop-count.invariant.stored
 
 pub returns : goal.returns

@@ -20,8 +20,8 @@ returns-in-Ok-Parsed c =
       asks = c.parse.ensures.asks;
       waits = c.parse.ensures.waits;
       faults = c.parse.ensures.faults;
-      is_event = subst (λ (o : ℕ). c.parsed_event.result ≡ answer_event c.args.base o c.parse.result) c.offset-offset.ensures
-          (c.parsed_event.ensures ∙ ap (answer_event c.args.base c.offset-offset.result) (sym answers));
+      is_event = subst (λ (o : ℕ). c.put_parsed.new.out ≡ answer_event c.args.base o c.parse.result) c.offset-offset.ensures
+          (c.put_parsed.ensures ∙ ap (answer_event c.args.base c.offset-offset.result) (sym answers));
     })
 
 -- an answer of a parser that has stayed where it was
@@ -48,8 +48,8 @@ returns-in-Ok-NeedMoreData c =
     rw (sym c.parser-parser.ensures) (unmoved same c.parse.ensures.answers c.parse.ensures.gives c.parse.ensures.consumes
     c.parse.ensures.asks c.parse.ensures.waits c.parse.ensures.faults (c.request_event.ensures ∙ ap (answer_event _ _) (sym asks)))
 
-pub returns-in-Err : goal.returns-in-Err
-returns-in-Err c =
+pub returns : goal.returns
+returns c =
     let stays : Result Chunk Error → Type 0 = λ r. IsUnchanged c.parser-parser.result r c.parse.new.self in
     let same = subst stays c.in-Err.is c.parse.ensures.unchanged in
     rw (sym c.parser-parser.ensures) (unmoved same c.parse.ensures.answers c.parse.ensures.gives c.parse.ensures.consumes

@@ -1,0 +1,16 @@
+use Rattle.std.proofs.Common.{◌≡◌, ℕ, subst}
+use Rattle.wasm_c.specs.Events.{answer_event}
+use Rattle.wasm_c.proofs.event_batches.put_next.Goals as goal
+
+pub returns : goal.returns
+returns c = record {
+  answer = c.parse-answer.result;
+  answers = c.parse-answer.ensures.answers;
+  gives = c.parse-answer.ensures.gives;
+  consumes = c.parse-answer.ensures.consumes;
+  asks = c.parse-answer.ensures.asks;
+  waits = c.parse-answer.ensures.waits;
+  faults = c.parse-answer.ensures.faults;
+  is_event = subst (λ (o : ℕ). c.put_answer.new.out ≡ answer_event c.args.base o c.parse-answer.result) c.offset-offset.ensures
+      c.put_answer.ensures;
+}
