@@ -1,5 +1,6 @@
 """What the tools share: their arguments, the built programs, the models, and how differences are told."""
 import argparse
+import functools
 import importlib.machinery
 import importlib.util
 import json
@@ -144,8 +145,9 @@ def lines_in(output):
 # ---- models and files
 
 
+@functools.lru_cache(maxsize=None)
 def load(path, *names):
-    """A model, which is a file in Python, with these names in it."""
+    """A model, which is a file in Python, with these names in it. It is read once."""
     loader = importlib.machinery.SourceFileLoader("model_" + os.path.basename(path).partition(".")[0], path)
     model = importlib.util.module_from_spec(importlib.util.spec_from_loader(loader.name, loader))
     try:

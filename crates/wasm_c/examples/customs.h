@@ -9,9 +9,6 @@ typedef bool reader(struct window *w);
 /* The same for a subsection with this id, whose bytes are the window. */
 typedef bool part_reader(uint32_t id, struct window *w);
 
-/* The subsections of a section: pulleynavy_next_subsections or pulleynavy_next_name_subsections. */
-typedef size_t subsections(pulleynavy_items *, const uint8_t *, size_t, pulleynavy_subsection *, size_t);
-
 /* Stores the next items of the list that is the window; spans begin where it does. */
 #define NEXT(call, items, w, out) call(&items, stream + (w).at, (size_t)((w).end - (w).at), out, batch)
 
@@ -109,17 +106,21 @@ static bool owned(struct window *w, reader *item) {
         return true; \
     }
 
-/* Subsections; after one that can't be read the next one follows. */
-static void parts(struct window w, part_reader *part, subsections *next) {
+/* Subsections; after one that can't be read the next one follows. The ids of those with readable contents ascend where `is_ordered`.
+   pulleynavy_next_name_subsections compares ids too, but before anybody has read the contents. */
+static void parts(struct window w, part_reader *part, bool is_ordered) {
     pulleynavy_items items = pulleynavy_list_init(w.at, 0, PULLEYNAVY_ALL_FEATURES);
     pulleynavy_subsection out[MOST];
+    uint32_t least = 0;
     put("<");
-    for (size_t n; (n = NEXT(next, items, w, out)) > 0;)
+    for (size_t n; (n = NEXT(pulleynavy_next_subsections, items, w, out)) > 0;)
         for (size_t i = 0; i < n; i++) {
             size_t before = used;
             if (put_if_fault(out[i].fault)) continue;
             struct window contents = window_of(w.at, out[i].contents);
-            if (part(out[i].id, &contents)) put(" ");
+            bool is_read = part(out[i].id, &contents), is_late = is_read && is_ordered && out[i].id < least;
+            if (is_late) set_fault(PULLEYNAVY_FAULT_NAME_SECTION_ORDER, contents.end - out[i].consumed);
+            if (is_read && !is_late) put(" "), least = out[i].id + 1;
             else put_fault_over(before);
         }
     put(">");
@@ -324,7 +325,7 @@ static bool linking(struct window w) {
     pulleynavy_number version = READ(pulleynavy_read_linking_version, &w);
     if (!passed(&w, version.fault, version.consumed)) return false;
     put("version %" PRIu64 " at %" PRIu64 " %" PRIu64 "..%" PRIu64 " ", version.value, w.at, from, w.end);
-    parts(w, linking_part, pulleynavy_next_subsections);
+    parts(w, linking_part, false);
     return true;
 }
 
@@ -413,10 +414,10 @@ static bool dumped(reader *part, struct window w) {
 /* Puts the data of a section of this kind, as `pulleynavy_classify_custom` has it; returns false where it isn't such data. */
 static bool put_custom(uint32_t kind, struct window w) {
     switch (kind) {
-    case PULLEYNAVY_CUSTOM_NAME: parts(w, name_part, pulleynavy_next_name_subsections); return true;
+    case PULLEYNAVY_CUSTOM_NAME: parts(w, name_part, true); return true;
     case PULLEYNAVY_CUSTOM_BRANCH_HINTS: return hinted_functions(w);
     case PULLEYNAVY_CUSTOM_PRODUCERS: return producers_fields(w);
-    case PULLEYNAVY_CUSTOM_DYLINK0: parts(w, dylink_part, pulleynavy_next_subsections); return true;
+    case PULLEYNAVY_CUSTOM_DYLINK0: parts(w, dylink_part, false); return true;
     case PULLEYNAVY_CUSTOM_LINKING: return linking(w);
     case PULLEYNAVY_CUSTOM_RELOC: return relocations(w);
     case PULLEYNAVY_CUSTOM_CORE: return dumped(process, w);

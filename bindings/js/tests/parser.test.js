@@ -1,0 +1,304 @@
+// SPDX-License-Identifier: Apache-2.0 OR MIT
+// Modules by hand, and what the package does besides reading.
+import assert from "node:assert/strict";
+import { spawnSync } from "node:child_process";
+import { readFileSync } from "node:fs";
+import test from "node:test";
+import { CALLS } from "../declared.js";
+import { ALL_FEATURES, COMPACT_IMPORTS, MEMORY64, VERSION, faultText, fromModule, load, typeText } from "../pulleynavy.js";
+
+const wasm = readFileSync(new URL("../pulleynavy.wasm", import.meta.url));
+const { parse, Parser, ParserStream, strip } = await load(wasm);
+// The bytes of a text whose characters are bytes.
+const bytes = text => new Uint8Array(Buffer.from(text, "latin1"));
+const HEADER = "\0asm\x01\0\0\0";
+const FUNCTIONS = HEADER + "\x03\x02\x01\0\x0a\x04\x01\x02\0\x0b";
+const IMPORTS = HEADER + "\x02\x1c\x03\x01m\x01a\0\x05\x01m\x01b\x02\0\x01\x01n\0\x7f\x02\x01c\x04\0\x03\x01d\0\x04";
+const itemsOf = (text, options) => [...parse(bytes(text), options)].find(event => event.kind === "section").items;
+// An object without the offsets of its bytes.
+const content = ({ start, end, ...rest }) => rest;
+
+test("imports, and those of bundles", () => {
+    const items = itemsOf(IMPORTS);
+    assert.deepEqual(items.map(content), [
+        { kind: "import", module: "m", name: "a", external: "func", type: 5 },
+        { kind: "import", module: "m", name: "b", external: "memory",
+            type: { initial: 1, maximum: null, memory64: false, shared: false, pageSizeLog2: null } },
+        { kind: "import", module: "n", name: "c", external: "tag", type: 3 },
+        { kind: "import", module: "n", name: "d", external: "func", type: 4 },
+    ]);
+    assert.deepEqual(items.map(it => [it.start, it.end]), [[11, 17], [17, 24], [29, 34], [34, 38]]);
+});
+
+test("tables, memories, tags and globals", () => {
+    const sections = "\x04\x05\x01\x70\x01\x01\x02\x05\x04\x01\x03\x01\x02\x0d\x03\x01\0\x07\x06\x06\x01\x7f\x01\x41\0\x0b";
+    const events = [...parse(bytes(HEADER + sections))];
+    const [table, memory, tag, global] = events.slice(1, 5).map(event => event.items[0]);
+    const element = { nullable: true, heap: "func" };
+    const type = { element, initial: 1, maximum: 2, table64: false, shared: false };
+    assert.deepEqual(table, { kind: "table", start: 11, end: 15, type, init: null });
+    assert.deepEqual(memory.type, { initial: 1, maximum: 2, memory64: false, shared: true, pageSizeLog2: null });
+    assert.equal(tag.type, 7);
+    assert.deepEqual(global.type, { content: "i32", mutable: true, shared: false });
+    assert.deepEqual(global.init, { start: 31, end: 34 });
+    assert.deepEqual([typeText(element), typeText("i32"), typeText({ nullable: false, heap: 3 })], ["(ref null func)", "i32", "(ref 3)"]);
+});
+
+test("exports with names that are not ASCII, and a byte order mark", () => {
+    const items = itemsOf(HEADER + "\x07\x11\x03\x02\xc3\xa9\x04\x05\x01a\x03\0\x04\xef\xbb\xbfb\0\x01");
+    assert.deepEqual(items.map(it => [it.name, it.external, it.index]), [["é", "tag", 5], ["a", "global", 0], ["\ufeffb", "func", 1]]);
+});
+
+test("segments", () => {
+    const events = [...parse(bytes(HEADER + "\x09\x0c\x02\x01\0\x01\x05\x02\x03\x41\0\x0b\0\0\x0b\x0b\x02\x01\x02xy\0\x41\0\x0b\x01z"))];
+    assert.deepEqual(events[1].items.map(content), [
+        { kind: "element", mode: "passive", table: null, offsetExpression: null, type: null, items: { start: 14, end: 15 },
+            functions: [5], expressions: null },
+        { kind: "element", mode: "active", table: 3, offsetExpression: { start: 17, end: 20 }, type: null, items: { start: 22, end: 22 },
+            functions: [], expressions: null },
+    ]);
+    assert.deepEqual(events[2].items.map(content), [
+        { kind: "data", mode: "passive", memory: null, offsetExpression: null, bytes: { start: 27, end: 29 } },
+        { kind: "data", mode: "active", memory: 0, offsetExpression: { start: 30, end: 33 }, bytes: { start: 34, end: 35 } },
+    ]);
+});
+
+test("a limit beyond 2^53 is a bigint", () => {
+    const [small, large] = ["\xff\xff\xff\xff\xff\xff\xff\x0f", "\x80\x80\x80\x80\x80\x80\x80\x10"];
+    assert.equal(itemsOf(HEADER + "\x05\x0a\x01\x04" + small)[0].type.initial, 2 ** 53 - 1);
+    assert.equal(itemsOf(HEADER + "\x05\x0a\x01\x04" + large)[0].type.initial, 2n ** 53n);
+});
+
+test("events of functions and their bodies", () => {
+    assert.deepEqual([...parse(bytes(FUNCTIONS))], [
+        { kind: "version", offset: 0, start: 0, end: 8, version: 1, encoding: "module" },
+        { kind: "section", offset: 8, start: 10, end: 12, id: 3, name: "function", count: 1,
+            items: [{ kind: "function", start: 11, end: 12, type: 0 }] },
+        { kind: "code", offset: 12, start: 14, end: 18, id: 10, count: 1, size: 3 },
+        { kind: "body", offset: 15, start: 16, end: 18 },
+        { kind: "end", offset: 18 },
+    ]);
+});
+
+test("names", () => {
+    const events = [...parse(bytes(HEADER + "\0\x10\x04name\0\x02\x01m\x01\x05\x01\x07\x02\xc3\xa9\0\x02\x01x"))];
+    const custom = events.filter(event => event.kind === "custom");
+    assert.deepEqual(custom.map(event => [event.name, event.dataStart]), [["name", 15], ["x", 30]]);
+    assert.deepEqual(custom[0].contents.subsections, [
+        { kind: "module", id: 0, start: 15, end: 19, contents: { start: 17, end: 19 }, name: "m" },
+        { kind: "names", id: 1, start: 19, end: 26, contents: { start: 21, end: 26 }, of: "function",
+            names: [{ kind: "name", start: 22, end: 26, index: 7, name: "é" }] },
+    ]);
+    assert.equal(custom[1].contents, null);
+});
+
+test("a component has sections, and no items", () => {
+    const events = [...parse(bytes("\0asm\x0d\0\x01\0\x01\x01\0"))];
+    assert.deepEqual(events.map(event => event.kind), ["version", "unknown", "end"]);
+    assert.equal(events[0].encoding, "component");
+});
+
+test("a malformed section is the last event", () => {
+    const fault = [...parse(bytes(HEADER + "\x80"))].at(-1);
+    assert.deepEqual([fault.kind, fault.fault, fault.offset, fault.code], ["fault", "MALFORMED_SECTION_ID", 8, 7]);
+});
+
+test("a malformed item is a fault among the items, and the stream goes on", () => {
+    const events = [...parse(bytes(HEADER + "\x07\x04\x01\x01a\x05"))];
+    assert.deepEqual(events[1].items, [
+        { kind: "fault", offset: 13, fault: "LEADING_BYTE", code: 25 + 5 * 256, number: 5, text: "invalid leading byte for external kind" },
+    ]);
+    assert.equal(faultText(events[1].items[0]), "invalid leading byte for external kind: 5 (at offset 0xd)");
+    assert.equal(events.at(-1).kind, "end");
+});
+
+test("every prefix of a module ends in a fault or an end, and throws nothing", () => {
+    for (const text of [FUNCTIONS, IMPORTS]) {
+        for (let size = 0; size < text.length; size++) {
+            const last = [...parse(bytes(text.slice(0, size)))].at(-1);
+            assert.ok(size === 8 ? last.kind === "end" : last.kind === "fault", `${size}: ${last.kind}`);
+        }
+    }
+});
+
+test("features: bundles of imports only where they are asked for", () => {
+    assert.equal(itemsOf(IMPORTS, { features: COMPACT_IMPORTS }).length, 4);
+    const items = itemsOf(IMPORTS, { features: MEMORY64 });
+    assert.deepEqual(items.map(it => it.kind), ["import", "import", "fault"]);
+    assert.deepEqual([items[2].offset, items[2].fault], [27, "COMPACT_7F"]);
+    assert.equal(ALL_FEATURES, MEMORY64 | COMPACT_IMPORTS);
+    const parser = new Parser({ features: MEMORY64 });
+    assert.equal([...parser.push(bytes(IMPORTS)), ...parser.finish()][1].items[2].fault, "COMPACT_7F");
+});
+
+test("without items", () => {
+    const events = [...parse(bytes(IMPORTS + "\0\x0b\x04name\x01\x04\x01\0\x01a"), { items: false })];
+    assert.deepEqual([events[1].items, events[1].count, events[2].contents], [[], 3, null]);
+});
+
+test("interleaved parsers are independent", () => {
+    const texts = [FUNCTIONS, IMPORTS, HEADER + "\x80", FUNCTIONS + "\0\x02\x01x"], wanted = texts.map(text => [...parse(bytes(text))]);
+    const running = texts.map(text => parse(bytes(text))), parsers = texts.map(() => new Parser());
+    const said = texts.map(() => []), pushed = texts.map(() => []);
+    for (let at = 0; at < IMPORTS.length; at++) {
+        texts.forEach((text, i) => {
+            const { value } = running[i].next();
+            if (value) said[i].push(value);
+            pushed[i].push(...parsers[i].push(bytes(text.slice(at, at + 1))));
+        });
+    }
+    parsers.forEach((parser, i) => pushed[i].push(...parser.finish()));
+    assert.deepEqual([said, pushed], [wanted, wanted]);
+});
+
+test("input of each kind, and input that is none", () => {
+    const array = bytes(FUNCTIONS), shared = new Uint8Array(new SharedArrayBuffer(array.length)), wanted = [...parse(array)];
+    shared.set(array);
+    const padded = new Uint8Array([1, 2, ...array, 3]);
+    for (const input of [array.buffer.slice(array.byteOffset, array.byteOffset + array.length), shared, shared.buffer, Buffer.from(array),
+        new DataView(padded.buffer, 2, array.length), new Int8Array(array)]) {
+        assert.deepEqual([...parse(input)], wanted);
+    }
+    for (const input of [undefined, null, 8, "abc", [0, 1], {}]) {
+        assert.throws(() => parse(input), TypeError);
+        assert.throws(() => new Parser().push(input), TypeError);
+        assert.throws(() => strip(input), TypeError);
+    }
+});
+
+test("a section larger than a chunk makes the storage grow", () => {
+    const size = 1_000_000, data = new Uint8Array(8 + 1 + 3 + 2 + size);
+    data.set(bytes(HEADER + "\0" + String.fromCharCode((size + 2) & 127 | 128, (size + 2) >> 7 & 127 | 128, (size + 2) >> 14) + "\x01x"));
+    const parser = new Parser(), events = [];
+    for (let at = 0; at < data.length; at += 1000) events.push(...parser.push(data.subarray(at, at + 1000)));
+    events.push(...parser.finish());
+    assert.deepEqual(events.map(event => event.kind), ["version", "custom", "end"]);
+    assert.deepEqual([events[1].name, events[1].dataStart, events[1].end], ["x", 14, data.length]);
+    assert.deepEqual(new Parser().push(data), events.slice(0, 2));
+});
+
+test("after the last event a parser returns none", () => {
+    const parser = new Parser();
+    assert.equal(parser.push(bytes("abcd")).at(-1).kind, "fault");
+    assert.deepEqual([parser.push(bytes("abcd")), parser.finish()], [[], []]);
+});
+
+test("a stream that ends early, and a fault, through ParserStream", async () => {
+    for (const text of [FUNCTIONS.slice(0, 9), HEADER + "\x80" + "x".repeat(100_000)]) {
+        const events = [];
+        for await (const event of new Blob([bytes(text)]).stream().pipeThrough(new ParserStream())) events.push(event);
+        assert.deepEqual(events, [...parse(bytes(text))]);
+    }
+});
+
+test("stripping", () => {
+    const module = bytes(HEADER + "\0\x05\x04name\0\x02\x01x");
+    assert.deepEqual(strip(module), { fault: null, bytes: bytes(HEADER) });
+    assert.deepEqual(strip(module, { keepNames: true }).bytes, bytes(HEADER + "\0\x05\x04name"));
+    assert.equal(module.length, 19);
+    assert.deepEqual([strip(bytes("abcd")).fault.fault, strip(bytes("abcd")).bytes], ["BAD_MAGIC", null]);
+});
+
+// ---- instances
+
+// Runs `body` while instances are counted and their calls go through `calls`.
+function watched(calls, body) {
+    const { Instance } = WebAssembly, made = [];
+    WebAssembly.Instance = class {
+        constructor(module) {
+            const { exports } = new Instance(module);
+            this.exports = { ...exports, ...calls(exports) };
+            made.push(this);
+        }
+    };
+    try {
+        return body(made);
+    } finally {
+        WebAssembly.Instance = Instance;
+    }
+}
+
+test("the module has no imports, two pages of memory, and traps for good after a trap", () => {
+    const module = new WebAssembly.Module(wasm), { exports } = new WebAssembly.Instance(module);
+    assert.deepEqual(WebAssembly.Module.imports(module), []);
+    assert.deepEqual(Object.keys(exports).sort(), ["__heap_base", "memory", ...CALLS].sort());
+    assert.equal(exports.memory.buffer.byteLength, 2 * 65536);
+    assert.equal(exports.pulleynavy_read_number.length, 5);
+    assert.ok(exports.pulleynavy_version() > 0);
+    assert.throws(() => exports.pulleynavy_parser_init(0xfffffff0n, 0n, 0), WebAssembly.RuntimeError);
+    assert.throws(() => exports.pulleynavy_version(), WebAssembly.RuntimeError);
+});
+
+test("a parser keeps the bytes of one section alone", () => {
+    watched(() => ({}), made => {
+        const { Parser } = fromModule(new WebAssembly.Module(wasm)), parser = new Parser();
+        const section = new Uint8Array(10_000), names = new Set();
+        section.set(bytes("\0\x8d\x4e\x01x"));
+        parser.push(bytes(HEADER));
+        for (let i = 0; i < 5000; i++) for (const event of parser.push(section)) names.add(`${event.kind} ${event.end - event.start}`);
+        assert.deepEqual([...names], ["custom 9997"]);
+        assert.ok(made.at(-1).exports.memory.buffer.byteLength < 500_000);
+    });
+});
+
+test("an instance is used again, also after a loop that ends early", () => {
+    watched(() => ({}), made => {
+        const { parse } = fromModule(new WebAssembly.Module(wasm));
+        for (let i = 0; i < 10; i++) for (const event of parse(bytes(FUNCTIONS))) if (i % 2) break;
+        assert.equal(made.length, 1);
+    });
+});
+
+test("an instance that trapped is discarded", () => {
+    let isBroken = false;
+    const trapping = exports => ({
+        pulleynavy_next_events: (parser, ...rest) => exports.pulleynavy_next_events(isBroken ? 0xfffffff0n : parser, ...rest),
+    });
+    watched(trapping, made => {
+        const { parse, Parser } = fromModule(new WebAssembly.Module(wasm)), wanted = [...parse(bytes(FUNCTIONS))], parser = new Parser();
+        isBroken = true;
+        assert.throws(() => [...parse(bytes(FUNCTIONS))], WebAssembly.RuntimeError);
+        assert.throws(() => parser.push(bytes(FUNCTIONS)), WebAssembly.RuntimeError);
+        isBroken = false;
+        const before = made.length;
+        assert.deepEqual([...parse(bytes(FUNCTIONS))], wanted);
+        assert.equal(made.length, before + 1);
+        assert.throws(() => parser.push(bytes(FUNCTIONS)), /has thrown before/);
+    });
+});
+
+test("a memory that cannot grow is a RangeError, and the next parse works", () => {
+    const script = `
+        import assert from "node:assert/strict";
+        import { load } from ${JSON.stringify(new URL("../pulleynavy.js", import.meta.url).href)};
+        const { parse, Parser, strip } = await load();
+        const large = new Uint8Array(8_000_000), small = new Uint8Array([0, 97, 115, 109, 1, 0, 0, 0]);
+        large.set([...small, 0, 0xf4, 0xa3, 0xe8, 0x03, 1, 120]);
+        for (let i = 0; i < 20; i++) {
+            assert.throws(() => [...parse(large)], RangeError);
+            assert.throws(() => strip(large), RangeError);
+            assert.throws(() => new Parser().push(large), RangeError);
+            assert.equal([...parse(small)].at(-1).kind, "end");
+        }
+        const parser = new Parser();
+        assert.throws(() => parser.push(large), RangeError);
+        assert.throws(() => parser.push(large), /has thrown before/);`;
+    const done = spawnSync(process.execPath, ["--wasm-max-mem-pages=64", "--input-type=module", "-e", script], { encoding: "utf8" });
+    assert.deepEqual([done.status, done.stderr], [0, ""]);
+});
+
+test("a file that is not the module of this version", async () => {
+    await assert.rejects(load(bytes(HEADER)), /not the module of pulleynavy/);
+    await assert.rejects(load(bytes("abcd")), WebAssembly.CompileError);
+    const other = () => ({ pulleynavy_version: () => 7 });
+    watched(other, () => assert.throws(() => fromModule(new WebAssembly.Module(wasm)), /its version is 7/));
+    assert.equal(JSON.parse(readFileSync(new URL("../package.json", import.meta.url), "utf8")).version, VERSION);
+});
+
+test("the parser from each kind of source", async () => {
+    const url = new URL("../pulleynavy.wasm", import.meta.url), data = `data:application/wasm;base64,${wasm.toString("base64")}`;
+    for (const source of [url, data, new URL(data), wasm, new Uint8Array(wasm).buffer, new WebAssembly.Module(wasm)]) {
+        const { parse } = await load(source);
+        assert.equal([...parse(bytes(FUNCTIONS))].length, 5);
+    }
+});
