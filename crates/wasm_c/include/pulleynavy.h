@@ -50,6 +50,8 @@
 
    Structs never grow: a new field means a new struct with a new name.
 
+   For x86-64 (v2) and aarch64 on Linux, and WebAssembly with 32-bit and 64-bit memory. docs/C.md says what each target trusts.
+
    The numbers of kinds, faults and flags never change. */
 #ifndef PULLEYNAVY_H
 #define PULLEYNAVY_H
