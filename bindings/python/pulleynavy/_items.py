@@ -94,10 +94,10 @@ class Items:
         while count := store(cursor, self._held, len(self.data), room, len(room)):
             yield count
 
-    def all(self, call: str, cursor: Any = None) -> Iterator[Any]:
+    def all(self, call: str) -> Iterator[Any]:
         """Yields the items of the list. Their spans count from the start of `data`. Raises the first fault, in its turn."""
         room = (_stored_by(call) * STRUCTS)()
-        for count in self._batches(call, room, cursor or self._cursor):
+        for count in self._batches(call, room, self._cursor):
             for one in room[:count]:
                 if one.fault.kind:
                     raise Fault(self.library, one.fault)
@@ -105,20 +105,25 @@ class Items:
 
     def rows(self, call: str, layout: struct.Struct) -> Iterator[tuple[Any, ...]]:
         """Yields some fields of each item, ten times as fast as structs. Raises the first fault, in its turn."""
-        kind = _stored_by(call)
-        room, faults = (kind * ROWS)(), fields(kind.__name__, "fault.kind")
-        for count in self._batches(call, room, self._cursor):
-            bytes_of = memoryview(room).cast("B")[: count * layout.size]
-            if any(kind for kind, in faults.iter_unpack(bytes_of)):
-                for one, row in zip(room[:count], layout.iter_unpack(bytes_of)):
-                    if one.fault.kind:
-                        raise Fault(self.library, one.fault)
-                    yield row
-            yield from layout.iter_unpack(bytes_of)
+        for _, rows in self._stored(call, layout, self._cursor):
+            yield from rows
 
-    def imports(self) -> Iterator[Any]:
-        """Yields the imports of a section, those of bundles one by one. Raises the first fault, in its turn."""
-        return self.all("flat_imports", declared.Imports(items=self._cursor))
+    def imports(self, layout: struct.Struct) -> Iterator[tuple[Any, Iterator[tuple[Any, ...]]]]:
+        """Yields arrays of imports, those of bundles one by one, with some fields of each. Raises the first fault, in its turn."""
+        return self._stored("flat_imports", layout, declared.Imports(items=self._cursor))
+
+    def _stored(self, call: str, layout: struct.Struct, cursor: Any) -> Iterator[tuple[Any, Iterator[tuple[Any, ...]]]]:
+        room = (_stored_by(call) * ROWS)()
+        held = memoryview(room).cast("B")
+        # Every struct begins with the number of its fault.
+        codes = held.cast("I")[:: layout.size // 4]
+        for count in self._batches(call, room, cursor):
+            sound = count
+            if any(codes[:count]):
+                sound = next(at for at, code in enumerate(codes) if code)
+            yield room, layout.iter_unpack(held[: sound * layout.size])
+            if sound < count:
+                raise Fault(self.library, room[sound].fault)
 
     def bytes_of(self, span: Any) -> bytes:
         """The bytes of a span of an item of the list."""
@@ -126,7 +131,7 @@ class Items:
 
     def text(self, span: Any) -> str:
         """The text of a span."""
-        return str(self.bytes_of(span), "utf-8")
+        return self.bytes_of(span).decode()
 
     def part(self, span: Any) -> Items:
         """A cursor over the bytes of a span."""

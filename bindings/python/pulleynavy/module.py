@@ -151,6 +151,7 @@ def _global(ty: Any) -> Global:
 
 # The fields that are read of items that modules have by the thousand, and the kinds by their numbers.
 _NUMBER = fields("Number", "value")
+_IMPORT = fields("Import", "module_name.at", "module_name.size", "name.at", "name.size", "ty.kind", "ty.index")
 _EXPORT = fields("Export", "name.at", "name.size", "kind", "index")
 _ELEMENT = fields("Element", "kind", "has_table", "table", "count")
 _DATA = fields("Data", "kind", "memory", "bytes.at", "bytes.size")
@@ -194,11 +195,7 @@ class Module:
     @functools.cached_property
     def imports(self) -> list[Import]:
         """The imports, those of bundles among them."""
-        return [
-            Import(items.text(one.module_name), items.text(one.name), ExternalKind(one.ty.kind), _imported(one.ty))
-            for items in self._lists(SectionId.IMPORT)
-            for one in items.imports()
-        ]
+        return [one for items in self._lists(SectionId.IMPORT) for one in _imports(items)]
 
     @functools.cached_property
     def functions(self) -> list[int]:
@@ -229,7 +226,7 @@ class Module:
     def exports(self) -> list[Export]:
         """The exports."""
         return [
-            Export(str(items.data[at : at + size], "utf-8"), _EXTERNAL_KINDS[kind], index)
+            Export._make((items.data[at : at + size].decode(), _EXTERNAL_KINDS[kind], index))
             for items in self._lists(SectionId.EXPORT)
             for at, size, kind, index in items.rows("exports", _EXPORT)
         ]
@@ -284,7 +281,7 @@ class Module:
                         module = contents.text(contents.read("name").name)
                     elif number == NameId.FUNCTION:
                         functions.update(
-                            (index, str(contents.data[at : at + size], "utf-8"))
+                            (index, contents.data[at : at + size].decode())
                             for index, at, size in contents.counted().rows("namings", _NAMING)
                         )
         return Names(module, functions)
@@ -310,12 +307,17 @@ def _section(event: Event) -> Iterator[Section]:
         yield Section(event.id, event.start, event.end, None)
 
 
-def _imported(ty: Any) -> int | Table | Memory | Global:
-    kind = ExternalKind(ty.kind)
-    if kind is ExternalKind.TABLE:
+def _imported(ty: Any) -> Table | Memory | Global:
+    """The type of a table, a memory or a global."""
+    if ty.kind == ExternalKind.TABLE:
         return _table(ty.table)
-    if kind is ExternalKind.MEMORY:
-        return _memory(ty.memory)
-    if kind is ExternalKind.GLOBAL:
-        return _global(getattr(ty, "global"))
-    return int(ty.index)
+    return _memory(ty.memory) if ty.kind == ExternalKind.MEMORY else _global(getattr(ty, "global"))
+
+
+def _imports(items: Items) -> Iterator[Import]:
+    indexed = (ExternalKind.FUNC, ExternalKind.TAG, ExternalKind.FUNC_EXACT)
+    for room, rows in items.imports(_IMPORT):
+        for at, (module, module_size, name, size, number, index) in enumerate(rows):
+            kind, data = _EXTERNAL_KINDS[number], items.data
+            type = index if kind in indexed else _imported(room[at].ty)
+            yield Import(data[module : module + module_size].decode(), data[name : name + size].decode(), kind, type)
