@@ -20,6 +20,9 @@ def load(path: str | None = None) -> Any:
     """Loads the shared library from `path`, from `$PULLEYNAVY_LIB`, or as `libpulleynavy.so.0` from where the system looks.
 
     Raises `OSError` if it is not found, and `AttributeError` if it lacks a call of this version.
+
+    >>> load().pulleynavy_version() > 0
+    True
     """
     library = ctypes.CDLL(path or os.environ.get("PULLEYNAVY_LIB") or "libpulleynavy.so.0")
     for name, (result, arguments) in declared.CALLS.items():

@@ -173,7 +173,11 @@ class Module:
 
     @classmethod
     def read(cls, file: BinaryIO, features: int = ALL_FEATURES) -> Module:
-        """Reads a whole binary file. Raises `Fault` if its sections are malformed."""
+        """Reads a whole binary file. Raises `Fault` if its sections are malformed.
+
+        >>> Module.read(io.BytesIO(b"\\0asm\\1\\0\\0\\0")).sections
+        []
+        """
         return cls(file.read(), features)
 
     def _lists(self, number: int) -> Iterator[Items]:

@@ -36,7 +36,7 @@ FUNCREF = ValueType(TypeKind.REF, True, HeapKind.FUNC)
 
 
 def load_tests(loader, tests, pattern):
-    for module in (pulleynavy, pulleynavy._events, pulleynavy._items, pulleynavy.module):
+    for module in (pulleynavy, pulleynavy._events, pulleynavy._items, pulleynavy._library, pulleynavy.module):
         tests.addTests(doctest.DocTestSuite(module))
     return tests
 
