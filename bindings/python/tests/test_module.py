@@ -57,6 +57,7 @@ class Items(unittest.TestCase):
         self.assertEqual(module.tables, [Table(FUNCREF, Limits(1, 2, False, False))])
         self.assertEqual(module.memories, [Memory(Limits(1, 2, False, True), None)])
         self.assertEqual(module.tags, [7])
+        self.assertEqual(Module(HEADER + b"\5\4\1\1\0\0").memories, [Memory(Limits(0, 0, False, False), None)])
         self.assertEqual(module.globals, [Global(ValueType(TypeKind.I32), True, False)])
 
     def test_exports(self):
@@ -67,6 +68,10 @@ class Items(unittest.TestCase):
         module = Module(HEADER + b"\x09\x0c\2\1\0\1\5\2\3\x41\0\x0b\0\0\x0b\x0b\2\1\2xy\0\x41\0\x0b\1z")
         self.assertEqual(module.elements, [Element(ElementKind.PASSIVE, None, 1), Element(ElementKind.ACTIVE, 3, 0)])
         self.assertEqual(module.data, [Data(DataKind.PASSIVE, None, b"xy"), Data(DataKind.ACTIVE, 0, b"z")])
+
+    def test_an_element_segment_that_names_table_0(self):
+        module = Module(HEADER + b"\x09\x08\1\2\0\x41\0\x0b\0\0")
+        self.assertEqual(module.elements, [Element(ElementKind.ACTIVE, 0, 0)])
 
     def test_functions_and_their_bodies(self):
         module = Module(FUNCTIONS)
@@ -114,6 +119,24 @@ class Faults(unittest.TestCase):
         with self.assertRaises(Fault) as caught:
             module.exports
         self.assertEqual((caught.exception.kind, caught.exception.offset, caught.exception.number), (FaultKind.LEADING_BYTE, 13, 5))
+
+    def test_offsets_of_faults_in_lists(self):
+        items = pulleynavy.Items(b"\1\x80", 100)
+        self.assertEqual(items.read("number").value, 1)
+        with self.assertRaises(Fault) as caught:
+            items.read("number")
+        self.assertEqual((caught.exception.kind, caught.exception.offset), (FaultKind.UNEXPECTED_EOF, 102))
+        with self.assertRaises(Fault) as caught:
+            Module(HEADER + b"\0\x09\4name\1\2\1\5").names
+        self.assertEqual((caught.exception.kind, caught.exception.offset), (FaultKind.UNEXPECTED_EOF, 19))
+
+    def test_a_fault_without_a_number_and_one_with_0(self):
+        with self.assertRaises(Fault) as caught:
+            Module(HEADER + b"\7\5\2\1a\0\0").exports
+        self.assertEqual((caught.exception.kind, caught.exception.number), (FaultKind.UNEXPECTED_EOF, None))
+        with self.assertRaises(Fault) as caught:
+            Module(HEADER + b"\6\5\1\0\0\x41\x0b").globals
+        self.assertEqual((caught.exception.kind, caught.exception.number), (FaultKind.LEADING_BYTE, 0))
 
     def test_a_truncated_stream(self):
         for size in range(1, 8):
