@@ -121,12 +121,13 @@ export class Window {
         return view.getUint32(p + SpanLayout.at, true) + view.getUint32(p + SpanLayout.size, true);
     }
 
-    // A span of an item of a list as offsets of the stream. Of what `read` returned, `from` is where it was.
-    range(p, from = 0) {
-        const { view } = this.instance, start = this.offset + from + view.getUint32(p + SpanLayout.at, true);
+    // A span of an item of a list as offsets of the stream.
+    range(p) {
+        const { view } = this.instance, start = this.offset + view.getUint32(p + SpanLayout.at, true);
         return { start, end: start + view.getUint32(p + SpanLayout.size, true) };
     }
 
+    // The text of a span. Of what `read` returned, `from` is where it was.
     text(p, from = 0) {
         const { instance } = this, { view } = instance;
         return instance.textOf(this.address + from + view.getUint32(p + SpanLayout.at, true), view.getUint32(p + SpanLayout.size, true));

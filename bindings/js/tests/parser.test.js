@@ -44,6 +44,21 @@ test("tables, memories, tags and globals", () => {
     assert.deepEqual([typeText(element), typeText("i32"), typeText({ nullable: false, heap: 3 })], ["(ref null func)", "i32", "(ref 3)"]);
 });
 
+test("a table without a maximum", () => {
+    assert.deepEqual(itemsOf(HEADER + "\x04\x04\x01\x70\0\x05")[0].type,
+        { element: { nullable: true, heap: "func" }, initial: 5, maximum: null, table64: false, shared: false });
+});
+
+test("more items than a call stores", () => {
+    const count = 10000, leb = size => String.fromCharCode(size & 127 | 128, size >> 7 & 127 | 128, size >> 14);
+    const names = Array.from({ length: count }, (_, number) => `e${number}`);
+    const content = leb(count) + names.map(name => String.fromCharCode(name.length) + name + "\0\0").join("");
+    const items = itemsOf(HEADER + "\x07" + leb(content.length) + content);
+    assert.deepEqual(items.map(it => it.name), names);
+    assert.deepEqual(items.map(it => it.end - it.start), names.map(name => name.length + 3));
+    assert.equal(items.at(-1).end, HEADER.length + 4 + content.length);
+});
+
 test("exports with names that are not ASCII, and a byte order mark", () => {
     const items = itemsOf(HEADER + "\x07\x11\x03\x02\xc3\xa9\x04\x05\x01a\x03\0\x04\xef\xbb\xbfb\0\x01");
     assert.deepEqual(items.map(it => [it.name, it.external, it.index]), [["é", "tag", 5], ["a", "global", 0], ["\ufeffb", "func", 1]]);
@@ -90,6 +105,17 @@ test("names", () => {
             names: [{ kind: "name", start: 22, end: 26, index: 7, name: "é" }] },
     ]);
     assert.equal(custom[1].contents, null);
+});
+
+test("an entry out of order is a fault between entries with their offsets", () => {
+    const [, custom] = parse(bytes(HEADER + "\0\x11\x04name\x01\x0a\x03\x01\x01a\x01\x01b\x02\x01c"));
+    const [first, fault, last] = custom.contents.subsections[0].names;
+    assert.deepEqual([first.start, first.end, fault.fault, fault.offset, last.start, last.end], [18, 21, "NAMES_ORDER", 21, 24, 27]);
+});
+
+test("bytes after the name of a module are a fault at the first of them", () => {
+    const [, custom] = parse(bytes(HEADER + "\0\x0a\x04name\0\x03\x01m\0"));
+    assert.deepEqual(custom.contents.subsections.map(part => [part.fault, part.offset]), [["NAME_TRAILING", 19]]);
 });
 
 test("a component has sections, and no items", () => {
