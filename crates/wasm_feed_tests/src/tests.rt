@@ -13,12 +13,24 @@ mod steps;
 mod stripping;
 
 use std::alloc::Global;
-use std::test::Fail;
+use std::fmt::Debug;
+use std::process::Abort;
 use wasm_feed::{
     Ended, Event, ListError, Sink, SliceSource, Source, fits_pieces, list, read_pieces,
 };
 
-// Here and in the modules a call with a long contract is in a function without one, which is cheaper to prove over.
+// Proofs of tests take a third of the gate's time, and most of it goes into asserts and `?`, which leave a function early. So
+// tests compare by the two functions below. A call with a long contract is in a function without one.
+
+// That a value is the one that is wanted.
+fn same<T: PartialEq + Debug + Drop>(rt: &impl Abort, found: T, wanted: T) {
+    assert!(rt; found == wanted, "{found:?}, and not {wanted:?}");
+}
+
+// The same in a row of a table or a turn of a loop, which a failure names.
+fn same_at<T: PartialEq + Debug + Drop>(rt: &impl Abort, found: T, wanted: T, at: &impl Debug) {
+    assert!(rt; found == wanted, "{found:?}, and not {wanted:?}, at {at:?}");
+}
 
 // How the listing of what this source gives ends.
 fn ends<R: Source, W: Sink>(
@@ -41,9 +53,7 @@ fn lists<W: Sink>(
 }
 
 // The events of a stream in these pieces, which has to stay within the offsets.
-fn events(alloc: Global, offset: u64, pieces: &[&[u8]]) -> Result<Vec<Event>, Fail> {
-    if !fits_pieces(offset, pieces) {
-        return Err("past the offsets".into());
-    }
-    Ok(read_pieces(alloc, offset, pieces)?)
+fn events(rt: &impl Abort, alloc: Global, offset: u64, pieces: &[&[u8]]) -> Vec<Event> {
+    assert!(rt; fits_pieces(offset, pieces));
+    read_pieces(alloc, offset, pieces).expect(rt, "out of memory")
 }

@@ -1,7 +1,7 @@
 // A source and a sink that fail or go short at a chosen call.
 ghost use Rattle.std.specs.Prelude.{◌≡◌, false};
 
-use super::ends;
+use super::{ends, same, same_at};
 use std::io::{self, Write};
 use std::test::Fail;
 use wasm_feed::{
@@ -117,18 +117,15 @@ fn a_source_that_fails_leaves_the_lines_of_what_it_gave(rt: HostRuntime) -> Resu
             let mut input = Failing::after(BODY, piece, calls);
             let mut output = BoundedSink::new(rt.alloc(), 100)?;
             let ended = ends(rt.alloc(), &mut input, &mut output, piece);
-            assert_eq!(rt; ended, Err(ListError::Input), "{piece} {calls}");
+            same_at(&rt, ended, Err(ListError::Input), &(piece, calls));
             assert!(rt; input.failed() && !output.failed());
-            assert_eq!(rt;
-                output.written(),
-                &BODY_LISTING[..(*count).min(BODY_LISTING.len())]
-            );
+            same(&rt, output.written(), &BODY_LISTING[..(*count).min(BODY_LISTING.len())]);
         }
         let mut input = Failing::after(BODY, piece, written.len());
         let mut output = BoundedSink::new(rt.alloc(), 100)?;
         let ended = ends(rt.alloc(), &mut input, &mut output, piece);
-        assert_eq!(rt; ended, Ok(Ended::End), "{piece}");
-        assert_eq!(rt; output.written(), BODY_LISTING);
+        same_at(&rt, ended, Ok(Ended::End), &piece);
+        same(&rt, output.written(), BODY_LISTING);
     }
     Ok(())
 }
@@ -143,8 +140,8 @@ fn a_sink_that_fails_at_each_byte_of_a_module(rt: HostRuntime) -> Result<(), Fai
                 failed: false,
             };
             let ended = ends(rt.alloc(), &mut SliceSource::new(BODY), &mut output, piece);
-            assert_eq!(rt; ended, Err(ListError::Output), "{piece} {calls}");
-            assert_eq!(rt; output.inner.written(), &BODY_LISTING[..calls]);
+            same_at(&rt, ended, Err(ListError::Output), &(piece, calls));
+            same(&rt, output.inner.written(), &BODY_LISTING[..calls]);
         }
     }
     Ok(())
@@ -158,9 +155,9 @@ fn a_sink_that_takes_one_byte_a_call(rt: HostRuntime) -> Result<(), Fail> {
         failed: false,
     };
     let ended = ends(rt.alloc(), &mut SliceSource::new(BODY), &mut output, 65_536);
-    assert_eq!(rt; ended, Ok(Ended::End));
-    assert_eq!(rt; output.inner.written(), BODY_LISTING);
-    assert_eq!(rt; output.calls_left, 0);
+    same(&rt, ended, Ok(Ended::End));
+    same(&rt, output.inner.written(), BODY_LISTING);
+    same(&rt, output.calls_left, 0);
     Ok(())
 }
 
@@ -169,11 +166,8 @@ fn a_source_that_goes_short_changes_nothing(rt: HostRuntime) -> Result<(), Fail>
     for step in 1..14 {
         let mut input = Failing::after(MODULE, step, 20);
         let mut output = BoundedSink::new(rt.alloc(), 64)?;
-        assert_eq!(rt;
-            ends(rt.alloc(), &mut input, &mut output, 5),
-            Ok(Ended::End)
-        );
-        assert_eq!(rt; output.written(), LISTING);
+        same(&rt, ends(rt.alloc(), &mut input, &mut output, 5), Ok(Ended::End));
+        same(&rt, output.written(), LISTING);
         assert!(rt; !input.failed() && !output.failed());
     }
     Ok(())
@@ -191,11 +185,11 @@ fn a_sink_that_goes_short_or_fails(rt: HostRuntime) -> Result<(), Fail> {
         let ended = ends(rt.alloc(), &mut input, &mut output, 5);
         if calls < LISTING.len() {
             assert!(rt; ended == Err(ListError::Output), "{calls}");
-            assert_eq!(rt; output.inner.written(), &LISTING[..calls]);
+            same(&rt, output.inner.written(), &LISTING[..calls]);
             assert!(rt; output.failed() && !input.failed());
         } else {
             assert!(rt; ended == Ok(Ended::End), "{calls}");
-            assert_eq!(rt; output.inner.written(), LISTING);
+            same(&rt, output.inner.written(), LISTING);
             assert!(rt; !output.failed());
         }
     }
@@ -207,12 +201,9 @@ fn a_reader_and_a_writer_of_the_standard_library(rt: HostRuntime) -> Result<(), 
     let mut input = ReadSource::new(MODULE);
     let mut written = Vec::<u8>::new(rt.alloc());
     let mut output = WriteSink::new(&mut written);
-    assert_eq!(rt;
-        ends(rt.alloc(), &mut input, &mut output, 65_536),
-        Ok(Ended::End)
-    );
+    same(&rt, ends(rt.alloc(), &mut input, &mut output, 65_536), Ok(Ended::End));
     assert!(rt; !output.failed() && !input.failed());
-    assert_eq!(rt; written.as_slice(), LISTING);
+    same(&rt, written.as_slice(), LISTING);
     Ok(())
 }
 
@@ -243,14 +234,11 @@ fn a_writer_that_takes_nothing_at_first(rt: HostRuntime) -> Result<(), Fail> {
     let mut writer = Stalling { calls: 0, taken: 0 };
     let mut input = SliceSource::new(BODY);
     let mut output = WriteSink::new(&mut writer);
-    assert_eq!(rt;
-        ends(rt.alloc(), &mut input, &mut output, 65_536),
-        Err(ListError::Output)
-    );
+    same(&rt, ends(rt.alloc(), &mut input, &mut output, 65_536), Err(ListError::Output));
     assert!(rt; output.failed());
-    assert_eq!(rt; output.write(b""), Ok(0));
+    same(&rt, output.write(b""), Ok(0));
     drop(output);
-    assert_eq!(rt; (writer.calls, writer.taken), (2, 0));
+    same(&rt, (writer.calls, writer.taken), (2, 0));
     Ok(())
 }
 
@@ -282,14 +270,14 @@ fn a_sink_flushes_its_writer(rt: HostRuntime) -> Result<(), Fail> {
         flushes: 0,
     };
     let mut sink = WriteSink::new(&mut writer);
-    assert_eq!(rt; sink.write(b"abc"), Ok(3));
-    assert_eq!(rt; sink.flush(), Err(Failed));
+    same(&rt, sink.write(b"abc"), Ok(3));
+    same(&rt, sink.flush(), Err(Failed));
     assert!(rt; sink.failed());
-    assert_eq!(rt; sink.flush(), Ok(()));
+    same(&rt, sink.flush(), Ok(()));
     assert!(rt; sink.failed());
-    assert_eq!(rt; sink.flush(), Ok(()));
+    same(&rt, sink.flush(), Ok(()));
     drop(sink);
-    assert_eq!(rt; writer.flushes, 3);
+    same(&rt, writer.flushes, 3);
     Ok(())
 }
 
@@ -298,11 +286,8 @@ fn at_most_a_piece_is_read_at_once(rt: HostRuntime) -> Result<(), Fail> {
     for piece in [1, 3, 65_536] {
         let mut input = Measuring::new(MODULE);
         let mut output = BoundedSink::new(rt.alloc(), 64)?;
-        assert_eq!(rt;
-            ends(rt.alloc(), &mut input, &mut output, piece),
-            Ok(Ended::End)
-        );
-        assert_eq!(rt; output.written(), LISTING);
+        same(&rt, ends(rt.alloc(), &mut input, &mut output, piece), Ok(Ended::End));
+        same(&rt, output.written(), LISTING);
         let (_, largest) = input.measured();
         assert!(rt; 0 < largest && largest <= piece, "{piece}");
     }
@@ -316,10 +301,10 @@ fn a_sink_of_each_size(rt: HostRuntime) -> Result<(), Fail> {
         let mut output = BoundedSink::new(rt.alloc(), size)?;
         let ended = ends(rt.alloc(), &mut input, &mut output, 4);
         let is_full = size < LISTING.len();
-        assert_eq!(rt; ended == Err(ListError::Output), is_full, "{size}");
-        assert_eq!(rt; ended == Ok(Ended::End), !is_full, "{size}");
-        assert_eq!(rt; output.failed(), is_full, "{size}");
-        assert_eq!(rt; output.written(), &LISTING[..size.min(LISTING.len())]);
+        same_at(&rt, ended == Err(ListError::Output), is_full, &size);
+        same_at(&rt, ended == Ok(Ended::End), !is_full, &size);
+        same_at(&rt, output.failed(), is_full, &size);
+        same(&rt, output.written(), &LISTING[..size.min(LISTING.len())]);
     }
     Ok(())
 }
@@ -327,15 +312,15 @@ fn a_sink_of_each_size(rt: HostRuntime) -> Result<(), Fail> {
 #[test]
 fn a_sink_takes_what_fits(rt: HostRuntime) -> Result<(), Fail> {
     let mut sink = BoundedSink::new(rt.alloc(), 5)?;
-    assert_eq!(rt; sink.write(b"abc"), Ok(3));
-    assert_eq!(rt; sink.write(b""), Ok(0));
-    assert_eq!(rt; sink.write(b"def"), Ok(2));
-    assert_eq!(rt; sink.write(b""), Ok(0));
+    same(&rt, sink.write(b"abc"), Ok(3));
+    same(&rt, sink.write(b""), Ok(0));
+    same(&rt, sink.write(b"def"), Ok(2));
+    same(&rt, sink.write(b""), Ok(0));
     assert!(rt; !sink.failed());
-    assert_eq!(rt; sink.write(b"f"), Err(Failed));
+    same(&rt, sink.write(b"f"), Err(Failed));
     assert!(rt; sink.failed());
-    assert_eq!(rt; sink.write(b""), Ok(0));
+    same(&rt, sink.write(b""), Ok(0));
     assert!(rt; sink.failed());
-    assert_eq!(rt; sink.written(), b"abcde".as_slice());
+    same(&rt, sink.written(), b"abcde".as_slice());
     Ok(())
 }

@@ -1,4 +1,5 @@
 // What equality of events says.
+use super::{same, same_at};
 use std::alloc::Global;
 use std::ops::Range;
 use std::test::Fail;
@@ -43,27 +44,19 @@ fn kinds() -> [EventKind; 17] {
 fn kinds_are_equal_to_themselves_alone(rt: HostRuntime) {
     for (place, one) in kinds().iter().enumerate() {
         for (other_place, other) in kinds().iter().enumerate() {
-            assert!(rt;
-                (one == other) == (place == other_place),
-                "{one:?} {other:?}"
-            );
+            same_at(&rt, one == other, place == other_place, &(one, other));
         }
     }
 }
 
 #[test]
 fn hints_of_faults_do_not_count(rt: HostRuntime) {
-    match BinaryReader::new(&[], 300).read_bytes(5) {
-        Ok(_) => panic!(rt; "read"),
-        Err(missing) => {
-            let fault = Error::new(Fault::UnexpectedEof, 300);
-            assert_eq!(rt;
-                (missing.needed_hint(), fault.needed_hint()),
-                (Some(5), None)
-            );
-            assert!(rt; EventKind::Fault(missing) == EventKind::Fault(fault));
-        }
-    }
+    let missing = BinaryReader::new(&[], 300)
+        .read_bytes(5)
+        .expect_err(&rt, "no fault");
+    let fault = Error::new(Fault::UnexpectedEof, 300);
+    same(&rt, (missing.needed_hint(), fault.needed_hint()), (Some(5), None));
+    same(&rt, EventKind::Fault(missing), EventKind::Fault(fault));
 }
 
 fn body(alloc: Global, range: Range<u64>, bytes: &[u8]) -> Result<Event, Fail> {

@@ -1,4 +1,5 @@
 // Feeders of streams that come in pieces.
+use super::same;
 use bitflags::Flags;
 use std::alloc::{Allocator, Global};
 use std::ops::Range;
@@ -67,24 +68,24 @@ fn a_module_in_three_pieces(rt: HostRuntime) -> std::result::Result<(), Fail> {
     for (index, (last, held, stored)) in steps.iter().enumerate() {
         assert!(rt; feeder.wants_more());
         push(&mut feeder, &MODULE[5 * index..5 * index + 5])?;
-        assert_eq!(rt; feeder.held(), feeder.stored());
+        same(&rt, feeder.held(), feeder.stored());
         let mut now = step(&mut feeder);
         for _ in 0..3 {
             if let Told::Shows(_) = now {
                 now = step(&mut feeder);
             }
         }
-        assert_eq!(rt; now, *last);
-        assert_eq!(rt; (feeder.held(), feeder.stored()), (*held, *stored));
+        same(&rt, now, *last);
+        same(&rt, (feeder.held(), feeder.stored()), (*held, *stored));
     }
     push(&mut feeder, &MODULE[15..])?;
-    assert_eq!(rt; step(&mut feeder), Told::Shows(3));
-    assert_eq!(rt; step(&mut feeder), Told::Asks(1));
+    same(&rt, step(&mut feeder), Told::Shows(3));
+    same(&rt, step(&mut feeder), Told::Asks(1));
     feeder.finish();
     assert!(rt; !feeder.wants_more());
     for _ in 0..2 {
         feeder.finish();
-        assert_eq!(rt; step(&mut feeder), Told::Ends(18));
+        same(&rt, step(&mut feeder), Told::Ends(18));
     }
     Ok(())
 }
@@ -116,13 +117,13 @@ fn next_imports(feeder: &mut Feeder, consumed: &[u8]) -> Result<Option<Range<u64
 fn faults_and_features(rt: HostRuntime) -> std::result::Result<(), Fail> {
     let mut feeder = Feeder::new(rt.alloc(), 7, WasmFeatures::MEMORY64);
     push(&mut feeder, b"\0asm\x01\0\0\0\x02\x01\0\x02")?;
-    assert_eq!(rt; step_with(&mut feeder), Told::Shows(8));
-    assert_eq!(rt; next_imports(&mut feeder, b"\x02\x01\0")?, Some(17..18));
-    assert_eq!(rt; step(&mut feeder), Told::Asks(1));
+    same(&rt, step_with(&mut feeder), Told::Shows(8));
+    same(&rt, next_imports(&mut feeder, b"\x02\x01\0")?, Some(17..18));
+    same(&rt, step(&mut feeder), Told::Asks(1));
     push(&mut feeder, b"\0")?;
     let fault = Error::new(Fault::OutOfOrder, 20);
     for _ in 0..2 {
-        assert_eq!(rt; step(&mut feeder), Told::Refuses(fault));
+        same(&rt, step(&mut feeder), Told::Refuses(fault));
     }
     Ok(())
 }
@@ -131,15 +132,15 @@ fn faults_and_features(rt: HostRuntime) -> std::result::Result<(), Fail> {
 fn pushes_past_the_top(rt: HostRuntime) -> std::result::Result<(), Fail> {
     let mut feeder = Feeder::new(rt.alloc(), 18446744073709551607, WasmFeatures::all());
     push(&mut feeder, b"\0asm\x01\0\0\0")?;
-    assert_eq!(rt; step(&mut feeder), Told::Shows(8));
-    assert_eq!(rt; step(&mut feeder), Told::Asks(1));
+    same(&rt, step(&mut feeder), Told::Shows(8));
+    same(&rt, step(&mut feeder), Told::Asks(1));
     let fault = Error::new(Fault::OffsetRange, 18446744073709551615);
-    assert_eq!(rt; push(&mut feeder, b"\0"), Err(fault));
-    assert_eq!(rt; (feeder.held(), feeder.stored()), (0, 8));
+    same(&rt, push(&mut feeder, b"\0"), Err(fault));
+    same(&rt, (feeder.held(), feeder.stored()), (0, 8));
     assert!(rt; feeder.wants_more());
     push(&mut feeder, b"")?;
     feeder.finish();
-    assert_eq!(rt; step(&mut feeder), Told::Ends(18446744073709551615));
+    same(&rt, step(&mut feeder), Told::Ends(18446744073709551615));
     Ok(())
 }
 
@@ -168,7 +169,7 @@ fn pieces_of_a_download(rt: HostRuntime) -> std::result::Result<(), Fail> {
             }
         }
     }
-    assert_eq!(rt; (last, feeder.held()), (3, 0));
+    same(&rt, (last, feeder.held()), (3, 0));
     Ok(())
 }
 
@@ -189,7 +190,7 @@ fn steps_in(
         rest = later;
         let before = (feeder.held(), feeder.stored());
         if push(&mut feeder, piece).is_err() {
-            assert_eq!(rt; (feeder.held(), feeder.stored()), before);
+            same(rt, (feeder.held(), feeder.stored()), before);
             refused = true;
             heap.give(AMPLE);
             push(&mut feeder, piece)?;
@@ -243,7 +244,7 @@ fn refused_pushes_are_repeated(rt: HostRuntime) -> std::result::Result<(), Fail>
         for blocks in 0..AMPLE {
             let heap = Sparing::new(rt.alloc(), blocks);
             let (told, refused) = steps_in(&rt, rt.alloc(), &heap, sizes)?;
-            assert_eq!(rt; told.as_slice(), steps);
+            same(&rt, told.as_slice(), steps);
             if !refused {
                 runs = blocks;
                 break;
@@ -314,6 +315,6 @@ fn bodies_as_they_come(rt: HostRuntime) -> std::result::Result<(), Fail> {
         Task::Compile(23),
         Task::Wait,
     ];
-    assert_eq!(rt; tasks.as_slice(), wanted.as_slice());
+    same(&rt, tasks.as_slice(), wanted.as_slice());
     Ok(())
 }

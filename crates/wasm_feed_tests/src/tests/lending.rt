@@ -2,6 +2,7 @@
 ghost use Rattle.wasm_feed.specs.Beside.{MayCome};
 
 use super::feeding::{MODULE, Told, push, say};
+use super::same;
 use bitflags::Flags;
 use std::alloc::Allocator;
 use std::process::Abort;
@@ -28,13 +29,13 @@ fn over<'a, A: Allocator>(feeder: &mut Feeder<A>, piece: &'a [u8]) -> Result<(To
 fn stays(rt: &impl Abort, feeder: &mut Feeder, told: Told) -> Result<()> {
     let (held, stored) = (feeder.held(), feeder.stored());
     for _ in 0..2 {
-        assert_eq!(rt; say(feeder.step()), told);
-        assert_eq!(rt; say(feeder.open().step()), told);
-        assert_eq!(rt; feeder.step_with(say), told);
-        assert_eq!(rt; over(feeder, b"\x01\x01\0")?.0, told);
-        assert_eq!(rt; over(feeder, b"")?.0, told);
+        same(rt, say(feeder.step()), told);
+        same(rt, say(feeder.open().step()), told);
+        same(rt, feeder.step_with(say), told);
+        same(rt, over(feeder, b"\x01\x01\0")?.0, told);
+        same(rt, over(feeder, b"")?.0, told);
         assert!(rt; !feeder.wants_more());
-        assert_eq!(rt; (feeder.held(), feeder.stored()), (held, stored));
+        same(rt, (feeder.held(), feeder.stored()), (held, stored));
     }
     Ok(())
 }
@@ -50,10 +51,7 @@ fn tells<A: Allocator>(
     for (told, held, stored) in rows {
         let (now, left) = over(feeder, rest)?;
         rest = left;
-        assert_eq!(rt;
-            (now, feeder.held(), feeder.stored()),
-            (*told, *held, *stored)
-        );
+        same(rt, (now, feeder.held(), feeder.stored()), (*told, *held, *stored));
     }
     assert!(rt; rest.is_empty());
     Ok(())
@@ -155,11 +153,11 @@ fn a_refused_piece_is_given_again(rt: HostRuntime) -> std::result::Result<(), Fa
     let heap = Sparing::new(rt.alloc(), 0);
     let mut feeder = Feeder::new_in(&heap, 0, WasmFeatures::all());
     let refused = over(&mut feeder, MODULE).err();
-    assert_eq!(rt; refused, Some(Error::new(Fault::OutOfMemory, 0)));
+    same(&rt, refused, Some(Error::new(Fault::OutOfMemory, 0)));
     assert!(rt; feeder.wants_more());
     heap.give(20);
     let (told, left) = over(&mut feeder, MODULE)?;
-    assert_eq!(rt; (told, left.len()), (Told::Shows(8), 10));
+    same(&rt, (told, left.len()), (Told::Shows(8), 10));
     Ok(())
 }
 
@@ -171,7 +169,7 @@ fn the_end_stays(rt: HostRuntime) -> std::result::Result<(), Fail> {
     feeder.finish();
     feeder.finish();
     assert!(rt; feeder.is_finished());
-    assert_eq!(rt; say(feeder.step()), Told::Shows(8));
+    same(&rt, say(feeder.step()), Told::Shows(8));
     stays(&rt, &mut feeder, Told::Ends(8))?;
     feeder.finish();
     stays(&rt, &mut feeder, Told::Ends(8))?;
@@ -184,7 +182,7 @@ fn the_fault_of_a_cut_stays(rt: HostRuntime) -> std::result::Result<(), Fail> {
     let mut feeder = Feeder::new(rt.alloc(), 0, WasmFeatures::all());
     push(&mut feeder, b"\0asm\x01\0\0\0\x01")?;
     feeder.finish();
-    assert_eq!(rt; over(&mut feeder, b"")?.0, Told::Shows(8));
+    same(&rt, over(&mut feeder, b"")?.0, Told::Shows(8));
     let cut = Error::new(Fault::UnexpectedEof, 9);
     stays(&rt, &mut feeder, Told::Refuses(cut))?;
     Ok(())
@@ -212,16 +210,16 @@ fn a_fault_stays(rt: HostRuntime) -> std::result::Result<(), Fail> {
 fn past_the_top_of_the_offsets(rt: HostRuntime) -> std::result::Result<(), Fail> {
     let start = u64::MAX - 8;
     let mut feeder = Feeder::new(rt.alloc(), start, WasmFeatures::all());
-    assert_eq!(rt; over(&mut feeder, b"\0asm\x01\0\0\0")?.0, Told::Shows(8));
+    same(&rt, over(&mut feeder, b"\0asm\x01\0\0\0")?.0, Told::Shows(8));
     let past = Told::Refuses(Error::new(Fault::OffsetRange, u64::MAX));
     for _ in 0..2 {
-        assert_eq!(rt; over(&mut feeder, b"\0")?.0, past);
+        same(&rt, over(&mut feeder, b"\0")?.0, past);
     }
-    assert_eq!(rt; say(feeder.step()), past);
+    same(&rt, say(feeder.step()), past);
     let mut whole = Feeder::new(rt.alloc(), start, WasmFeatures::all());
     let past = Told::Refuses(Error::new(Fault::OffsetRange, start));
-    assert_eq!(rt; over(&mut whole, b"\0asm\x01\0\0\0\0")?.0, past);
+    same(&rt, over(&mut whole, b"\0asm\x01\0\0\0\0")?.0, past);
     whole.finish();
-    assert_eq!(rt; over(&mut whole, b"")?.0, past);
+    same(&rt, over(&mut whole, b"")?.0, past);
     Ok(())
 }

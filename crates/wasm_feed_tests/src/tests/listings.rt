@@ -1,5 +1,5 @@
 // Listings: how they end, and one that is longer than what waits. Tables of rows are in `wasm_rows`.
-use super::lists;
+use super::{lists, same, same_at};
 use std::test::Fail;
 use wasm_feed::{BoundedSink, Ended, ListError, Sink};
 use wasm_parser::{Error, Fault};
@@ -29,7 +29,7 @@ fn says_how_a_stream_ends(rt: HostRuntime) -> Result<(), Fail> {
             let mut output = BoundedSink::new(rt.alloc(), 200)?;
             let ended = lists(rt.alloc(), stream, &mut output, piece);
             assert!(rt; ended == how, "{stream:?}");
-            assert_eq!(rt; output.written(), lines, "{stream:?}");
+            same_at(&rt, output.written(), lines, &stream);
             assert!(rt; !output.failed());
         }
     }
@@ -45,7 +45,7 @@ fn list_with_ample_memory(rt: HostRuntime) -> Result<(), Fail> {
         let mut output = BoundedSink::new(rt.alloc(), 100)?;
         let ended = lists(rt.alloc(), stream, &mut output, piece);
         assert!(rt; ended == Ok(Ended::End), "{piece}");
-        assert_eq!(rt; output.written(), lines, "{piece}");
+        same_at(&rt, output.written(), lines, &piece);
     }
     Ok(())
 }
@@ -63,12 +63,9 @@ fn lists_more_than_a_mebibyte(rt: HostRuntime) -> Result<(), Fail> {
         listing.push_str(format!(in rt.alloc(); "unknown 14 {at} {at}\n")?.as_str())?;
     }
     listing.push_str("end 100008\n")?;
-    assert_eq!(rt; listing.len(), 1_138_972);
+    same(&rt, listing.len(), 1_138_972);
     let mut output = BoundedSink::new(rt.alloc(), 1_138_972)?;
-    assert_eq!(rt;
-        lists(rt.alloc(), &stream, &mut output, 65_536),
-        Ok(Ended::End)
-    );
+    same(&rt, lists(rt.alloc(), &stream, &mut output, 65_536), Ok(Ended::End));
     assert!(rt; output.written() == listing.as_bytes());
     Ok(())
 }

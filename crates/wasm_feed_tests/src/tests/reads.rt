@@ -1,5 +1,6 @@
 // Loops over a source by a feeder.
 use super::feeding::{MODULE, Told, say};
+use super::same;
 use bitflags::Flags;
 use std::alloc::Global;
 use std::process::Abort;
@@ -34,10 +35,10 @@ fn read_by(alloc: Global, bytes: &[u8], size: usize) -> Result<(u32, u32, usize)
 
 #[test]
 fn a_source_is_read_where_more_is_asked_for(rt: HostRuntime) -> Result<(), Fail> {
-    assert_eq!(rt; read_by(rt.alloc(), MODULE, 18)?, (2, 5, 18));
-    assert_eq!(rt; read_by(rt.alloc(), MODULE, 10)?, (3, 5, 10));
-    assert_eq!(rt; read_by(rt.alloc(), MODULE, 3)?, (7, 5, 9));
-    assert_eq!(rt; read_by(rt.alloc(), MODULE, 1)?, (19, 5, 8));
+    same(&rt, read_by(rt.alloc(), MODULE, 18)?, (2, 5, 18));
+    same(&rt, read_by(rt.alloc(), MODULE, 10)?, (3, 5, 10));
+    same(&rt, read_by(rt.alloc(), MODULE, 3)?, (7, 5, 9));
+    same(&rt, read_by(rt.alloc(), MODULE, 1)?, (19, 5, 8));
     Ok(())
 }
 
@@ -49,10 +50,7 @@ fn a_source_with_nothing_is_at_its_end(rt: HostRuntime) -> Result<(), Fail> {
     if feeder.wants_more() {
         feeder.read_from(&mut source, &mut buffer)?;
     }
-    assert_eq!(rt;
-        (feeder.held(), feeder.stored(), feeder.wants_more()),
-        (0, 0, false)
-    );
+    same(&rt, (feeder.held(), feeder.stored(), feeder.wants_more()), (0, 0, false));
     assert!(rt; feeder.step().is_err());
     assert!(rt; !feeder.wants_more());
     Ok(())
@@ -78,7 +76,7 @@ fn stays(
 ) -> Result<(), Fail> {
     for _ in 0..3 {
         ahead.pass_lent(cursor, stored);
-        assert_eq!(rt; next_said(ahead, cursor, stored)?, said);
+        same(rt, next_said(ahead, cursor, stored)?, said);
     }
     Ok(())
 }
@@ -110,7 +108,7 @@ fn fails_to_read(
 ) -> Result<(), Fail> {
     ahead.make_ready(cursor, stored)?;
     let read = ahead.refill(cursor, stored, &mut Broken);
-    assert_eq!(rt; read, Err(ListError::Input));
+    same(rt, read, Err(ListError::Input));
     let Told::Asks(_) = next_said(ahead, cursor, stored)? else {
         return Err("no request".into());
     };
@@ -157,9 +155,9 @@ fn read_lent(
 #[test]
 fn chunks_are_parsed_where_they_are(rt: HostRuntime) -> Result<(), Fail> {
     let heap = rt.alloc();
-    assert_eq!(rt; read_lent(&rt, heap, MODULE, 18)?, (2, 4, Told::Ends(18)));
-    assert_eq!(rt; read_lent(&rt, heap, MODULE, 3)?, (7, 4, Told::Ends(18)));
-    assert_eq!(rt; read_lent(&rt, heap, MODULE, 1)?, (19, 4, Told::Ends(18)));
+    same(&rt, read_lent(&rt, heap, MODULE, 18)?, (2, 4, Told::Ends(18)));
+    same(&rt, read_lent(&rt, heap, MODULE, 3)?, (7, 4, Told::Ends(18)));
+    same(&rt, read_lent(&rt, heap, MODULE, 1)?, (19, 4, Told::Ends(18)));
     Ok(())
 }
 
@@ -168,10 +166,10 @@ fn a_fault_in_a_chunk_stays(rt: HostRuntime) -> Result<(), Fail> {
     let heap = rt.alloc();
     let fault = Told::Refuses(Error::new(Fault::MalformedSectionId, 8));
     let stream = b"\0asm\x01\0\0\0\x80\x01\x01\0";
-    assert_eq!(rt; read_lent(&rt, heap, stream, 100)?, (1, 1, fault));
-    assert_eq!(rt; read_lent(&rt, heap, stream, 9)?, (1, 1, fault));
-    assert_eq!(rt; read_lent(&rt, heap, stream, 1)?, (9, 1, fault));
+    same(&rt, read_lent(&rt, heap, stream, 100)?, (1, 1, fault));
+    same(&rt, read_lent(&rt, heap, stream, 9)?, (1, 1, fault));
+    same(&rt, read_lent(&rt, heap, stream, 1)?, (9, 1, fault));
     let none = Told::Refuses(Error::new(Fault::UnexpectedEof, 0));
-    assert_eq!(rt; read_lent(&rt, heap, b"", 4)?, (1, 0, none));
+    same(&rt, read_lent(&rt, heap, b"", 4)?, (1, 0, none));
     Ok(())
 }

@@ -1,5 +1,5 @@
 // Listings and sinks whose memory runs out at a chosen growth.
-use super::lists;
+use super::{lists, same_at};
 use std::alloc::Global;
 use std::process::Abort;
 use std::test::Fail;
@@ -60,7 +60,7 @@ fn runs_out(
             assert!(rt; lines.starts_with(output.written()), "{stream:?} {blocks}");
         } else {
             assert!(rt; answer.is_ok(), "{stream:?} {blocks}");
-            assert_eq!(rt; output.written(), lines, "{stream:?} {blocks}");
+            same_at(rt, output.written(), lines, &(stream, blocks));
             refused = blocks;
             break;
         }
@@ -76,7 +76,7 @@ fn a_listing_whose_memory_runs_out(rt: HostRuntime) -> Result<(), Fail> {
             let mut whole = BoundedSink::new(rt.alloc(), 200)?;
             let ended = lists(rt.alloc(), stream, &mut whole, piece);
             assert!(rt; ended.is_ok(), "{stream:?}");
-            assert_eq!(rt; whole.written(), lines, "{stream:?}");
+            same_at(&rt, whole.written(), lines, &stream);
             runs_out(&rt, rt.alloc(), stream, lines, piece)?;
         }
     }

@@ -1,4 +1,5 @@
 // Steps of a feeder, by callers of another crate.
+use super::same;
 use bitflags::Flags;
 use std::alloc::Global;
 use std::test::Fail;
@@ -32,20 +33,20 @@ fn payloads_are_read(rt: HostRuntime) -> std::result::Result<(), Fail> {
         Step::Parsed {
             payload: Payload::Version { num, encoding, .. },
             ..
-        } => assert_eq!(rt; (num, encoding), (1, Encoding::Module)),
+        } => same(&rt, (num, encoding), (1, Encoding::Module)),
         _other => assert!(rt; false),
     }
     match feeder.open().step()? {
         Step::Parsed {
             payload: Payload::FunctionSection(types),
             ..
-        } => assert_eq!(rt; total(types), Ok(12)),
+        } => same(&rt, total(types), Ok(12)),
         _other => assert!(rt; false),
     }
     let fault = Error::new(Fault::FunctionWithoutCode, 13);
     for _ in 0..2 {
-        assert_eq!(rt; feeder.step().err(), Some(fault));
-        assert_eq!(rt; feeder.open().step().err(), Some(fault));
+        same(&rt, feeder.step().err(), Some(fault));
+        same(&rt, feeder.open().step().err(), Some(fault));
     }
     Ok(())
 }

@@ -1,4 +1,5 @@
 // Streams without their custom sections.
+use super::same_at;
 use std::alloc::Global;
 use std::process::Abort;
 use std::test::Fail;
@@ -140,9 +141,9 @@ fn leaves(
     wanted: &[u8],
 ) -> Result<()> {
     let left = left_of(alloc, stream, keep_names)?;
-    assert_eq!(rt; left.as_slice(), wanted, "{stream:?} {keep_names}");
+    same_at(rt, left.as_slice(), wanted, &(stream, keep_names));
     let again = left_of(alloc, &left, keep_names)?;
-    assert_eq!(rt; again.as_slice(), wanted, "{stream:?} {keep_names}");
+    same_at(rt, again.as_slice(), wanted, &(stream, keep_names));
     Ok(())
 }
 
@@ -154,7 +155,7 @@ fn leaves_in_place(
     wanted: &[u8],
 ) -> Result<()> {
     take_out(&mut bytes, keep_names)?;
-    assert_eq!(rt; bytes.as_slice(), wanted, "{keep_names}");
+    same_at(rt, bytes.as_slice(), wanted, &keep_names);
     Ok(())
 }
 
@@ -166,7 +167,7 @@ fn leaves_at_front(
     wanted: &[u8],
 ) -> Result<()> {
     let size = take_to_front(bytes.as_mut_slice(), keep_names)?;
-    assert_eq!(rt; bytes.get(..size), Some(wanted), "{keep_names}");
+    same_at(rt, bytes.get(..size), Some(wanted), &keep_names);
     Ok(())
 }
 
@@ -181,10 +182,10 @@ fn leaves_in(
     let none = Sparing::new(alloc, 0);
     let refused = left_in(&none, stream, keep_names).err();
     let want = Error::new(Fault::OutOfMemory, 0);
-    assert_eq!(rt; refused, Some(want), "{stream:?}");
+    same_at(rt, refused, Some(want), &stream);
     let one = Sparing::new(alloc, 1);
     let left = left_in(&one, stream, keep_names)?;
-    assert_eq!(rt; left.as_slice(), wanted, "{stream:?} {keep_names}");
+    same_at(rt, left.as_slice(), wanted, &(stream, keep_names));
     Ok(())
 }
 
@@ -192,7 +193,7 @@ fn leaves_in(
 fn tells(rt: &impl Abort, alloc: Global, stream: &[u8], keep_names: bool, fault: Error) {
     let none = Sparing::new(alloc, 0);
     let refused = left_in(&none, stream, keep_names).err();
-    assert_eq!(rt; refused, Some(fault), "{stream:?} {keep_names}");
+    same_at(rt, refused, Some(fault), &(stream, keep_names));
 }
 
 #[test]
@@ -227,8 +228,8 @@ fn leaves_other_streams_at_the_front(rt: HostRuntime) -> std::result::Result<(),
     for (stream, fault, offset) in faults() {
         let mut bytes = stream.to_vec(rt.alloc())?;
         let answer = take_to_front(bytes.as_mut_slice(), true);
-        assert_eq!(rt; answer, Err(Error::new(*fault, *offset)), "{stream:?}");
-        assert_eq!(rt; bytes.as_slice(), *stream, "{stream:?}");
+        same_at(&rt, answer, Err(Error::new(*fault, *offset)), &stream);
+        same_at(&rt, bytes.as_slice(), *stream, &stream);
     }
     Ok(())
 }
@@ -238,8 +239,8 @@ fn leaves_other_streams_in_place(rt: HostRuntime) -> std::result::Result<(), Fai
     for (stream, fault, offset) in faults() {
         let mut bytes = stream.to_vec(rt.alloc())?;
         let answer = take_out(&mut bytes, false);
-        assert_eq!(rt; answer, Err(Error::new(*fault, *offset)), "{stream:?}");
-        assert_eq!(rt; bytes.as_slice(), *stream, "{stream:?}");
+        same_at(&rt, answer, Err(Error::new(*fault, *offset)), &stream);
+        same_at(&rt, bytes.as_slice(), *stream, &stream);
     }
     Ok(())
 }
