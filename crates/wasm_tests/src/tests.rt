@@ -9,8 +9,10 @@ mod parser;
 use std::alloc::Global;
 use std::fmt::Debug;
 use std::process::Abort;
-use std::test::Fail;
 use wasm_base::{BinaryReader, FromReader, FromReaderIn, fits};
+
+// Tests compare by calls of this function: an `assert_eq!` takes four times as long to prove, and a `?` twice as long as an
+// `expect` in a function that the test calls.
 
 // That a value is the one that is wanted.
 fn same<T: PartialEq + Debug + Drop>(rt: &impl Abort, found: T, wanted: T) {
@@ -25,10 +27,9 @@ fn window(bytes: &[u8], offset: u64) -> BinaryReader<'_>
 }
 
 // The debug text of a value is this one.
-fn is_printed<T: Debug>(rt: &impl Abort, alloc: Global, value: &T, text: &str) -> Result<(), Fail> {
-    let found = format!(in alloc; "{value:?}")?;
+fn is_printed<T: Debug>(rt: &impl Abort, alloc: Global, value: &T, text: &str) {
+    let found = format!(in alloc; "{value:?}").expect(rt, "out of memory");
     same(rt, found.as_str(), text);
-    Ok(())
 }
 
 // These bytes begin with an item whose copy is printed as this text, and which ends at the offset `end`.
@@ -39,12 +40,12 @@ fn prints<'a, T: FromReader<'a> + Clone + Debug>(
     offset: u64,
     end: u64,
     text: &str,
-) -> Result<(), Fail> {
+) {
     assert!(rt; fits(offset, bytes.len()));
     let mut reader = BinaryReader::new(bytes, offset);
-    let item = T::from_reader(&mut reader)?;
+    let item = T::from_reader(&mut reader).expect(rt, "a fault");
     same(rt, reader.original_position(), end);
-    is_printed(rt, alloc, &item.clone()?, text)
+    is_printed(rt, alloc, &item.clone().expect(rt, "out of memory"), text);
 }
 
 // The same of an item that owns lists.
@@ -55,12 +56,12 @@ fn prints_in<'a, T: FromReaderIn<'a> + Debug>(
     offset: u64,
     end: u64,
     text: &str,
-) -> Result<(), Fail> {
+) {
     assert!(rt; fits(offset, bytes.len()));
     let mut reader = BinaryReader::new(bytes, offset);
-    let item = T::from_reader(alloc, &mut reader)?;
+    let item = T::from_reader(alloc, &mut reader).expect(rt, "a fault");
     same(rt, reader.original_position(), end);
-    is_printed(rt, alloc, &item, text)
+    is_printed(rt, alloc, &item, text);
 }
 
 // What an iterator returns when it is polled.
@@ -71,21 +72,16 @@ fn polled<I: Iterator>(items: &mut I) -> Option<I::Item>
 }
 
 // An iterator gives items that are printed as these texts, and then nothing, however often it is polled.
-fn gives<I: Iterator>(
-    rt: &impl Abort,
-    alloc: Global,
-    mut items: I,
-    texts: &[&str],
-) -> Result<(), Fail>
+fn gives<I: Iterator>(rt: &impl Abort, alloc: Global, mut items: I, texts: &[&str])
 where
     I::Item: Debug + Drop,
     requires { (items : I) → I.can_next items }
 {
     for text in texts {
-        is_printed(rt, alloc, &polled(&mut items).ok_or("nothing")?, text)?;
+        let item = polled(&mut items).expect(rt, "nothing");
+        is_printed(rt, alloc, &item, text);
     }
     for _ in 0..4 {
         assert!(rt; polled(&mut items).is_none());
     }
-    Ok(())
 }

@@ -14,19 +14,20 @@ fn hints_of_functions(rt: HostRuntime) -> Result<(), Fail> {
     let texts = [
         "Ok(BranchHintFunction { func: 0, hints: SectionLimited { count: 1, range: 2..6 } })",
     ];
-    gives(&rt, rt.alloc(), section.into_iter(), &texts)?;
+    gives(&rt, rt.alloc(), section.into_iter(), &texts);
 
     // A function at another offset, with numbers of several bytes, and bytes after it.
     let bytes = b"\x81\x01\x82\x00\x80\x01\x01\x00\xff\x00\x01\x01\x07";
     let text =
         "BranchHintFunction { func: 129, hints: SectionLimited { count: 2, range: 5002..5012 } }";
-    prints::<BranchHintFunction<'_>>(&rt, rt.alloc(), bytes, 5000, 5012, text)?;
+    prints::<BranchHintFunction<'_>>(&rt, rt.alloc(), bytes, 5000, 5012, text);
     let hints = BranchHintFunction::from_reader(&mut window(bytes, 5000))?.hints;
     let texts = [
         "Ok((5004, BranchHint { func_offset: 128, taken: false }))",
         "Ok((5008, BranchHint { func_offset: 127, taken: true }))",
     ];
-    gives(&rt, rt.alloc(), hints.into_iter_with_offsets(), &texts)
+    gives(&rt, rt.alloc(), hints.into_iter_with_offsets(), &texts);
+    Ok(())
 }
 
 #[test]
@@ -40,8 +41,9 @@ fn a_section_with_a_malformed_hint(rt: HostRuntime) -> Result<(), Fail> {
         rt.alloc(),
         section.clone()?.into_iter_with_offsets(),
         &texts,
-    )?;
-    gives(&rt, rt.alloc(), section.into_iter(), &texts)
+    );
+    gives(&rt, rt.alloc(), section.into_iter(), &texts);
+    Ok(())
 }
 
 #[test]
@@ -51,7 +53,7 @@ fn fields_of_producers(rt: HostRuntime) -> Result<(), Fail> {
     let texts = [
         "Ok(ProducersField { name: \"language\", values: SectionLimited { count: 2, range: 10..23 } })",
     ];
-    gives(&rt, rt.alloc(), section.into_iter(), &texts)?;
+    gives(&rt, rt.alloc(), section.into_iter(), &texts);
     let field = ProducersField::from_reader(&mut window(&bytes[1..], 1))?;
     let texts = [
         "Ok((11, ProducersFieldValue { name: \"wat\", version: \"1\" }))",
@@ -62,25 +64,27 @@ fn fields_of_producers(rt: HostRuntime) -> Result<(), Fail> {
         rt.alloc(),
         field.values.into_iter_with_offsets(),
         &texts,
-    )?;
+    );
     let text = "ProducersFieldValue { name: \"C\", version: \"9.0\" }";
-    prints::<ProducersFieldValue<'_>>(&rt, rt.alloc(), b"\x01C\x039.0", 0, 6, text)?;
+    prints::<ProducersFieldValue<'_>>(&rt, rt.alloc(), b"\x01C\x039.0", 0, 6, text);
 
     // Values are skipped whether or not they are UTF-8, which is checked when they are read.
     let bytes = b"\x83\x00sdk\x81\x00\x02\xc3\x28\x00\x0b";
     let text =
         "ProducersField { name: \"sdk\", values: SectionLimited { count: 1, range: 905..911 } }";
-    prints::<ProducersField<'_>>(&rt, rt.alloc(), bytes, 900, 911, text)?;
+    prints::<ProducersField<'_>>(&rt, rt.alloc(), bytes, 900, 911, text);
     let field = ProducersField::from_reader(&mut window(bytes, 900))?;
     let texts = ["Err(Error { fault: MalformedUtf8, offset: 909, number: None, hint: None })"];
-    gives(&rt, rt.alloc(), field.values.into_iter(), &texts)
+    gives(&rt, rt.alloc(), field.values.into_iter(), &texts);
+    Ok(())
 }
 
 #[test]
 fn a_section_with_an_unknown_field(rt: HostRuntime) -> Result<(), Fail> {
     let section = ProducersSectionReader::new(window(b"\x01\x01x\x00", 0))?;
     let texts = ["Err(Error { fault: ProducersField, offset: 1, number: None, hint: None })"];
-    gives(&rt, rt.alloc(), section.into_iter(), &texts)
+    gives(&rt, rt.alloc(), section.into_iter(), &texts);
+    Ok(())
 }
 
 // The first of the two texts of a value is skipped with the limit of names.
@@ -91,7 +95,7 @@ fn a_field_with_a_long_text(rt: HostRuntime) {
 }
 
 #[test]
-fn values_of_a_core_dump(rt: HostRuntime) -> Result<(), Fail> {
+fn values_of_a_core_dump(rt: HostRuntime) {
     let rows: [(&[u8], &str, u64); 5] = [
         (b"\x01\x02", "Missing", 1),
         (b"\x7f\x80\x7f", "I32(-128)", 3),
@@ -104,9 +108,8 @@ fn values_of_a_core_dump(rt: HostRuntime) -> Result<(), Fail> {
         ),
     ];
     for (bytes, text, used) in rows {
-        prints::<CoreDumpValue>(&rt, rt.alloc(), bytes, 600, 600 + used, text)?;
+        prints::<CoreDumpValue>(&rt, rt.alloc(), bytes, 600, 600 + used, text);
     }
-    Ok(())
 }
 
 #[test]
@@ -116,26 +119,27 @@ fn sections_of_a_core_dump(rt: HostRuntime) -> Result<(), Fail> {
     let bytes = b"\x82\x00\x00\x04test\x00\x80\x00";
     let section = CoreDumpModulesSection::new(rt.alloc(), window(bytes, 9))?;
     let text = "CoreDumpModulesSection { modules: [\"test\", \"\"] }";
-    is_printed(&rt, rt.alloc(), &section, text)?;
+    is_printed(&rt, rt.alloc(), &section, text);
     let bytes = b"\x01\x00\x02\x01\x00\x01\x03";
     let section = CoreDumpInstancesSection::new(rt.alloc(), window(bytes, 0))?;
     let text = "[CoreDumpInstance { module_index: 2, memories: [0], globals: [3] }]";
-    is_printed(&rt, rt.alloc(), &section.instances, text)?;
+    is_printed(&rt, rt.alloc(), &section.instances, text);
     let bytes = b"\x00\x04main\x01\x00\x04\x2a\x33\x01\x7f\x01\x01\x7f\x02";
     let section = CoreDumpStackSection::new(rt.alloc(), window(bytes, 0))?;
     same(&rt, section.name, "main");
     let text =
         "[CoreDumpStackFrame { instanceidx: 4, funcidx: 42, codeoffset: 51, locals: [I32(1)], stack: [I32(2)] }]";
-    is_printed(&rt, rt.alloc(), &section.frames, text)
+    is_printed(&rt, rt.alloc(), &section.frames, text);
+    Ok(())
 }
 
 #[test]
-fn instances_and_frames_of_a_core_dump(rt: HostRuntime) -> Result<(), Fail> {
+fn instances_and_frames_of_a_core_dump(rt: HostRuntime) {
     let bytes = b"\x00\x80\x01\x00\x82\x00\x05\x86\x00\x07";
     let text = "CoreDumpInstance { module_index: 128, memories: [], globals: [5, 6] }";
-    prints_in::<CoreDumpInstance>(&rt, rt.alloc(), bytes, 50, 59, text)?;
+    prints_in::<CoreDumpInstance>(&rt, rt.alloc(), bytes, 50, 59, text);
     let bytes = b"\x00\x81\x00\x02\x03\x02\x01\x7e\x7f\x01\x7f\x02\x0b";
     let text =
         "CoreDumpStackFrame { instanceidx: 1, funcidx: 2, codeoffset: 3, locals: [Missing, I64(-1)], stack: [I32(2)] }";
-    prints_in::<CoreDumpStackFrame>(&rt, rt.alloc(), bytes, 50, 62, text)
+    prints_in::<CoreDumpStackFrame>(&rt, rt.alloc(), bytes, 50, 62, text);
 }

@@ -1,28 +1,19 @@
 // Payloads as debug text.
 use super::HEADER;
-use crate::tests::same;
+use crate::tests::is_printed;
 use std::alloc::Global;
 use std::process::Abort;
-use std::test::Fail;
 use wasm_parser::Parser;
 
-// What the parser answers on these bytes is printed so, after its first words.
-fn is_printed(
-    rt: &impl Abort,
-    alloc: Global,
-    parser: &mut Parser,
-    bytes: &[u8],
-    text: &str,
-) -> Result<(), Fail> {
-    let chunk = parser.parse(bytes, true)?;
-    let debug = format!(in alloc; "{chunk:?}")?;
-    let wanted = format!(in alloc; "Parsed {{ consumed: {text}")?;
-    same(&rt, debug.as_str(), wanted.as_str());
-    Ok(())
+// What the parser returns for these bytes is printed so, after its first words.
+fn is_parsed(rt: &impl Abort, alloc: Global, parser: &mut Parser, bytes: &[u8], text: &str) {
+    let chunk = parser.parse(bytes, true).expect(rt, "a fault");
+    let wanted = format!(in alloc; "Parsed {{ consumed: {text}").expect(rt, "out of memory");
+    is_printed(rt, alloc, &chunk, wanted.as_str());
 }
 
 #[test]
-fn payloads_as_debug_text(rt: HostRuntime) -> Result<(), Fail> {
+fn payloads_as_debug_text(rt: HostRuntime) {
     let mut parser = Parser::new(0);
     let rows: [(&[u8], &str); 18] = [
         (
@@ -63,13 +54,12 @@ fn payloads_as_debug_text(rt: HostRuntime) -> Result<(), Fail> {
         (b"", "0, payload: End(57) }"),
     ];
     for (bytes, text) in rows {
-        is_printed(&rt, rt.alloc(), &mut parser, bytes, text)?;
+        is_parsed(&rt, rt.alloc(), &mut parser, bytes, text);
     }
-    Ok(())
 }
 
 #[test]
-fn large_numbers_as_debug_text(rt: HostRuntime) -> Result<(), Fail> {
+fn large_numbers_as_debug_text(rt: HostRuntime) {
     let mut parser = Parser::new(1000);
     let rows: [(&[u8], &str); 6] = [
         (
@@ -95,13 +85,12 @@ fn large_numbers_as_debug_text(rt: HostRuntime) -> Result<(), Fail> {
         (b"\x02\0\x0b", "3, payload: CodeSectionEntry(\"...\") }"),
     ];
     for (bytes, text) in rows {
-        is_printed(&rt, rt.alloc(), &mut parser, bytes, text)?;
+        is_parsed(&rt, rt.alloc(), &mut parser, bytes, text);
     }
-    Ok(())
 }
 
 #[test]
-fn a_components_payloads_as_debug_text(rt: HostRuntime) -> Result<(), Fail> {
+fn a_components_payloads_as_debug_text(rt: HostRuntime) {
     let mut parser = Parser::new(1000);
     let rows: [(&[u8], &str); 4] = [
         (
@@ -119,7 +108,6 @@ fn a_components_payloads_as_debug_text(rt: HostRuntime) -> Result<(), Fail> {
         (b"", "0, payload: End(1020) }"),
     ];
     for (bytes, text) in rows {
-        is_printed(&rt, rt.alloc(), &mut parser, bytes, text)?;
+        is_parsed(&rt, rt.alloc(), &mut parser, bytes, text);
     }
-    Ok(())
 }
