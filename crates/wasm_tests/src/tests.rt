@@ -26,6 +26,11 @@ fn window(bytes: &[u8], offset: u64) -> BinaryReader<'_>
     BinaryReader::new(bytes, offset)
 }
 
+// The same in a turn of a loop, which a failure names.
+fn same_at<T: PartialEq + Debug + Drop>(rt: &impl Abort, found: T, wanted: T, at: &impl Debug) {
+    assert!(rt; found == wanted, "{found:?}, and not {wanted:?}, at {at:?}");
+}
+
 // The debug text of a value is this one.
 fn is_printed<T: Debug>(rt: &impl Abort, alloc: Global, value: &T, text: &str) {
     let found = format!(in alloc; "{value:?}").expect(rt, "out of memory");

@@ -24,7 +24,7 @@ pub(super) enum Told {
     Refuses(Error),
 }
 
-fn told(step: &Step<'_>) -> Told {
+fn told_by(step: &Step<'_>) -> Told {
     match step {
         Step::NeedMoreData(hint) => Told::Asks(*hint),
         Step::Parsed {
@@ -37,7 +37,7 @@ fn told(step: &Step<'_>) -> Told {
 
 pub(super) fn say(step: Result<Step<'_>>) -> Told {
     match step {
-        Ok(step) => told(&step),
+        Ok(step) => told_by(&step),
         Err(error) => Told::Refuses(error),
     }
 }

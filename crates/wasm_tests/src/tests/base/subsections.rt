@@ -57,9 +57,9 @@ fn subsections_one_after_the_other(rt: HostRuntime) -> std::result::Result<(), F
 #[test]
 fn how_many_come(rt: HostRuntime) {
     let short = over(rt.alloc(), &[5, 0xff], 70);
-    assert_eq!(rt; short.count(), 1);
+    same(&rt, short.count(), 1);
     let mut refused = over(rt.alloc(), &[0xff, 0xff, 0], 0);
     let id = Error::new(Fault::InvalidU7, 0);
     same(&rt, refused.next(), Some(Err(id)));
-    assert_eq!(rt; refused.count(), 2);
+    same(&rt, refused.count(), 2);
 }

@@ -127,12 +127,12 @@ fn bits_of_flags(rt: HostRuntime) {
         (SymbolFlags::ABSOLUTE, 512),
     ];
     for (flags, bits) in rows {
-        assert_eq!(rt; flags.bits(), bits);
+        same(&rt, flags.bits(), bits);
     }
-    assert_eq!(rt; SymbolFlags::all().bits(), 1015);
-    assert_eq!(rt; SegmentFlags::STRINGS.bits(), 1);
-    assert_eq!(rt; SegmentFlags::TLS.bits(), 2);
-    assert_eq!(rt; SegmentFlags::all().bits(), 3);
+    same(&rt, SymbolFlags::all().bits(), 1015);
+    same(&rt, SegmentFlags::STRINGS.bits(), 1);
+    same(&rt, SegmentFlags::TLS.bits(), 2);
+    same(&rt, SegmentFlags::all().bits(), 3);
 }
 
 #[test]
