@@ -76,6 +76,28 @@ fn polled<I: Iterator>(items: &mut I) -> Option<I::Item>
     items.next()
 }
 
+// An iterator says that it gives at most so many items, and then gives this one.
+fn is_next<I: Iterator>(rt: &impl Abort, items: &mut I, most: usize, wanted: Option<I::Item>)
+where
+    I::Item: PartialEq + Debug + Drop,
+    requires { (items : I) → I.can_next items }
+{
+    same(rt, items.size_hint(), (0, Some(most)));
+    same(rt, polled(items), wanted);
+}
+
+// An iterator gives nothing, however often it is polled, and says so.
+fn is_over<I: Iterator>(rt: &impl Abort, items: &mut I)
+where
+    I::Item: PartialEq + Debug + Drop,
+    requires { (items : I) → I.can_next items }
+{
+    for _ in 0..4 {
+        is_next(rt, items, 0, None);
+    }
+    same(rt, items.size_hint(), (0, Some(0)));
+}
+
 // An iterator gives items that are printed as these texts, and then nothing, however often it is polled.
 fn gives<I: Iterator>(rt: &impl Abort, alloc: Global, mut items: I, texts: &[&str])
 where
