@@ -1,4 +1,5 @@
 // Steps of a feeder, by callers of another crate.
+use super::feeding::{Told, say};
 use super::same;
 use bitflags::Flags;
 use std::alloc::Global;
@@ -26,27 +27,45 @@ fn total(numbers: SectionLimited<'_, u32>) -> Result<u64> {
     Ok(total)
 }
 
-#[test]
-fn payloads_are_read(rt: HostRuntime) -> std::result::Result<(), Fail> {
-    let mut feeder = fed(rt.alloc(), b"\0asm\x01\0\0\0\x03\x03\x02\x05\x07")?;
-    match feeder.step()? {
+// The number and the encoding of a header, if that is the next step.
+fn next_version(feeder: &mut Feeder) -> Option<(u16, Encoding)> {
+    version_of(&feeder.step().ok()?)
+}
+
+fn version_of(step: &Step<'_>) -> Option<(u16, Encoding)> {
+    match step {
         Step::Parsed {
             payload: Payload::Version { num, encoding, .. },
             ..
-        } => same(&rt, (num, encoding), (1, Encoding::Module)),
-        _other => assert!(rt; false),
+        } => Some((*num, *encoding)),
+        _other => None,
     }
-    match feeder.open().step()? {
+}
+
+// The sum of the types of a function section, if that is the next step.
+fn next_total(feeder: &mut Feeder) -> Option<u64> {
+    total_of(&feeder.open().step().ok()?)
+}
+
+fn total_of(step: &Step<'_>) -> Option<u64> {
+    match step {
         Step::Parsed {
             payload: Payload::FunctionSection(types),
             ..
-        } => same(&rt, total(types), Ok(12)),
-        _other => assert!(rt; false),
+        } => total(types.clone().ok()?).ok(),
+        _other => None,
     }
-    let fault = Error::new(Fault::FunctionWithoutCode, 13);
+}
+
+#[test]
+fn payloads_are_read(rt: HostRuntime) -> std::result::Result<(), Fail> {
+    let mut feeder = fed(rt.alloc(), b"\0asm\x01\0\0\0\x03\x03\x02\x05\x07")?;
+    same(&rt, next_version(&mut feeder), Some((1, Encoding::Module)));
+    same(&rt, next_total(&mut feeder), Some(12));
+    let fault = Told::Refuses(Error::new(Fault::FunctionWithoutCode, 13));
     for _ in 0..2 {
-        same(&rt, feeder.step().err(), Some(fault));
-        same(&rt, feeder.open().step().err(), Some(fault));
+        same(&rt, say(feeder.step()), fault);
+        same(&rt, say(feeder.open().step()), fault);
     }
     Ok(())
 }
