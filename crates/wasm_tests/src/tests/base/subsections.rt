@@ -1,7 +1,7 @@
 // Subsections: their ends, copies and texts.
 ghost use Rattle.std.specs.Prelude.{⊤, ◌+◌, ◌<◌, ◌^◌, length};
 
-use crate::tests::{same, window};
+use crate::tests::{is_printed, same, window};
 use std::alloc::Global;
 use std::test::Fail;
 use wasm_base::{
@@ -49,8 +49,7 @@ fn subsections_one_after_the_other(rt: HostRuntime) -> std::result::Result<(), F
     for _ in 0..4 {
         same(&rt, all.next(), None);
     }
-    let text = format!(in rt.alloc(); "{all:?}")?;
-    same(&rt, text.as_str(), "Subsections { range: 1000..1018 }");
+    is_printed(&rt, rt.alloc(), &all, "Subsections { range: 1000..1018 }");
     Ok(())
 }
 

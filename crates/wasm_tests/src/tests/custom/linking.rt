@@ -1,11 +1,12 @@
 // Symbols, comdats, subsections for linkers, and relocations by the calls that read them. Tables of rows are in `wasm_rows`.
 use crate::tests::{gives, is_printed, prints, same, window};
 use bitflags::Flags;
+use std::ops::Range;
 use std::test::Fail;
-use wasm_base::{Error, Fault, FromReader, Lead, Subsection};
+use wasm_base::{Error, Fault, FromReader, Lead, SectionLimited, Subsection};
 use wasm_custom::{
-    Comdat, Linking, LinkingSectionReader, RelocAddendKind, RelocSectionReader, RelocationEntry,
-    RelocationType, SegmentFlags, SymbolFlags, SymbolInfo,
+    Comdat, InitFunc, Linking, LinkingSectionReader, RelocAddendKind, RelocSectionReader, RelocationEntry,
+    RelocationType, Segment, SegmentFlags, SymbolFlags, SymbolInfo,
 };
 
 #[test]
@@ -72,8 +73,7 @@ fn comdats_and_their_symbols(rt: HostRuntime) -> Result<(), Fail> {
 fn sections_for_linkers(rt: HostRuntime) -> Result<(), Fail> {
     let bytes = b"\x02\x06\x03\x01\x05\x07";
     let section = LinkingSectionReader::new(rt.alloc(), window(bytes, 0))?;
-    same(&rt, section.version(), 2);
-    same(&rt, section.original_position(), 1);
+    same(&rt, (section.version(), section.original_position()), (2, 1));
     same(&rt, section.range(), 0..6);
     let texts = ["Ok(InitFuncs(SectionLimited { count: 1, range: 3..6 }))"];
     gives(&rt, rt.alloc(), section.subsections(), &texts);
@@ -95,19 +95,35 @@ fn subsections_for_linkers(rt: HostRuntime) -> Result<(), Fail> {
     Ok(())
 }
 
-// The items of the first subsection, which are those of its kind.
+// The segments of a subsection.
+fn segments<'a>(linking: Linking<'a>) -> Option<SectionLimited<'a, Segment<'a>>> {
+    match linking {
+        Linking::SegmentInfo(segments) => Some(segments),
+        _other => None,
+    }
+}
+
 #[test]
-fn segments_and_first_functions(rt: HostRuntime) -> Result<(), Fail> {
-    let segments = Linking::from_reader(rt.alloc(), 5, window(b"\x01\x01s\x03\x03", 0))?;
-    let Linking::SegmentInfo(segments) = segments else {
-        return Err("no segments".into());
-    };
+fn segments_of_a_subsection(rt: HostRuntime) -> Result<(), Fail> {
+    let linking = Linking::from_reader(rt.alloc(), 5, window(b"\x01\x01s\x03\x03", 0))?;
+    let segments = segments(linking).ok_or("no segments")?;
     let texts = ["Ok(Segment { name: \"s\", alignment: 3, flags: SegmentFlags(3) })"];
     gives(&rt, rt.alloc(), segments.into_iter(), &texts);
-    let functions = Linking::from_reader(rt.alloc(), 6, window(b"\x01\x05\x07", 0))?;
-    let Linking::InitFuncs(functions) = functions else {
-        return Err("no functions".into());
-    };
+    Ok(())
+}
+
+// The first functions of a subsection.
+fn functions<'a>(linking: Linking<'a>) -> Option<SectionLimited<'a, InitFunc>> {
+    match linking {
+        Linking::InitFuncs(functions) => Some(functions),
+        _other => None,
+    }
+}
+
+#[test]
+fn first_functions_of_a_subsection(rt: HostRuntime) -> Result<(), Fail> {
+    let linking = Linking::from_reader(rt.alloc(), 6, window(b"\x01\x05\x07", 0))?;
+    let functions = functions(linking).ok_or("no functions")?;
     let texts = ["Ok(InitFunc { priority: 5, symbol_index: 7 })"];
     gives(&rt, rt.alloc(), functions.into_iter(), &texts);
     Ok(())
@@ -130,9 +146,14 @@ fn bits_of_flags(rt: HostRuntime) {
         same(&rt, flags.bits(), bits);
     }
     same(&rt, SymbolFlags::all().bits(), 1015);
-    same(&rt, SegmentFlags::STRINGS.bits(), 1);
-    same(&rt, SegmentFlags::TLS.bits(), 2);
-    same(&rt, SegmentFlags::all().bits(), 3);
+    let rows = [
+        (SegmentFlags::STRINGS, 1),
+        (SegmentFlags::TLS, 2),
+        (SegmentFlags::all(), 3),
+    ];
+    for (flags, bits) in rows {
+        same(&rt, flags.bits(), bits);
+    }
 }
 
 #[test]
@@ -172,35 +193,33 @@ fn types_by_number(rt: HostRuntime) {
     }
 }
 
+// The section that relocations are of, the range of the relocations and the range of their entries.
+fn places(section: &RelocSectionReader<'_>) -> (u32, Range<u64>, Range<u64>) {
+    let entries = section.entries();
+    (section.section_index(), section.range(), entries.range())
+}
+
 #[test]
 fn a_section_of_relocations(rt: HostRuntime) -> Result<(), Fail> {
     let section = RelocSectionReader::new(window(b"\x03\x01\x03\x06\x00\x7f", 0))?;
-    same(&rt, section.section_index(), 3);
-    same(&rt, section.range(), 0..6);
-    same(&rt, section.entries().range(), 1..6);
+    same(&rt, places(&section), (3, 0..6, 1..6));
     let texts = ["Ok(RelocationEntry { ty: MemoryAddrLeb, offset: 6, index: 0, addend: -1 })"];
-    gives(
-        &rt,
-        rt.alloc(),
-        section.clone()?.entries().into_iter(),
-        &texts,
-    );
+    let entries = section.clone()?.entries().into_iter();
+    gives(&rt, rt.alloc(), entries, &texts);
+    Ok(())
+}
 
+#[test]
+fn relocations_with_offsets_and_a_byte_left(rt: HostRuntime) -> Result<(), Fail> {
     let bytes = b"\x85\x00\x81\x00\x05\x01\x02\x03\xff";
     let section = RelocSectionReader::new(window(bytes, 70000))?;
-    same(&rt, section.section_index(), 5);
-    same(&rt, section.range(), 70000..70009);
-    same(&rt, section.entries().range(), 70002..70009);
+    same(&rt, places(&section), (5, 70000..70009, 70002..70009));
     let texts = [
         "Ok((70004, RelocationEntry { ty: MemoryAddrI32, offset: 1, index: 2, addend: 3 }))",
         "Err(Error { fault: SizeMismatch, offset: 70008, number: None, hint: None })",
     ];
-    gives(
-        &rt,
-        rt.alloc(),
-        section.entries().into_iter_with_offsets(),
-        &texts,
-    );
+    let entries = section.entries().into_iter_with_offsets();
+    gives(&rt, rt.alloc(), entries, &texts);
     Ok(())
 }
 

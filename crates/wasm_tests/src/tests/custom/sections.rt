@@ -15,8 +15,12 @@ fn hints_of_functions(rt: HostRuntime) -> Result<(), Fail> {
         "Ok(BranchHintFunction { func: 0, hints: SectionLimited { count: 1, range: 2..6 } })",
     ];
     gives(&rt, rt.alloc(), section.into_iter(), &texts);
+    Ok(())
+}
 
-    // A function at another offset, with numbers of several bytes, and bytes after it.
+// A function at another offset, with numbers of several bytes, and bytes after it.
+#[test]
+fn hints_of_a_function(rt: HostRuntime) -> Result<(), Fail> {
     let bytes = b"\x81\x01\x82\x00\x80\x01\x01\x00\xff\x00\x01\x01\x07";
     let text =
         "BranchHintFunction { func: 129, hints: SectionLimited { count: 2, range: 5002..5012 } }";
@@ -54,7 +58,13 @@ fn fields_of_producers(rt: HostRuntime) -> Result<(), Fail> {
         "Ok(ProducersField { name: \"language\", values: SectionLimited { count: 2, range: 10..23 } })",
     ];
     gives(&rt, rt.alloc(), section.into_iter(), &texts);
-    let field = ProducersField::from_reader(&mut window(&bytes[1..], 1))?;
+    Ok(())
+}
+
+#[test]
+fn values_of_a_field(rt: HostRuntime) -> Result<(), Fail> {
+    let bytes = b"\x08language\x02\x03wat\x011\x01C\x039.0";
+    let field = ProducersField::from_reader(&mut window(bytes, 1))?;
     let texts = [
         "Ok((11, ProducersFieldValue { name: \"wat\", version: \"1\" }))",
         "Ok((17, ProducersFieldValue { name: \"C\", version: \"9.0\" }))",
@@ -67,8 +77,12 @@ fn fields_of_producers(rt: HostRuntime) -> Result<(), Fail> {
     );
     let text = "ProducersFieldValue { name: \"C\", version: \"9.0\" }";
     prints::<ProducersFieldValue<'_>>(&rt, rt.alloc(), b"\x01C\x039.0", 0, 6, text);
+    Ok(())
+}
 
-    // Values are skipped whether or not they are UTF-8, which is checked when they are read.
+// Values are skipped whether or not they are UTF-8, which is checked when they are read.
+#[test]
+fn a_field_whose_value_is_malformed(rt: HostRuntime) -> Result<(), Fail> {
     let bytes = b"\x83\x00sdk\x81\x00\x02\xc3\x28\x00\x0b";
     let text =
         "ProducersField { name: \"sdk\", values: SectionLimited { count: 1, range: 905..911 } }";
@@ -113,17 +127,32 @@ fn values_of_a_core_dump(rt: HostRuntime) {
 }
 
 #[test]
-fn sections_of_a_core_dump(rt: HostRuntime) -> Result<(), Fail> {
+fn the_program_of_a_core_dump(rt: HostRuntime) -> Result<(), Fail> {
     let section = CoreDumpSection::new(window(b"\x00\x09test.wasm", 0))?;
     same(&rt, section.name, "test.wasm");
+    Ok(())
+}
+
+#[test]
+fn modules_of_a_core_dump(rt: HostRuntime) -> Result<(), Fail> {
     let bytes = b"\x82\x00\x00\x04test\x00\x80\x00";
     let section = CoreDumpModulesSection::new(rt.alloc(), window(bytes, 9))?;
     let text = "CoreDumpModulesSection { modules: [\"test\", \"\"] }";
     is_printed(&rt, rt.alloc(), &section, text);
+    Ok(())
+}
+
+#[test]
+fn instances_of_a_core_dump(rt: HostRuntime) -> Result<(), Fail> {
     let bytes = b"\x01\x00\x02\x01\x00\x01\x03";
     let section = CoreDumpInstancesSection::new(rt.alloc(), window(bytes, 0))?;
     let text = "[CoreDumpInstance { module_index: 2, memories: [0], globals: [3] }]";
     is_printed(&rt, rt.alloc(), &section.instances, text);
+    Ok(())
+}
+
+#[test]
+fn the_stack_of_a_core_dump(rt: HostRuntime) -> Result<(), Fail> {
     let bytes = b"\x00\x04main\x01\x00\x04\x2a\x33\x01\x7f\x01\x01\x7f\x02";
     let section = CoreDumpStackSection::new(rt.alloc(), window(bytes, 0))?;
     same(&rt, section.name, "main");

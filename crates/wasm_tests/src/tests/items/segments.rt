@@ -1,34 +1,40 @@
 // Element and data segments by their fields. Tables of rows are in `wasm_rows`.
 use crate::tests::{gives, prints, same};
+use std::ops::Range;
 use std::test::Fail;
-use wasm_base::{BinaryReader, FromReader};
+use wasm_base::{BinaryReader, FromReader, SectionLimited};
 use wasm_items::{Data, Element, ElementItems, ElementKind, RefType};
+
+// The table of an active segment, and the range of its offset.
+fn active_of(kind: &ElementKind<'_>) -> Option<(Option<u32>, Range<u64>)> {
+    match kind {
+        ElementKind::Active {
+            table_index,
+            offset_expr,
+        } => Some((*table_index, offset_expr.range())),
+        _other => None,
+    }
+}
+
+// The functions of a segment.
+fn functions_of<'a>(items: ElementItems<'a>) -> Option<SectionLimited<'a, u32>> {
+    match items {
+        ElementItems::Functions(section) => Some(section),
+        _other => None,
+    }
+}
 
 #[test]
 fn an_active_element_segment_of_functions(rt: HostRuntime) -> Result<(), Fail> {
     let bytes = b"\x02\x81\x00\x42\x7f\x0b\x00\x02\x05\x80\x01\xff";
     let mut reader = BinaryReader::new(bytes, 100);
     let Element { kind, items, range } = Element::from_reader(&mut reader)?.clone()?;
-    same(&rt, reader.original_position(), 111);
-    same(&rt, range, 100..111);
-    let ElementKind::Active {
-        table_index,
-        offset_expr,
-    } = kind
-    else {
-        return Err("not active".into());
-    };
-    same(&rt, (table_index, offset_expr.range()), (Some(1), 103..106));
-    let ElementItems::Functions(section) = items else {
-        return Err("no functions".into());
-    };
+    same(&rt, (reader.original_position(), range), (111, 100..111));
+    same(&rt, active_of(&kind), Some((Some(1), 103..106)));
+    let section = functions_of(items).ok_or("no functions")?;
     same(&rt, section.range(), 107..111);
-    gives(
-        &rt,
-        rt.alloc(),
-        section.into_iter_with_offsets(),
-        &["Ok((108, 5))", "Ok((109, 128))"],
-    );
+    let texts = ["Ok((108, 5))", "Ok((109, 128))"];
+    gives(&rt, rt.alloc(), section.into_iter_with_offsets(), &texts);
     Ok(())
 }
 
