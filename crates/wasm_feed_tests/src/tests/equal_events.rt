@@ -55,11 +55,21 @@ fn hints_of_faults_do_not_count(rt: HostRuntime) {
         .read_bytes(5)
         .expect_err(&rt, "no fault");
     let fault = Error::new(Fault::UnexpectedEof, 300);
-    same(&rt, (missing.needed_hint(), fault.needed_hint()), (Some(5), None));
+    same(
+        &rt,
+        (missing.needed_hint(), fault.needed_hint()),
+        (Some(5), None),
+    );
     same(&rt, EventKind::Fault(missing), EventKind::Fault(fault));
 }
 
-fn event(rt: &impl Abort, alloc: Global, kind: EventKind, range: Range<u64>, bytes: &[u8]) -> Event {
+fn event(
+    rt: &impl Abort,
+    alloc: Global,
+    kind: EventKind,
+    range: Range<u64>,
+    bytes: &[u8],
+) -> Event {
     let bytes = bytes.to_vec(alloc).expect(rt, "out of memory");
     Event { kind, range, bytes }
 }

@@ -53,13 +53,7 @@ fn is(rt: &impl Abort, event: &Event, wanted: &Wanted<'_>) {
 }
 
 // The events of these pieces are these.
-fn are(
-    rt: &impl Abort,
-    alloc: Global,
-    start: u64,
-    pieces: &[&[u8]],
-    wanted: &[Wanted<'_>],
-) {
+fn are(rt: &impl Abort, alloc: Global, start: u64, pieces: &[&[u8]], wanted: &[Wanted<'_>]) {
     let events = events(rt, alloc, start, pieces);
     same(rt, events.len(), wanted.len());
     for (event, wanted) in events.iter().zip(wanted) {
@@ -68,13 +62,7 @@ fn are(
 }
 
 // The stream's events are these, wherever it is cut.
-fn gives(
-    rt: &impl Abort,
-    alloc: Global,
-    start: u64,
-    stream: &[u8],
-    wanted: &[Wanted<'_>],
-) {
+fn gives(rt: &impl Abort, alloc: Global, start: u64, stream: &[u8], wanted: &[Wanted<'_>]) {
     for (size, spaced) in [(1, false), (5, false), (30, false), (1, true), (7, true)] {
         let pieces = cut(alloc, stream, size, spaced).expect(rt, "out of memory");
         are(rt, alloc, start, &pieces, wanted);

@@ -53,12 +53,22 @@ fn suffices(
     let mut output = BoundedSink::new(alloc, 200).expect(rt, "out of memory");
     let answer = ends_in(&heap, &mut input, &mut output, piece);
     let place = (stream, blocks);
-    same_at(rt, (input.failed(), output.failed()), (false, false), &place);
+    same_at(
+        rt,
+        (input.failed(), output.failed()),
+        (false, false),
+        &place,
+    );
     if answer == Err(ListError::Memory) {
         assert!(rt; lines.starts_with(output.written()), "{place:?}");
         return false;
     }
-    same_at(rt, (answer.is_ok(), output.written()), (true, lines), &place);
+    same_at(
+        rt,
+        (answer.is_ok(), output.written()),
+        (true, lines),
+        &place,
+    );
     true
 }
 

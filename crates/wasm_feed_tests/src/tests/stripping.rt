@@ -177,12 +177,7 @@ fn strips_modules_in_place(rt: HostRuntime) {
 fn leaves_at_front(rt: &impl Abort, alloc: Global, stream: &[u8], keep_names: bool, wanted: &[u8]) {
     let mut bytes = stream.to_vec(alloc).expect(rt, "out of memory");
     let size = take_to_front(bytes.as_mut_slice(), keep_names).expect(rt, "a fault");
-    same_at(
-        rt,
-        bytes.get(..size),
-        Some(wanted),
-        &(stream, keep_names),
-    );
+    same_at(rt, bytes.get(..size), Some(wanted), &(stream, keep_names));
 }
 
 #[test]
@@ -197,9 +192,19 @@ fn strips_modules_to_the_front(rt: HostRuntime) {
 fn is_left(rt: &impl Abort, alloc: Global, stream: &[u8], fault: Error) {
     let mut bytes = stream.to_vec(alloc).expect(rt, "out of memory");
     let answer = take_to_front(bytes.as_mut_slice(), true);
-    same_at(rt, (answer, bytes.as_slice()), (Err(fault), stream), &stream);
+    same_at(
+        rt,
+        (answer, bytes.as_slice()),
+        (Err(fault), stream),
+        &stream,
+    );
     let answer = take_out(&mut bytes, false);
-    same_at(rt, (answer, bytes.as_slice()), (Err(fault), stream), &stream);
+    same_at(
+        rt,
+        (answer, bytes.as_slice()),
+        (Err(fault), stream),
+        &stream,
+    );
 }
 
 #[test]

@@ -45,7 +45,5 @@ fn end(parser: &mut Parser) -> Option<u64> {
 
 // The next payload of a walk.
 fn next<'a>(rt: &impl Abort, walk: &mut ParseAll<'a>) -> Payload<'a> {
-    walk.next()
-        .expect(rt, "no payload")
-        .expect(rt, "a fault")
+    walk.next().expect(rt, "no payload").expect(rt, "a fault")
 }

@@ -107,11 +107,7 @@ fn places_in_a_window(rt: HostRuntime) -> Result<(), Fail> {
 
 #[test]
 fn the_window_that_a_closure_skips(rt: HostRuntime) -> Result<(), Fail> {
-    let mut bytes = BinaryReader::new_features(
-        b"\x01\x80\x01\x61\x62",
-        0,
-        WasmFeatures::MEMORY64,
-    );
+    let mut bytes = BinaryReader::new_features(b"\x01\x80\x01\x61\x62", 0, WasmFeatures::MEMORY64);
     bytes.read_u8()?;
     let window = bytes.skip(|inside| {
         inside.read_var_u32()?;

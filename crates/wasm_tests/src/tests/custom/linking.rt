@@ -5,8 +5,8 @@ use std::ops::Range;
 use std::test::Fail;
 use wasm_base::{Error, Fault, FromReader, Lead, SectionLimited, Subsection};
 use wasm_custom::{
-    Comdat, InitFunc, Linking, LinkingSectionReader, RelocAddendKind, RelocSectionReader, RelocationEntry,
-    RelocationType, Segment, SegmentFlags, SymbolFlags, SymbolInfo,
+    Comdat, InitFunc, Linking, LinkingSectionReader, RelocAddendKind, RelocSectionReader,
+    RelocationEntry, RelocationType, Segment, SegmentFlags, SymbolFlags, SymbolInfo,
 };
 
 #[test]
@@ -73,7 +73,11 @@ fn comdats_and_their_symbols(rt: HostRuntime) -> Result<(), Fail> {
 fn sections_for_linkers(rt: HostRuntime) -> Result<(), Fail> {
     let bytes = b"\x02\x06\x03\x01\x05\x07";
     let section = LinkingSectionReader::new(rt.alloc(), window(bytes, 0))?;
-    same(&rt, (section.version(), section.original_position()), (2, 1));
+    same(
+        &rt,
+        (section.version(), section.original_position()),
+        (2, 1),
+    );
     same(&rt, section.range(), 0..6);
     let texts = ["Ok(InitFuncs(SectionLimited { count: 1, range: 3..6 }))"];
     gives(&rt, rt.alloc(), section.subsections(), &texts);

@@ -4,15 +4,12 @@ use std::alloc::Global;
 use std::ops::Range;
 use std::process::Abort;
 use std::test::Fail;
-use wasm_base::{BinaryReader, Error, Fault, Subsection};
+use wasm_base::{BinaryReader, Error, Fault, Result, Subsection};
 use wasm_custom::{IndirectNameMap, Name, NameMap, NameSectionReader};
 
 // The next subsection.
 fn next<'a>(rt: &impl Abort, names: &mut NameSectionReader<'a>) -> Name<'a> {
-    names
-        .next()
-        .expect(rt, "nothing")
-        .expect(rt, "a fault")
+    names.next().expect(rt, "nothing").expect(rt, "a fault")
 }
 
 // The name of the module and its range.
@@ -54,7 +51,7 @@ fn is_over(names: &mut NameSectionReader<'_>) -> bool {
 }
 
 #[test]
-fn names_by_index(rt: HostRuntime) -> Result<(), Fail> {
+fn names_by_index(rt: HostRuntime) -> std::result::Result<(), Fail> {
     let bytes = b"\x04\x80\x01\x01a\x80\x01\x00\x81\x01\x00\x03\x00\x09";
     let texts = [
         "Ok(Naming { index: 128, name: \"a\" })",
@@ -74,7 +71,7 @@ fn names_by_index(rt: HostRuntime) -> Result<(), Fail> {
 }
 
 #[test]
-fn names_of_what_an_index_has(rt: HostRuntime) -> Result<(), Fail> {
+fn names_of_what_an_index_has(rt: HostRuntime) -> std::result::Result<(), Fail> {
     let mut names = IndirectNameMap::new(window(&[2, 1, 1, 0, 1, 0x61, 0, 0], 0))?;
     let first = names.next().ok_or("none")??;
     same(&rt, first.index, 1);
@@ -97,7 +94,11 @@ fn sections_of_names(rt: HostRuntime) {
     let order = Error::new(Fault::NameSectionOrder, 10);
     same(&rt, refusal(&mut names), Some(order));
     let unknown = next(&rt, &mut names);
-    same(&rt, unknown_of(&unknown), Some((14, b"".as_slice(), &(15..15))));
+    same(
+        &rt,
+        unknown_of(&unknown),
+        Some((14, b"".as_slice(), &(15..15))),
+    );
     for _ in 0..4 {
         assert!(rt; is_over(&mut names));
     }
@@ -112,17 +113,18 @@ fn range_of<'b>(name: &'b Name<'_>) -> Option<&'b Range<u64>> {
     }
 }
 
-// The subsection with this id that a reader is at has this range.
-fn is_at(rt: &impl Abort, alloc: Global, id: u8, reader: BinaryReader<'_>, range: &Range<u64>) {
-    let name = Name::from_reader(alloc, id, reader).expect(rt, "a fault");
-    same(rt, range_of(&name), Some(range));
+// The subsection with this id that a reader is at.
+fn subsection(alloc: Global, id: u8, reader: BinaryReader<'_>) -> Result<Name<'_>> {
+    Name::from_reader(alloc, id, reader)
 }
 
 #[test]
-fn subsections_that_were_begun(rt: HostRuntime) -> Result<(), Fail> {
+fn subsections_that_were_begun(rt: HostRuntime) -> std::result::Result<(), Fail> {
     let mut reader = window(b"\x09\x08\x81\0a", 500);
     reader.read_bytes(2)?;
-    is_at(&rt, rt.alloc(), 0, reader.clone()?, &(502..505));
-    is_at(&rt, rt.alloc(), 14, reader, &(502..505));
+    let module = subsection(rt.alloc(), 0, reader.clone()?)?;
+    same(&rt, range_of(&module), Some(&(502..505)));
+    let unknown = subsection(rt.alloc(), 14, reader)?;
+    same(&rt, range_of(&unknown), Some(&(502..505)));
     Ok(())
 }

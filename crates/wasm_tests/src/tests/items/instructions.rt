@@ -6,13 +6,7 @@ use wasm_base::{BinaryReader, fits};
 use wasm_items::ConstExpr;
 
 // The instructions of an expression of these bytes are printed as these texts.
-fn instructs(
-    rt: &impl Abort,
-    alloc: Global,
-    offset: u64,
-    bytes: &[u8],
-    texts: &[&str],
-) {
+fn instructs(rt: &impl Abort, alloc: Global, offset: u64, bytes: &[u8], texts: &[&str]) {
     assert!(rt; fits(offset, bytes.len()));
     let expression = ConstExpr::new(BinaryReader::new(bytes, offset));
     gives(rt, alloc, expression.instructions(), texts);
