@@ -99,7 +99,7 @@ fn is_listed(rt: &impl Abort, alloc: Global, stream: &[u8], lines: &[u8], piece:
 
 #[test]
 fn a_listing_whose_memory_runs_out(rt: HostRuntime) {
-    for (stream, lines) in LISTINGS {
+    for (stream, lines) in &LISTINGS {
         for piece in [3, 10, 18] {
             is_listed(&rt, rt.alloc(), stream, lines, piece);
             runs_out(&rt, rt.alloc(), stream, lines, piece);

@@ -11,52 +11,54 @@ use wasm_base::{
     max_wasm_memory32_pages, max_wasm_memory64_pages,
 };
 
+/// Limits, and the constants that have each.
+const LIMITS: [(usize, &[usize]); 11] = [
+    (
+        1000000,
+        &[
+            MAX_WASM_TYPES,
+            MAX_WASM_FUNCTIONS,
+            MAX_WASM_IMPORTS,
+            MAX_WASM_EXPORTS,
+            MAX_WASM_GLOBALS,
+            MAX_WASM_TAGS,
+        ],
+    ),
+    (
+        100000,
+        &[
+            MAX_WASM_ELEMENT_SEGMENTS,
+            MAX_WASM_DATA_SEGMENTS,
+            MAX_WASM_STRING_SIZE,
+            MAX_WASM_TABLES,
+        ],
+    ),
+    (7654321, &[MAX_WASM_FUNCTION_SIZE, MAX_WASM_BR_TABLE_SIZE]),
+    (10000000, &[_MAX_WASM_TABLE_SIZE, MAX_WASM_TABLE_ENTRIES]),
+    (
+        10000,
+        &[MAX_WASM_STRUCT_FIELDS, MAX_WASM_CATCHES, MAX_WASM_HANDLERS],
+    ),
+    (
+        1000,
+        &[
+            MAX_WASM_FUNCTION_PARAMS,
+            MAX_WASM_FUNCTION_RETURNS,
+            MAX_WASM_MODULES_AND_COMPONENTS,
+        ],
+    ),
+    (100, &[MAX_WASM_MEMORIES]),
+    (63, &[MAX_WASM_SUBTYPING_DEPTH]),
+    (10, &[MAX_WASM_SELECT_RESULT_SIZE]),
+    (5, &[MAX_WASM_SUPERTYPES]),
+    (50000, &[MAX_WASM_FUNCTION_LOCALS as usize]),
+];
+
 #[test]
 fn limits_of_modules(rt: HostRuntime) {
-    let rows: [(usize, &[usize]); 11] = [
-        (
-            1000000,
-            &[
-                MAX_WASM_TYPES,
-                MAX_WASM_FUNCTIONS,
-                MAX_WASM_IMPORTS,
-                MAX_WASM_EXPORTS,
-                MAX_WASM_GLOBALS,
-                MAX_WASM_TAGS,
-            ],
-        ),
-        (
-            100000,
-            &[
-                MAX_WASM_ELEMENT_SEGMENTS,
-                MAX_WASM_DATA_SEGMENTS,
-                MAX_WASM_STRING_SIZE,
-                MAX_WASM_TABLES,
-            ],
-        ),
-        (7654321, &[MAX_WASM_FUNCTION_SIZE, MAX_WASM_BR_TABLE_SIZE]),
-        (10000000, &[_MAX_WASM_TABLE_SIZE, MAX_WASM_TABLE_ENTRIES]),
-        (
-            10000,
-            &[MAX_WASM_STRUCT_FIELDS, MAX_WASM_CATCHES, MAX_WASM_HANDLERS],
-        ),
-        (
-            1000,
-            &[
-                MAX_WASM_FUNCTION_PARAMS,
-                MAX_WASM_FUNCTION_RETURNS,
-                MAX_WASM_MODULES_AND_COMPONENTS,
-            ],
-        ),
-        (100, &[MAX_WASM_MEMORIES]),
-        (63, &[MAX_WASM_SUBTYPING_DEPTH]),
-        (10, &[MAX_WASM_SELECT_RESULT_SIZE]),
-        (5, &[MAX_WASM_SUPERTYPES]),
-        (50000, &[MAX_WASM_FUNCTION_LOCALS as usize]),
-    ];
-    for (limit, constants) in rows {
-        for constant in constants {
-            same(&rt, *constant, limit);
+    for (limit, constants) in &LIMITS {
+        for constant in *constants {
+            same(&rt, *constant, *limit);
         }
     }
     same(&rt, MAX_WASM_TYPE_SIZE, 1000000);

@@ -9,47 +9,49 @@ use wasm_custom::{
     RelocationEntry, RelocationType, Segment, SegmentFlags, SymbolFlags, SymbolInfo,
 };
 
+/// Symbols, and their debug texts.
+const SYMBOLS: [(&[u8], &str); 9] = [
+    (
+        b"\x00\x10\x03",
+        "Func { flags: SymbolFlags(16), index: 3, name: None }",
+    ),
+    (
+        b"\x00\x50\x03\x01f",
+        "Func { flags: SymbolFlags(80), index: 3, name: Some(\"f\") }",
+    ),
+    (
+        b"\x02\x00\x80\x01\x00",
+        "Global { flags: SymbolFlags(0), index: 128, name: Some(\"\") }",
+    ),
+    (
+        b"\x04\x90\x80\x00\x07",
+        "Event { flags: SymbolFlags(16), index: 7, name: None }",
+    ),
+    (
+        b"\x05\xff\xff\xff\xff\x0f\x00\x01t",
+        "Table { flags: SymbolFlags(4294967295), index: 0, name: Some(\"t\") }",
+    ),
+    (
+        b"\x01\x50\x01\x64",
+        "Data { flags: SymbolFlags(80), name: \"d\", symbol: None }",
+    ),
+    (
+        b"\x01\x30\x01d",
+        "Data { flags: SymbolFlags(48), name: \"d\", symbol: None }",
+    ),
+    (
+        b"\x01\x00\x01d\x02\x00\x04",
+        "Data { flags: SymbolFlags(0), name: \"d\", symbol: Some(DefinedDataSymbol { index: 2, offset: 0, size: 4 }) }",
+    ),
+    (
+        b"\x03\x80\x20\x05",
+        "Section { flags: SymbolFlags(4096), section: 5 }",
+    ),
+];
+
 #[test]
 fn symbols(rt: HostRuntime) {
-    let rows: [(&[u8], &str); 9] = [
-        (
-            b"\x00\x10\x03",
-            "Func { flags: SymbolFlags(16), index: 3, name: None }",
-        ),
-        (
-            b"\x00\x50\x03\x01f",
-            "Func { flags: SymbolFlags(80), index: 3, name: Some(\"f\") }",
-        ),
-        (
-            b"\x02\x00\x80\x01\x00",
-            "Global { flags: SymbolFlags(0), index: 128, name: Some(\"\") }",
-        ),
-        (
-            b"\x04\x90\x80\x00\x07",
-            "Event { flags: SymbolFlags(16), index: 7, name: None }",
-        ),
-        (
-            b"\x05\xff\xff\xff\xff\x0f\x00\x01t",
-            "Table { flags: SymbolFlags(4294967295), index: 0, name: Some(\"t\") }",
-        ),
-        (
-            b"\x01\x50\x01\x64",
-            "Data { flags: SymbolFlags(80), name: \"d\", symbol: None }",
-        ),
-        (
-            b"\x01\x30\x01d",
-            "Data { flags: SymbolFlags(48), name: \"d\", symbol: None }",
-        ),
-        (
-            b"\x01\x00\x01d\x02\x00\x04",
-            "Data { flags: SymbolFlags(0), name: \"d\", symbol: Some(DefinedDataSymbol { index: 2, offset: 0, size: 4 }) }",
-        ),
-        (
-            b"\x03\x80\x20\x05",
-            "Section { flags: SymbolFlags(4096), section: 5 }",
-        ),
-    ];
-    for (bytes, text) in rows {
+    for (bytes, text) in &SYMBOLS {
         prints::<SymbolInfo<'_>>(&rt, rt.alloc(), bytes, 0, bytes.len() as u64, text);
     }
 }

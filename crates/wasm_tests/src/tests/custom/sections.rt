@@ -108,20 +108,22 @@ fn a_field_with_a_long_text(rt: HostRuntime) {
     same(&rt, field.err(), Some(Error::new(Fault::StringSize, 7)));
 }
 
+/// Values of a core dump, their debug texts and their sizes.
+const VALUES: [(&[u8], &str, u64); 5] = [
+    (b"\x01\x02", "Missing", 1),
+    (b"\x7f\x80\x7f", "I32(-128)", 3),
+    (b"\x7e\xff\xff\xff\xff\x77", "I64(-2147483649)", 6),
+    (b"\x7d\x01\x02\x03\x84", "F32(Ieee32(2214789633))", 5),
+    (
+        b"\x7c\x01\x00\x00\x00\x02\x00\x00\x40\xff",
+        "F64(Ieee64(4611686027017322497))",
+        9,
+    ),
+];
+
 #[test]
 fn values_of_a_core_dump(rt: HostRuntime) {
-    let rows: [(&[u8], &str, u64); 5] = [
-        (b"\x01\x02", "Missing", 1),
-        (b"\x7f\x80\x7f", "I32(-128)", 3),
-        (b"\x7e\xff\xff\xff\xff\x77", "I64(-2147483649)", 6),
-        (b"\x7d\x01\x02\x03\x84", "F32(Ieee32(2214789633))", 5),
-        (
-            b"\x7c\x01\x00\x00\x00\x02\x00\x00\x40\xff",
-            "F64(Ieee64(4611686027017322497))",
-            9,
-        ),
-    ];
-    for (bytes, text, used) in rows {
+    for (bytes, text, used) in &VALUES {
         prints::<CoreDumpValue>(&rt, rt.alloc(), bytes, 600, 600 + used, text);
     }
 }

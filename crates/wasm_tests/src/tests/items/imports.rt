@@ -72,9 +72,10 @@ fn flattens(
     gives(rt, alloc, section.into_imports(), texts[1]);
 }
 
+const COMPACT: WasmFeatures = WasmFeatures::COMPACT_IMPORTS;
+
 #[test]
 fn imports_of_a_section(rt: HostRuntime) {
-    let compact = WasmFeatures::COMPACT_IMPORTS;
     let trailing = "Err(Error { fault: SizeMismatch, offset: 122, number: None, hint: None })";
     let with = [
         "Ok((108, Import { module: \"m\", name: \"a\", ty: Func(3) }))",
@@ -87,8 +88,12 @@ fn imports_of_a_section(rt: HostRuntime) {
         trailing,
     ];
     let bytes = b"\x82\x00\x01m\x00\x7f\x81\x00\x81\x00a\x00\x83\x00\x01n\x01x\x04\x00\x81\x00\xff";
-    flattens(&rt, rt.alloc(), bytes, 100, compact, [&with, &without]);
-    // A fault in a bundle ends the bundle, and imports after it still come.
+    flattens(&rt, rt.alloc(), bytes, 100, COMPACT, [&with, &without]);
+}
+
+// A fault in a bundle ends the bundle, and imports after it still come.
+#[test]
+fn imports_after_a_malformed_bundle(rt: HostRuntime) {
     let (first, second) = (
         "Err(Error { fault: MalformedUtf8, offset: 16, number: None, hint: None })",
         "Err(Error { fault: MalformedUtf8, offset: 30, number: None, hint: None })",
@@ -107,7 +112,11 @@ fn imports_of_a_section(rt: HostRuntime) {
     ];
     let bytes =
         b"\x03\x01m\x00\x7e\x00\x05\x02\x01\xff\x01b\x01m\x00\x7f\x02\x01a\x00\x01\x02\xc3\x28\x00\x02\x01n\x01x\x00\x03";
-    flattens(&rt, rt.alloc(), bytes, 7, compact, [&with, &without]);
+    flattens(&rt, rt.alloc(), bytes, 7, COMPACT, [&with, &without]);
+}
+
+#[test]
+fn bundles_of_a_section_want_their_feature(rt: HostRuntime) {
     let lacking = ["Err(Error { fault: Compact7F, offset: 4, number: None, hint: None })"];
     let bytes = b"\x01\x01m\x00\x7f\x02\x01a\x00\x03\x01b\x00\x04";
     flattens(

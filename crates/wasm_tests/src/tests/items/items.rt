@@ -5,6 +5,21 @@ use wasm_items::{
     ValType,
 };
 
+/// Types of values, the offsets after them and their debug texts.
+const TYPES: [(&[u8], u64, &str); 7] = [
+    (b"\x7f", 10, "I32"),
+    (b"\x7e", 10, "I64"),
+    (b"\x7d", 10, "F32"),
+    (b"\x7c", 10, "F64"),
+    (b"\x7b\x7b", 10, "V128"),
+    (b"\x63\x6d", 11, "Ref(RefType { nullable: true, heap: Eq })"),
+    (
+        b"\x64\x80\x01",
+        12,
+        "Ref(RefType { nullable: false, heap: Concrete(128) })",
+    ),
+];
+
 #[test]
 fn types_of_values(rt: HostRuntime) {
     prints::<HeapType>(&rt, rt.alloc(), b"\x6f\x70", 3, 4, "Extern");
@@ -13,21 +28,8 @@ fn types_of_values(rt: HostRuntime) {
     prints::<RefType>(&rt, rt.alloc(), b"\x74", 0, 1, text);
     let text = "RefType { nullable: false, heap: Concrete(128) }";
     prints::<RefType>(&rt, rt.alloc(), b"\x64\x80\x01", 0, 3, text);
-    let rows: [(&[u8], u64, &str); 7] = [
-        (b"\x7f", 10, "I32"),
-        (b"\x7e", 10, "I64"),
-        (b"\x7d", 10, "F32"),
-        (b"\x7c", 10, "F64"),
-        (b"\x7b\x7b", 10, "V128"),
-        (b"\x63\x6d", 11, "Ref(RefType { nullable: true, heap: Eq })"),
-        (
-            b"\x64\x80\x01",
-            12,
-            "Ref(RefType { nullable: false, heap: Concrete(128) })",
-        ),
-    ];
-    for (bytes, end, text) in rows {
-        prints::<ValType>(&rt, rt.alloc(), bytes, 9, end, text);
+    for (bytes, end, text) in &TYPES {
+        prints::<ValType>(&rt, rt.alloc(), bytes, 9, *end, text);
     }
 }
 

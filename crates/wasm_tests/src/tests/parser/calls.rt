@@ -49,35 +49,39 @@ fn the_end_again_and_again(rt: HostRuntime) {
     }
 }
 
+/// Sections that are begun, and how many bytes are asked for.
+const BEGUN: [(&[u8], usize); 5] = [
+    (b"", 1),
+    (b"\0as", 1),
+    (b"\x01\x85\0\0\0", 3),
+    (b"\x08\x02", 2),
+    (b"\x0a\0", 1),
+];
+
 #[test]
 fn requests_change_nothing(rt: HostRuntime) {
     let mut parser = after_header(&rt, 0);
-    let rows: [(&[u8], usize); 5] = [
-        (b"", 1),
-        (b"\0as", 1),
-        (b"\x01\x85\0\0\0", 3),
-        (b"\x08\x02", 2),
-        (b"\x0a\0", 1),
-    ];
-    for (bytes, hint) in rows {
-        same(&rt, told(&mut parser, bytes, false), Answer::Asks(hint));
+    for (bytes, hint) in &BEGUN {
+        same(&rt, told(&mut parser, bytes, false), Answer::Asks(*hint));
         same(&rt, parser.offset(), 8);
     }
 }
 
+/// Sections that are refused after a header, their faults and the offsets of these.
+const REFUSED: [(&[u8], Fault, u64); 6] = [
+    (b"\0\x01\x01", Fault::UnexpectedEof, 11),
+    (b"\0asm", Fault::MagicAtSection, 8),
+    (b"\x80", Fault::MalformedSectionId, 8),
+    (b"\x08\0", Fault::UnexpectedEof, 10),
+    (b"\x0c\x02\0\0", Fault::DataCountContent, 11),
+    (b"\x03\x02\0", Fault::UnexpectedEof, 10),
+];
+
 #[test]
 fn faults_change_nothing(rt: HostRuntime) {
     let mut parser = after_header(&rt, 0);
-    let rows: [(&[u8], Fault, u64); 6] = [
-        (b"\0\x01\x01", Fault::UnexpectedEof, 11),
-        (b"\0asm", Fault::MagicAtSection, 8),
-        (b"\x80", Fault::MalformedSectionId, 8),
-        (b"\x08\0", Fault::UnexpectedEof, 10),
-        (b"\x0c\x02\0\0", Fault::DataCountContent, 11),
-        (b"\x03\x02\0", Fault::UnexpectedEof, 10),
-    ];
-    for (bytes, fault, offset) in rows {
-        let wanted = Some(Error::new(fault, offset));
+    for (bytes, fault, offset) in &REFUSED {
+        let wanted = Some(Error::new(*fault, *offset));
         same(&rt, refusal(&mut parser, bytes), wanted);
         same(&rt, parser.offset(), 8);
     }
