@@ -296,9 +296,9 @@ fn a_sink_flushes_its_writer(rt: HostRuntime) {
     };
     let mut sink = WriteSink::new(&mut writer);
     same(&rt, sink.write(b"abc"), Ok(3));
-    same(&rt, (sink.flush(), sink.failed()), (Err(Failed), true));
-    same(&rt, (sink.flush(), sink.failed()), (Ok(()), true));
-    same(&rt, sink.flush(), Ok(()));
+    for wanted in [Err(Failed), Ok(()), Ok(())] {
+        same(&rt, (sink.flush(), sink.failed()), (wanted, true));
+    }
     drop(sink);
     same(&rt, writer.flushes, 3);
 }
@@ -356,13 +356,24 @@ fn a_sink_of_each_size(rt: HostRuntime) {
     }
 }
 
+// What a write returns, and whether the sink has failed after it.
+fn written(sink: &mut BoundedSink, bytes: &[u8]) -> (Result<usize, Failed>, bool) {
+    (sink.write(bytes), sink.failed())
+}
+
 #[test]
 fn a_sink_takes_what_fits(rt: HostRuntime) {
     let mut sink = sink(&rt, rt.alloc(), 5);
-    same(&rt, (sink.write(b"abc"), sink.write(b"")), (Ok(3), Ok(0)));
-    same(&rt, (sink.write(b"def"), sink.write(b"")), (Ok(2), Ok(0)));
-    assert!(rt; !sink.failed());
-    same(&rt, (sink.write(b"f"), sink.failed()), (Err(Failed), true));
-    same(&rt, (sink.write(b""), sink.failed()), (Ok(0), true));
+    let rows: [(&[u8], (Result<usize, Failed>, bool)); 6] = [
+        (b"abc", (Ok(3), false)),
+        (b"", (Ok(0), false)),
+        (b"def", (Ok(2), false)),
+        (b"", (Ok(0), false)),
+        (b"f", (Err(Failed), true)),
+        (b"", (Ok(0), true)),
+    ];
+    for (bytes, wanted) in rows {
+        same_at(&rt, written(&mut sink, bytes), wanted, &bytes);
+    }
     same(&rt, sink.written(), b"abcde".as_slice());
 }

@@ -226,21 +226,33 @@ fn note_steps(
     Ok(())
 }
 
-// The steps of the module in pieces of these sizes are these, with so many blocks at first. Returns whether a push was refused.
-fn tells(rt: &impl Abort, alloc: Global, blocks: u64, sizes: &[usize], wanted: &[Told]) -> bool {
-    let heap = Sparing::new(alloc, blocks);
-    let mut feeder = Feeder::new_in(&heap, 0, WasmFeatures::all());
-    let mut steps = Vec::new(alloc);
+// Notes the steps of the module in pieces of these sizes. Returns whether a push was refused.
+fn note_pieces(
+    rt: &impl Abort,
+    feeder: &mut SparingFeeder<'_>,
+    heap: &Sparing<Global>,
+    sizes: &[usize],
+    steps: &mut Vec<Told>,
+) -> bool {
     let mut refused = false;
     let mut rest = MODULE;
     for size in sizes {
         let (piece, later) = rest.split_at(rest.len().min(*size));
         rest = later;
-        refused |= push_again(rt, &mut feeder, &heap, piece);
-        note_steps(&mut feeder, &mut steps).expect(rt, "out of memory");
+        refused |= push_again(rt, feeder, heap, piece);
+        note_steps(feeder, steps).expect(rt, "out of memory");
     }
     feeder.finish();
-    note_steps(&mut feeder, &mut steps).expect(rt, "out of memory");
+    note_steps(feeder, steps).expect(rt, "out of memory");
+    refused
+}
+
+// The steps are these, with so many blocks at first. Returns whether a push was refused.
+fn tells(rt: &impl Abort, alloc: Global, blocks: u64, sizes: &[usize], wanted: &[Told]) -> bool {
+    let heap = Sparing::new(alloc, blocks);
+    let mut feeder = Feeder::new_in(&heap, 0, WasmFeatures::all());
+    let mut steps = Vec::new(alloc);
+    let refused = note_pieces(rt, &mut feeder, &heap, sizes, &mut steps);
     same(rt, steps.as_slice(), wanted);
     refused
 }

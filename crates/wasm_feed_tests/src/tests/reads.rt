@@ -112,6 +112,19 @@ impl Source for Broken {
     }
 }
 
+// Reads a chunk from this source.
+fn read_chunk<R: Source>(
+    ahead: &mut Ahead<Global>,
+    cursor: &mut Cursor,
+    stored: &mut Vec<u8>,
+    source: &mut R,
+) -> Result<(), ListError> {
+    ahead
+        .make_ready(cursor, stored)
+        .map_err(|_| ListError::Memory)?;
+    ahead.refill(cursor, stored, source)
+}
+
 // A read that fails changes nothing: the next step asks as before. Then the source is read.
 fn refill(
     rt: &impl Abort,
@@ -120,14 +133,13 @@ fn refill(
     stored: &mut Vec<u8>,
     source: &mut SliceSource<'_>,
 ) {
-    same(rt, ahead.make_ready(cursor, stored), Ok(()));
-    let failed = ahead.refill(cursor, stored, &mut Broken);
+    let failed = read_chunk(ahead, cursor, stored, &mut Broken);
     same(rt, failed, Err(ListError::Input));
     let Told::Asks(_) = next_said(rt, ahead, cursor, stored) else {
         panic!(rt; "no request");
     };
-    same(rt, ahead.make_ready(cursor, stored), Ok(()));
-    same(rt, ahead.refill(cursor, stored, source), Ok(()));
+    let read = read_chunk(ahead, cursor, stored, source);
+    same(rt, read, Ok(()));
 }
 
 // How many reads and how many steps without a request it takes to read these bytes by chunks of so many, parsed where they are, and what
