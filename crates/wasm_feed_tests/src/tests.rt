@@ -19,15 +19,15 @@ use wasm_feed::{
     Ended, Event, ListError, Sink, SliceSource, Source, fits_pieces, list, read_pieces,
 };
 
-// Proofs of tests take a third of the gate's time, and most of it goes into asserts and `?`, which leave a function early. So
-// tests compare by the two functions below. A call with a long contract is in a function without one.
+// An `assert_eq!` takes four times as long to prove as a call of `same`, so tests compare by these two functions. A call with a
+// long contract is in a function without one, here and in the modules, which is cheaper to prove over.
 
-// That a value is the one that is wanted.
+// Asserts that a value is the expected one.
 fn same<T: PartialEq + Debug + Drop>(rt: &impl Abort, found: T, wanted: T) {
     assert!(rt; found == wanted, "{found:?}, and not {wanted:?}");
 }
 
-// The same in a row of a table or a turn of a loop, which a failure names.
+// Like `same`, in a loop: a failure also prints which turn it is.
 fn same_at<T: PartialEq + Debug + Drop>(rt: &impl Abort, found: T, wanted: T, at: &impl Debug) {
     assert!(rt; found == wanted, "{found:?}, and not {wanted:?}, at {at:?}");
 }

@@ -11,12 +11,16 @@ use std::fmt::Debug;
 use std::process::Abort;
 use wasm_base::{BinaryReader, FromReader, FromReaderIn, fits};
 
-// Tests compare by calls of this function: an `assert_eq!` takes four times as long to prove, and a `?` twice as long as an
-// `expect` in a function that the test calls.
+// An `assert_eq!` takes four times as long to prove as a call of `same`, so tests compare by these two functions.
 
-// That a value is the one that is wanted.
+// Asserts that a value is the expected one.
 fn same<T: PartialEq + Debug + Drop>(rt: &impl Abort, found: T, wanted: T) {
     assert!(rt; found == wanted, "{found:?}, and not {wanted:?}");
+}
+
+// Like `same`, in a loop: a failure also prints which turn it is.
+fn same_at<T: PartialEq + Debug + Drop>(rt: &impl Abort, found: T, wanted: T, at: &impl Debug) {
+    assert!(rt; found == wanted, "{found:?}, and not {wanted:?}, at {at:?}");
 }
 
 // A reader of these bytes. A proof is told nothing of them, which tests don't ask for.
@@ -24,11 +28,6 @@ fn window(bytes: &[u8], offset: u64) -> BinaryReader<'_>
     requires { offset + length bytes.now < 2 ^ 64 }
 {
     BinaryReader::new(bytes, offset)
-}
-
-// The same in a turn of a loop, which a failure names.
-fn same_at<T: PartialEq + Debug + Drop>(rt: &impl Abort, found: T, wanted: T, at: &impl Debug) {
-    assert!(rt; found == wanted, "{found:?}, and not {wanted:?}, at {at:?}");
 }
 
 // The debug text of a value is this one.
