@@ -13,9 +13,15 @@ enum Answer {
 
 fn told(parser: &mut Parser, bytes: &[u8], eof: bool) -> Answer {
     match parser.parse(bytes, eof) {
-        Ok(Chunk::Parsed { consumed, .. }) => Answer::Consumes(consumed),
-        Ok(Chunk::NeedMoreData(hint)) => Answer::Asks(hint),
+        Ok(chunk) => answer_of(&chunk),
         Err(error) => Answer::Refuses(error),
+    }
+}
+
+fn answer_of(chunk: &Chunk<'_>) -> Answer {
+    match chunk {
+        Chunk::Parsed { consumed, .. } => Answer::Consumes(*consumed),
+        Chunk::NeedMoreData(hint) => Answer::Asks(*hint),
     }
 }
 
