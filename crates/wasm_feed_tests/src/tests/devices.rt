@@ -130,23 +130,24 @@ fn lists_from(
     );
 }
 
+/// How many bytes are read at once, and how many bytes of lines are written where each read fails, the last one that says that
+/// it is the end. The lines of the header, a section, a code section's start and a body end after 21, 39, 54 and 65 bytes.
+const WRITTEN: [(usize, &[usize]); 3] = [
+    (3, &[0, 0, 0, 21, 39, 54, 65]),
+    (10, &[0, 21, 65]),
+    (18, &[0, 65]),
+];
+
 #[test]
 fn a_source_that_fails_leaves_the_lines_of_what_it_gave(rt: HostRuntime) {
-    // How many bytes are read at once, and how many bytes of lines are written where each read fails, the last one that says that
-    // it is the end. The lines of the header, a section, a code section's start and a body end after 21, 39, 54 and 65 bytes.
-    let rows: [(usize, &[usize]); 3] = [
-        (3, &[0, 0, 0, 21, 39, 54, 65]),
-        (10, &[0, 21, 65]),
-        (18, &[0, 65]),
-    ];
-    for (piece, written) in rows {
+    for (piece, written) in &WRITTEN {
         for (calls, count) in written.iter().enumerate() {
-            let input = Failing::after(BODY, piece, calls);
+            let input = Failing::after(BODY, *piece, calls);
             let lines = &BODY_LISTING[..(*count).min(BODY_LISTING.len())];
-            lists_from(&rt, rt.alloc(), input, piece, Err(ListError::Input), lines);
+            lists_from(&rt, rt.alloc(), input, *piece, Err(ListError::Input), lines);
         }
-        let input = Failing::after(BODY, piece, written.len());
-        lists_from(&rt, rt.alloc(), input, piece, Ok(Ended::End), BODY_LISTING);
+        let input = Failing::after(BODY, *piece, written.len());
+        lists_from(&rt, rt.alloc(), input, *piece, Ok(Ended::End), BODY_LISTING);
     }
 }
 

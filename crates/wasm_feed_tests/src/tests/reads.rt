@@ -119,9 +119,9 @@ fn read_chunk<R: Source>(
     stored: &mut Vec<u8>,
     source: &mut R,
 ) -> Result<(), ListError> {
-    ahead
-        .make_ready(cursor, stored)
-        .map_err(|_| ListError::Memory)?;
+    if ahead.make_ready(cursor, stored).is_err() {
+        return Err(ListError::Memory);
+    }
     ahead.refill(cursor, stored, source)
 }
 
