@@ -27,32 +27,28 @@ fn total(numbers: SectionLimited<'_, u32>) -> Result<u64> {
     Ok(total)
 }
 
-// The number and the encoding of a header, if that is the next step.
-fn next_version(feeder: &mut Feeder) -> Option<(u16, Encoding)> {
-    version_of(&feeder.step().ok()?)
-}
-
-fn version_of(step: &Step<'_>) -> Option<(u16, Encoding)> {
+// The number and the encoding of a header.
+fn version_of(step: &Result<Step<'_>>) -> Option<(u16, Encoding)> {
     match step {
-        Step::Parsed {
-            payload: Payload::Version { num, encoding, .. },
-            ..
-        } => Some((*num, *encoding)),
+        Ok(
+            Step::Parsed {
+                payload: Payload::Version { num, encoding, .. },
+                ..
+            },
+        ) => Some((*num, *encoding)),
         _other => None,
     }
 }
 
-// The sum of the types of a function section, if that is the next step.
-fn next_total(feeder: &mut Feeder) -> Option<u64> {
-    total_of(&feeder.open().step().ok()?)
-}
-
-fn total_of(step: &Step<'_>) -> Option<u64> {
+// The sum of the types of a function section.
+fn total_of(step: &Result<Step<'_>>) -> Option<u64> {
     match step {
-        Step::Parsed {
-            payload: Payload::FunctionSection(types),
-            ..
-        } => total(types.clone().ok()?).ok(),
+        Ok(
+            Step::Parsed {
+                payload: Payload::FunctionSection(types),
+                ..
+            },
+        ) => total(types.clone().ok()?).ok(),
         _other => None,
     }
 }
@@ -60,8 +56,8 @@ fn total_of(step: &Step<'_>) -> Option<u64> {
 #[test]
 fn payloads_are_read(rt: HostRuntime) -> std::result::Result<(), Fail> {
     let mut feeder = fed(rt.alloc(), b"\0asm\x01\0\0\0\x03\x03\x02\x05\x07")?;
-    same(&rt, next_version(&mut feeder), Some((1, Encoding::Module)));
-    same(&rt, next_total(&mut feeder), Some(12));
+    same(&rt, version_of(&feeder.step()), Some((1, Encoding::Module)));
+    same(&rt, total_of(&feeder.open().step()), Some(12));
     let fault = Told::Refuses(Error::new(Fault::FunctionWithoutCode, 13));
     for _ in 0..2 {
         same(&rt, say(feeder.step()), fault);
