@@ -13,12 +13,24 @@ mod steps;
 mod stripping;
 
 use std::alloc::Global;
-use std::test::Fail;
+use std::fmt::Debug;
+use std::process::Abort;
 use wasm_feed::{
     Ended, Event, ListError, Sink, SliceSource, Source, fits_pieces, list, read_pieces,
 };
 
-// Here and in the modules a call with a long contract is in a function without one, which is cheaper to prove over.
+// An `assert_eq!` takes four times as long to prove as a call of `same`, so tests compare by these two functions. A call with a
+// long contract is in a function without one, here and in the modules, which is cheaper to prove over.
+
+// Asserts that a value is the expected one.
+fn same<T: PartialEq + Debug + Drop>(rt: &impl Abort, found: T, wanted: T) {
+    assert!(rt; found == wanted, "{found:?}, and not {wanted:?}");
+}
+
+// Like `same`, in a loop: a failure also prints which turn it is.
+fn same_at<T: PartialEq + Debug + Drop>(rt: &impl Abort, found: T, wanted: T, at: &impl Debug) {
+    assert!(rt; found == wanted, "{found:?}, and not {wanted:?}, at {at:?}");
+}
 
 // How the listing of what this source gives ends.
 fn ends<R: Source, W: Sink>(
@@ -41,9 +53,7 @@ fn lists<W: Sink>(
 }
 
 // The events of a stream in these pieces, which has to stay within the offsets.
-fn events(alloc: Global, offset: u64, pieces: &[&[u8]]) -> Result<Vec<Event>, Fail> {
-    if !fits_pieces(offset, pieces) {
-        return Err("past the offsets".into());
-    }
-    Ok(read_pieces(alloc, offset, pieces)?)
+fn events(rt: &impl Abort, alloc: Global, offset: u64, pieces: &[&[u8]]) -> Vec<Event> {
+    assert!(rt; fits_pieces(offset, pieces));
+    read_pieces(alloc, offset, pieces).expect(rt, "out of memory")
 }

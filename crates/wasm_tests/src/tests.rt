@@ -9,12 +9,18 @@ mod parser;
 use std::alloc::Global;
 use std::fmt::Debug;
 use std::process::Abort;
-use std::test::Fail;
 use wasm_base::{BinaryReader, FromReader, FromReaderIn, fits};
 
-// That a value is the one that is wanted.
+// An `assert_eq!` takes four times as long to prove as a call of `same`, so tests compare by these two functions.
+
+// Asserts that a value is the expected one.
 fn same<T: PartialEq + Debug + Drop>(rt: &impl Abort, found: T, wanted: T) {
     assert!(rt; found == wanted, "{found:?}, and not {wanted:?}");
+}
+
+// Like `same`, in a loop: a failure also prints which turn it is.
+fn same_at<T: PartialEq + Debug + Drop>(rt: &impl Abort, found: T, wanted: T, at: &impl Debug) {
+    assert!(rt; found == wanted, "{found:?}, and not {wanted:?}, at {at:?}");
 }
 
 // A reader of these bytes. A proof is told nothing of them, which tests don't ask for.
@@ -25,10 +31,9 @@ fn window(bytes: &[u8], offset: u64) -> BinaryReader<'_>
 }
 
 // The debug text of a value is this one.
-fn is_printed<T: Debug>(rt: &impl Abort, alloc: Global, value: &T, text: &str) -> Result<(), Fail> {
-    let found = format!(in alloc; "{value:?}")?;
+fn is_printed<T: Debug>(rt: &impl Abort, alloc: Global, value: &T, text: &str) {
+    let found = format!(in alloc; "{value:?}").expect(rt, "out of memory");
     same(rt, found.as_str(), text);
-    Ok(())
 }
 
 // These bytes begin with an item whose copy is printed as this text, and which ends at the offset `end`.
@@ -39,12 +44,12 @@ fn prints<'a, T: FromReader<'a> + Clone + Debug>(
     offset: u64,
     end: u64,
     text: &str,
-) -> Result<(), Fail> {
+) {
     assert!(rt; fits(offset, bytes.len()));
     let mut reader = BinaryReader::new(bytes, offset);
-    let item = T::from_reader(&mut reader)?;
+    let item = T::from_reader(&mut reader).expect(rt, "a fault");
     same(rt, reader.original_position(), end);
-    is_printed(rt, alloc, &item.clone()?, text)
+    is_printed(rt, alloc, &item.clone().expect(rt, "out of memory"), text);
 }
 
 // The same of an item that owns lists.
@@ -55,12 +60,12 @@ fn prints_in<'a, T: FromReaderIn<'a> + Debug>(
     offset: u64,
     end: u64,
     text: &str,
-) -> Result<(), Fail> {
+) {
     assert!(rt; fits(offset, bytes.len()));
     let mut reader = BinaryReader::new(bytes, offset);
-    let item = T::from_reader(alloc, &mut reader)?;
+    let item = T::from_reader(alloc, &mut reader).expect(rt, "a fault");
     same(rt, reader.original_position(), end);
-    is_printed(rt, alloc, &item, text)
+    is_printed(rt, alloc, &item, text);
 }
 
 // What an iterator returns when it is polled.
@@ -70,22 +75,39 @@ fn polled<I: Iterator>(items: &mut I) -> Option<I::Item>
     items.next()
 }
 
+// An iterator says that it gives at most so many items, and then gives this one.
+fn is_next<I: Iterator>(rt: &impl Abort, items: &mut I, most: usize, wanted: Option<I::Item>)
+where
+    I::Item: PartialEq + Debug + Drop,
+    requires { (items : I) → I.can_next items }
+{
+    same(rt, items.size_hint(), (0, Some(most)));
+    same(rt, polled(items), wanted);
+}
+
+// An iterator gives nothing, however often it is polled, and says so.
+fn is_over<I: Iterator>(rt: &impl Abort, items: &mut I)
+where
+    I::Item: PartialEq + Debug + Drop,
+    requires { (items : I) → I.can_next items }
+{
+    for _ in 0..4 {
+        is_next(rt, items, 0, None);
+    }
+    same(rt, items.size_hint(), (0, Some(0)));
+}
+
 // An iterator gives items that are printed as these texts, and then nothing, however often it is polled.
-fn gives<I: Iterator>(
-    rt: &impl Abort,
-    alloc: Global,
-    mut items: I,
-    texts: &[&str],
-) -> Result<(), Fail>
+fn gives<I: Iterator>(rt: &impl Abort, alloc: Global, mut items: I, texts: &[&str])
 where
     I::Item: Debug + Drop,
     requires { (items : I) → I.can_next items }
 {
     for text in texts {
-        is_printed(rt, alloc, &polled(&mut items).ok_or("nothing")?, text)?;
+        let item = polled(&mut items).expect(rt, "nothing");
+        is_printed(rt, alloc, &item, text);
     }
     for _ in 0..4 {
         assert!(rt; polled(&mut items).is_none());
     }
-    Ok(())
 }

@@ -1,9 +1,10 @@
 // A source and a sink that fail or go short at a chosen call.
 ghost use Rattle.std.specs.Prelude.{◌≡◌, false};
 
-use super::ends;
+use super::{ends, lists, same, same_at};
+use std::alloc::Global;
 use std::io::{self, Write};
-use std::test::Fail;
+use std::process::Abort;
 use wasm_feed::{
     BoundedSink, Ended, Failed, ListError, ReadSource, Sink, SliceSource, Source, WriteSink,
 };
@@ -103,117 +104,131 @@ impl Sink for Slow {
 const BODY_LISTING: &[u8] =
     b"version 0 8 1 module\nsection 3 10 12 1\ncode 14 18 1 3\nbody 16 18\nend 18\n";
 
+fn sink(rt: &impl Abort, alloc: Global, size: usize) -> BoundedSink {
+    BoundedSink::new(alloc, size).expect(rt, "out of memory")
+}
+
+// The listing of what this source gives ends so, with these lines. The source fails where the listing does.
+fn lists_from(
+    rt: &impl Abort,
+    alloc: Global,
+    mut input: Failing<'_>,
+    piece: usize,
+    wanted: Result<Ended, ListError>,
+    lines: &[u8],
+) {
+    let place = (piece, input.step, input.calls_left);
+    let fails = wanted.is_err();
+    let mut output = sink(rt, alloc, 100);
+    let ended = ends(alloc, &mut input, &mut output, piece);
+    let failed = (input.failed(), output.failed());
+    same_at(
+        rt,
+        (ended, output.written(), failed),
+        (wanted, lines, (fails, false)),
+        &place,
+    );
+}
+
+/// How many bytes are read at once, and how many bytes of lines are written where each read fails, the last one that says that
+/// it is the end. The lines of the header, a section, a code section's start and a body end after 21, 39, 54 and 65 bytes.
+const WRITTEN: [(usize, &[usize]); 3] = [
+    (3, &[0, 0, 0, 21, 39, 54, 65]),
+    (10, &[0, 21, 65]),
+    (18, &[0, 65]),
+];
+
 #[test]
-fn a_source_that_fails_leaves_the_lines_of_what_it_gave(rt: HostRuntime) -> Result<(), Fail> {
-    // How many bytes are read at once, and how many bytes of lines are written where each read fails, the last one that says that
-    // it is the end. The lines of the header, a section, a code section's start and a body end after 21, 39, 54 and 65 bytes.
-    let rows: [(usize, &[usize]); 3] = [
-        (3, &[0, 0, 0, 21, 39, 54, 65]),
-        (10, &[0, 21, 65]),
-        (18, &[0, 65]),
-    ];
-    for (piece, written) in rows {
+fn a_source_that_fails_leaves_the_lines_of_what_it_gave(rt: HostRuntime) {
+    for (piece, written) in &WRITTEN {
         for (calls, count) in written.iter().enumerate() {
-            let mut input = Failing::after(BODY, piece, calls);
-            let mut output = BoundedSink::new(rt.alloc(), 100)?;
-            let ended = ends(rt.alloc(), &mut input, &mut output, piece);
-            assert_eq!(rt; ended, Err(ListError::Input), "{piece} {calls}");
-            assert!(rt; input.failed() && !output.failed());
-            assert_eq!(rt;
-                output.written(),
-                &BODY_LISTING[..(*count).min(BODY_LISTING.len())]
-            );
+            let input = Failing::after(BODY, *piece, calls);
+            let lines = &BODY_LISTING[..(*count).min(BODY_LISTING.len())];
+            lists_from(&rt, rt.alloc(), input, *piece, Err(ListError::Input), lines);
         }
-        let mut input = Failing::after(BODY, piece, written.len());
-        let mut output = BoundedSink::new(rt.alloc(), 100)?;
-        let ended = ends(rt.alloc(), &mut input, &mut output, piece);
-        assert_eq!(rt; ended, Ok(Ended::End), "{piece}");
-        assert_eq!(rt; output.written(), BODY_LISTING);
+        let input = Failing::after(BODY, *piece, written.len());
+        lists_from(&rt, rt.alloc(), input, *piece, Ok(Ended::End), BODY_LISTING);
     }
-    Ok(())
 }
 
 #[test]
-fn a_sink_that_fails_at_each_byte_of_a_module(rt: HostRuntime) -> Result<(), Fail> {
-    for piece in [3, 10, 18] {
-        for calls in 0..BODY_LISTING.len() {
-            let mut output = Slow {
-                inner: BoundedSink::new(rt.alloc(), 100)?,
-                calls_left: calls,
-                failed: false,
-            };
-            let ended = ends(rt.alloc(), &mut SliceSource::new(BODY), &mut output, piece);
-            assert_eq!(rt; ended, Err(ListError::Output), "{piece} {calls}");
-            assert_eq!(rt; output.inner.written(), &BODY_LISTING[..calls]);
-        }
+fn a_source_that_goes_short_changes_nothing(rt: HostRuntime) {
+    for step in 1..14 {
+        let input = Failing::after(MODULE, step, 20);
+        lists_from(&rt, rt.alloc(), input, 5, Ok(Ended::End), LISTING);
     }
-    Ok(())
 }
 
-#[test]
-fn a_sink_that_takes_one_byte_a_call(rt: HostRuntime) -> Result<(), Fail> {
+// The listing of a stream to a sink that takes so many bytes, one a call, ends so, with these lines. The sink fails where the
+// listing does. Returns how many more bytes the sink takes.
+fn lists_slowly(
+    rt: &impl Abort,
+    alloc: Global,
+    stream: &[u8],
+    piece: usize,
+    calls: usize,
+    wanted: Result<Ended, ListError>,
+    lines: &[u8],
+) -> usize {
+    let mut input = SliceSource::new(stream);
     let mut output = Slow {
-        inner: BoundedSink::new(rt.alloc(), 100)?,
-        calls_left: BODY_LISTING.len(),
+        inner: sink(rt, alloc, 100),
+        calls_left: calls,
         failed: false,
     };
-    let ended = ends(rt.alloc(), &mut SliceSource::new(BODY), &mut output, 65_536);
-    assert_eq!(rt; ended, Ok(Ended::End));
-    assert_eq!(rt; output.inner.written(), BODY_LISTING);
-    assert_eq!(rt; output.calls_left, 0);
-    Ok(())
+    let fails = wanted.is_err();
+    let ended = ends(alloc, &mut input, &mut output, piece);
+    let failed = (input.failed(), output.failed());
+    same_at(
+        rt,
+        (ended, output.inner.written(), failed),
+        (wanted, lines, (false, fails)),
+        &(piece, calls),
+    );
+    output.calls_left
 }
 
 #[test]
-fn a_source_that_goes_short_changes_nothing(rt: HostRuntime) -> Result<(), Fail> {
-    for step in 1..14 {
-        let mut input = Failing::after(MODULE, step, 20);
-        let mut output = BoundedSink::new(rt.alloc(), 64)?;
-        assert_eq!(rt;
-            ends(rt.alloc(), &mut input, &mut output, 5),
-            Ok(Ended::End)
-        );
-        assert_eq!(rt; output.written(), LISTING);
-        assert!(rt; !input.failed() && !output.failed());
-    }
-    Ok(())
-}
-
-#[test]
-fn a_sink_that_goes_short_or_fails(rt: HostRuntime) -> Result<(), Fail> {
-    for calls in 0..LISTING.len() + 2 {
-        let mut input = SliceSource::new(MODULE);
-        let mut output = Slow {
-            inner: BoundedSink::new(rt.alloc(), 64)?,
-            calls_left: calls,
-            failed: false,
-        };
-        let ended = ends(rt.alloc(), &mut input, &mut output, 5);
-        if calls < LISTING.len() {
-            assert!(rt; ended == Err(ListError::Output), "{calls}");
-            assert_eq!(rt; output.inner.written(), &LISTING[..calls]);
-            assert!(rt; output.failed() && !input.failed());
-        } else {
-            assert!(rt; ended == Ok(Ended::End), "{calls}");
-            assert_eq!(rt; output.inner.written(), LISTING);
-            assert!(rt; !output.failed());
+fn a_sink_that_fails_at_each_byte_of_a_module(rt: HostRuntime) {
+    let failed = Err(ListError::Output);
+    for piece in [3, 10, 18] {
+        for calls in 0..BODY_LISTING.len() {
+            let lines = &BODY_LISTING[..calls];
+            lists_slowly(&rt, rt.alloc(), BODY, piece, calls, failed, lines);
         }
     }
-    Ok(())
 }
 
 #[test]
-fn a_reader_and_a_writer_of_the_standard_library(rt: HostRuntime) -> Result<(), Fail> {
+fn a_sink_that_takes_one_byte_a_call(rt: HostRuntime) {
+    let (calls, ended) = (BODY_LISTING.len(), Ok(Ended::End));
+    let left = lists_slowly(&rt, rt.alloc(), BODY, 65_536, calls, ended, BODY_LISTING);
+    same(&rt, left, 0);
+}
+
+#[test]
+fn a_sink_that_goes_short_or_fails(rt: HostRuntime) {
+    for calls in 0..LISTING.len() {
+        let (failed, lines) = (Err(ListError::Output), &LISTING[..calls]);
+        lists_slowly(&rt, rt.alloc(), MODULE, 5, calls, failed, lines);
+    }
+    for calls in [LISTING.len(), LISTING.len() + 1] {
+        lists_slowly(&rt, rt.alloc(), MODULE, 5, calls, Ok(Ended::End), LISTING);
+    }
+}
+
+#[test]
+fn a_reader_and_a_writer_of_the_standard_library(rt: HostRuntime) {
     let mut input = ReadSource::new(MODULE);
     let mut written = Vec::<u8>::new(rt.alloc());
     let mut output = WriteSink::new(&mut written);
-    assert_eq!(rt;
-        ends(rt.alloc(), &mut input, &mut output, 65_536),
-        Ok(Ended::End)
+    let ended = ends(rt.alloc(), &mut input, &mut output, 65_536);
+    same(
+        &rt,
+        (ended, input.failed(), output.failed()),
+        (Ok(Ended::End), false, false),
     );
-    assert!(rt; !output.failed() && !input.failed());
-    assert_eq!(rt; written.as_slice(), LISTING);
-    Ok(())
+    same(&rt, written.as_slice(), LISTING);
 }
 
 /// A writer that takes nothing at its first call and everything later, and counts its calls and bytes.
@@ -239,19 +254,18 @@ impl Write for Stalling {
 }
 
 #[test]
-fn a_writer_that_takes_nothing_at_first(rt: HostRuntime) -> Result<(), Fail> {
+fn a_writer_that_takes_nothing_at_first(rt: HostRuntime) {
     let mut writer = Stalling { calls: 0, taken: 0 };
     let mut input = SliceSource::new(BODY);
     let mut output = WriteSink::new(&mut writer);
-    assert_eq!(rt;
-        ends(rt.alloc(), &mut input, &mut output, 65_536),
-        Err(ListError::Output)
+    let ended = ends(rt.alloc(), &mut input, &mut output, 65_536);
+    same(
+        &rt,
+        (ended, output.failed(), output.write(b"")),
+        (Err(ListError::Output), true, Ok(0)),
     );
-    assert!(rt; output.failed());
-    assert_eq!(rt; output.write(b""), Ok(0));
     drop(output);
-    assert_eq!(rt; (writer.calls, writer.taken), (2, 0));
-    Ok(())
+    same(&rt, (writer.calls, writer.taken), (2, 0));
 }
 
 /// A writer that takes all bytes and notes how often it was flushed, which fails the first times.
@@ -276,66 +290,91 @@ impl Write for Noting {
 }
 
 #[test]
-fn a_sink_flushes_its_writer(rt: HostRuntime) -> Result<(), Fail> {
+fn a_sink_flushes_its_writer(rt: HostRuntime) {
     let mut writer = Noting {
         failures: 1,
         flushes: 0,
     };
     let mut sink = WriteSink::new(&mut writer);
-    assert_eq!(rt; sink.write(b"abc"), Ok(3));
-    assert_eq!(rt; sink.flush(), Err(Failed));
-    assert!(rt; sink.failed());
-    assert_eq!(rt; sink.flush(), Ok(()));
-    assert!(rt; sink.failed());
-    assert_eq!(rt; sink.flush(), Ok(()));
+    same(&rt, sink.write(b"abc"), Ok(3));
+    for wanted in [Err(Failed), Ok(()), Ok(())] {
+        same(&rt, (sink.flush(), sink.failed()), (wanted, true));
+    }
     drop(sink);
-    assert_eq!(rt; writer.flushes, 3);
-    Ok(())
+    same(&rt, writer.flushes, 3);
+}
+
+// The size of the largest read of a listing by pieces of this size.
+fn largest_read(rt: &impl Abort, alloc: Global, piece: usize) -> usize {
+    let mut input = Measuring::new(MODULE);
+    let mut output = sink(rt, alloc, 64);
+    let ended = ends(alloc, &mut input, &mut output, piece);
+    same_at(
+        rt,
+        (ended, output.written()),
+        (Ok(Ended::End), LISTING),
+        &piece,
+    );
+    let (_, largest) = input.measured();
+    largest
 }
 
 #[test]
-fn at_most_a_piece_is_read_at_once(rt: HostRuntime) -> Result<(), Fail> {
+fn at_most_a_piece_is_read_at_once(rt: HostRuntime) {
     for piece in [1, 3, 65_536] {
-        let mut input = Measuring::new(MODULE);
-        let mut output = BoundedSink::new(rt.alloc(), 64)?;
-        assert_eq!(rt;
-            ends(rt.alloc(), &mut input, &mut output, piece),
-            Ok(Ended::End)
-        );
-        assert_eq!(rt; output.written(), LISTING);
-        let (_, largest) = input.measured();
+        let largest = largest_read(&rt, rt.alloc(), piece);
         assert!(rt; 0 < largest && largest <= piece, "{piece}");
     }
-    Ok(())
+}
+
+// The listing to a sink of this size ends so, with these lines. The sink fails where the listing does.
+fn lists_within(
+    rt: &impl Abort,
+    alloc: Global,
+    size: usize,
+    wanted: Result<Ended, ListError>,
+    lines: &[u8],
+) {
+    let fails = wanted.is_err();
+    let mut output = sink(rt, alloc, size);
+    let ended = lists(alloc, MODULE, &mut output, 4);
+    same_at(
+        rt,
+        (ended, output.failed(), output.written()),
+        (wanted, fails, lines),
+        &size,
+    );
 }
 
 #[test]
-fn a_sink_of_each_size(rt: HostRuntime) -> Result<(), Fail> {
-    for size in 0..LISTING.len() + 2 {
-        let mut input = SliceSource::new(MODULE);
-        let mut output = BoundedSink::new(rt.alloc(), size)?;
-        let ended = ends(rt.alloc(), &mut input, &mut output, 4);
-        let is_full = size < LISTING.len();
-        assert_eq!(rt; ended == Err(ListError::Output), is_full, "{size}");
-        assert_eq!(rt; ended == Ok(Ended::End), !is_full, "{size}");
-        assert_eq!(rt; output.failed(), is_full, "{size}");
-        assert_eq!(rt; output.written(), &LISTING[..size.min(LISTING.len())]);
+fn a_sink_of_each_size(rt: HostRuntime) {
+    for size in 0..LISTING.len() {
+        let (failed, lines) = (Err(ListError::Output), &LISTING[..size]);
+        lists_within(&rt, rt.alloc(), size, failed, lines);
     }
-    Ok(())
+    for size in [LISTING.len(), LISTING.len() + 1] {
+        lists_within(&rt, rt.alloc(), size, Ok(Ended::End), LISTING);
+    }
+}
+
+// What a write returns, and whether the sink has failed after it.
+fn written(sink: &mut BoundedSink, bytes: &[u8]) -> (Result<usize, Failed>, bool) {
+    (sink.write(bytes), sink.failed())
 }
 
 #[test]
-fn a_sink_takes_what_fits(rt: HostRuntime) -> Result<(), Fail> {
-    let mut sink = BoundedSink::new(rt.alloc(), 5)?;
-    assert_eq!(rt; sink.write(b"abc"), Ok(3));
-    assert_eq!(rt; sink.write(b""), Ok(0));
-    assert_eq!(rt; sink.write(b"def"), Ok(2));
-    assert_eq!(rt; sink.write(b""), Ok(0));
-    assert!(rt; !sink.failed());
-    assert_eq!(rt; sink.write(b"f"), Err(Failed));
-    assert!(rt; sink.failed());
-    assert_eq!(rt; sink.write(b""), Ok(0));
-    assert!(rt; sink.failed());
-    assert_eq!(rt; sink.written(), b"abcde".as_slice());
-    Ok(())
+fn a_sink_takes_what_fits(rt: HostRuntime) {
+    let mut sink = sink(&rt, rt.alloc(), 5);
+    let rows: [(&[u8], (Result<usize, Failed>, bool)); 6] = [
+        (b"abc", (Ok(3), false)),
+        (b"", (Ok(0), false)),
+        (b"def", (Ok(2), false)),
+        (b"", (Ok(0), false)),
+        (b"f", (Err(Failed), true)),
+        (b"", (Ok(0), true)),
+    ];
+    for (bytes, wanted) in rows {
+        same_at(&rt, written(&mut sink, bytes), wanted, &bytes);
+    }
+    same(&rt, sink.written(), b"abcde".as_slice());
 }

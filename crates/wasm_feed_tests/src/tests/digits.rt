@@ -1,6 +1,6 @@
 // Numbers of each length, in decimal digits.
+use super::same_at;
 use std::process::Abort;
-use std::test::Fail;
 use wasm_lines::{ShortText, TEXT_BYTES};
 
 /// Numbers, and their digits: those between which the way to write them changes, and some whose digits differ.
@@ -30,19 +30,16 @@ const NUMBERS: [(u64, &'static [u8]); 22] = [
 ];
 
 // A number is written over what is there, from a place on, and what was before it stays.
-fn is_written(rt: &impl Abort, number: u64, digits: &[u8]) -> Result<(), Fail> {
+fn is_written(rt: &impl Abort, number: u64, digits: &[u8]) {
     let mut room = [b'-'; TEXT_BYTES + 3];
     let end = number.write_at(&mut room, 3);
-    assert_eq!(rt; end, 3 + digits.len(), "{number}");
-    assert_eq!(rt; &room[3..end], digits, "{number}");
-    assert_eq!(rt; &room[..3], b"---".as_slice(), "{number}");
-    Ok(())
+    same_at(rt, room.get(3..end), Some(digits), &number);
+    same_at(rt, &room[..3], b"---".as_slice(), &number);
 }
 
 #[test]
-fn numbers_of_each_length(rt: HostRuntime) -> Result<(), Fail> {
+fn numbers_of_each_length(rt: HostRuntime) {
     for (number, digits) in &NUMBERS {
-        is_written(&rt, *number, digits)?;
+        is_written(&rt, *number, digits);
     }
-    Ok(())
 }

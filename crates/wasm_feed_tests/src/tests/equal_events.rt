@@ -1,7 +1,8 @@
 // What equality of events says.
+use super::{same, same_at};
 use std::alloc::Global;
 use std::ops::Range;
-use std::test::Fail;
+use std::process::Abort;
 use wasm_base::{BinaryReader, Error, Fault};
 use wasm_feed::{Event, EventKind};
 use wasm_parser::Encoding;
@@ -43,51 +44,49 @@ fn kinds() -> [EventKind; 17] {
 fn kinds_are_equal_to_themselves_alone(rt: HostRuntime) {
     for (place, one) in kinds().iter().enumerate() {
         for (other_place, other) in kinds().iter().enumerate() {
-            assert!(rt;
-                (one == other) == (place == other_place),
-                "{one:?} {other:?}"
-            );
+            same_at(&rt, one == other, place == other_place, &(one, other));
         }
     }
 }
 
 #[test]
 fn hints_of_faults_do_not_count(rt: HostRuntime) {
-    match BinaryReader::new(&[], 300).read_bytes(5) {
-        Ok(_) => panic!(rt; "read"),
-        Err(missing) => {
-            let fault = Error::new(Fault::UnexpectedEof, 300);
-            assert_eq!(rt;
-                (missing.needed_hint(), fault.needed_hint()),
-                (Some(5), None)
-            );
-            assert!(rt; EventKind::Fault(missing) == EventKind::Fault(fault));
-        }
-    }
+    let missing = BinaryReader::new(&[], 300)
+        .read_bytes(5)
+        .expect_err(&rt, "no fault");
+    let fault = Error::new(Fault::UnexpectedEof, 300);
+    same(
+        &rt,
+        (missing.needed_hint(), fault.needed_hint()),
+        (Some(5), None),
+    );
+    same(&rt, EventKind::Fault(missing), EventKind::Fault(fault));
 }
 
-fn body(alloc: Global, range: Range<u64>, bytes: &[u8]) -> Result<Event, Fail> {
-    Ok(Event {
-        kind: EventKind::Body,
-        range,
-        bytes: bytes.to_vec(alloc)?,
-    })
+fn event(
+    rt: &impl Abort,
+    alloc: Global,
+    kind: EventKind,
+    range: Range<u64>,
+    bytes: &[u8],
+) -> Event {
+    let bytes = bytes.to_vec(alloc).expect(rt, "out of memory");
+    Event { kind, range, bytes }
 }
 
 #[test]
-fn events_are_equal_by_kind_range_and_bytes(rt: HostRuntime) -> Result<(), Fail> {
-    let alloc = rt.alloc();
-    let event = body(alloc, 300..302, &[2, 0, 11])?;
-    assert!(rt; event == body(alloc, 300..302, &[2, 0, 11])?);
-    assert!(rt; event != body(alloc, 299..302, &[2, 0, 11])?);
-    assert!(rt; event != body(alloc, 300..303, &[2, 0, 11])?);
-    assert!(rt; event != body(alloc, 300..302, &[2, 0, 12])?);
-    assert!(rt; event != body(alloc, 300..302, &[2, 0])?);
-    let end = Event {
-        kind: EventKind::End,
-        range: 300..302,
-        bytes: [2, 0, 11].to_vec(alloc)?,
-    };
-    assert!(rt; event != end);
-    Ok(())
+fn events_are_equal_by_kind_range_and_bytes(rt: HostRuntime) {
+    let one = event(&rt, rt.alloc(), EventKind::Body, 300..302, &[2, 0, 11]);
+    let rows: [(EventKind, Range<u64>, &[u8], bool); 6] = [
+        (EventKind::Body, 300..302, &[2, 0, 11], true),
+        (EventKind::Body, 299..302, &[2, 0, 11], false),
+        (EventKind::Body, 300..303, &[2, 0, 11], false),
+        (EventKind::Body, 300..302, &[2, 0, 12], false),
+        (EventKind::Body, 300..302, &[2, 0], false),
+        (EventKind::End, 300..302, &[2, 0, 11], false),
+    ];
+    for (kind, range, bytes, are_equal) in rows {
+        let other = event(&rt, rt.alloc(), kind, range, bytes);
+        same_at(&rt, one == other, are_equal, &other);
+    }
 }

@@ -8,18 +8,12 @@ mod visits;
 
 ghost use Rattle.std.specs.Prelude.{◌<◌, ◌^◌, length};
 
+use crate::tests::same;
 use std::alloc::Global;
-use std::fmt::Debug;
-use std::process::Abort;
 use std::test::Fail;
 use wasm_base::{BinaryReader, Error, Fault, Lead, Result, SectionLimited};
 use wasm_examples::{AnyByte, Nothing, check, check_in, imports_memory, total};
 use wasm_items::RecGroup;
-
-// That a value is the one that is wanted.
-fn same<T: PartialEq + Debug + Drop>(rt: &impl Abort, found: T, wanted: T) {
-    assert!(rt; found == wanted, "{found:?}, and not {wanted:?}");
-}
 
 fn section<'a, T>(bytes: &'a [u8]) -> Result<SectionLimited<'a, T>>
     requires { length bytes.now < 2 ^ 64 }

@@ -1,6 +1,7 @@
 // Feeders of streams that come in pieces.
+use super::same;
 use bitflags::Flags;
-use std::alloc::{Allocator, Global};
+use std::alloc::{AllocError, Allocator, Global};
 use std::ops::Range;
 use std::process::Abort;
 use std::test::Fail;
@@ -23,16 +24,20 @@ pub(super) enum Told {
     Refuses(Error),
 }
 
+fn told_by(step: &Step<'_>) -> Told {
+    match step {
+        Step::NeedMoreData(hint) => Told::Asks(*hint),
+        Step::Parsed {
+            payload: Payload::End(at),
+            ..
+        } => Told::Ends(*at),
+        Step::Parsed { bytes, .. } => Told::Shows(bytes.len()),
+    }
+}
+
 pub(super) fn say(step: Result<Step<'_>>) -> Told {
     match step {
-        Ok(Step::NeedMoreData(hint)) => Told::Asks(hint),
-        Ok(
-            Step::Parsed {
-                payload: Payload::End(at),
-                ..
-            },
-        ) => Told::Ends(at),
-        Ok(Step::Parsed { bytes, .. }) => Told::Shows(bytes.len()),
+        Ok(step) => told_by(&step),
         Err(error) => Told::Refuses(error),
     }
 }
@@ -56,37 +61,40 @@ pub(super) fn push<A: Allocator>(feeder: &mut Feeder<A>, piece: &[u8]) -> Result
     }
 }
 
-#[test]
-fn a_module_in_three_pieces(rt: HostRuntime) -> std::result::Result<(), Fail> {
-    let mut feeder = Feeder::new(rt.alloc(), 0, WasmFeatures::all());
-    let steps: [(Told, usize, usize); 3] = [
-        (Told::Asks(3), 5, 5),
-        (Told::Asks(2), 2, 10),
-        (Told::Asks(1), 0, 7),
-    ];
-    for (index, (last, held, stored)) in steps.iter().enumerate() {
-        assert!(rt; feeder.wants_more());
-        push(&mut feeder, &MODULE[5 * index..5 * index + 5])?;
-        assert_eq!(rt; feeder.held(), feeder.stored());
-        let mut now = step(&mut feeder);
-        for _ in 0..3 {
-            if let Told::Shows(_) = now {
-                now = step(&mut feeder);
-            }
+// Pushes a piece and steps until more is asked for: the last step, and how many bytes are held and stored.
+fn steps_after(rt: &impl Abort, feeder: &mut Feeder, piece: &[u8]) -> (Told, usize, usize) {
+    assert!(rt; feeder.wants_more());
+    same(rt, push(feeder, piece), Ok(()));
+    same(rt, feeder.held(), feeder.stored());
+    let mut now = step(feeder);
+    for _ in 0..3 {
+        if let Told::Shows(_) = now {
+            now = step(feeder);
         }
-        assert_eq!(rt; now, *last);
-        assert_eq!(rt; (feeder.held(), feeder.stored()), (*held, *stored));
     }
-    push(&mut feeder, &MODULE[15..])?;
-    assert_eq!(rt; step(&mut feeder), Told::Shows(3));
-    assert_eq!(rt; step(&mut feeder), Told::Asks(1));
+    (now, feeder.held(), feeder.stored())
+}
+
+#[test]
+fn a_module_in_three_pieces(rt: HostRuntime) {
+    let mut feeder = Feeder::new(rt.alloc(), 0, WasmFeatures::all());
+    let rows: [(&[u8], (Told, usize, usize)); 3] = [
+        (&MODULE[..5], (Told::Asks(3), 5, 5)),
+        (&MODULE[5..10], (Told::Asks(2), 2, 10)),
+        (&MODULE[10..15], (Told::Asks(1), 0, 7)),
+    ];
+    for (piece, wanted) in rows {
+        same(&rt, steps_after(&rt, &mut feeder, piece), wanted);
+    }
+    same(&rt, push(&mut feeder, &MODULE[15..]), Ok(()));
+    same(&rt, step(&mut feeder), Told::Shows(3));
+    same(&rt, step(&mut feeder), Told::Asks(1));
     feeder.finish();
     assert!(rt; !feeder.wants_more());
     for _ in 0..2 {
         feeder.finish();
-        assert_eq!(rt; step(&mut feeder), Told::Ends(18));
+        same(&rt, step(&mut feeder), Told::Ends(18));
     }
-    Ok(())
 }
 
 // The range of the section of imports that a step shows, if these are the bytes that it consumed.
@@ -113,40 +121,52 @@ fn next_imports(feeder: &mut Feeder, consumed: &[u8]) -> Result<Option<Range<u64
 }
 
 #[test]
-fn faults_and_features(rt: HostRuntime) -> std::result::Result<(), Fail> {
+fn faults_and_features(rt: HostRuntime) {
     let mut feeder = Feeder::new(rt.alloc(), 7, WasmFeatures::MEMORY64);
-    push(&mut feeder, b"\0asm\x01\0\0\0\x02\x01\0\x02")?;
-    assert_eq!(rt; step_with(&mut feeder), Told::Shows(8));
-    assert_eq!(rt; next_imports(&mut feeder, b"\x02\x01\0")?, Some(17..18));
-    assert_eq!(rt; step(&mut feeder), Told::Asks(1));
-    push(&mut feeder, b"\0")?;
+    let pushed = push(&mut feeder, b"\0asm\x01\0\0\0\x02\x01\0\x02");
+    same(&rt, pushed, Ok(()));
+    same(&rt, step_with(&mut feeder), Told::Shows(8));
+    let imports = next_imports(&mut feeder, b"\x02\x01\0");
+    same(&rt, imports, Ok(Some(17..18)));
+    same(&rt, step(&mut feeder), Told::Asks(1));
+    same(&rt, push(&mut feeder, b"\0"), Ok(()));
     let fault = Error::new(Fault::OutOfOrder, 20);
     for _ in 0..2 {
-        assert_eq!(rt; step(&mut feeder), Told::Refuses(fault));
+        same(&rt, step(&mut feeder), Told::Refuses(fault));
     }
-    Ok(())
 }
 
 #[test]
-fn pushes_past_the_top(rt: HostRuntime) -> std::result::Result<(), Fail> {
+fn pushes_past_the_top(rt: HostRuntime) {
     let mut feeder = Feeder::new(rt.alloc(), 18446744073709551607, WasmFeatures::all());
-    push(&mut feeder, b"\0asm\x01\0\0\0")?;
-    assert_eq!(rt; step(&mut feeder), Told::Shows(8));
-    assert_eq!(rt; step(&mut feeder), Told::Asks(1));
+    same(&rt, push(&mut feeder, b"\0asm\x01\0\0\0"), Ok(()));
+    same(&rt, step(&mut feeder), Told::Shows(8));
+    same(&rt, step(&mut feeder), Told::Asks(1));
     let fault = Error::new(Fault::OffsetRange, 18446744073709551615);
-    assert_eq!(rt; push(&mut feeder, b"\0"), Err(fault));
-    assert_eq!(rt; (feeder.held(), feeder.stored()), (0, 8));
+    same(&rt, push(&mut feeder, b"\0"), Err(fault));
+    same(&rt, (feeder.held(), feeder.stored()), (0, 8));
     assert!(rt; feeder.wants_more());
-    push(&mut feeder, b"")?;
+    same(&rt, push(&mut feeder, b""), Ok(()));
     feeder.finish();
-    assert_eq!(rt; step(&mut feeder), Told::Ends(18446744073709551615));
-    Ok(())
+    same(&rt, step(&mut feeder), Told::Ends(18446744073709551615));
 }
 
-// The loop that the documents show.
-#[test]
-fn pieces_of_a_download(rt: HostRuntime) -> std::result::Result<(), Fail> {
-    let mut feeder = Feeder::new(rt.alloc(), 0, WasmFeatures::all());
+// Pushes the next bytes of a download where the feeder wants more, or says that it has ended. Returns the rest.
+fn feed<'a>(feeder: &mut Feeder, download: &'a [u8], size: usize) -> Result<&'a [u8]> {
+    if !feeder.wants_more() {
+        return Ok(download);
+    }
+    if download.is_empty() {
+        feeder.finish();
+        return Ok(download);
+    }
+    let (piece, later) = download.split_at(download.len().min(size));
+    push(feeder, piece)?;
+    Ok(later)
+}
+
+// The loop that the documents show: how many bytes the last part before the end has.
+fn last_part(feeder: &mut Feeder) -> Result<usize> {
     let mut download = MODULE;
     let mut last = 0;
     for _ in 0..20 {
@@ -158,100 +178,122 @@ fn pieces_of_a_download(rt: HostRuntime) -> std::result::Result<(), Fail> {
             Step::Parsed { bytes, .. } => last = bytes.len(),
             Step::NeedMoreData(_) => {}
         }
-        if feeder.wants_more() {
-            if download.is_empty() {
-                feeder.finish();
-            } else {
-                let (piece, later) = download.split_at(download.len().min(5));
-                push(&mut feeder, piece)?;
-                download = later;
-            }
-        }
+        download = feed(feeder, download, 5)?;
     }
-    assert_eq!(rt; (last, feeder.held()), (3, 0));
+    Ok(last)
+}
+
+#[test]
+fn pieces_of_a_download(rt: HostRuntime) {
+    let mut feeder = Feeder::new(rt.alloc(), 0, WasmFeatures::all());
+    same(&rt, last_part(&mut feeder), Ok(3));
+    same(&rt, feeder.held(), 0);
+}
+
+// A feeder whose memory runs out.
+type SparingFeeder<'a> = Feeder<&'a Sparing<Global>>;
+
+// Pushes a piece. A push that is refused leaves the feeder as it was, and is repeated with more memory. Returns whether it was
+// refused.
+fn push_again(
+    rt: &impl Abort,
+    feeder: &mut SparingFeeder<'_>,
+    heap: &Sparing<Global>,
+    piece: &[u8],
+) -> bool {
+    let before = (feeder.held(), feeder.stored());
+    if push(feeder, piece).is_ok() {
+        return false;
+    }
+    same(rt, (feeder.held(), feeder.stored()), before);
+    heap.give(AMPLE);
+    same(rt, push(feeder, piece), Ok(()));
+    true
+}
+
+// Notes the steps of a feeder up to a request or the end.
+fn note_steps(
+    feeder: &mut SparingFeeder<'_>,
+    steps: &mut Vec<Told>,
+) -> std::result::Result<(), AllocError> {
+    for _ in 0..4 {
+        let step = step_with(feeder);
+        steps.push(step)?;
+        let Told::Shows(_) = step else {
+            break;
+        };
+    }
     Ok(())
 }
 
-// The steps of the module in pieces of these sizes, and whether a push was refused: it leaves the feeder as it was, and is
-// repeated.
-fn steps_in(
+// Notes the steps of the module in pieces of these sizes. Returns whether a push was refused.
+fn note_pieces(
     rt: &impl Abort,
-    alloc: Global,
+    feeder: &mut SparingFeeder<'_>,
     heap: &Sparing<Global>,
     sizes: &[usize],
-) -> std::result::Result<(Vec<Told>, bool), Fail> {
-    let mut feeder = Feeder::new_in(heap, 0, WasmFeatures::all());
-    let mut steps = Vec::new(alloc);
+    steps: &mut Vec<Told>,
+) -> bool {
     let mut refused = false;
     let mut rest = MODULE;
     for size in sizes {
         let (piece, later) = rest.split_at(rest.len().min(*size));
         rest = later;
-        let before = (feeder.held(), feeder.stored());
-        if push(&mut feeder, piece).is_err() {
-            assert_eq!(rt; (feeder.held(), feeder.stored()), before);
-            refused = true;
-            heap.give(AMPLE);
-            push(&mut feeder, piece)?;
-        }
-        for _ in 0..4 {
-            let step = step_with(&mut feeder);
-            steps.push(step)?;
-            if let Told::Asks(_) = step {
-                break;
-            }
-        }
+        refused |= push_again(rt, feeder, heap, piece);
+        note_steps(feeder, steps).expect(rt, "out of memory");
     }
     feeder.finish();
-    steps.push(step_with(&mut feeder))?;
-    Ok((steps, refused))
+    note_steps(feeder, steps).expect(rt, "out of memory");
+    refused
+}
+
+// The steps are these, with so many blocks at first. Returns whether a push was refused.
+fn tells(rt: &impl Abort, alloc: Global, blocks: u64, sizes: &[usize], wanted: &[Told]) -> bool {
+    let heap = Sparing::new(alloc, blocks);
+    let mut feeder = Feeder::new_in(&heap, 0, WasmFeatures::all());
+    let mut steps = Vec::new(alloc);
+    let refused = note_pieces(rt, &mut feeder, &heap, sizes, &mut steps);
+    same(rt, steps.as_slice(), wanted);
+    refused
+}
+
+// Each growth is refused in turn, until all succeed.
+fn repeats(rt: &impl Abort, alloc: Global, sizes: &[usize], wanted: &[Told]) {
+    let mut runs = 0;
+    for blocks in 0..AMPLE {
+        if !tells(rt, alloc, blocks, sizes, wanted) {
+            runs = blocks;
+            break;
+        }
+    }
+    assert!(rt; runs >= 2, "{runs}");
 }
 
 #[test]
-fn refused_pushes_are_repeated(rt: HostRuntime) -> std::result::Result<(), Fail> {
+fn refused_pushes_are_repeated(rt: HostRuntime) {
     let (asks, shows) = (Told::Asks, Told::Shows);
-    let rows: [(&[usize], &[Told]); 2] = [
-        (
-            &[5, 5, 5, 3],
-            &[
-                asks(3),
-                shows(8),
-                asks(2),
-                shows(4),
-                shows(3),
-                asks(1),
-                shows(3),
-                asks(1),
-                Told::Ends(18),
-            ],
-        ),
-        (
-            &[8, 10],
-            &[
-                shows(8),
-                asks(1),
-                shows(4),
-                shows(3),
-                shows(3),
-                asks(1),
-                Told::Ends(18),
-            ],
-        ),
+    let steps = [
+        asks(3),
+        shows(8),
+        asks(2),
+        shows(4),
+        shows(3),
+        asks(1),
+        shows(3),
+        asks(1),
+        Told::Ends(18),
     ];
-    for (sizes, steps) in rows {
-        let mut runs = 0;
-        for blocks in 0..AMPLE {
-            let heap = Sparing::new(rt.alloc(), blocks);
-            let (told, refused) = steps_in(&rt, rt.alloc(), &heap, sizes)?;
-            assert_eq!(rt; told.as_slice(), steps);
-            if !refused {
-                runs = blocks;
-                break;
-            }
-        }
-        assert!(rt; runs >= 2, "{runs}");
-    }
-    Ok(())
+    repeats(&rt, rt.alloc(), &[5, 5, 5, 3], &steps);
+    let steps = [
+        shows(8),
+        asks(1),
+        shows(4),
+        shows(3),
+        shows(3),
+        asks(1),
+        Told::Ends(18),
+    ];
+    repeats(&rt, rt.alloc(), &[8, 10], &steps);
 }
 
 // What a compiler makes of the parts of a module.
@@ -281,28 +323,28 @@ fn task_of(step: Step<'_>) -> Task {
 }
 
 // The loop of a compiler that takes bodies as they come, as the documents show it.
-#[test]
-fn bodies_as_they_come(rt: HostRuntime) -> std::result::Result<(), Fail> {
-    let mut download: &[u8] =
-        b"\0asm\x01\0\0\0\x03\x03\x02\0\0\x0a\x08\x02\x02\0\x0b\x03\0\x01\x0b";
-    let mut feeder = Feeder::new(rt.alloc(), 0, WasmFeatures::all());
-    let mut tasks = Vec::new(rt.alloc());
+fn note_tasks(
+    feeder: &mut Feeder,
+    mut download: &[u8],
+    tasks: &mut Vec<Task>,
+) -> std::result::Result<(), Fail> {
     for _ in 0..40 {
         let task = task_of(feeder.open().step()?);
         if task == Task::Finish {
             break;
         }
         tasks.push(task)?;
-        if feeder.wants_more() {
-            if download.is_empty() {
-                feeder.finish();
-            } else {
-                let (piece, later) = download.split_at(download.len().min(9));
-                push(&mut feeder, piece)?;
-                download = later;
-            }
-        }
+        download = feed(feeder, download, 9)?;
     }
+    Ok(())
+}
+
+#[test]
+fn bodies_as_they_come(rt: HostRuntime) -> std::result::Result<(), Fail> {
+    let download = b"\0asm\x01\0\0\0\x03\x03\x02\0\0\x0a\x08\x02\x02\0\x0b\x03\0\x01\x0b";
+    let mut feeder = Feeder::new(rt.alloc(), 0, WasmFeatures::all());
+    let mut tasks = Vec::new(rt.alloc());
+    note_tasks(&mut feeder, download, &mut tasks)?;
     let wanted = [
         Task::Wait,
         Task::Declare,
@@ -314,6 +356,6 @@ fn bodies_as_they_come(rt: HostRuntime) -> std::result::Result<(), Fail> {
         Task::Compile(23),
         Task::Wait,
     ];
-    assert_eq!(rt; tasks.as_slice(), wanted.as_slice());
+    same(&rt, tasks.as_slice(), wanted.as_slice());
     Ok(())
 }

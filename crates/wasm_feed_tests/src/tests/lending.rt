@@ -2,10 +2,10 @@
 ghost use Rattle.wasm_feed.specs.Beside.{MayCome};
 
 use super::feeding::{MODULE, Told, push, say};
+use super::same;
 use bitflags::Flags;
-use std::alloc::Allocator;
+use std::alloc::{AllocError, Allocator, Global};
 use std::process::Abort;
-use std::test::Fail;
 use wasm_feed::Feeder;
 use wasm_parser::{Error, Fault, Result, WasmFeatures};
 use wasm_testing::Sparing;
@@ -24,19 +24,27 @@ fn over<'a, A: Allocator>(feeder: &mut Feeder<A>, piece: &'a [u8]) -> Result<(To
     Ok((told, lent.split_at(taken).1))
 }
 
+// What a step over a piece tells, where memory suffices.
+fn told_over<A: Allocator>(rt: &impl Abort, feeder: &mut Feeder<A>, piece: &[u8]) -> Told {
+    let (told, _) = over(feeder, piece).expect(rt, "out of memory");
+    told
+}
+
 // Each call that makes a step tells the same, also over more bytes, and nothing more is held or stored.
-fn stays(rt: &impl Abort, feeder: &mut Feeder, told: Told) -> Result<()> {
-    let (held, stored) = (feeder.held(), feeder.stored());
+fn stays(rt: &impl Abort, feeder: &mut Feeder, told: Told) {
+    let before = (feeder.held(), feeder.stored());
     for _ in 0..2 {
-        assert_eq!(rt; say(feeder.step()), told);
-        assert_eq!(rt; say(feeder.open().step()), told);
-        assert_eq!(rt; feeder.step_with(say), told);
-        assert_eq!(rt; over(feeder, b"\x01\x01\0")?.0, told);
-        assert_eq!(rt; over(feeder, b"")?.0, told);
+        let steps = [
+            say(feeder.step()),
+            say(feeder.open().step()),
+            feeder.step_with(say),
+            told_over(rt, feeder, b"\x01\x01\0"),
+            told_over(rt, feeder, b""),
+        ];
+        same(rt, steps, [told; 5]);
         assert!(rt; !feeder.wants_more());
-        assert_eq!(rt; (feeder.held(), feeder.stored()), (held, stored));
+        same(rt, (feeder.held(), feeder.stored()), before);
     }
-    Ok(())
 }
 
 // The steps over a piece are these, after each of which so many bytes are held and stored.
@@ -45,183 +53,136 @@ fn tells<A: Allocator>(
     feeder: &mut Feeder<A>,
     piece: &[u8],
     rows: &[(Told, usize, usize)],
-) -> Result<()> {
+) {
     let mut rest = piece;
-    for (told, held, stored) in rows {
-        let (now, left) = over(feeder, rest)?;
+    for row in rows {
+        let (now, left) = over(feeder, rest).expect(rt, "out of memory");
         rest = left;
-        assert_eq!(rt;
-            (now, feeder.held(), feeder.stored()),
-            (*told, *held, *stored)
-        );
+        same(rt, (now, feeder.held(), feeder.stored()), *row);
     }
     assert!(rt; rest.is_empty());
-    Ok(())
 }
 
 #[test]
-fn parts_that_lie_whole_in_a_piece_are_not_stored(
-    rt: HostRuntime,
-) -> std::result::Result<(), Fail> {
+fn parts_that_lie_whole_in_a_piece_are_not_stored(rt: HostRuntime) {
+    let (asks, shows, ends) = (Told::Asks, Told::Shows, Told::Ends);
     let mut feeder = Feeder::new(rt.alloc(), 0, WasmFeatures::all());
     let (first, second) = MODULE.split_at(14);
-    tells(
-        &rt,
-        &mut feeder,
-        first,
-        &[
-            (Told::Shows(8), 0, 0),
-            (Told::Shows(4), 0, 0),
-            (Told::Asks(1), 2, 2),
-        ],
-    )?;
+    let rows = [(shows(8), 0, 0), (shows(4), 0, 0), (asks(1), 2, 2)];
+    tells(&rt, &mut feeder, first, &rows);
     assert!(rt; feeder.wants_more());
-    tells(
-        &rt,
-        &mut feeder,
-        second,
-        &[
-            (Told::Shows(3), 3, 6),
-            (Told::Shows(3), 0, 6),
-            (Told::Asks(1), 0, 6),
-        ],
-    )?;
+    let rows = [(shows(3), 3, 6), (shows(3), 0, 6), (asks(1), 0, 6)];
+    tells(&rt, &mut feeder, second, &rows);
     feeder.finish();
-    tells(
-        &rt,
-        &mut feeder,
-        b"",
-        &[(Told::Ends(18), 0, 6), (Told::Ends(18), 0, 6)],
-    )?;
-    Ok(())
+    let rows = [(ends(18), 0, 6), (ends(18), 0, 6)];
+    tells(&rt, &mut feeder, b"", &rows);
 }
 
-// A custom section of 605 bytes, and a function section: of the second piece only what the first one misses is stored.
-#[test]
-fn only_what_a_part_misses_is_stored(rt: HostRuntime) -> std::result::Result<(), Fail> {
-    let mut feeder = Feeder::new(rt.alloc(), 0, WasmFeatures::all());
-    let mut stream = Vec::new(rt.alloc());
+// A custom section of 605 bytes, and a function section.
+fn custom_of_605(alloc: Global) -> std::result::Result<Vec<u8>, AllocError> {
+    let mut stream = Vec::new(alloc);
     stream.extend_from_slice(b"\0asm\x01\0\0\0\0\xda\x04\x01x")?;
     stream.extend_from_slice(&[0; 600])?;
     stream.extend_from_slice(b"\x03\x02\x01\0")?;
+    Ok(stream)
+}
+
+// Of the second piece only what the first one misses is stored.
+#[test]
+fn only_what_a_part_misses_is_stored(rt: HostRuntime) {
+    let (asks, shows) = (Told::Asks, Told::Shows);
+    let mut feeder = Feeder::new(rt.alloc(), 0, WasmFeatures::all());
+    let stream = custom_of_605(rt.alloc()).expect(&rt, "out of memory");
     let (first, second) = stream.as_slice().split_at(stream.len().min(20));
-    tells(
-        &rt,
-        &mut feeder,
-        first,
-        &[(Told::Shows(8), 0, 0), (Told::Asks(593), 12, 12)],
-    )?;
-    tells(
-        &rt,
-        &mut feeder,
-        second,
-        &[
-            (Told::Shows(605), 0, 605),
-            (Told::Shows(4), 0, 0),
-            (Told::Asks(1), 0, 0),
-        ],
-    )?;
-    Ok(())
+    let rows = [(shows(8), 0, 0), (asks(593), 12, 12)];
+    tells(&rt, &mut feeder, first, &rows);
+    let rows = [(shows(605), 0, 605), (shows(4), 0, 0), (asks(1), 0, 0)];
+    tells(&rt, &mut feeder, second, &rows);
 }
 
 // Pushes and steps over pieces take turns.
 #[test]
-fn a_piece_comes_after_what_was_pushed(rt: HostRuntime) -> std::result::Result<(), Fail> {
+fn a_piece_comes_after_what_was_pushed(rt: HostRuntime) {
+    let (asks, shows) = (Told::Asks, Told::Shows);
     let mut feeder = Feeder::new(rt.alloc(), 0, WasmFeatures::all());
     let (first, second) = MODULE.split_at(13);
-    push(&mut feeder, first)?;
-    tells(
-        &rt,
-        &mut feeder,
-        b"",
-        &[
-            (Told::Shows(8), 5, 13),
-            (Told::Shows(4), 1, 13),
-            (Told::Asks(1), 1, 13),
-        ],
-    )?;
-    tells(
-        &rt,
-        &mut feeder,
-        second,
-        &[(Told::Shows(3), 3, 6), (Told::Shows(3), 0, 6)],
-    )?;
-    Ok(())
+    same(&rt, push(&mut feeder, first), Ok(()));
+    let rows = [(shows(8), 5, 13), (shows(4), 1, 13), (asks(1), 1, 13)];
+    tells(&rt, &mut feeder, b"", &rows);
+    let rows = [(shows(3), 3, 6), (shows(3), 0, 6)];
+    tells(&rt, &mut feeder, second, &rows);
 }
 
 // Where the growth for a piece is refused, nothing is told, and the same piece can be given again.
 #[test]
-fn a_refused_piece_is_given_again(rt: HostRuntime) -> std::result::Result<(), Fail> {
+fn a_refused_piece_is_given_again(rt: HostRuntime) {
     let heap = Sparing::new(rt.alloc(), 0);
     let mut feeder = Feeder::new_in(&heap, 0, WasmFeatures::all());
     let refused = over(&mut feeder, MODULE).err();
-    assert_eq!(rt; refused, Some(Error::new(Fault::OutOfMemory, 0)));
+    same(&rt, refused, Some(Error::new(Fault::OutOfMemory, 0)));
     assert!(rt; feeder.wants_more());
     heap.give(20);
-    let (told, left) = over(&mut feeder, MODULE)?;
-    assert_eq!(rt; (told, left.len()), (Told::Shows(8), 10));
-    Ok(())
+    let told = over(&mut feeder, MODULE);
+    same(&rt, told, Ok((Told::Shows(8), &MODULE[8..])));
 }
 
 #[test]
-fn the_end_stays(rt: HostRuntime) -> std::result::Result<(), Fail> {
+fn the_end_stays(rt: HostRuntime) {
     let mut feeder = Feeder::new(rt.alloc(), 0, WasmFeatures::all());
-    push(&mut feeder, b"\0asm\x01\0\0\0")?;
+    same(&rt, push(&mut feeder, b"\0asm\x01\0\0\0"), Ok(()));
     assert!(rt; !feeder.is_finished());
     feeder.finish();
     feeder.finish();
     assert!(rt; feeder.is_finished());
-    assert_eq!(rt; say(feeder.step()), Told::Shows(8));
-    stays(&rt, &mut feeder, Told::Ends(8))?;
+    same(&rt, say(feeder.step()), Told::Shows(8));
+    stays(&rt, &mut feeder, Told::Ends(8));
     feeder.finish();
-    stays(&rt, &mut feeder, Told::Ends(8))?;
-    Ok(())
+    stays(&rt, &mut feeder, Told::Ends(8));
 }
 
 // After the end of input: a section that is cut short.
 #[test]
-fn the_fault_of_a_cut_stays(rt: HostRuntime) -> std::result::Result<(), Fail> {
+fn the_fault_of_a_cut_stays(rt: HostRuntime) {
     let mut feeder = Feeder::new(rt.alloc(), 0, WasmFeatures::all());
-    push(&mut feeder, b"\0asm\x01\0\0\0\x01")?;
+    same(&rt, push(&mut feeder, b"\0asm\x01\0\0\0\x01"), Ok(()));
     feeder.finish();
-    assert_eq!(rt; over(&mut feeder, b"")?.0, Told::Shows(8));
+    same(&rt, told_over(&rt, &mut feeder, b""), Told::Shows(8));
     let cut = Error::new(Fault::UnexpectedEof, 9);
-    stays(&rt, &mut feeder, Told::Refuses(cut))?;
-    Ok(())
+    stays(&rt, &mut feeder, Told::Refuses(cut));
 }
 
 // A fault in bytes that were lent is held, so other bytes after it change nothing.
 #[test]
-fn a_fault_stays(rt: HostRuntime) -> std::result::Result<(), Fail> {
+fn a_fault_stays(rt: HostRuntime) {
     let mut feeder = Feeder::new(rt.alloc(), 0, WasmFeatures::all());
     let malformed = Told::Refuses(Error::new(Fault::MalformedSectionId, 8));
-    tells(
-        &rt,
-        &mut feeder,
-        b"\0asm\x01\0\0\0\x80\0",
-        &[(Told::Shows(8), 0, 0), (malformed, 2, 2)],
-    )?;
-    stays(&rt, &mut feeder, malformed)?;
+    let rows = [(Told::Shows(8), 0, 0), (malformed, 2, 2)];
+    tells(&rt, &mut feeder, b"\0asm\x01\0\0\0\x80\0", &rows);
+    stays(&rt, &mut feeder, malformed);
     feeder.finish();
-    stays(&rt, &mut feeder, malformed)?;
-    Ok(())
+    stays(&rt, &mut feeder, malformed);
 }
 
 // A header that ends at the top of the offsets, and a byte after it.
 #[test]
-fn past_the_top_of_the_offsets(rt: HostRuntime) -> std::result::Result<(), Fail> {
-    let start = u64::MAX - 8;
-    let mut feeder = Feeder::new(rt.alloc(), start, WasmFeatures::all());
-    assert_eq!(rt; over(&mut feeder, b"\0asm\x01\0\0\0")?.0, Told::Shows(8));
+fn a_byte_past_the_top_of_the_offsets(rt: HostRuntime) {
+    let mut feeder = Feeder::new(rt.alloc(), u64::MAX - 8, WasmFeatures::all());
+    let header = told_over(&rt, &mut feeder, b"\0asm\x01\0\0\0");
+    same(&rt, header, Told::Shows(8));
     let past = Told::Refuses(Error::new(Fault::OffsetRange, u64::MAX));
     for _ in 0..2 {
-        assert_eq!(rt; over(&mut feeder, b"\0")?.0, past);
+        same(&rt, told_over(&rt, &mut feeder, b"\0"), past);
     }
-    assert_eq!(rt; say(feeder.step()), past);
-    let mut whole = Feeder::new(rt.alloc(), start, WasmFeatures::all());
+    same(&rt, say(feeder.step()), past);
+}
+
+#[test]
+fn a_piece_past_the_top_of_the_offsets(rt: HostRuntime) {
+    let start = u64::MAX - 8;
+    let mut feeder = Feeder::new(rt.alloc(), start, WasmFeatures::all());
     let past = Told::Refuses(Error::new(Fault::OffsetRange, start));
-    assert_eq!(rt; over(&mut whole, b"\0asm\x01\0\0\0\0")?.0, past);
-    whole.finish();
-    assert_eq!(rt; over(&mut whole, b"")?.0, past);
-    Ok(())
+    let told = told_over(&rt, &mut feeder, b"\0asm\x01\0\0\0\0");
+    same(&rt, told, past);
+    feeder.finish();
+    same(&rt, told_over(&rt, &mut feeder, b""), past);
 }

@@ -1,10 +1,10 @@
 // Streams that are cut into pieces.
-use super::events;
+use super::feeding::push;
+use super::{events, same};
 use bitflags::Flags;
 use std::alloc::{AllocError, Global};
 use std::ops::Range;
 use std::process::Abort;
-use std::test::Fail;
 use wasm_feed::{Event, EventKind, Feeder, fits_pieces, read_pieces_in};
 use wasm_parser::{Encoding, Error, Fault, WasmFeatures};
 use wasm_testing::Sparing;
@@ -44,44 +44,33 @@ fn cut(alloc: Global, bytes: &[u8], size: usize, spaced: bool) -> Result<Vec<&[u
 
 // That an event is this one.
 fn is(rt: &impl Abort, event: &Event, wanted: &Wanted<'_>) {
-    assert_eq!(rt; event.kind, wanted.0);
-    assert_eq!(rt; event.range, wanted.1);
-    assert_eq!(rt; event.bytes.as_slice(), wanted.2);
+    let (kind, range, bytes) = wanted;
+    same(
+        rt,
+        (&event.kind, &event.range, event.bytes.as_slice()),
+        (kind, range, *bytes),
+    );
 }
 
 // The events of these pieces are these.
-fn are(
-    rt: &impl Abort,
-    alloc: Global,
-    start: u64,
-    pieces: &[&[u8]],
-    wanted: &[Wanted<'_>],
-) -> Result<(), Fail> {
-    let events = events(alloc, start, pieces)?;
-    assert_eq!(rt; events.len(), wanted.len());
+fn are(rt: &impl Abort, alloc: Global, start: u64, pieces: &[&[u8]], wanted: &[Wanted<'_>]) {
+    let events = events(rt, alloc, start, pieces);
+    same(rt, events.len(), wanted.len());
     for (event, wanted) in events.iter().zip(wanted) {
         is(rt, event, wanted);
     }
-    Ok(())
 }
 
 // The stream's events are these, wherever it is cut.
-fn gives(
-    rt: &impl Abort,
-    alloc: Global,
-    start: u64,
-    stream: &[u8],
-    wanted: &[Wanted<'_>],
-) -> Result<(), Fail> {
+fn gives(rt: &impl Abort, alloc: Global, start: u64, stream: &[u8], wanted: &[Wanted<'_>]) {
     for (size, spaced) in [(1, false), (5, false), (30, false), (1, true), (7, true)] {
-        let pieces = cut(alloc, stream, size, spaced)?;
-        are(rt, alloc, start, &pieces, wanted)?;
+        let pieces = cut(alloc, stream, size, spaced).expect(rt, "out of memory");
+        are(rt, alloc, start, &pieces, wanted);
     }
-    Ok(())
 }
 
 #[test]
-fn calls_with_ample_memory(rt: HostRuntime) -> Result<(), Fail> {
+fn readings_with_ample_memory(rt: HostRuntime) {
     let (num, encoding) = (1, Encoding::Module);
     let wanted: [Wanted<'_>; 5] = [
         (
@@ -102,17 +91,18 @@ fn calls_with_ample_memory(rt: HostRuntime) -> Result<(), Fail> {
         (EventKind::Body, 16..18, b"\x02\0\x0b"),
         (EventKind::End, 18..18, b""),
     ];
-    gives(&rt, rt.alloc(), 0, MODULE, &wanted)?;
-    let mut feeder = Feeder::new(rt.alloc(), 0, WasmFeatures::all());
-    if feeder.wants_more() {
-        feeder.push(MODULE)?;
-    }
-    assert_eq!(rt; feeder.held(), 18);
-    Ok(())
+    gives(&rt, rt.alloc(), 0, MODULE, &wanted);
 }
 
 #[test]
-fn near_the_top(rt: HostRuntime) -> Result<(), Fail> {
+fn a_push_with_ample_memory(rt: HostRuntime) {
+    let mut feeder = Feeder::new(rt.alloc(), 0, WasmFeatures::all());
+    same(&rt, push(&mut feeder, MODULE), Ok(()));
+    same(&rt, feeder.held(), 18);
+}
+
+#[test]
+fn near_the_top(rt: HostRuntime) {
     let (start, top) = (18446744073709551607, 18446744073709551615);
     let (num, encoding) = (13, Encoding::Component);
     let wanted: [Wanted<'_>; 2] = [
@@ -123,7 +113,12 @@ fn near_the_top(rt: HostRuntime) -> Result<(), Fail> {
         ),
         (EventKind::End, top..top, b""),
     ];
-    gives(&rt, rt.alloc(), start, b"\0asm\x0d\0\x01\0", &wanted)?;
+    gives(&rt, rt.alloc(), start, b"\0asm\x0d\0\x01\0", &wanted);
+}
+
+#[test]
+fn pieces_that_fit_below_the_top(rt: HostRuntime) {
+    let (start, top) = (18446744073709551607, 18446744073709551615);
     let rows: [(u64, &[&[u8]], bool); 6] = [
         (start, &[b"\0asm", b"", b"\x01\0\0\0"], true),
         (start, &[b"\0asm\x01\0\0\0", b"", b"\0"], false),
@@ -133,9 +128,8 @@ fn near_the_top(rt: HostRuntime) -> Result<(), Fail> {
         (0, &[], true),
     ];
     for (offset, pieces, fits) in rows {
-        assert_eq!(rt; fits_pieces(offset, pieces), fits);
+        same(&rt, fits_pieces(offset, pieces), fits);
     }
-    Ok(())
 }
 
 // How many events these pieces have, read with memory from this allocator.
@@ -146,29 +140,37 @@ fn count_in(heap: &Sparing<Global>, pieces: &[&[u8]]) -> Result<usize, Error> {
     Ok(read_pieces_in(heap, 40, pieces)?.len())
 }
 
-// Each growth of a reading is refused in turn: it is out of memory each time.
-fn runs_out(rt: &impl Abort, alloc: Global, stream: &[u8], least: u64) -> Result<(), Fail> {
-    let pieces = cut(alloc, stream, 5, true)?;
-    let whole = events(alloc, 40, &pieces)?;
+// Whether so many blocks suffice for a reading of these pieces. If not, the error is `OutOfMemory`.
+fn suffices(rt: &impl Abort, alloc: Global, blocks: u64, pieces: &[&[u8]], whole: usize) -> bool {
+    match count_in(&Sparing::new(alloc, blocks), pieces) {
+        Ok(count) => {
+            same(rt, count, whole);
+            true
+        }
+        Err(e) => {
+            same(rt, e, Error::new(Fault::OutOfMemory, 0));
+            false
+        }
+    }
+}
+
+// Each growth of a reading is refused in turn.
+fn runs_out(rt: &impl Abort, alloc: Global, stream: &[u8], least: u64) {
+    let pieces = cut(alloc, stream, 5, true).expect(rt, "out of memory");
+    let whole = events(rt, alloc, 40, &pieces).len();
     let mut refused = 0;
     for blocks in 0..AMPLE {
-        let heap = Sparing::new(alloc, blocks);
-        match count_in(&heap, &pieces) {
-            Ok(count) => {
-                assert_eq!(rt; count, whole.len());
-                refused = blocks;
-                break;
-            }
-            Err(e) => assert_eq!(rt; e, Error::new(Fault::OutOfMemory, 0)),
+        if suffices(rt, alloc, blocks, &pieces, whole) {
+            refused = blocks;
+            break;
         }
     }
     assert!(rt; refused >= least, "{refused}");
-    Ok(())
 }
 
 #[test]
-fn readings_whose_memory_runs_out(rt: HostRuntime) -> Result<(), Fail> {
-    runs_out(&rt, rt.alloc(), MODULE, 6)?;
-    runs_out(&rt, rt.alloc(), CUSTOM, 5)?;
-    runs_out(&rt, rt.alloc(), NUMBERS, 5)
+fn readings_whose_memory_runs_out(rt: HostRuntime) {
+    runs_out(&rt, rt.alloc(), MODULE, 6);
+    runs_out(&rt, rt.alloc(), CUSTOM, 5);
+    runs_out(&rt, rt.alloc(), NUMBERS, 5);
 }

@@ -1,16 +1,30 @@
 // Loops over a source by a feeder.
 use super::feeding::{MODULE, Told, say};
+use super::same;
 use bitflags::Flags;
 use std::alloc::Global;
 use std::process::Abort;
-use std::test::Fail;
 use wasm_feed::{Ahead, Cursor, Failed, Feeder, ListError, SliceSource, Source, parse_next, seen};
 use wasm_parser::{Error, Fault, Parser, WasmFeatures};
 
+// Reads into this buffer, where the feeder wants more. Returns whether it did.
+fn read_more(
+    rt: &impl Abort,
+    feeder: &mut Feeder,
+    source: &mut SliceSource<'_>,
+    buffer: &mut [u8],
+) -> bool {
+    if !feeder.wants_more() || buffer.is_empty() {
+        return false;
+    }
+    same(rt, feeder.read_from(source, buffer), Ok(()));
+    true
+}
+
 // How many reads, and how many steps without a request, it takes to read these bytes into room for so many, and how many bytes
 // were stored at most. Bytes are asked for where a step asks, and nowhere else.
-fn read_by(alloc: Global, bytes: &[u8], size: usize) -> Result<(u32, u32, usize), Fail> {
-    let mut buffer = vec![in alloc; 0u8; size.max(1)]?;
+fn read_by(rt: &impl Abort, alloc: Global, bytes: &[u8], size: usize) -> (u32, u32, usize) {
+    let mut buffer = vec![in alloc; 0u8; size.max(1)].expect(rt, "out of memory");
     let mut source = SliceSource::new(bytes);
     let mut feeder = Feeder::new(alloc, 0, WasmFeatures::all());
     let mut reads = 0u32;
@@ -20,52 +34,50 @@ fn read_by(alloc: Global, bytes: &[u8], size: usize) -> Result<(u32, u32, usize)
         match say(feeder.open().step()) {
             Told::Asks(_) => {}
             Told::Shows(_) => steps = steps.wrapping_add(1),
-            Told::Ends(_) => return Ok((reads, steps.wrapping_add(1), most)),
-            Told::Refuses(error) => return Err(error.into()),
+            Told::Ends(_) => return (reads, steps.wrapping_add(1), most),
+            Told::Refuses(error) => panic!(rt; "{error:?}"),
         }
-        if feeder.wants_more() && buffer.len() > 0 {
-            feeder.read_from(&mut source, buffer.as_mut_slice())?;
+        if read_more(rt, &mut feeder, &mut source, buffer.as_mut_slice()) {
             reads = reads.wrapping_add(1);
             most = feeder.stored().max(most);
         }
     }
-    Ok((reads, steps, most))
+    (reads, steps, most)
 }
 
 #[test]
-fn a_source_is_read_where_more_is_asked_for(rt: HostRuntime) -> Result<(), Fail> {
-    assert_eq!(rt; read_by(rt.alloc(), MODULE, 18)?, (2, 5, 18));
-    assert_eq!(rt; read_by(rt.alloc(), MODULE, 10)?, (3, 5, 10));
-    assert_eq!(rt; read_by(rt.alloc(), MODULE, 3)?, (7, 5, 9));
-    assert_eq!(rt; read_by(rt.alloc(), MODULE, 1)?, (19, 5, 8));
-    Ok(())
+fn a_source_is_read_where_more_is_asked_for(rt: HostRuntime) {
+    let alloc = rt.alloc();
+    same(&rt, read_by(&rt, alloc, MODULE, 18), (2, 5, 18));
+    same(&rt, read_by(&rt, alloc, MODULE, 10), (3, 5, 10));
+    same(&rt, read_by(&rt, alloc, MODULE, 3), (7, 5, 9));
+    same(&rt, read_by(&rt, alloc, MODULE, 1), (19, 5, 8));
 }
 
 #[test]
-fn a_source_with_nothing_is_at_its_end(rt: HostRuntime) -> Result<(), Fail> {
-    let mut buffer = [0u8; 4];
+fn a_source_with_nothing_is_at_its_end(rt: HostRuntime) {
     let mut source = SliceSource::new(b"");
     let mut feeder = Feeder::new(rt.alloc(), 0, WasmFeatures::all());
-    if feeder.wants_more() {
-        feeder.read_from(&mut source, &mut buffer)?;
-    }
-    assert_eq!(rt;
+    assert!(rt; read_more(&rt, &mut feeder, &mut source, &mut [0; 4]));
+    same(
+        &rt,
         (feeder.held(), feeder.stored(), feeder.wants_more()),
-        (0, 0, false)
+        (0, 0, false),
     );
-    assert!(rt; feeder.step().is_err());
+    let missing = Error::new(Fault::UnexpectedEof, 0);
+    same(&rt, say(feeder.step()), Told::Refuses(missing));
     assert!(rt; !feeder.wants_more());
-    Ok(())
 }
 
 // The next step beside the chunk that was read last.
 fn next_said(
+    rt: &impl Abort,
     ahead: &mut Ahead<Global>,
     cursor: &mut Cursor,
     stored: &mut Vec<u8>,
-) -> Result<Told, Fail> {
-    ahead.make_ready(cursor, stored)?;
-    Ok(say(parse_next(cursor, seen(stored, ahead.bytes()))))
+) -> Told {
+    same(rt, ahead.make_ready(cursor, stored), Ok(()));
+    say(parse_next(cursor, seen(stored, ahead.bytes())))
 }
 
 // Each later step says the same.
@@ -75,12 +87,11 @@ fn stays(
     cursor: &mut Cursor,
     stored: &mut Vec<u8>,
     said: Told,
-) -> Result<(), Fail> {
+) {
     for _ in 0..3 {
         ahead.pass_lent(cursor, stored);
-        assert_eq!(rt; next_said(ahead, cursor, stored)?, said);
+        same(rt, next_said(rt, ahead, cursor, stored), said);
     }
-    Ok(())
 }
 
 /// A source whose reads fail.
@@ -101,44 +112,50 @@ impl Source for Broken {
     }
 }
 
-// A read that fails changes nothing: the next step asks as before.
-fn fails_to_read(
+// Reads a chunk from this source.
+fn read_chunk<R: Source>(
+    ahead: &mut Ahead<Global>,
+    cursor: &mut Cursor,
+    stored: &mut Vec<u8>,
+    source: &mut R,
+) -> Result<(), ListError> {
+    if ahead.make_ready(cursor, stored).is_err() {
+        return Err(ListError::Memory);
+    }
+    ahead.refill(cursor, stored, source)
+}
+
+// A read that fails changes nothing: the next step asks as before. Then the source is read.
+fn refill(
     rt: &impl Abort,
     ahead: &mut Ahead<Global>,
     cursor: &mut Cursor,
     stored: &mut Vec<u8>,
-) -> Result<(), Fail> {
-    ahead.make_ready(cursor, stored)?;
-    let read = ahead.refill(cursor, stored, &mut Broken);
-    assert_eq!(rt; read, Err(ListError::Input));
-    let Told::Asks(_) = next_said(ahead, cursor, stored)? else {
-        return Err("no request".into());
+    source: &mut SliceSource<'_>,
+) {
+    let failed = read_chunk(ahead, cursor, stored, &mut Broken);
+    same(rt, failed, Err(ListError::Input));
+    let Told::Asks(_) = next_said(rt, ahead, cursor, stored) else {
+        panic!(rt; "no request");
     };
-    Ok(())
+    let read = read_chunk(ahead, cursor, stored, source);
+    same(rt, read, Ok(()));
 }
 
 // How many reads and how many steps without a request it takes to read these bytes by chunks of so many, parsed where they are, and what
 // the last step says.
-fn read_lent(
-    rt: &impl Abort,
-    alloc: Global,
-    bytes: &[u8],
-    size: usize,
-) -> Result<(u32, u32, Told), Fail> {
+fn read_lent(rt: &impl Abort, alloc: Global, bytes: &[u8], size: usize) -> (u32, u32, Told) {
+    let room = vec![in alloc; 0u8; size.max(1)].expect(rt, "out of memory");
     let mut source = SliceSource::new(bytes);
-    let mut ahead = Ahead::new(vec![in alloc; 0u8; size.max(1)]?);
+    let mut ahead = Ahead::new(room);
     let mut stored = Vec::new(alloc);
     let mut cursor = Cursor::new(Parser::new(0));
     let mut reads = 0u32;
     let mut steps = 0u32;
     for _turn in 0..200 {
-        ahead.make_ready(&mut cursor, &mut stored)?;
-        let said = say(parse_next(&mut cursor, seen(&stored, ahead.bytes())));
-        match said {
+        match next_said(rt, &mut ahead, &mut cursor, &mut stored) {
             Told::Asks(_) => {
-                fails_to_read(rt, &mut ahead, &mut cursor, &mut stored)?;
-                ahead.make_ready(&mut cursor, &mut stored)?;
-                ahead.refill(&mut cursor, &mut stored, &mut source)?;
+                refill(rt, &mut ahead, &mut cursor, &mut stored, &mut source);
                 reads = reads.wrapping_add(1);
             }
             Told::Shows(_) => {
@@ -146,32 +163,31 @@ fn read_lent(
                 steps = steps.wrapping_add(1);
             }
             last => {
-                stays(rt, &mut ahead, &mut cursor, &mut stored, last)?;
-                return Ok((reads, steps, last));
+                stays(rt, &mut ahead, &mut cursor, &mut stored, last);
+                return (reads, steps, last);
             }
         }
     }
-    Err("no last step".into())
+    panic!(rt; "no last step")
 }
 
 #[test]
-fn chunks_are_parsed_where_they_are(rt: HostRuntime) -> Result<(), Fail> {
+fn chunks_are_parsed_where_they_are(rt: HostRuntime) {
     let heap = rt.alloc();
-    assert_eq!(rt; read_lent(&rt, heap, MODULE, 18)?, (2, 4, Told::Ends(18)));
-    assert_eq!(rt; read_lent(&rt, heap, MODULE, 3)?, (7, 4, Told::Ends(18)));
-    assert_eq!(rt; read_lent(&rt, heap, MODULE, 1)?, (19, 4, Told::Ends(18)));
-    Ok(())
+    let end = Told::Ends(18);
+    same(&rt, read_lent(&rt, heap, MODULE, 18), (2, 4, end));
+    same(&rt, read_lent(&rt, heap, MODULE, 3), (7, 4, end));
+    same(&rt, read_lent(&rt, heap, MODULE, 1), (19, 4, end));
 }
 
 #[test]
-fn a_fault_in_a_chunk_stays(rt: HostRuntime) -> Result<(), Fail> {
+fn a_fault_in_a_chunk_stays(rt: HostRuntime) {
     let heap = rt.alloc();
     let fault = Told::Refuses(Error::new(Fault::MalformedSectionId, 8));
     let stream = b"\0asm\x01\0\0\0\x80\x01\x01\0";
-    assert_eq!(rt; read_lent(&rt, heap, stream, 100)?, (1, 1, fault));
-    assert_eq!(rt; read_lent(&rt, heap, stream, 9)?, (1, 1, fault));
-    assert_eq!(rt; read_lent(&rt, heap, stream, 1)?, (9, 1, fault));
+    same(&rt, read_lent(&rt, heap, stream, 100), (1, 1, fault));
+    same(&rt, read_lent(&rt, heap, stream, 9), (1, 1, fault));
+    same(&rt, read_lent(&rt, heap, stream, 1), (9, 1, fault));
     let none = Told::Refuses(Error::new(Fault::UnexpectedEof, 0));
-    assert_eq!(rt; read_lent(&rt, heap, b"", 4)?, (1, 0, none));
-    Ok(())
+    same(&rt, read_lent(&rt, heap, b"", 4), (1, 0, none));
 }

@@ -1,8 +1,7 @@
 // Listings and sinks whose memory runs out at a chosen growth.
-use super::lists;
+use super::{lists, same, same_at};
 use std::alloc::Global;
 use std::process::Abort;
-use std::test::Fail;
 use wasm_feed::{BoundedSink, Ended, ListError, Sink, SliceSource, Source, list_in};
 use wasm_testing::Sparing;
 
@@ -40,55 +39,82 @@ fn ends_in<R: Source, W: Sink>(
     list_in(heap, input, output, piece.max(1))
 }
 
-// Each growth of a listing is refused in turn, and the first run in which none is lists all. As many runs are refused as there
-// are counts of blocks below the first that suffices.
-fn runs_out(
+// Whether so many blocks suffice to list a stream. If not, the lines that were written are the first ones.
+fn suffices(
     rt: &impl Abort,
     alloc: Global,
+    blocks: u64,
     stream: &[u8],
     lines: &[u8],
     piece: usize,
-) -> Result<(), Fail> {
+) -> bool {
+    let heap = Sparing::new(alloc, blocks);
+    let mut input = SliceSource::new(stream);
+    let mut output = BoundedSink::new(alloc, 200).expect(rt, "out of memory");
+    let answer = ends_in(&heap, &mut input, &mut output, piece);
+    let place = (stream, blocks);
+    same_at(
+        rt,
+        (input.failed(), output.failed()),
+        (false, false),
+        &place,
+    );
+    if answer == Err(ListError::Memory) {
+        assert!(rt; lines.starts_with(output.written()), "{place:?}");
+        return false;
+    }
+    same_at(
+        rt,
+        (answer.is_ok(), output.written()),
+        (true, lines),
+        &place,
+    );
+    true
+}
+
+// Each growth of a listing is refused in turn, and the first run in which none is lists all. As many runs are refused as there
+// are counts of blocks below the first that suffices.
+fn runs_out(rt: &impl Abort, alloc: Global, stream: &[u8], lines: &[u8], piece: usize) {
     let mut refused = 0;
     for blocks in 0..AMPLE {
-        let heap = Sparing::new(alloc, blocks);
-        let mut input = SliceSource::new(stream);
-        let mut output = BoundedSink::new(alloc, 200)?;
-        let answer = ends_in(&heap, &mut input, &mut output, piece);
-        assert!(rt; !input.failed() && !output.failed());
-        if answer == Err(ListError::Memory) {
-            assert!(rt; lines.starts_with(output.written()), "{stream:?} {blocks}");
-        } else {
-            assert!(rt; answer.is_ok(), "{stream:?} {blocks}");
-            assert_eq!(rt; output.written(), lines, "{stream:?} {blocks}");
+        if suffices(rt, alloc, blocks, stream, lines, piece) {
             refused = blocks;
             break;
         }
     }
     assert!(rt; refused >= 2, "{stream:?} {refused}");
-    Ok(())
+}
+
+// A stream has this listing.
+fn is_listed(rt: &impl Abort, alloc: Global, stream: &[u8], lines: &[u8], piece: usize) {
+    let mut output = BoundedSink::new(alloc, 200).expect(rt, "out of memory");
+    let ended = lists(alloc, stream, &mut output, piece);
+    same_at(
+        rt,
+        (ended.is_ok(), output.written()),
+        (true, lines),
+        &stream,
+    );
 }
 
 #[test]
-fn a_listing_whose_memory_runs_out(rt: HostRuntime) -> Result<(), Fail> {
-    for (stream, lines) in LISTINGS {
+fn a_listing_whose_memory_runs_out(rt: HostRuntime) {
+    for (stream, lines) in &LISTINGS {
         for piece in [3, 10, 18] {
-            let mut whole = BoundedSink::new(rt.alloc(), 200)?;
-            let ended = lists(rt.alloc(), stream, &mut whole, piece);
-            assert!(rt; ended.is_ok(), "{stream:?}");
-            assert_eq!(rt; whole.written(), lines, "{stream:?}");
-            runs_out(&rt, rt.alloc(), stream, lines, piece)?;
+            is_listed(&rt, rt.alloc(), stream, lines, piece);
+            runs_out(&rt, rt.alloc(), stream, lines, piece);
         }
     }
-    Ok(())
+}
+
+// Whether a sink is made with memory from this allocator.
+fn makes_sink(heap: &Sparing<Global>) -> bool {
+    BoundedSink::new_in(heap, 64).is_ok()
 }
 
 #[test]
-fn a_sink_whose_memory_is_refused(rt: HostRuntime) -> Result<(), Fail> {
-    let none = Sparing::new(rt.alloc(), 0);
-    assert!(rt; BoundedSink::new_in(&none, 64).is_err());
+fn a_sink_whose_memory_is_refused(rt: HostRuntime) {
+    assert!(rt; !makes_sink(&Sparing::new(rt.alloc(), 0)));
     let one = Sparing::new(rt.alloc(), 1);
-    assert!(rt; BoundedSink::new_in(&one, 64).is_ok());
-    assert!(rt; BoundedSink::new_in(&one, 64).is_err());
-    Ok(())
+    same(&rt, (makes_sink(&one), makes_sink(&one)), (true, false));
 }

@@ -1,4 +1,6 @@
 // Steps of a feeder, by callers of another crate.
+use super::feeding::{Told, say};
+use super::same;
 use bitflags::Flags;
 use std::alloc::Global;
 use std::test::Fail;
@@ -25,27 +27,41 @@ fn total(numbers: SectionLimited<'_, u32>) -> Result<u64> {
     Ok(total)
 }
 
+// The number and the encoding of a header.
+fn version_of(step: &Result<Step<'_>>) -> Option<(u16, Encoding)> {
+    match step {
+        Ok(
+            Step::Parsed {
+                payload: Payload::Version { num, encoding, .. },
+                ..
+            },
+        ) => Some((*num, *encoding)),
+        _other => None,
+    }
+}
+
+// The sum of the types of a function section.
+fn total_of(step: &Result<Step<'_>>) -> Option<u64> {
+    match step {
+        Ok(
+            Step::Parsed {
+                payload: Payload::FunctionSection(types),
+                ..
+            },
+        ) => total(types.clone().ok()?).ok(),
+        _other => None,
+    }
+}
+
 #[test]
 fn payloads_are_read(rt: HostRuntime) -> std::result::Result<(), Fail> {
     let mut feeder = fed(rt.alloc(), b"\0asm\x01\0\0\0\x03\x03\x02\x05\x07")?;
-    match feeder.step()? {
-        Step::Parsed {
-            payload: Payload::Version { num, encoding, .. },
-            ..
-        } => assert_eq!(rt; (num, encoding), (1, Encoding::Module)),
-        _other => assert!(rt; false),
-    }
-    match feeder.open().step()? {
-        Step::Parsed {
-            payload: Payload::FunctionSection(types),
-            ..
-        } => assert_eq!(rt; total(types), Ok(12)),
-        _other => assert!(rt; false),
-    }
-    let fault = Error::new(Fault::FunctionWithoutCode, 13);
+    same(&rt, version_of(&feeder.step()), Some((1, Encoding::Module)));
+    same(&rt, total_of(&feeder.open().step()), Some(12));
+    let fault = Told::Refuses(Error::new(Fault::FunctionWithoutCode, 13));
     for _ in 0..2 {
-        assert_eq!(rt; feeder.step().err(), Some(fault));
-        assert_eq!(rt; feeder.open().step().err(), Some(fault));
+        same(&rt, say(feeder.step()), fault);
+        same(&rt, say(feeder.open().step()), fault);
     }
     Ok(())
 }

@@ -1,7 +1,7 @@
 // Streams without their custom sections.
+use super::same_at;
 use std::alloc::Global;
 use std::process::Abort;
-use std::test::Fail;
 use wasm_feed::{strip, strip_in, strip_in_place, strip_to_front};
 use wasm_parser::{Error, Fault, Result};
 use wasm_testing::Sparing;
@@ -131,133 +131,125 @@ fn left_in<'a>(
     strip_in(heap, stream, keep_names)
 }
 
-// What is left of a stream is this, of which nothing goes.
-fn leaves(
-    rt: &impl Abort,
-    alloc: Global,
-    stream: &[u8],
-    keep_names: bool,
-    wanted: &[u8],
-) -> Result<()> {
-    let left = left_of(alloc, stream, keep_names)?;
-    assert_eq!(rt; left.as_slice(), wanted, "{stream:?} {keep_names}");
-    let again = left_of(alloc, &left, keep_names)?;
-    assert_eq!(rt; again.as_slice(), wanted, "{stream:?} {keep_names}");
-    Ok(())
+// What is left of a stream is this.
+fn leaves(rt: &impl Abort, alloc: Global, stream: &[u8], keep_names: bool, wanted: &[u8]) {
+    let left = left_of(alloc, stream, keep_names).expect(rt, "a fault");
+    same_at(rt, left.as_slice(), wanted, &(stream, keep_names));
+}
+
+#[test]
+fn strips_modules(rt: HostRuntime) {
+    for (stream, with_names, without) in rows() {
+        leaves(&rt, rt.alloc(), stream, true, with_names);
+        leaves(&rt, rt.alloc(), stream, false, without);
+    }
+}
+
+#[test]
+fn strips_nothing_from_what_is_left(rt: HostRuntime) {
+    for (_, with_names, without) in rows() {
+        leaves(&rt, rt.alloc(), with_names, true, with_names);
+        leaves(&rt, rt.alloc(), without, false, without);
+    }
 }
 
 // The same is left in place.
-fn leaves_in_place(
-    rt: &impl Abort,
-    mut bytes: Vec<u8>,
-    keep_names: bool,
-    wanted: &[u8],
-) -> Result<()> {
-    take_out(&mut bytes, keep_names)?;
-    assert_eq!(rt; bytes.as_slice(), wanted, "{keep_names}");
-    Ok(())
+fn leaves_in_place(rt: &impl Abort, alloc: Global, stream: &[u8], keep_names: bool, wanted: &[u8]) {
+    let mut bytes = stream.to_vec(alloc).expect(rt, "out of memory");
+    let answer = take_out(&mut bytes, keep_names);
+    same_at(
+        rt,
+        (answer, bytes.as_slice()),
+        (Ok(()), wanted),
+        &(stream, keep_names),
+    );
+}
+
+#[test]
+fn strips_modules_in_place(rt: HostRuntime) {
+    for (stream, with_names, without) in rows() {
+        leaves_in_place(&rt, rt.alloc(), stream, true, with_names);
+        leaves_in_place(&rt, rt.alloc(), stream, false, without);
+    }
 }
 
 // The same is left in the first bytes.
-fn leaves_at_front(
-    rt: &impl Abort,
-    mut bytes: Vec<u8>,
-    keep_names: bool,
-    wanted: &[u8],
-) -> Result<()> {
-    let size = take_to_front(bytes.as_mut_slice(), keep_names)?;
-    assert_eq!(rt; bytes.get(..size), Some(wanted), "{keep_names}");
-    Ok(())
+fn leaves_at_front(rt: &impl Abort, alloc: Global, stream: &[u8], keep_names: bool, wanted: &[u8]) {
+    let mut bytes = stream.to_vec(alloc).expect(rt, "out of memory");
+    let size = take_to_front(bytes.as_mut_slice(), keep_names).expect(rt, "a fault");
+    same_at(rt, bytes.get(..size), Some(wanted), &(stream, keep_names));
 }
 
-// The same is left with one growth, and without any it returns out of memory.
-fn leaves_in(
-    rt: &impl Abort,
-    alloc: Global,
-    stream: &[u8],
-    keep_names: bool,
-    wanted: &[u8],
-) -> Result<()> {
+#[test]
+fn strips_modules_to_the_front(rt: HostRuntime) {
+    for (stream, with_names, without) in rows() {
+        leaves_at_front(&rt, rt.alloc(), stream, true, with_names);
+        leaves_at_front(&rt, rt.alloc(), stream, false, without);
+    }
+}
+
+// A stream with this fault stays as it is, in place and at the front.
+fn is_left(rt: &impl Abort, alloc: Global, stream: &[u8], fault: Error) {
+    let mut bytes = stream.to_vec(alloc).expect(rt, "out of memory");
+    let answer = take_to_front(bytes.as_mut_slice(), true);
+    same_at(
+        rt,
+        (answer, bytes.as_slice()),
+        (Err(fault), stream),
+        &stream,
+    );
+    let answer = take_out(&mut bytes, false);
+    same_at(
+        rt,
+        (answer, bytes.as_slice()),
+        (Err(fault), stream),
+        &stream,
+    );
+}
+
+#[test]
+fn leaves_other_streams_as_they_are(rt: HostRuntime) {
+    for (stream, fault, offset) in faults() {
+        is_left(&rt, rt.alloc(), stream, Error::new(*fault, *offset));
+    }
+}
+
+// The fault of a stream, where there is no memory.
+fn fault_of(alloc: Global, stream: &[u8], keep_names: bool) -> Option<Error> {
     let none = Sparing::new(alloc, 0);
-    let refused = left_in(&none, stream, keep_names).err();
-    let want = Error::new(Fault::OutOfMemory, 0);
-    assert_eq!(rt; refused, Some(want), "{stream:?}");
-    let one = Sparing::new(alloc, 1);
-    let left = left_in(&one, stream, keep_names)?;
-    assert_eq!(rt; left.as_slice(), wanted, "{stream:?} {keep_names}");
-    Ok(())
+    left_in(&none, stream, keep_names).err()
 }
 
 // The fault of a stream is told whatever memory there is.
-fn tells(rt: &impl Abort, alloc: Global, stream: &[u8], keep_names: bool, fault: Error) {
-    let none = Sparing::new(alloc, 0);
-    let refused = left_in(&none, stream, keep_names).err();
-    assert_eq!(rt; refused, Some(fault), "{stream:?} {keep_names}");
-}
-
-#[test]
-fn strips_modules(rt: HostRuntime) -> std::result::Result<(), Fail> {
-    for (stream, with_names, without) in rows() {
-        leaves(&rt, rt.alloc(), stream, true, with_names)?;
-        leaves(&rt, rt.alloc(), stream, false, without)?;
-    }
-    Ok(())
-}
-
-#[test]
-fn strips_modules_in_place(rt: HostRuntime) -> std::result::Result<(), Fail> {
-    for (stream, with_names, without) in rows() {
-        leaves_in_place(&rt, stream.to_vec(rt.alloc())?, true, with_names)?;
-        leaves_in_place(&rt, stream.to_vec(rt.alloc())?, false, without)?;
-    }
-    Ok(())
-}
-
-#[test]
-fn strips_modules_to_the_front(rt: HostRuntime) -> std::result::Result<(), Fail> {
-    for (stream, with_names, without) in rows() {
-        leaves_at_front(&rt, stream.to_vec(rt.alloc())?, true, with_names)?;
-        leaves_at_front(&rt, stream.to_vec(rt.alloc())?, false, without)?;
-    }
-    Ok(())
-}
-
-#[test]
-fn leaves_other_streams_at_the_front(rt: HostRuntime) -> std::result::Result<(), Fail> {
-    for (stream, fault, offset) in faults() {
-        let mut bytes = stream.to_vec(rt.alloc())?;
-        let answer = take_to_front(bytes.as_mut_slice(), true);
-        assert_eq!(rt; answer, Err(Error::new(*fault, *offset)), "{stream:?}");
-        assert_eq!(rt; bytes.as_slice(), *stream, "{stream:?}");
-    }
-    Ok(())
-}
-
-#[test]
-fn leaves_other_streams_in_place(rt: HostRuntime) -> std::result::Result<(), Fail> {
-    for (stream, fault, offset) in faults() {
-        let mut bytes = stream.to_vec(rt.alloc())?;
-        let answer = take_out(&mut bytes, false);
-        assert_eq!(rt; answer, Err(Error::new(*fault, *offset)), "{stream:?}");
-        assert_eq!(rt; bytes.as_slice(), *stream, "{stream:?}");
-    }
-    Ok(())
-}
-
 #[test]
 fn strips_only_accepted_streams(rt: HostRuntime) {
     for (stream, fault, offset) in faults() {
-        let fault = Error::new(*fault, *offset);
-        tells(&rt, rt.alloc(), stream, true, fault);
-        tells(&rt, rt.alloc(), stream, false, fault);
+        let wanted = Some(Error::new(*fault, *offset));
+        same_at(&rt, fault_of(rt.alloc(), stream, true), wanted, stream);
+        same_at(&rt, fault_of(rt.alloc(), stream, false), wanted, stream);
     }
 }
 
 #[test]
-fn stripping_whose_memory_runs_out(rt: HostRuntime) -> std::result::Result<(), Fail> {
-    for (stream, with_names, without) in rows() {
-        leaves_in(&rt, rt.alloc(), stream, true, with_names)?;
-        leaves_in(&rt, rt.alloc(), stream, false, without)?;
+fn stripping_without_memory(rt: HostRuntime) {
+    let wanted = Some(Error::new(Fault::OutOfMemory, 0));
+    for (stream, _, _) in rows() {
+        same_at(&rt, fault_of(rt.alloc(), stream, true), wanted, stream);
+        same_at(&rt, fault_of(rt.alloc(), stream, false), wanted, stream);
     }
-    Ok(())
+}
+
+// The same is left with one growth.
+fn leaves_in(rt: &impl Abort, alloc: Global, stream: &[u8], keep_names: bool, wanted: &[u8]) {
+    let one = Sparing::new(alloc, 1);
+    let left = left_in(&one, stream, keep_names).expect(rt, "a fault");
+    same_at(rt, left.as_slice(), wanted, &(stream, keep_names));
+}
+
+#[test]
+fn stripping_with_one_growth(rt: HostRuntime) {
+    for (stream, with_names, without) in rows() {
+        leaves_in(&rt, rt.alloc(), stream, true, with_names);
+        leaves_in(&rt, rt.alloc(), stream, false, without);
+    }
 }

@@ -4,7 +4,7 @@ mod instructions;
 mod items;
 mod segments;
 
-use crate::tests::same;
+use crate::tests::{is_printed, same};
 use std::test::Fail;
 use wasm_base::{BinaryReader, WasmFeatures};
 use wasm_items::{ConstExpr, FunctionBody, HeapType, RefType, ValType};
@@ -40,18 +40,13 @@ fn an_expression_is_its_window(rt: HostRuntime) -> Result<(), Fail> {
 }
 
 #[test]
-fn a_function_reference(rt: HostRuntime) -> Result<(), Fail> {
+fn a_function_reference(rt: HostRuntime) {
     let any_function = RefType {
         nullable: true,
         heap: HeapType::Func,
     };
     same(&rt, RefType::FUNCREF, any_function);
     assert!(rt; ValType::Ref(RefType::FUNCREF) != ValType::I32);
-    let text = format!(in rt.alloc(); "{:?}", ValType::Ref(RefType::FUNCREF))?;
-    same(
-        &rt,
-        text.as_str(),
-        "Ref(RefType { nullable: true, heap: Func })",
-    );
-    Ok(())
+    let text = "Ref(RefType { nullable: true, heap: Func })";
+    is_printed(&rt, rt.alloc(), &ValType::Ref(RefType::FUNCREF), text);
 }

@@ -6,34 +6,44 @@ mod payloads;
 mod surface;
 mod walking;
 
-use wasm_parser::{Chunk, Error, Parser, Payload};
+use crate::tests::same;
+use std::process::Abort;
+use wasm_parser::{Chunk, Error, ParseAll, Parser, Payload};
 
 const HEADER: &[u8] = b"\0asm\x01\0\0\0";
 
+// Passes the part that comes next.
+fn pass(rt: &impl Abort, parser: &mut Parser, bytes: &[u8]) {
+    same(rt, refusal(parser, bytes), None);
+}
+
 // A parser that is after a module's header.
-fn after_header(offset: u64) -> Result<Parser, Error> {
+fn after_header(rt: &impl Abort, offset: u64) -> Parser {
     let mut parser = Parser::new(offset);
-    pass(&mut parser, HEADER)?;
-    Ok(parser)
+    pass(rt, &mut parser, HEADER);
+    parser
 }
 
 fn refusal(parser: &mut Parser, bytes: &[u8]) -> Option<Error> {
     parser.parse(bytes, true).err()
 }
 
-// Passes the part that comes next.
-fn pass(parser: &mut Parser, bytes: &[u8]) -> Result<(), Error> {
-    drop(parser.parse(bytes, true)?);
-    Ok(())
-}
-
-// Where the stream ends, if it does so here.
-fn end(parser: &mut Parser) -> Result<Option<u64>, Error> {
-    match parser.parse(b"", true)? {
+fn end_of(chunk: &Chunk<'_>) -> Option<u64> {
+    match chunk {
         Chunk::Parsed {
             payload: Payload::End(at),
             ..
-        } => Ok(Some(at)),
-        _other => Ok(None),
+        } => Some(*at),
+        _other => None,
     }
+}
+
+// Where the stream ends, if it does so here.
+fn end(parser: &mut Parser) -> Option<u64> {
+    end_of(&parser.parse(b"", true).ok()?)
+}
+
+// The next payload of a walk.
+fn next<'a>(rt: &impl Abort, walk: &mut ParseAll<'a>) -> Payload<'a> {
+    walk.next().expect(rt, "no payload").expect(rt, "a fault")
 }

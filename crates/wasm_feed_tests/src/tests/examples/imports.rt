@@ -1,5 +1,5 @@
 // The imports of a module, as text.
-use super::same;
+use crate::tests::same;
 use std::alloc::Global;
 use std::test::Fail;
 use wasm_base::{Error, Fault};

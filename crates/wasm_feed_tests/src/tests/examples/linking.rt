@@ -1,5 +1,5 @@
 // Relocations with their symbols and the bytes that they fill in.
-use super::same;
+use crate::tests::same;
 use std::alloc::{AllocError, Global};
 use std::ops::Range;
 use std::process::Abort;

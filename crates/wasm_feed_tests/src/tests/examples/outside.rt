@@ -1,5 +1,5 @@
 // A module's outside.
-use super::same;
+use crate::tests::same;
 use std::alloc::{AllocError, Global};
 use std::process::Abort;
 use std::test::Fail;

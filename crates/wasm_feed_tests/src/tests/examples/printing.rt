@@ -1,5 +1,5 @@
 // The names of functions.
-use super::same;
+use crate::tests::same;
 use std::alloc::{AllocError, Global};
 use std::process::Abort;
 use std::test::Fail;

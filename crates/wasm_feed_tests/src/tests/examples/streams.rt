@@ -1,5 +1,5 @@
 // Walks over the parts of a stream.
-use super::same;
+use crate::tests::same;
 use wasm_base::{Error, Fault, Result};
 use wasm_examples::{end_of, start_of};
 

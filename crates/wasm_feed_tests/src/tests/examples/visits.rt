@@ -1,5 +1,5 @@
 // Visits of streams that come in pieces.
-use super::same;
+use crate::tests::same;
 use bitflags::Flags;
 use std::alloc::{AllocError, Global};
 use std::test::Fail;

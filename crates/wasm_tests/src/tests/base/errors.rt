@@ -1,32 +1,36 @@
 // Faults as texts, and their hints.
 use crate::tests::{same, window};
+use std::alloc::Global;
+use std::process::Abort;
 use std::test::Fail;
 use wasm_base::{Error, Fault, Result};
 
+// An error is printed as this text.
+fn is_text(rt: &impl Abort, alloc: Global, error: Error, wanted: &str) {
+    let text = error.to_string(alloc).expect(rt, "out of memory");
+    same(rt, text.as_str(), wanted);
+}
+
 #[test]
-fn errors_as_text(rt: HostRuntime) -> std::result::Result<(), Fail> {
+fn errors_as_text(rt: HostRuntime) {
+    let error = Error::new(Fault::UnknownVersion, 4).with_number(16843009);
+    let text = "unknown binary version: 16843009 (at offset 0x4)";
+    is_text(&rt, rt.alloc(), error, text);
+    let error = Error::new(Fault::FunctionWithoutCode, 12);
+    let text = "function section has non-zero count but code section is absent (at offset 0xc)";
+    is_text(&rt, rt.alloc(), error, text);
+}
+
+#[test]
+fn parts_of_errors(rt: HostRuntime) {
     let error = Error::new(Fault::UnknownVersion, 4).with_number(16843009);
     same(&rt, error.number(), Some(16843009));
     same(&rt, error.fault(), Fault::UnknownVersion);
     same(&rt, error.offset(), 4);
     same(&rt, error.message(), "unknown binary version");
-    let text = error.to_string(rt.alloc())?;
-    same(
-        &rt,
-        text.as_str(),
-        "unknown binary version: 16843009 (at offset 0x4)",
-    );
-    let error = Error::new(Fault::FunctionWithoutCode, 12);
-    let text = error.to_string(rt.alloc())?;
-    same(
-        &rt,
-        text.as_str(),
-        "function section has non-zero count but code section is absent (at offset 0xc)",
-    );
     // The one fault that no row has.
     let memory = Error::new(Fault::OutOfMemory, 0);
     same(&rt, memory.message(), "out of memory");
-    Ok(())
 }
 
 // The fault of what was read, if it is one.

@@ -2,8 +2,9 @@
 ghost use Rattle.wasm_base.specs.Outcome.{Outcome};
 ghost use Rattle.wasm_base.specs.Window.{Place};
 
-use crate::tests::same;
+use crate::tests::{is_next, is_over, same};
 use std::alloc::Global;
+use std::process::Abort;
 use std::test::Fail;
 use wasm_base::{
     BinaryReader, Error, Fault, FromReaderIn, Result, SectionLimited, read_list, read_list_in,
@@ -44,12 +45,8 @@ impl<'a> FromReaderIn<'a> for Refused {
     }
 }
 
-fn list_of(alloc: Global, items: &[u32]) -> std::result::Result<Numbers, Fail> {
-    let mut list = Vec::new(alloc);
-    for item in items {
-        list.push(*item)?;
-    }
-    Ok(Numbers(list))
+fn list_of(rt: &impl Abort, alloc: Global, items: &[u32]) -> Numbers {
+    Numbers(items.to_vec(alloc).expect(rt, "out of memory"))
 }
 
 #[test]
@@ -57,26 +54,25 @@ fn lists_of_a_section(rt: HostRuntime) -> std::result::Result<(), Fail> {
     let bytes = b"\x02\x02\x05\x80\x01\x00\xff";
     let lists = SectionLimited::<Numbers>::new(BinaryReader::new(bytes, 100))?;
     let mut items = lists.clone()?.into_iter_in(rt.alloc());
-    same(&rt, items.size_hint(), (0, Some(3)));
-    same(&rt, items.next(), Some(Ok(list_of(rt.alloc(), &[5, 128])?)));
-    same(&rt, items.size_hint(), (0, Some(2)));
-    same(&rt, items.next(), Some(Ok(list_of(rt.alloc(), &[])?)));
-    same(
-        &rt,
-        items.next(),
-        Some(Err(Error::new(Fault::SizeMismatch, 106))),
-    );
-    for _ in 0..4 {
-        same(&rt, items.size_hint(), (0, Some(0)));
-        same(&rt, items.next(), None);
-    }
+    let first = list_of(&rt, rt.alloc(), &[5, 128]);
+    is_next(&rt, &mut items, 3, Some(Ok(first)));
+    let second = list_of(&rt, rt.alloc(), &[]);
+    is_next(&rt, &mut items, 2, Some(Ok(second)));
+    let left = Error::new(Fault::SizeMismatch, 106);
+    is_next(&rt, &mut items, 1, Some(Err(left)));
+    is_over(&rt, &mut items);
+    Ok(())
+}
+
+#[test]
+fn a_list_of_lists(rt: HostRuntime) -> std::result::Result<(), Fail> {
     let mut inner = reader(b"\x02\x01\x07\x00");
-    let read = read_list_in::<Numbers>(rt.alloc(), &mut inner)?;
-    same(
-        &rt,
-        read.as_slice(),
-        [list_of(rt.alloc(), &[7])?, list_of(rt.alloc(), &[])?].as_slice(),
-    );
+    let lists = read_list_in::<Numbers>(rt.alloc(), &mut inner)?;
+    let wanted = [
+        list_of(&rt, rt.alloc(), &[7]),
+        list_of(&rt, rt.alloc(), &[]),
+    ];
+    same(&rt, lists.as_slice(), wanted.as_slice());
     assert!(rt; inner.eof());
     Ok(())
 }
@@ -87,11 +83,12 @@ fn nothing_comes_after_a_want_of_memory(rt: HostRuntime) -> std::result::Result<
     let mut items = section.into_iter_in(rt.alloc());
     same(&rt, items.next(), Some(Ok(Refused)));
     same(&rt, items.next(), Some(Err(want_of_memory())));
-    for _ in 0..4 {
-        same(&rt, items.size_hint(), (0, Some(0)));
-        same(&rt, items.next(), None);
-    }
+    is_over(&rt, &mut items);
+    Ok(())
+}
+
+#[test]
+fn a_list_whose_item_wants_memory(rt: HostRuntime) {
     let list = read_list_in::<Refused>(rt.alloc(), &mut reader(b"\x03\x01\x00\x01"));
     same(&rt, list.err(), Some(want_of_memory()));
-    Ok(())
 }

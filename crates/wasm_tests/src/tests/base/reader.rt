@@ -47,63 +47,67 @@ fn texts_and_what_is_skipped(rt: HostRuntime) {
 }
 
 #[test]
-fn items_of_a_reader(rt: HostRuntime) -> Result<(), Fail> {
+fn items_of_a_reader(rt: HostRuntime) {
     let mut reader = window(&[1, 2, 0x68, 0x69, 0x85, 1, 0, 3], 9);
     same(&rt, bool::from_reader(&mut reader), Ok(true));
-    same(&rt, reader.read::<&str>()?, "hi");
-    same(&rt, reader.read::<(u32, bool)>()?, (133, false));
-    same(
-        &rt,
-        reader.read::<bool>(),
-        Err(Error::new(Fault::InvalidBool, 16)),
-    );
+    same(&rt, reader.read::<&str>(), Ok("hi"));
+    same(&rt, reader.read::<(u32, bool)>(), Ok((133, false)));
+    let invalid = Error::new(Fault::InvalidBool, 16);
+    same(&rt, reader.read::<bool>(), Err(invalid));
+}
+
+#[test]
+fn texts_of_a_reader(rt: HostRuntime) {
     let mut texts = window(b"\x01a\x01b\x07", 0);
     same(&rt, <(&str, &str)>::from_reader(&mut texts), Ok(("a", "b")));
     same(&rt, u32::from_reader(&mut texts), Ok(7));
     same(&rt, <&str>::from_reader(&mut window(b"\x01c", 0)), Ok("c"));
+}
+
+#[test]
+fn a_window_in_a_window(rt: HostRuntime) -> Result<(), Fail> {
+    let mut reader = BinaryReader::new_features(&[5, 2, 8, 9, 1], 100, WasmFeatures::MEMORY64);
+    assert!(rt; reader.memory64());
+    assert!(rt; !reader.features().contains(WasmFeatures::COMPACT_IMPORTS));
+    same(&rt, [reader.peek(), reader.read_u8()], [Ok(5), Ok(5)]);
+    let window = reader.read_reader()?;
+    same(&rt, window.range(), 102..104);
+    same(&rt, window.remaining_buffer(), [8, 9].as_slice());
+    assert!(rt; window.memory64());
+    same(
+        &rt,
+        (reader.current_position(), reader.original_position()),
+        (4, 104),
+    );
     Ok(())
 }
 
 #[test]
 fn places_in_a_window(rt: HostRuntime) -> Result<(), Fail> {
-    let mut reader = BinaryReader::new_features(
-        &[5, 2, 8, 9, 1, 2, 3, 4],
-        100,
-        WasmFeatures::MEMORY64,
+    let mut reader = window(&[5, 2, 8, 9, 1, 2, 3, 4], 100);
+    reader.read_bytes(4)?;
+    same(
+        &rt,
+        [
+            reader.range(),
+            reader.remaining_range(),
+            reader.shrink().range(),
+        ],
+        [100..108, 104..108, 104..108],
     );
-    assert!(rt; reader.memory64());
-    assert!(rt; !reader.features().contains(WasmFeatures::COMPACT_IMPORTS));
-    same(&rt, reader.peek(), Ok(5));
-    same(&rt, reader.read_u8(), Ok(5));
-    let window = reader.read_reader()?;
-    same(&rt, window.range(), 102..104);
-    same(&rt, window.remaining_buffer(), [8, 9].as_slice());
-    assert!(rt; window.memory64());
-    same(&rt, reader.current_position(), 4);
-    same(&rt, reader.original_position(), 104);
-    same(&rt, reader.range(), 100..108);
-    same(&rt, reader.remaining_range(), 104..108);
     same(&rt, reader.bytes_remaining(), 4);
     same(&rt, reader.peek_bytes(2), Ok([1, 2].as_slice()));
-    same(&rt, reader.shrink().range(), 104..108);
     same(&rt, reader.clone()?.read_u32(), Ok(0x04030201));
     same(&rt, reader.read_bytes(4), Ok([1, 2, 3, 4].as_slice()));
     assert!(rt; reader.eof());
-    same(
-        &rt,
-        reader.peek(),
-        Err(Error::new(Fault::UnexpectedEof, 108)),
-    );
+    let missing = Error::new(Fault::UnexpectedEof, 108);
+    same(&rt, reader.peek(), Err(missing));
     Ok(())
 }
 
 #[test]
 fn the_window_that_a_closure_skips(rt: HostRuntime) -> Result<(), Fail> {
-    let mut bytes = BinaryReader::new_features(
-        b"\x01\x80\x01\x61\x62\x80",
-        0,
-        WasmFeatures::MEMORY64,
-    );
+    let mut bytes = BinaryReader::new_features(b"\x01\x80\x01\x61\x62", 0, WasmFeatures::MEMORY64);
     bytes.read_u8()?;
     let window = bytes.skip(|inside| {
         inside.read_var_u32()?;
@@ -114,17 +118,21 @@ fn the_window_that_a_closure_skips(rt: HostRuntime) -> Result<(), Fail> {
     same(&rt, window.remaining_buffer(), b"\x80\x01\x61".as_slice());
     assert!(rt; window.memory64());
     same(&rt, bytes.current_position(), 4);
+    Ok(())
+}
+
+#[test]
+fn a_closure_that_skips_nothing_and_one_that_fails(rt: HostRuntime) -> Result<(), Fail> {
+    let mut bytes = window(b"\x61\x62\x80", 3);
+    bytes.read_u8()?;
     same(&rt, bytes.skip(|_inside| Ok(()))?.range(), 4..4);
     let refused = bytes.skip(|inside| {
         inside.read_u8()?;
         inside.read_var_u32()?;
         Ok(())
     });
-    same(
-        &rt,
-        refused.err(),
-        Some(Error::new(Fault::UnexpectedEof, 6)),
-    );
+    let missing = Error::new(Fault::UnexpectedEof, 6);
+    same(&rt, refused.err(), Some(missing));
     Ok(())
 }
 

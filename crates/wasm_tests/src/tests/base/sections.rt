@@ -1,7 +1,7 @@
 // Counted sections: their iterators, copies and texts.
 ghost use Rattle.std.specs.Prelude.{◌+◌, ◌<◌, ◌^◌, length};
 
-use crate::tests::{same, window};
+use crate::tests::{is_next, is_over, is_printed, same, window};
 use std::test::Fail;
 use wasm_base::{Error, Fault, Result, SectionLimited};
 
@@ -14,51 +14,47 @@ fn section<'a, T>(bytes: &'a [u8], offset: u64) -> Result<SectionLimited<'a, T>>
 #[test]
 fn numbers_with_offsets_and_a_byte_left(rt: HostRuntime) -> std::result::Result<(), Fail> {
     let mut items = section::<u32>(&[2, 5, 0x80, 1, 7], 100)?.into_iter_with_offsets();
-    same(&rt, items.size_hint(), (0, Some(3)));
-    same(&rt, items.next(), Some(Ok((101, 5))));
-    same(&rt, items.size_hint(), (0, Some(2)));
-    same(&rt, items.next(), Some(Ok((102, 128))));
-    same(&rt, items.size_hint(), (0, Some(1)));
+    is_next(&rt, &mut items, 3, Some(Ok((101, 5))));
+    is_next(&rt, &mut items, 2, Some(Ok((102, 128))));
     let left = Error::new(Fault::SizeMismatch, 104);
-    same(&rt, items.next(), Some(Err(left)));
-    for _ in 0..4 {
-        same(&rt, items.size_hint(), (0, Some(0)));
-        same(&rt, items.next(), None);
-    }
+    is_next(&rt, &mut items, 1, Some(Err(left)));
+    is_over(&rt, &mut items);
     Ok(())
 }
 
 #[test]
 fn numbers_and_a_byte_left(rt: HostRuntime) -> std::result::Result<(), Fail> {
+    let mut items = section::<u32>(&[2, 5, 0x80, 1, 7], 100)?.into_iter();
+    is_next(&rt, &mut items, 3, Some(Ok(5)));
+    is_next(&rt, &mut items, 2, Some(Ok(128)));
+    let left = Error::new(Fault::SizeMismatch, 104);
+    is_next(&rt, &mut items, 1, Some(Err(left)));
+    is_over(&rt, &mut items);
+    Ok(())
+}
+
+#[test]
+fn offsets_of_a_section_and_its_items(rt: HostRuntime) -> std::result::Result<(), Fail> {
     let numbers = section::<u32>(&[2, 5, 0x80, 1, 7], 100)?;
-    same(&rt, numbers.count(), 2);
-    same(&rt, numbers.original_position(), 101);
+    same(
+        &rt,
+        (numbers.count(), numbers.original_position()),
+        (2, 101),
+    );
     same(&rt, numbers.range(), 100..105);
     let mut items = numbers.into_iter();
     same(&rt, items.original_position(), 101);
     same(&rt, items.next(), Some(Ok(5)));
     same(&rt, items.original_position(), 102);
-    same(&rt, items.next(), Some(Ok(128)));
-    same(&rt, items.size_hint(), (0, Some(1)));
-    let left = Error::new(Fault::SizeMismatch, 104);
-    same(&rt, items.next(), Some(Err(left)));
-    for _ in 0..4 {
-        same(&rt, items.size_hint(), (0, Some(0)));
-        same(&rt, items.next(), None);
-    }
     Ok(())
 }
 
 #[test]
 fn many_items_are_announced_and_none_is_there(rt: HostRuntime) -> std::result::Result<(), Fail> {
     let mut items = section::<bool>(&[0xff, 0xff, 0xff, 0xff, 0x0f], 0)?.into_iter();
-    same(&rt, items.size_hint(), (0, Some(4294967296)));
     let missing = Error::new(Fault::UnexpectedEof, 5);
-    same(&rt, items.next(), Some(Err(missing)));
-    for _ in 0..4 {
-        same(&rt, items.next(), None);
-        same(&rt, items.size_hint(), (0, Some(0)));
-    }
+    is_next(&rt, &mut items, 4294967296, Some(Err(missing)));
+    is_over(&rt, &mut items);
     Ok(())
 }
 
@@ -88,34 +84,27 @@ fn a_section_again(rt: HostRuntime) -> std::result::Result<(), Fail> {
     same(&rt, items.clone()?.next(), Some(Ok(128)));
     same(&rt, copy.next(), Some(Ok(5)));
     let after = SectionLimited::from(items);
-    same(&rt, after.count(), 2);
-    same(&rt, after.original_position(), 102);
+    same(&rt, (after.count(), after.original_position()), (2, 102));
     same(&rt, after.range(), 100..105);
     Ok(())
 }
 
 #[test]
 fn a_section_as_text(rt: HostRuntime) -> std::result::Result<(), Fail> {
-    let text = format!(in rt.alloc(); "{:?}", section::<u32>(&[2, 5, 0x80, 1, 7], 100)?)?;
-    same(
-        &rt,
-        text.as_str(),
-        "SectionLimited { count: 2, range: 100..105 }",
-    );
+    let numbers = section::<u32>(&[2, 5, 0x80, 1, 7], 100)?;
+    let text = "SectionLimited { count: 2, range: 100..105 }";
+    is_printed(&rt, rt.alloc(), &numbers, text);
+    Ok(())
+}
+
+// Where an item was read, the text is that of the whole section.
+#[test]
+fn a_section_of_many_items_as_text(rt: HostRuntime) -> std::result::Result<(), Fail> {
     let numbers = section::<u32>(&[0xac, 0x02, 5, 6], 70000)?;
-    let text = format!(in rt.alloc(); "{numbers:?}")?;
-    same(
-        &rt,
-        text.as_str(),
-        "SectionLimited { count: 300, range: 70000..70004 }",
-    );
+    let text = "SectionLimited { count: 300, range: 70000..70004 }";
+    is_printed(&rt, rt.alloc(), &numbers, text);
     let mut items = numbers.into_iter();
     same(&rt, items.next(), Some(Ok(5)));
-    let text = format!(in rt.alloc(); "{:?}", SectionLimited::from(items))?;
-    same(
-        &rt,
-        text.as_str(),
-        "SectionLimited { count: 300, range: 70000..70004 }",
-    );
+    is_printed(&rt, rt.alloc(), &SectionLimited::from(items), text);
     Ok(())
 }

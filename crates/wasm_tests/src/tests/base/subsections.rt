@@ -1,7 +1,7 @@
 // Subsections: their ends, copies and texts.
 ghost use Rattle.std.specs.Prelude.{⊤, ◌+◌, ◌<◌, ◌^◌, length};
 
-use crate::tests::{same, window};
+use crate::tests::{is_printed, same, window};
 use std::alloc::Global;
 use std::test::Fail;
 use wasm_base::{
@@ -49,17 +49,16 @@ fn subsections_one_after_the_other(rt: HostRuntime) -> std::result::Result<(), F
     for _ in 0..4 {
         same(&rt, all.next(), None);
     }
-    let text = format!(in rt.alloc(); "{all:?}")?;
-    same(&rt, text.as_str(), "Subsections { range: 1000..1018 }");
+    is_printed(&rt, rt.alloc(), &all, "Subsections { range: 1000..1018 }");
     Ok(())
 }
 
 #[test]
 fn how_many_come(rt: HostRuntime) {
     let short = over(rt.alloc(), &[5, 0xff], 70);
-    assert_eq!(rt; short.count(), 1);
+    same(&rt, short.count(), 1);
     let mut refused = over(rt.alloc(), &[0xff, 0xff, 0], 0);
     let id = Error::new(Fault::InvalidU7, 0);
     same(&rt, refused.next(), Some(Err(id)));
-    assert_eq!(rt; refused.count(), 2);
+    same(&rt, refused.count(), 2);
 }

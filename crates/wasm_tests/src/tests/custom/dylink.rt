@@ -5,7 +5,7 @@ use wasm_base::Subsection;
 use wasm_custom::{Dylink0SectionReader, Dylink0Subsection};
 
 #[test]
-fn what_a_library_needs(rt: HostRuntime) -> Result<(), Fail> {
+fn what_a_library_needs(rt: HostRuntime) {
     let bytes =
         b"\x01\x05\x10\x02\x01\x00\xff\x02\x03\x01\x01a\x03\x04\x01\x01f\x02\x04\x06\x01\x01m\x00\x90\x00\x05\x01\x02";
     let texts = [
@@ -16,7 +16,7 @@ fn what_a_library_needs(rt: HostRuntime) -> Result<(), Fail> {
         "Err(Error { fault: UnexpectedEof, offset: 129, number: None, hint: Some(1) })",
     ];
     let section = Dylink0SectionReader::new(rt.alloc(), window(bytes, 100));
-    gives(&rt, rt.alloc(), section, &texts)
+    gives(&rt, rt.alloc(), section, &texts);
 }
 
 #[test]
@@ -25,5 +25,6 @@ fn an_unknown_subsection_that_was_begun(rt: HostRuntime) -> Result<(), Fail> {
     reader.read_bytes(2)?;
     let unknown = Dylink0Subsection::from_reader(rt.alloc(), 0, reader)?;
     let text = "Unknown { ty: 0, contents: [7, 6, 5], range: 502..505 }";
-    is_printed(&rt, rt.alloc(), &unknown, text)
+    is_printed(&rt, rt.alloc(), &unknown, text);
+    Ok(())
 }

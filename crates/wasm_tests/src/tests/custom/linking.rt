@@ -1,57 +1,59 @@
 // Symbols, comdats, subsections for linkers, and relocations by the calls that read them. Tables of rows are in `wasm_rows`.
 use crate::tests::{gives, is_printed, prints, same, window};
 use bitflags::Flags;
+use std::ops::Range;
 use std::test::Fail;
-use wasm_base::{Error, Fault, FromReader, Lead, Subsection};
+use wasm_base::{Error, Fault, FromReader, Lead, SectionLimited, Subsection};
 use wasm_custom::{
-    Comdat, Linking, LinkingSectionReader, RelocAddendKind, RelocSectionReader, RelocationEntry,
-    RelocationType, SegmentFlags, SymbolFlags, SymbolInfo,
+    Comdat, InitFunc, Linking, LinkingSectionReader, RelocAddendKind, RelocSectionReader,
+    RelocationEntry, RelocationType, Segment, SegmentFlags, SymbolFlags, SymbolInfo,
 };
 
+/// Symbols, and their debug texts.
+const SYMBOLS: [(&[u8], &str); 9] = [
+    (
+        b"\x00\x10\x03",
+        "Func { flags: SymbolFlags(16), index: 3, name: None }",
+    ),
+    (
+        b"\x00\x50\x03\x01f",
+        "Func { flags: SymbolFlags(80), index: 3, name: Some(\"f\") }",
+    ),
+    (
+        b"\x02\x00\x80\x01\x00",
+        "Global { flags: SymbolFlags(0), index: 128, name: Some(\"\") }",
+    ),
+    (
+        b"\x04\x90\x80\x00\x07",
+        "Event { flags: SymbolFlags(16), index: 7, name: None }",
+    ),
+    (
+        b"\x05\xff\xff\xff\xff\x0f\x00\x01t",
+        "Table { flags: SymbolFlags(4294967295), index: 0, name: Some(\"t\") }",
+    ),
+    (
+        b"\x01\x50\x01\x64",
+        "Data { flags: SymbolFlags(80), name: \"d\", symbol: None }",
+    ),
+    (
+        b"\x01\x30\x01d",
+        "Data { flags: SymbolFlags(48), name: \"d\", symbol: None }",
+    ),
+    (
+        b"\x01\x00\x01d\x02\x00\x04",
+        "Data { flags: SymbolFlags(0), name: \"d\", symbol: Some(DefinedDataSymbol { index: 2, offset: 0, size: 4 }) }",
+    ),
+    (
+        b"\x03\x80\x20\x05",
+        "Section { flags: SymbolFlags(4096), section: 5 }",
+    ),
+];
+
 #[test]
-fn symbols(rt: HostRuntime) -> Result<(), Fail> {
-    let rows: [(&[u8], &str); 9] = [
-        (
-            b"\x00\x10\x03",
-            "Func { flags: SymbolFlags(16), index: 3, name: None }",
-        ),
-        (
-            b"\x00\x50\x03\x01f",
-            "Func { flags: SymbolFlags(80), index: 3, name: Some(\"f\") }",
-        ),
-        (
-            b"\x02\x00\x80\x01\x00",
-            "Global { flags: SymbolFlags(0), index: 128, name: Some(\"\") }",
-        ),
-        (
-            b"\x04\x90\x80\x00\x07",
-            "Event { flags: SymbolFlags(16), index: 7, name: None }",
-        ),
-        (
-            b"\x05\xff\xff\xff\xff\x0f\x00\x01t",
-            "Table { flags: SymbolFlags(4294967295), index: 0, name: Some(\"t\") }",
-        ),
-        (
-            b"\x01\x50\x01\x64",
-            "Data { flags: SymbolFlags(80), name: \"d\", symbol: None }",
-        ),
-        (
-            b"\x01\x30\x01d",
-            "Data { flags: SymbolFlags(48), name: \"d\", symbol: None }",
-        ),
-        (
-            b"\x01\x00\x01d\x02\x00\x04",
-            "Data { flags: SymbolFlags(0), name: \"d\", symbol: Some(DefinedDataSymbol { index: 2, offset: 0, size: 4 }) }",
-        ),
-        (
-            b"\x03\x80\x20\x05",
-            "Section { flags: SymbolFlags(4096), section: 5 }",
-        ),
-    ];
-    for (bytes, text) in rows {
-        prints::<SymbolInfo<'_>>(&rt, rt.alloc(), bytes, 0, bytes.len() as u64, text)?;
+fn symbols(rt: HostRuntime) {
+    for (bytes, text) in &SYMBOLS {
+        prints::<SymbolInfo<'_>>(&rt, rt.alloc(), bytes, 0, bytes.len() as u64, text);
     }
-    Ok(())
 }
 
 #[test]
@@ -59,24 +61,29 @@ fn comdats_and_their_symbols(rt: HostRuntime) -> Result<(), Fail> {
     let bytes = b"\x01c\x80\x01\x82\x00\x01\x05\x04\x80\x01\xff";
     let text =
         "Comdat { name: \"c\", flags: 128, symbols: SectionLimited { count: 2, range: 904..911 } }";
-    prints::<Comdat<'_>>(&rt, rt.alloc(), bytes, 900, 911, text)?;
+    prints::<Comdat<'_>>(&rt, rt.alloc(), bytes, 900, 911, text);
     let symbols = Comdat::from_reader(&mut window(bytes, 900))?.symbols;
     let texts = [
         "Ok((906, ComdatSymbol { kind: Func, index: 5 }))",
         "Ok((908, ComdatSymbol { kind: Table, index: 128 }))",
     ];
-    gives(&rt, rt.alloc(), symbols.into_iter_with_offsets(), &texts)
+    gives(&rt, rt.alloc(), symbols.into_iter_with_offsets(), &texts);
+    Ok(())
 }
 
 #[test]
 fn sections_for_linkers(rt: HostRuntime) -> Result<(), Fail> {
     let bytes = b"\x02\x06\x03\x01\x05\x07";
     let section = LinkingSectionReader::new(rt.alloc(), window(bytes, 0))?;
-    same(&rt, section.version(), 2);
-    same(&rt, section.original_position(), 1);
+    same(
+        &rt,
+        (section.version(), section.original_position()),
+        (2, 1),
+    );
     same(&rt, section.range(), 0..6);
     let texts = ["Ok(InitFuncs(SectionLimited { count: 1, range: 3..6 }))"];
-    gives(&rt, rt.alloc(), section.subsections(), &texts)
+    gives(&rt, rt.alloc(), section.subsections(), &texts);
+    Ok(())
 }
 
 #[test]
@@ -90,24 +97,42 @@ fn subsections_for_linkers(rt: HostRuntime) -> Result<(), Fail> {
         "Ok(Unknown { ty: 99, contents: [7], range: 2018..2019 })",
         "Err(Error { fault: UnexpectedEof, offset: 2021, number: None, hint: Some(1) })",
     ];
-    gives(&rt, rt.alloc(), section.clone()?.into_iter(), &texts)
+    gives(&rt, rt.alloc(), section.clone()?.into_iter(), &texts);
+    Ok(())
 }
 
-// The items of the first subsection, which are those of its kind.
+// The segments of a subsection.
+fn segments<'a>(linking: Linking<'a>) -> Option<SectionLimited<'a, Segment<'a>>> {
+    match linking {
+        Linking::SegmentInfo(segments) => Some(segments),
+        _other => None,
+    }
+}
+
 #[test]
-fn segments_and_first_functions(rt: HostRuntime) -> Result<(), Fail> {
-    let segments = Linking::from_reader(rt.alloc(), 5, window(b"\x01\x01s\x03\x03", 0))?;
-    let Linking::SegmentInfo(segments) = segments else {
-        return Err("no segments".into());
-    };
+fn segments_of_a_subsection(rt: HostRuntime) -> Result<(), Fail> {
+    let linking = Linking::from_reader(rt.alloc(), 5, window(b"\x01\x01s\x03\x03", 0))?;
+    let segments = segments(linking).ok_or("no segments")?;
     let texts = ["Ok(Segment { name: \"s\", alignment: 3, flags: SegmentFlags(3) })"];
-    gives(&rt, rt.alloc(), segments.into_iter(), &texts)?;
-    let functions = Linking::from_reader(rt.alloc(), 6, window(b"\x01\x05\x07", 0))?;
-    let Linking::InitFuncs(functions) = functions else {
-        return Err("no functions".into());
-    };
+    gives(&rt, rt.alloc(), segments.into_iter(), &texts);
+    Ok(())
+}
+
+// The first functions of a subsection.
+fn functions<'a>(linking: Linking<'a>) -> Option<SectionLimited<'a, InitFunc>> {
+    match linking {
+        Linking::InitFuncs(functions) => Some(functions),
+        _other => None,
+    }
+}
+
+#[test]
+fn first_functions_of_a_subsection(rt: HostRuntime) -> Result<(), Fail> {
+    let linking = Linking::from_reader(rt.alloc(), 6, window(b"\x01\x05\x07", 0))?;
+    let functions = functions(linking).ok_or("no functions")?;
     let texts = ["Ok(InitFunc { priority: 5, symbol_index: 7 })"];
-    gives(&rt, rt.alloc(), functions.into_iter(), &texts)
+    gives(&rt, rt.alloc(), functions.into_iter(), &texts);
+    Ok(())
 }
 
 #[test]
@@ -124,12 +149,17 @@ fn bits_of_flags(rt: HostRuntime) {
         (SymbolFlags::ABSOLUTE, 512),
     ];
     for (flags, bits) in rows {
-        assert_eq!(rt; flags.bits(), bits);
+        same(&rt, flags.bits(), bits);
     }
-    assert_eq!(rt; SymbolFlags::all().bits(), 1015);
-    assert_eq!(rt; SegmentFlags::STRINGS.bits(), 1);
-    assert_eq!(rt; SegmentFlags::TLS.bits(), 2);
-    assert_eq!(rt; SegmentFlags::all().bits(), 3);
+    same(&rt, SymbolFlags::all().bits(), 1015);
+    let rows = [
+        (SegmentFlags::STRINGS, 1),
+        (SegmentFlags::TLS, 2),
+        (SegmentFlags::all(), 3),
+    ];
+    for (flags, bits) in rows {
+        same(&rt, flags.bits(), bits);
+    }
 }
 
 #[test]
@@ -138,7 +168,8 @@ fn an_unknown_subsection_that_was_begun(rt: HostRuntime) -> Result<(), Fail> {
     reader.read_bytes(2)?;
     let unknown = Linking::from_reader(rt.alloc(), 99, reader)?;
     let text = "Unknown { ty: 99, contents: [7, 6, 5], range: 502..505 }";
-    is_printed(&rt, rt.alloc(), &unknown, text)
+    is_printed(&rt, rt.alloc(), &unknown, text);
+    Ok(())
 }
 
 #[test]
@@ -168,35 +199,34 @@ fn types_by_number(rt: HostRuntime) {
     }
 }
 
+// The section that relocations are of, the range of the relocations and the range of their entries.
+fn places(section: &RelocSectionReader<'_>) -> (u32, Range<u64>, Range<u64>) {
+    let entries = section.entries();
+    (section.section_index(), section.range(), entries.range())
+}
+
 #[test]
 fn a_section_of_relocations(rt: HostRuntime) -> Result<(), Fail> {
     let section = RelocSectionReader::new(window(b"\x03\x01\x03\x06\x00\x7f", 0))?;
-    same(&rt, section.section_index(), 3);
-    same(&rt, section.range(), 0..6);
-    same(&rt, section.entries().range(), 1..6);
+    same(&rt, places(&section), (3, 0..6, 1..6));
     let texts = ["Ok(RelocationEntry { ty: MemoryAddrLeb, offset: 6, index: 0, addend: -1 })"];
-    gives(
-        &rt,
-        rt.alloc(),
-        section.clone()?.entries().into_iter(),
-        &texts,
-    )?;
+    let entries = section.clone()?.entries().into_iter();
+    gives(&rt, rt.alloc(), entries, &texts);
+    Ok(())
+}
 
+#[test]
+fn relocations_with_offsets_and_a_byte_left(rt: HostRuntime) -> Result<(), Fail> {
     let bytes = b"\x85\x00\x81\x00\x05\x01\x02\x03\xff";
     let section = RelocSectionReader::new(window(bytes, 70000))?;
-    same(&rt, section.section_index(), 5);
-    same(&rt, section.range(), 70000..70009);
-    same(&rt, section.entries().range(), 70002..70009);
+    same(&rt, places(&section), (5, 70000..70009, 70002..70009));
     let texts = [
         "Ok((70004, RelocationEntry { ty: MemoryAddrI32, offset: 1, index: 2, addend: 3 }))",
         "Err(Error { fault: SizeMismatch, offset: 70008, number: None, hint: None })",
     ];
-    gives(
-        &rt,
-        rt.alloc(),
-        section.entries().into_iter_with_offsets(),
-        &texts,
-    )
+    let entries = section.entries().into_iter_with_offsets();
+    gives(&rt, rt.alloc(), entries, &texts);
+    Ok(())
 }
 
 #[test]

@@ -1,7 +1,7 @@
 // Custom sections and subsections whose allocations fail in turn.
 ghost use Rattle.std.specs.Prelude.{◌+◌, ◌<◌, ◌^◌, length};
 
-use crate::tests::{same, window};
+use crate::tests::{same, same_at, window};
 use std::alloc::{Allocator, Global};
 use std::process::Abort;
 use std::test::Fail;
@@ -32,27 +32,47 @@ fn kind_of<A: Allocator>(known: &KnownCustom<'_, A>) -> (&'static str, usize) {
     }
 }
 
-// Each allocation of a section fails in turn: each time the error is `OutOfMemory`.
-fn runs_out(rt: &impl Abort, alloc: Global, bytes: &[u8], least: u64) -> Result<(), Fail>
+// What a section is with so many blocks, or `None` where they don't suffice: the error is `OutOfMemory` then.
+fn kind_with(
+    rt: &impl Abort,
+    alloc: Global,
+    section: &CustomSectionReader<'_>,
+    blocks: u64,
+) -> Option<(&'static str, usize)> {
+    let heap = Sparing::new(alloc, blocks);
+    match section.as_known_in(alloc, &heap) {
+        Ok(known) => Some(kind_of(&known)),
+        Err(e) => {
+            same_at(rt, e, Error::new(Fault::OutOfMemory, 0), &blocks);
+            None
+        }
+    }
+}
+
+// What a section is with ample memory.
+fn ample_kind(
+    rt: &impl Abort,
+    alloc: Global,
+    section: &CustomSectionReader<'_>,
+) -> (&'static str, usize) {
+    kind_of(&section.as_known(alloc).expect(rt, "a fault"))
+}
+
+// Each allocation of a section of this kind fails in turn.
+fn runs_out(rt: &impl Abort, alloc: Global, bytes: &[u8], kind: (&'static str, usize), least: u64)
     requires { 8 + length bytes.now < 2 ^ 64 }
 {
-    let section = CustomSectionReader::new(window(bytes, 8))?;
-    let whole = section.as_known(alloc)?;
-    assert!(rt; kind_of(&whole).0 != "unknown");
+    let section = CustomSectionReader::new(window(bytes, 8)).expect(rt, "a fault");
+    same(rt, ample_kind(rt, alloc, &section), kind);
     let mut refused = 0;
     for blocks in 0..AMPLE {
-        let heap = Sparing::new(alloc, blocks);
-        match section.as_known_in(alloc, &heap) {
-            Ok(known) => {
-                same(&rt, kind_of(&known), kind_of(&whole));
-                refused = blocks;
-                break;
-            }
-            Err(e) => assert_eq!(rt; e, Error::new(Fault::OutOfMemory, 0), "{blocks}"),
+        if let Some(found) = kind_with(rt, alloc, &section, blocks) {
+            same(rt, found, kind);
+            refused = blocks;
+            break;
         }
     }
     assert!(rt; refused >= least, "{refused}");
-    Ok(())
 }
 
 // The names of the modules of a core dump, if the section is known as that.
@@ -63,72 +83,60 @@ fn modules_of<'a>(known: KnownCustom<'a>) -> Option<Vec<&'a str>> {
     }
 }
 
-#[test]
-fn modules_of_a_core_dump(rt: HostRuntime) -> Result<(), Fail> {
-    let bytes = b"\x0bcoremodules\x01\x00\x04test";
-    let section = CustomSectionReader::new(window(bytes, 0))?;
-    let modules = modules_of(section.as_known(rt.alloc())?).ok_or("unknown")?;
-    same(&rt, modules.as_slice(), ["test"].as_slice());
-    runs_out(&rt, rt.alloc(), bytes, 1)
-}
+const MODULES: &[u8] = b"\x0bcoremodules\x01\x00\x04test";
 
 #[test]
-fn sections_whose_memory_runs_out(rt: HostRuntime) -> Result<(), Fail> {
-    runs_out(
-        &rt,
-        rt.alloc(),
-        b"\x0bcoremodules\x06\x00\x00\x00\x00\x00\x00\x00\x00\x00\x00\x00\x00",
-        2,
-    )?;
-    runs_out(
-        &rt,
-        rt.alloc(),
-        b"\x0dcoreinstances\x02\x00\x02\x01\x00\x01\x03\x00\x02\x01\x00\x01\x03",
-        5,
-    )?;
-    runs_out(
-        &rt,
-        rt.alloc(),
-        b"\x09corestack\x00\x00\x01\x00\x04\x2a\x33\x01\x01\x01\x01",
-        3,
-    )?;
+fn modules_of_a_core_dump(rt: HostRuntime) -> Result<(), Fail> {
+    let section = CustomSectionReader::new(window(MODULES, 0))?;
+    let modules = modules_of(section.as_known(rt.alloc())?).ok_or("unknown")?;
+    same(&rt, modules.as_slice(), ["test"].as_slice());
     Ok(())
 }
 
-// Each allocation of a list fails in turn: each time the error is `OutOfMemory`.
+#[test]
+fn sections_whose_memory_runs_out(rt: HostRuntime) {
+    runs_out(&rt, rt.alloc(), MODULES, ("core modules", 1), 1);
+    let bytes = b"\x0bcoremodules\x06\x00\x00\x00\x00\x00\x00\x00\x00\x00\x00\x00\x00";
+    runs_out(&rt, rt.alloc(), bytes, ("core modules", 6), 2);
+    let bytes = b"\x0dcoreinstances\x02\x00\x02\x01\x00\x01\x03\x00\x02\x01\x00\x01\x03";
+    runs_out(&rt, rt.alloc(), bytes, ("core instances", 2), 5);
+    let bytes = b"\x09corestack\x00\x00\x01\x00\x04\x2a\x33\x01\x01\x01\x01";
+    runs_out(&rt, rt.alloc(), bytes, ("core stack", 1), 3);
+}
+
+// Whether so many blocks suffice for the list of a subsection. If not, the error is `OutOfMemory`.
+fn suffices(rt: &impl Abort, alloc: Global, id: u8, bytes: &[u8; 13], blocks: u64) -> bool {
+    let heap = Sparing::new(alloc, blocks);
+    match Dylink0Subsection::from_reader_in(&heap, id, window(bytes, 8)) {
+        Ok(_) => true,
+        Err(e) => {
+            same_at(rt, e, Error::new(Fault::OutOfMemory, 0), &blocks);
+            false
+        }
+    }
+}
+
+// Each allocation of a list fails in turn.
 fn list_runs_out(rt: &impl Abort, alloc: Global, id: u8, bytes: &[u8; 13], least: u64) {
     let mut refused = 0;
     for blocks in 0..9 {
-        let heap = Sparing::new(alloc, blocks);
-        match Dylink0Subsection::from_reader_in(&heap, id, window(bytes, 8)) {
-            Ok(_) => {
-                refused = blocks;
-                break;
-            }
-            Err(e) => assert_eq!(rt; e, Error::new(Fault::OutOfMemory, 0), "{blocks}"),
+        if suffices(rt, alloc, id, bytes, blocks) {
+            refused = blocks;
+            break;
         }
     }
     assert!(rt; refused >= least, "{refused}");
 }
 
+// A list of so many items, each of zeros.
+fn zeros(count: u8) -> [u8; 13] {
+    [count, 0, 0, 0, 0, 0, 0, 0, 0, 0, 0, 0, 0]
+}
+
 #[test]
-fn lists_whose_memory_runs_out(rt: HostRuntime) -> Result<(), Fail> {
-    let zeros = &[12, 0, 0, 0, 0, 0, 0, 0, 0, 0, 0, 0, 0];
-    list_runs_out(&rt, rt.alloc(), 2, zeros, 2);
-    list_runs_out(&rt, rt.alloc(), 5, zeros, 2);
-    list_runs_out(
-        &rt,
-        rt.alloc(),
-        3,
-        &[6, 0, 0, 0, 0, 0, 0, 0, 0, 0, 0, 0, 0],
-        2,
-    );
-    list_runs_out(
-        &rt,
-        rt.alloc(),
-        4,
-        &[4, 0, 0, 0, 0, 0, 0, 0, 0, 0, 0, 0, 0],
-        1,
-    );
-    Ok(())
+fn lists_whose_memory_runs_out(rt: HostRuntime) {
+    list_runs_out(&rt, rt.alloc(), 2, &zeros(12), 2);
+    list_runs_out(&rt, rt.alloc(), 5, &zeros(12), 2);
+    list_runs_out(&rt, rt.alloc(), 3, &zeros(6), 2);
+    list_runs_out(&rt, rt.alloc(), 4, &zeros(4), 1);
 }

@@ -1,7 +1,6 @@
 // Calls of the parser one after the other: what they consume, ask for and leave unchanged.
 use super::{after_header, end, pass, refusal};
 use crate::tests::same;
-use std::test::Fail;
 use wasm_parser::{Chunk, Error, Fault, Parser};
 
 // What is returned: how many bytes a payload consumed, or how many more are asked for.
@@ -14,9 +13,15 @@ enum Answer {
 
 fn told(parser: &mut Parser, bytes: &[u8], eof: bool) -> Answer {
     match parser.parse(bytes, eof) {
-        Ok(Chunk::Parsed { consumed, .. }) => Answer::Consumes(consumed),
-        Ok(Chunk::NeedMoreData(hint)) => Answer::Asks(hint),
+        Ok(chunk) => answer_of(&chunk),
         Err(error) => Answer::Refuses(error),
+    }
+}
+
+fn answer_of(chunk: &Chunk<'_>) -> Answer {
+    match chunk {
+        Chunk::Parsed { consumed, .. } => Answer::Consumes(*consumed),
+        Chunk::NeedMoreData(hint) => Answer::Asks(*hint),
     }
 }
 
@@ -42,61 +47,62 @@ fn a_header(rt: HostRuntime) {
 }
 
 #[test]
-fn the_end_again_and_again(rt: HostRuntime) -> Result<(), Fail> {
-    let mut parser = after_header(0)?;
+fn the_end_again_and_again(rt: HostRuntime) {
+    let mut parser = after_header(&rt, 0);
     for _ in 0..3 {
         same(&rt, told(&mut parser, b"", true), Answer::Consumes(0));
-        same(&rt, end(&mut parser)?, Some(8));
+        same(&rt, end(&mut parser), Some(8));
     }
-    Ok(())
 }
 
+/// Sections that are begun, and how many bytes are asked for.
+const BEGUN: [(&[u8], usize); 5] = [
+    (b"", 1),
+    (b"\0as", 1),
+    (b"\x01\x85\0\0\0", 3),
+    (b"\x08\x02", 2),
+    (b"\x0a\0", 1),
+];
+
 #[test]
-fn requests_change_nothing(rt: HostRuntime) -> Result<(), Fail> {
-    let mut parser = after_header(0)?;
-    let rows: [(&[u8], usize); 5] = [
-        (b"", 1),
-        (b"\0as", 1),
-        (b"\x01\x85\0\0\0", 3),
-        (b"\x08\x02", 2),
-        (b"\x0a\0", 1),
-    ];
-    for (bytes, hint) in rows {
-        same(&rt, told(&mut parser, bytes, false), Answer::Asks(hint));
+fn requests_change_nothing(rt: HostRuntime) {
+    let mut parser = after_header(&rt, 0);
+    for (bytes, hint) in &BEGUN {
+        same(&rt, told(&mut parser, bytes, false), Answer::Asks(*hint));
         same(&rt, parser.offset(), 8);
     }
-    Ok(())
 }
 
+/// Sections that are refused after a header, their faults and the offsets of these.
+const REFUSED: [(&[u8], Fault, u64); 6] = [
+    (b"\0\x01\x01", Fault::UnexpectedEof, 11),
+    (b"\0asm", Fault::MagicAtSection, 8),
+    (b"\x80", Fault::MalformedSectionId, 8),
+    (b"\x08\0", Fault::UnexpectedEof, 10),
+    (b"\x0c\x02\0\0", Fault::DataCountContent, 11),
+    (b"\x03\x02\0", Fault::UnexpectedEof, 10),
+];
+
 #[test]
-fn faults_change_nothing(rt: HostRuntime) -> Result<(), Fail> {
-    let mut parser = after_header(0)?;
-    let rows: [(&[u8], Fault, u64); 6] = [
-        (b"\0\x01\x01", Fault::UnexpectedEof, 11),
-        (b"\0asm", Fault::MagicAtSection, 8),
-        (b"\x80", Fault::MalformedSectionId, 8),
-        (b"\x08\0", Fault::UnexpectedEof, 10),
-        (b"\x0c\x02\0\0", Fault::DataCountContent, 11),
-        (b"\x03\x02\0", Fault::UnexpectedEof, 10),
-    ];
-    for (bytes, fault, offset) in rows {
-        let wanted = Some(Error::new(fault, offset));
+fn faults_change_nothing(rt: HostRuntime) {
+    let mut parser = after_header(&rt, 0);
+    for (bytes, fault, offset) in &REFUSED {
+        let wanted = Some(Error::new(*fault, *offset));
         same(&rt, refusal(&mut parser, bytes), wanted);
         same(&rt, parser.offset(), 8);
     }
     // No rank and no count was kept of those that were refused.
-    pass(&mut parser, b"\x03\x01\0")?;
+    pass(&rt, &mut parser, b"\x03\x01\0");
     same(&rt, parser.offset(), 11);
-    same(&rt, end(&mut parser)?, Some(11));
-    Ok(())
+    same(&rt, end(&mut parser), Some(11));
 }
 
 #[test]
-fn faults_of_bodies_change_nothing(rt: HostRuntime) -> Result<(), Fail> {
-    let mut parser = after_header(0)?;
-    pass(&mut parser, b"\x03\x02\x02\0")?;
-    pass(&mut parser, b"\x0a\x02\x02\0\0")?;
-    pass(&mut parser, b"\0\0")?;
+fn faults_of_bodies_change_nothing(rt: HostRuntime) {
+    let mut parser = after_header(&rt, 0);
+    pass(&rt, &mut parser, b"\x03\x02\x02\0");
+    pass(&rt, &mut parser, b"\x0a\x02\x02\0\0");
+    pass(&rt, &mut parser, b"\0\0");
     same(&rt, parser.offset(), 16);
     let rows: [(&[u8], u64); 3] = [(b"\0", 16), (b"", 16), (b"\x80", 17)];
     for (rest, offset) in rows {
@@ -104,33 +110,30 @@ fn faults_of_bodies_change_nothing(rt: HostRuntime) -> Result<(), Fail> {
         same(&rt, refusal(&mut parser, rest), wanted);
         same(&rt, parser.offset(), 16);
     }
-    Ok(())
 }
 
 #[test]
-fn a_fault_and_then_the_end_is_refused(rt: HostRuntime) -> Result<(), Fail> {
-    let mut parser = after_header(0)?;
-    pass(&mut parser, b"\x03\x03\x02\0\x07")?;
+fn a_fault_and_then_the_end_is_refused(rt: HostRuntime) {
+    let mut parser = after_header(&rt, 0);
+    pass(&rt, &mut parser, b"\x03\x03\x02\0\x07");
     let order = Error::new(Fault::OutOfOrder, 15);
     same(&rt, refusal(&mut parser, b"\x03\x01\0"), Some(order));
     let absent = Error::new(Fault::FunctionWithoutCode, 13);
     same(&rt, refusal(&mut parser, b""), Some(absent));
-    Ok(())
 }
 
 #[test]
-fn near_the_top_of_the_offsets(rt: HostRuntime) -> Result<(), Fail> {
-    let mut parser = after_header(18446744073709551607)?;
+fn near_the_top_of_the_offsets(rt: HostRuntime) {
+    let mut parser = after_header(&rt, 18446744073709551607);
     let range = Error::new(Fault::OffsetRange, 18446744073709551615);
     same(&rt, refusal(&mut parser, b"\0"), Some(range));
-    same(&rt, end(&mut parser)?, Some(18446744073709551615));
-    Ok(())
+    same(&rt, end(&mut parser), Some(18446744073709551615));
 }
 
 #[test]
-fn a_code_section_that_is_skipped(rt: HostRuntime) -> Result<(), Fail> {
-    let mut parser = after_header(0)?;
-    pass(&mut parser, b"\x03\x02\x01\0")?;
+fn a_code_section_that_is_skipped(rt: HostRuntime) {
+    let mut parser = after_header(&rt, 0);
+    pass(&rt, &mut parser, b"\x03\x02\x01\0");
     same(&rt, parser.skippable(), None);
     same(
         &rt,
@@ -143,17 +146,16 @@ fn a_code_section_that_is_skipped(rt: HostRuntime) -> Result<(), Fail> {
         parser.skip_section();
     }
     same(&rt, (parser.offset(), parser.skippable()), (18, Some(0)));
-    same(&rt, end(&mut parser)?, Some(18));
+    same(&rt, end(&mut parser), Some(18));
     same(&rt, parser.skippable(), None);
-    Ok(())
 }
 
 #[test]
-fn nothing_is_left_to_skip(rt: HostRuntime) -> Result<(), Fail> {
-    let mut parser = after_header(0)?;
-    pass(&mut parser, b"\x03\x02\x01\0")?;
-    pass(&mut parser, b"\x0a\x04\x01\x02\0\x0b")?;
-    pass(&mut parser, b"\x02\0\x0b")?;
+fn nothing_is_left_to_skip(rt: HostRuntime) {
+    let mut parser = after_header(&rt, 0);
+    pass(&rt, &mut parser, b"\x03\x02\x01\0");
+    pass(&rt, &mut parser, b"\x0a\x04\x01\x02\0\x0b");
+    pass(&rt, &mut parser, b"\x02\0\x0b");
     same(&rt, parser.skippable(), Some(0));
     same(&rt, told(&mut parser, b"", false), Answer::Asks(1));
     same(&rt, parser.skippable(), Some(0));
@@ -163,5 +165,4 @@ fn nothing_is_left_to_skip(rt: HostRuntime) -> Result<(), Fail> {
         Answer::Consumes(3),
     );
     same(&rt, parser.skippable(), None);
-    Ok(())
 }

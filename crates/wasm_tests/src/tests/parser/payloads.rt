@@ -1,7 +1,7 @@
 // Sections, bodies and custom sections as payloads. Tables of rows are in `wasm_rows`.
+use super::next;
 use crate::tests::{gives, same};
 use std::ops::Range;
-use std::test::Fail;
 use wasm_parser::{Parser, Payload, WasmFeatures};
 
 // A module whose fields take several bytes: a type section that announces 128 items, a function, a start, a body of
@@ -9,8 +9,10 @@ use wasm_parser::{Parser, Payload, WasmFeatures};
 const MODULE: &[u8] =
     b"\0asm\x01\0\0\0\x01\x83\0\x80\x01\x09\x03\x83\0\x81\0\x07\x08\x82\0\x81\x01\x0a\x87\0\x81\0\x83\0\0\x41\x0b\0\x84\0\x01a\x05\x06";
 
+const COMPONENT: &[u8] = b"\0asm\x0d\0\x01\0\x01\x01\0";
+
 #[test]
-fn a_module(rt: HostRuntime) -> Result<(), Fail> {
+fn a_module(rt: HostRuntime) {
     let texts = [
         "Ok(Version { num: 1, encoding: Module, range: 1000..1008 })",
         "Ok(TypeSection(\"...\"))",
@@ -21,25 +23,34 @@ fn a_module(rt: HostRuntime) -> Result<(), Fail> {
         "Ok(CustomSection(CustomSectionReader { name: \"a\", data_offset: 1040, data: \"...\", range: 1038..1042 }))",
         "Ok(End(1042))",
     ];
-    gives(&rt, rt.alloc(), Parser::new(1000).parse_all(MODULE), &texts)
+    gives(&rt, rt.alloc(), Parser::new(1000).parse_all(MODULE), &texts);
 }
 
 #[test]
-fn a_component(rt: HostRuntime) -> Result<(), Fail> {
+fn a_component(rt: HostRuntime) {
     let texts = [
         "Ok(Version { num: 13, encoding: Component, range: 1000..1008 })",
         "Ok(UnknownSection { id: 1, range: 1010..1011 })",
         "Ok(End(1011))",
     ];
-    let stream = b"\0asm\x0d\0\x01\0\x01\x01\0";
-    gives(&rt, rt.alloc(), Parser::new(1000).parse_all(stream), &texts)?;
-    let mut payloads = Parser::new(1000).parse_all(stream);
-    drop(payloads.next());
-    let Some(Ok(Payload::UnknownSection { contents, .. })) = payloads.next() else {
-        return Err("no unknown section".into());
-    };
-    same(&rt, contents, b"\0".as_slice());
-    Ok(())
+    let walk = Parser::new(1000).parse_all(COMPONENT);
+    gives(&rt, rt.alloc(), walk, &texts);
+}
+
+// The bytes of an unknown section.
+fn contents_of<'a>(payload: &Payload<'a>) -> Option<&'a [u8]> {
+    match payload {
+        Payload::UnknownSection { contents, .. } => Some(*contents),
+        _other => None,
+    }
+}
+
+#[test]
+fn contents_of_an_unknown_section(rt: HostRuntime) {
+    let mut walk = Parser::new(1000).parse_all(COMPONENT);
+    drop(next(&rt, &mut walk));
+    let section = next(&rt, &mut walk);
+    same(&rt, contents_of(&section), Some(b"\0".as_slice()));
 }
 
 // What a payload has beside its debug text: the first offset of its items, or its bytes, and their offsets and features.
@@ -72,7 +83,7 @@ fn inside_of<'a>(payload: &Payload<'a>) -> Inside<'a> {
 }
 
 #[test]
-fn functions_bodies_and_custom_sections(rt: HostRuntime) -> Result<(), Fail> {
+fn functions_bodies_and_custom_sections(rt: HostRuntime) {
     let set = WasmFeatures::MEMORY64;
     let wanted = [
         Inside::Nothing,
@@ -86,10 +97,9 @@ fn functions_bodies_and_custom_sections(rt: HostRuntime) -> Result<(), Fail> {
     ];
     let mut parser = Parser::new(1000);
     parser.set_features(set);
-    let mut payloads = parser.parse_all(MODULE);
+    let mut walk = parser.parse_all(MODULE);
     for wanted in wanted {
-        let payload = payloads.next().ok_or("no payload")??;
+        let payload = next(&rt, &mut walk);
         same(&rt, inside_of(&payload), wanted);
     }
-    Ok(())
 }

@@ -1,29 +1,30 @@
 // The calls of a parser beside `parse`, and the ids of payloads.
-use super::{HEADER, after_header, end, pass, refusal};
+use super::{HEADER, after_header, end, next, pass, refusal};
 use crate::tests::same;
 use bitflags::Flags;
-use std::ops::Range;
-use std::process::Abort;
-use std::test::Fail;
 use wasm_parser::{Encoding, Error, Fault, Parser, Payload, WasmFeatures};
 
 #[test]
-fn headers_are_distinguished(rt: HostRuntime) -> Result<(), Fail> {
+fn headers_are_distinguished(rt: HostRuntime) {
     let component: &[u8] = b"\0asm\x0d\0\x01\0";
-    assert!(rt; Parser::is_core_wasm(HEADER));
-    assert!(rt; Parser::is_core_wasm(b"\0asm\x01\0\0\0\0"));
-    assert!(rt; !Parser::is_core_wasm(&HEADER[..7]));
-    assert!(rt; !Parser::is_core_wasm(component));
-    assert!(rt; !Parser::is_core_wasm(b""));
-    assert!(rt; Parser::is_component(component));
-    assert!(rt; Parser::is_component(b"\0asm\x0d\0\x01\0\xff"));
-    assert!(rt; !Parser::is_component(HEADER));
-    assert!(rt; !Parser::is_component(&component[..7]));
-    Ok(())
+    // Whether these are the first bytes of a module, and of a component.
+    let rows: [(&[u8], bool, bool); 7] = [
+        (HEADER, true, false),
+        (b"\0asm\x01\0\0\0\0", true, false),
+        (&HEADER[..7], false, false),
+        (b"", false, false),
+        (component, false, true),
+        (b"\0asm\x0d\0\x01\0\xff", false, true),
+        (&component[..7], false, false),
+    ];
+    for (bytes, is_module, is_component) in rows {
+        let found = (Parser::is_core_wasm(bytes), Parser::is_component(bytes));
+        same(&rt, found, (is_module, is_component));
+    }
 }
 
 #[test]
-fn windows_have_the_parsers_features(rt: HostRuntime) -> Result<(), Fail> {
+fn windows_have_the_parsers_features(rt: HostRuntime) {
     let mut parser = Parser::default();
     same(&rt, parser.features(), WasmFeatures::all());
     parser.set_features(WasmFeatures::MEMORY64);
@@ -31,61 +32,53 @@ fn windows_have_the_parsers_features(rt: HostRuntime) -> Result<(), Fail> {
     let reader = parser.binary_reader(b"abc", 7);
     same(&rt, reader.features(), WasmFeatures::MEMORY64);
     same(&rt, reader.range(), 7..10);
-    pass(&mut parser, HEADER)?;
-    pass(&mut parser, b"\0\x02\x01a")?;
+    pass(&rt, &mut parser, HEADER);
+    pass(&rt, &mut parser, b"\0\x02\x01a");
     same(&rt, parser.features(), WasmFeatures::MEMORY64);
-    Ok(())
 }
 
 #[test]
-fn a_copy_goes_its_own_way(rt: HostRuntime) -> Result<(), Fail> {
-    let mut parser = after_header(0)?;
-    pass(&mut parser, b"\x03\x02\x01\0")?;
-    let mut copy = parser.clone()?;
-    pass(&mut copy, b"\x0a\x03\x01\x01")?;
-    pass(&mut copy, b"\x01\0")?;
+fn a_copy_goes_its_own_way(rt: HostRuntime) {
+    let mut parser = after_header(&rt, 0);
+    pass(&rt, &mut parser, b"\x03\x02\x01\0");
+    let mut copy = parser.clone().expect(&rt, "out of memory");
+    pass(&rt, &mut copy, b"\x0a\x03\x01\x01");
+    pass(&rt, &mut copy, b"\x01\0");
     same(&rt, (parser.offset(), copy.offset()), (12, 17));
-    same(&rt, end(&mut copy)?, Some(17));
+    same(&rt, end(&mut copy), Some(17));
     same(
         &rt,
         refusal(&mut parser, b""),
         Some(Error::new(Fault::FunctionWithoutCode, 12)),
     );
-    Ok(())
 }
 
 // What a parser knows after a function section and the start of a code section whose one body is to come.
 #[test]
-fn a_checkpoint_in_a_code_section(rt: HostRuntime) -> Result<(), Fail> {
-    let mut parser = after_header(100)?;
-    pass(&mut parser, b"\x03\x02\x01\0")?;
-    pass(&mut parser, b"\x0a\x04\x01\x02\0\x0b")?;
-    let checkpoint = parser.checkpoint();
-    same(&rt, (checkpoint.offset, checkpoint.bodies), (115, 1));
-    same(&rt, (checkpoint.code_bytes, checkpoint.in_code), (3, true));
+fn a_checkpoint_in_a_code_section(rt: HostRuntime) {
+    let mut parser = after_header(&rt, 100);
+    pass(&rt, &mut parser, b"\x03\x02\x01\0");
+    pass(&rt, &mut parser, b"\x0a\x04\x01\x02\0\x0b");
+    let found = parser.checkpoint();
+    same(&rt, (found.offset, found.bodies), (115, 1));
+    same(&rt, (found.code_bytes, found.in_code), (3, true));
     same(
         &rt,
-        (checkpoint.functions, checkpoint.codes),
-        (Some(1), Some(1)),
+        [found.functions, found.codes, found.datas, found.data_counts],
+        [Some(1), Some(1), None, None],
     );
-    same(
-        &rt,
-        (checkpoint.datas, checkpoint.data_counts),
-        (None, None),
-    );
-    same(&rt, checkpoint.expects_header, false);
-    same(&rt, checkpoint.encoding, Encoding::Module);
-    Ok(())
+    same(&rt, found.expects_header, false);
+    same(&rt, found.encoding, Encoding::Module);
 }
 
 #[test]
-fn a_parser_goes_on_from_its_checkpoint(rt: HostRuntime) -> Result<(), Fail> {
-    let mut parser = after_header(0)?;
-    pass(&mut parser, b"\x03\x02\x01\0")?;
+fn a_parser_goes_on_from_its_checkpoint(rt: HostRuntime) {
+    let mut parser = after_header(&rt, 0);
+    pass(&rt, &mut parser, b"\x03\x02\x01\0");
     let checkpoint = parser.checkpoint();
-    pass(&mut parser, b"\x0a\x03\x01\x01")?;
-    pass(&mut parser, b"\x01\0")?;
-    same(&rt, end(&mut parser)?, Some(17));
+    pass(&rt, &mut parser, b"\x0a\x03\x01\x01");
+    pass(&rt, &mut parser, b"\x01\0");
+    same(&rt, end(&mut parser), Some(17));
     let mut resumed = Parser::resume(checkpoint);
     same(&rt, resumed.checkpoint() == checkpoint, true);
     same(
@@ -98,24 +91,6 @@ fn a_parser_goes_on_from_its_checkpoint(rt: HostRuntime) -> Result<(), Fail> {
         refusal(&mut resumed, b""),
         Some(Error::new(Fault::FunctionWithoutCode, 12)),
     );
-    Ok(())
-}
-
-// The payloads of a stream are these sections, or none.
-fn are_sections(
-    rt: &impl Abort,
-    stream: &[u8],
-    wanted: &[Option<(u8, Range<u64>)>],
-) -> Result<(), Fail> {
-    let mut count = 0usize;
-    for payload in Parser::new(0).parse_all(stream) {
-        let section = payload?.as_section();
-        assert!(rt; count < wanted.len());
-        assert!(rt; section == wanted[count], "{count}");
-        count += 1;
-    }
-    same(&rt, count, wanted.len());
-    Ok(())
 }
 
 // A section of each kind, a body, and a section that is not known.
@@ -123,7 +98,7 @@ const SECTIONS: &[u8] =
     b"\0asm\x01\0\0\0\x01\x01\0\x02\x01\0\x03\x02\x01\0\x04\x01\0\x05\x01\0\x0d\x01\0\x06\x01\0\x07\x01\0\x08\x01\0\x09\x01\0\x0c\x01\0\x0a\x04\x01\x02\0\x0b\x0b\x01\0\0\x01\0\x0e\0";
 
 #[test]
-fn sections_by_their_payloads(rt: HostRuntime) -> Result<(), Fail> {
+fn sections_by_their_payloads(rt: HostRuntime) {
     let wanted = [
         None,
         Some((1, 10..11)),
@@ -144,7 +119,12 @@ fn sections_by_their_payloads(rt: HostRuntime) -> Result<(), Fail> {
         Some((14, 56..56)),
         None,
     ];
-    are_sections(&rt, SECTIONS, &wanted)
+    let mut walk = Parser::new(0).parse_all(SECTIONS);
+    for wanted in &wanted {
+        let payload = next(&rt, &mut walk);
+        same(&rt, &payload.as_section(), wanted);
+    }
+    assert!(rt; walk.next().is_none());
 }
 
 // The id and the count of a payload that begins with a count of items.
@@ -154,7 +134,7 @@ fn counted(payload: &Payload<'_>) -> Option<(u8, u32)> {
 }
 
 #[test]
-fn counted_sections_by_their_payloads(rt: HostRuntime) -> Result<(), Fail> {
+fn counted_sections_by_their_payloads(rt: HostRuntime) {
     let wanted = [
         None,
         Some((1, 0)),
@@ -175,13 +155,10 @@ fn counted_sections_by_their_payloads(rt: HostRuntime) -> Result<(), Fail> {
         None,
         None,
     ];
-    let mut count = 0usize;
-    for payload in Parser::new(0).parse_all(SECTIONS) {
-        let payload = payload?;
-        assert!(rt; count < wanted.len());
-        assert!(rt; counted(&payload) == wanted[count], "{count}");
-        count += 1;
+    let mut walk = Parser::new(0).parse_all(SECTIONS);
+    for wanted in wanted {
+        let payload = next(&rt, &mut walk);
+        same(&rt, counted(&payload), wanted);
     }
-    same(&rt, count, wanted.len());
-    Ok(())
+    assert!(rt; walk.next().is_none());
 }
