@@ -1,25 +1,25 @@
 // SPDX-License-Identifier: Apache-2.0 OR MIT
 // What the page says about a part: its row in the tree, and its details.
 import { typeText } from "./pulleynavy.js";
+import { childrenOf, endOf, firstOf, spaceOf } from "./model.js";
 import { faultOf, hex, numbers, plural, shown } from "./text.js";
-import { childrenOf, endOf, firstOf, ownerOf, spaceOf } from "./model.js";
 
 const LONGEST = 2000, MOST = 200;
-// Types of sections, and how their items are called.
-const ITEMS = { import: "import", export: "export", element: "segment", data: "segment", memory: ["memory", "memories"] };
-const WORDS = {
-    external: "kind", offsetExpression: "offset expression", init: "initial value", memory64: "64-bit", table64: "64-bit",
-    pageSizeLog2: "page size (log2)", dataStart: "data from", functions: "functions", heap: "refers to", codeOffset: "code offset",
-};
-// Fields that other lines of the details already show.
+// What the items of a section are called where it is not the name of the section.
+const ITEMS = { element: ["segment"], data: ["segment"], memory: ["memory", "memories"] };
+const OWNERS = { local: "func", label: "func", field: "type", parameter: "type", "tag parameter": "tag" };
+const WORDS = { external: "kind", init: "initial value", memory64: "64-bit", table64: "64-bit", pageSizeLog2: "page size (log2)" };
+// Fields that the row, its children or other lines of the details show.
 const SKIPPED = new Set([
-    "kind", "offset", "start", "end", "index", "bodies", "contents", "fault", "code", "encoding", "subsections", "fields", "relocations",
-    "values", "hints", "symbols", "exports", "imports", "names", "explicit",
+    "kind", "start", "end", "bodies", "contents", "fault", "code", "encoding", "explicit", "owned", "id", "of", "dataStart",
 ]);
+const NUMBERED = new Set(["start", "export", "symbol", "relocation", "comdat symbol"]);
+const OFFSET = new Set(["relocation", "hint", "symbol"]);
 
-const bytesIn = (start, end) => plural(end - start, "byte");
-const range = ({ start, end }) => `${hex(start)} to ${hex(end)}, ${bytesIn(start, end)}`;
+const bytesIn = ({ start, end }) => plural(end - start, "byte");
+const range = it => `${hex(it.start)} to ${hex(it.end)}, ${bytesIn(it)}`;
 const limits = t => `${t.initial}${t.maximum === null ? " or more" : ` to ${t.maximum}`}`;
+const inside = part => plural(childrenOf(part).length, "item");
 
 function signature(t) {
     if (t.params) return `(${t.params.map(typeText).join(", ")}) → (${t.results.map(typeText).join(", ")})`;
@@ -33,84 +33,68 @@ function typed(t, model) {
     return `${t.mutable ? "mut " : ""}${typeText(t.content)}`;
 }
 
-// ---- rows: what it is, its name, and what else there is to say
+/** An index with its name, as `func 3 add`. */
+function reference(model, space, index) {
+    return `${space} ${index} ${shown(model.nameOf(space, index))}`.trim();
+}
 
-const counted = (n, name) => plural(n, ...[ITEMS[name] ?? name].flat());
-const elements = part => plural((part.functions ?? part.expressions).length, "element");
-const inside = part => counted(childrenOf(part).length, "item");
+function nameOfSymbol(model, symbol) {
+    return shown(symbol?.name ?? (symbol?.symbol && symbol.index !== null ? model.nameOf(spaceOf(symbol.symbol), symbol.index) : ""));
+}
 
+// The rows: what it is, its name, and what else there is to say. The first two of an item with an index are its index and its name.
+
+const typeTail = (part, model) => ["", "", typed(part.type, model)];
 const ROWS = {
     version: part => [`${part.encoding}, version ${part.version}`],
-    section: part => [part.name, "", counted(part.count, part.name)],
+    section: part => [part.name, "", plural(part.count, ...(ITEMS[part.name] ?? [part.name]))],
     code: part => ["code", "", plural(part.count, "body", "bodies")],
     start: (part, model) => ["start", "", reference(model, "func", part.index)],
     "data count": part => ["data count", "", plural(part.count, "segment")],
-    custom: part => ["custom", shown(part.name), bytesIn(part.dataStart, part.end)],
-    unknown: part => [part.contents ? `subsection ${part.id}` : `section ${part.id}`, "", bytesIn(part.start, part.end)],
+    custom: part => ["custom", shown(part.name), bytesIn({ start: part.dataStart, end: part.end })],
+    unknown: part => [`${part.contents ? "subsection" : "section"} ${part.id}`, "", bytesIn(part)],
     fault: part => [`fault: ${shown(faultOf(part))}`],
-    body: part => ["", "", `body, ${bytesIn(part.start, part.end)}`],
-    function: (part, model) => ["", "", typed(part.type, model)],
-    table: part => ["", "", typed(part.type)],
-    memory: part => ["", "", typed(part.type)],
-    global: part => ["", "", typed(part.type)],
-    tag: (part, model) => ["", "", typed(part.type, model)],
-    type: part => (part.types.length === 1 ? ["", "", signature(part.types[0])] : ["types", "", `group of ${part.types.length}`]),
+    body: part => ["", "", `body, ${bytesIn(part)}`],
+    type: part => [plural(part.types.length, "type"), "", part.types.length === 1 ? signature(part.types[0]) : "group"],
     import: (part, model) => ["", "", `import ${shown(`${part.module}.${part.name}`)}, ${typed(part.type, model)}`],
-    export: (part, model) => ["export", shown(part.name), reference(model, part.external, part.index)],
-    element: part => ["", "", `${part.mode}, ${elements(part)}`],
-    data: part => ["", "", `${part.mode}, ${bytesIn(part.bytes.start, part.bytes.end)}`],
+    function: typeTail, table: typeTail, memory: typeTail, global: typeTail, tag: typeTail,
+    export: (part, model) => ["export", shown(part.name), reference(model, spaceOf(part.external), part.index)],
+    element: part => ["", "", `${part.mode}, ${plural((part.functions ?? part.expressions).length, "element")}`],
+    data: part => ["", "", `${part.mode}, ${bytesIn(part.bytes)}`],
     name: (part, model, within) => [`${spaceOf(within.of ?? within.owned)} ${part.index}`, shown(part.name)],
-    names: (part, model, within) => (part.of ? [`${part.of} names`, "", inside(part)] : [reference(model, ownerOf(within.of), part.index)]),
-    module: part => ["module name", shown(part.name)],
+    names: (part, model) => [part.of ? `${part.of} names` : reference(model, OWNERS[part.owned], part.index), "", inside(part)],
     "indirect names": part => [`${part.of} names`, "", inside(part)],
-    value: part => [shown(part.name), shown(part.version)],
+    module: part => ["module name", shown(part.name)],
+    value: part => [shown(part.name), "", shown(part.version)],
     field: part => [shown(part.name), "", inside(part)],
     hint: part => [`at ${hex(part.offset)} of the body`, "", part.taken ? "likely taken" : "likely not taken"],
-    symbol: (part, model) => [`${part.symbol} symbol`, shown(part.name ?? nameOfSymbol(model, part)), part.index === null ? "undefined" : ""],
-    "comdat symbol": (part, model) => [`${part.symbol}`, "", reference(model, spaceOf(part.symbol), part.index)],
+    symbol: (part, model) => [`${part.symbol} symbol`, nameOfSymbol(model, part), part.index === null ? "undefined" : ""],
+    "comdat symbol": (part, model) => [reference(model, spaceOf(part.symbol), part.index)],
     "init function": (part, model) => ["init function", nameOfSymbol(model, model.symbols[part.symbol]), `priority ${part.priority}`],
-    segment: part => ["segment", shown(part.name)],
-    relocation: (part, model) => [part.type, relocated(model, part), `at ${hex(part.offset)}`],
+    relocation: (part, model) => [part.type, target(model, part), `at ${hex(part.offset)}`],
 };
 
-function nameOfSymbol(model, symbol) {
-    if (!symbol || symbol.kind === "fault") return "";
-    return shown(symbol.name ?? (symbol.index === null ? "" : model.nameOf(spaceOf(symbol.symbol), symbol.index)));
-}
-
-function relocated(model, part) {
-    return part.type.startsWith("TYPE_INDEX") ? reference(model, "type", part.index) : nameOfSymbol(model, model.symbols[part.index]);
-}
-
-/** An index with its name, as `func 3 add`. */
-export function reference(model, space, index) {
-    const name = model.nameOf(space, index);
-    return name ? `${space} ${index} ${shown(name)}` : `${space} ${index}`;
-}
-
-function identified(part, model) {
-    const identity = model.identityOf(part.kind === "type" && part.types.length === 1 ? part.types[0] : part);
-    return identity && [`${identity[0]} ${identity[1]}`, shown(model.nameOf(...identity))];
+function target(model, { type, index }) {
+    return type.startsWith("TYPE_INDEX") ? reference(model, "type", index) : `symbol ${index} ${nameOfSymbol(model, model.symbols[index])}`.trim();
 }
 
 /** The head, the name and the tail of a row. */
-export function rowOf(node, model) {
-    const { part, within } = node, identity = identified(part, model);
-    if (part.params || part.fields?.[0]?.type) return [...identity, signature(part)];
-    if (part.hints) return [reference(model, "func", part.index)];
-    if (!ROWS[part.kind] || part.memorySize !== undefined) return part.kind ? [part.kind, shown(part.name ?? "")] : [shown(part.name)];
-    const row = ROWS[part.kind](part, model, within);
-    return identity ? [...identity, row[2]] : row;
+export function rowOf({ part, within }, model) {
+    const identity = model.identityOf(part), own = part.hints || part.memorySize !== undefined ? null : ROWS[part.kind];
+    const row = own?.(part, model, within) ?? [part.kind ?? shown(part.name), part.kind ? shown(part.name ?? "") : ""];
+    if (!identity) return row;
+    const isType = part.params || part.fields;
+    return [`${identity[0]} ${identity[1]}`, shown(model.nameOf(...identity)), isType ? signature(part) : own ? row[2] : inside(part)];
 }
-
-// ---- details
 
 function valueText(model, key, value, part) {
     if (value === null) return "none";
     if (typeof value === "boolean") return value ? "yes" : "no";
     if (typeof value === "string") return shown(value, LONGEST);
-    if (typeof value !== "object") return key === "index" || key === "type" ? `${value}` : numbers.format(value);
-    if (Array.isArray(value)) return listText(model, key, value, part);
+    if (key === "type" && typeof value === "number") return `${value}: ${typed(value, model)}`;
+    if (key === "index" && typeof value === "number") return indexText(model, value, part);
+    if (typeof value !== "object") return numbers.format(value);
+    if (Array.isArray(value)) return listText(model, part.kind === "element" && key === "functions" ? "index" : "", value, part);
     if (value.heap !== undefined) return typeText(value);
     if (value.params || value.fields) return signature(value);
     if (value.start !== undefined) return range(value);
@@ -118,37 +102,28 @@ function valueText(model, key, value, part) {
     return Object.entries(value).map(([name, it]) => `${wordOf(name)} ${valueText(model, name, it, part)}`).join(", ");
 }
 
+function indexText(model, index, part) {
+    if (part.kind === "relocation") return `${index}: ${target(model, part)}`;
+    return reference(model, spaceOf(part.external ?? part.symbol ?? "func"), index);
+}
+
 function listText(model, key, list, part) {
-    const isTable = part.kind === "element" && key === "functions";
-    const text = it => (isTable ? reference(model, "func", it) : valueText(model, "", it, part));
-    const said = list.slice(0, MOST).map(text).join("; "), more = list.length - MOST;
+    const said = list.slice(0, MOST).map(it => valueText(model, key, it, part)).join("; "), more = list.length - MOST;
     return more > 0 ? `${said}; and ${numbers.format(more)} more` : said || "none";
 }
 
 const wordOf = key => WORDS[key] ?? key.replace(/[A-Z]/g, char => ` ${char.toLowerCase()}`);
 
-function fieldsOf(part) {
-    const { contents } = part;
-    const inner = contents && contents.kind !== "fault" && contents.kind !== "name" && contents.start === undefined ? contents : {};
-    return Object.entries({ ...inner, ...part }).filter(([key, value]) => {
-        if (key === "index") return part.kind === "start" || part.kind === "export" || part.kind === "symbol";
-        if (key === "offset") return part.kind === "relocation" || part.kind === "hint" || part.kind === "symbol";
-        return key === "items" ? part.kind === "element" : !SKIPPED.has(key) && !(key === "functions" && part.contents);
-    });
-}
-
 /** Pairs of a term and what it is. */
 export function detailsOf({ part }, model) {
-    const first = firstOf(part), identity = identified(part, model), rows = [];
-    if (part.kind === "fault") rows.push(["offset", hex(part.offset)], ["fault", part.fault]);
-    else rows.push(["offset", range({ start: first, end: endOf(part) })]);
-    if (part.start !== undefined && part.start !== first) rows.push(["content", range(part)]);
-    if (identity) rows.push(["index", identity[0]]);
-    if (identity?.[1]) rows.push(["name of it", identity[1]]);
-    for (const [key, value] of fieldsOf(part)) {
-        const isReference = key === "index" && part.kind !== "symbol", isType = key === "type" && typeof value === "number";
-        const text = isReference ? reference(model, part.external ?? "func", value) : isType ? reference(model, "type", value) : "";
-        rows.push([wordOf(key), text || valueText(model, key, value, part)]);
+    const first = firstOf(part), identity = model.identityOf(part), { contents } = part, children = childrenOf(part);
+    const isFault = part.kind === "fault", rows = [["offset", isFault ? hex(first) : range({ start: first, end: endOf(part) })]];
+    if (!isFault && part.start !== first) rows.push(["content", range(part)]);
+    if (identity) rows.push(["index", reference(model, ...identity)]);
+    const inner = contents && contents.kind !== "fault" && contents.start === undefined ? contents : {};
+    for (const [key, value] of Object.entries({ ...inner, ...part })) {
+        if (SKIPPED.has(key) || value === children || key === "index" && !NUMBERED.has(part.kind) || key === "offset" && !OFFSET.has(part.kind)) continue;
+        rows.push([wordOf(key), valueText(model, key, value, part)]);
     }
     return rows;
 }

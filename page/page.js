@@ -5,38 +5,26 @@ import { hex, plural, shown } from "./text.js";
 import { Tree } from "./tree.js";
 
 const $ = id => document.getElementById(id), PAUSE = 150;
-let module = null, worker = null, waiting = new Map(), requests = 0, file = null, opened = null, fault = -1, word = "";
-
-function made(tag, properties, ...inside) {
-    const element = Object.assign(document.createElement(tag), properties);
-    element.append(...inside);
-    return element;
-}
+let worker = null, waiting = new Map(), requests = 0, file = null, opened = null, fault = -1, word = "", pause = 0;
+const made = (tag, properties) => Object.assign(document.createElement(tag), properties);
 
 function say(text, isFault = false) {
-    $("said").textContent = text;
-    $("said").className = isFault ? "fault" : "";
+    Object.assign($("said"), { textContent: text, className: isFault ? "fault" : "" });
 }
 
-// ---- the worker
-
-// In the page that is one file, the worker and the parser are texts inside it, since a file may load neither.
+// In the page that is one file, the worker and the parser are texts inside it, since such a page may load neither.
 function startWorker() {
+    const text = $("worker")?.textContent;
     worker?.terminate();
     waiting = new Map();
-    const text = $("worker")?.textContent;
     worker = text ? new Worker(URL.createObjectURL(new Blob([text], { type: "text/javascript" }))) : new Worker("worker.js", { type: "module" });
-    worker.onmessage = ({ data }) => {
-        if (data.read !== undefined) {
-            $("progress").value = data.read;
-            return;
-        }
-        const { resolve, reject } = waiting.get(data.id);
-        waiting.delete(data.id);
-        if (data.error === undefined) resolve(data.value);
-        else reject(new Error(data.error));
-    };
     worker.onerror = event => say(`The worker failed: ${event.message}`, true);
+    worker.onmessage = ({ data: { read, id, value, error } }) => {
+        if (read !== undefined) $("progress").value = read;
+        else if (error === undefined) waiting.get(id).resolve(value);
+        else waiting.get(id).reject(new Error(error));
+        waiting.delete(id);
+    };
 }
 
 function ask(call, ...args) {
@@ -47,92 +35,72 @@ function ask(call, ...args) {
 }
 
 async function loadParser() {
-    const text = $("wasm")?.textContent, bytes = text && Uint8Array.from(atob(text), char => char.charCodeAt(0));
-    module = await WebAssembly.compile(bytes || await (await fetch("pulleynavy.wasm")).arrayBuffer());
+    const text = $("wasm")?.textContent;
+    return WebAssembly.compile(text ? Uint8Array.from(atob(text), char => char.charCodeAt(0)) : await (await fetch("pulleynavy.wasm")).arrayBuffer());
 }
-const parserLoaded = loadParser();
+const loading = loadParser();
+loading.catch(error => say(`The parser cannot be loaded: ${error.message}`, true));
 
-// ---- a file
-
+// A file that is opened meanwhile ends the worker of this one, whose answer then never comes.
 async function open(given) {
+    const module = await loading;
     file = given;
-    try {
-        await parserLoaded;
-    } catch (error) {
-        return say(`The parser cannot be loaded: ${error.message}`, true);
-    }
     startWorker();
     say(`Reading ${shown(file.name)}, ${plural(file.size, "byte")}`);
     Object.assign($("progress"), { max: Math.max(1, file.size), value: 0, hidden: false });
-    const answer = await ask("open", module, file);
-    // Another file may have been opened meanwhile: its worker answers then, and this one never does.
-    opened = answer;
+    opened = await ask("open", module, file);
     $("progress").hidden = $("empty").hidden = true;
     document.querySelector("main").hidden = document.querySelector("footer").hidden = $("search").disabled = false;
     $("search").value = word = "";
     fault = -1;
     $("next").hidden = !opened.faults.length;
-    $("strip").disabled = opened.rest < file.size || opened.problem !== "";
-    hexView.open(file, [...opened.faults].sort((a, b) => a.offset - b.offset));
+    $("strip").disabled = $("keep").disabled = opened.read < file.size || opened.faults.some(it => it.path.length === 1) || opened.problem !== "";
+    hexView.open(file, opened.faults.map(it => it.offset));
     showBar();
     tell();
-    await showRows(opened.count);
+    tree.reset(opened.count);
     if (location.hash) await goToHash();
-    else if (opened.faults.length) await nextFault(false);
-    else await tree.go(0, false);
+    else await (opened.faults.length ? nextFault(false) : tree.go(0, false));
 }
 
 function tell() {
-    const { faults, problem, sections, took } = opened, first = faults[0], more = faults.length - 1;
+    const { faults: [first, ...more], problem, sections, took } = opened;
     const what = `${shown(file.name)}: ${plural(file.size, "byte")}, ${plural(sections, "section")}, read in ${Math.round(took)} ms. `;
-    const said = first ? `Fault at ${hex(first.offset)}: ${shown(first.text)}${more ? `, and ${plural(more, "more fault")}` : ""}.` : "No faults.";
-    say(what + (problem || said), problem !== "" || faults.length > 0);
+    const said = first ? `Fault at ${hex(first.offset)}: ${shown(first.text)}${more.length ? `, and ${plural(more.length, "more fault")}` : ""}.` : "No faults.";
+    say(what + (problem || said), Boolean(problem || first));
 }
-
-async function showRows(count, cursor = 0) {
-    $("none").hidden = count > 0;
-    tree.reset(count, cursor);
-}
-
-// ---- choosing
 
 async function choose(row) {
     if (!tree.scroller.count) return;
-    const { first, start, end, place, rows, isBad } = await ask("details", row);
+    const { first, start, end, place, rows, isBad } = await ask("details", row), all = [...$("bar").children];
     hexView.select({ first, start, end });
     $("hex-title").textContent = isBad ? `Bytes, fault at ${hex(first)}` : `Bytes ${hex(first)} to ${hex(end)}`;
     $("details").replaceChildren(...rows.flatMap(([term, text]) => [made("dt", { textContent: term }), made("dd", { textContent: text })]));
-    for (const it of $("bar").children) {
-        const isHere = it.place <= place && place < it.place + it.count;
-        it.setAttribute("aria-pressed", isHere);
-        it.tabIndex = isHere || !$("bar").querySelector("[tabindex='0']") ? 0 : -1;
-    }
+    const here = all.findLast(it => it.place <= place) ?? all[0];
+    for (const it of all) it.ariaPressed = it === here;
+    stopAt(here);
     history.replaceState(null, "", `#${hex(first)}`);
 }
 
 async function go(path, wantsFocus = false) {
-    if (word) {
-        $("search").value = word = "";
-        tell();
-        await ask("search", "");
-    }
-    const { count, row } = await ask("reveal", path);
+    if (word) await ask("show", "");
+    if (word) tell();
+    $("search").value = word = "";
     $("none").hidden = true;
+    const { count, row } = await ask("reveal", path);
     tree.scroller.setCount(count);
     await tree.go(row, wantsFocus);
 }
 
 async function goTo(offset) {
     if (!(offset <= file.size)) return say(`${hex(offset)} is past the end of the file, which is ${hex(file.size)}.`, true);
-    const path = await ask("find", offset);
-    await go(path);
-    hexView.moveTo(offset);
+    await go(await ask("pathTo", offset));
+    hexView.show(offset, offset);
 }
 
 async function goToHash() {
-    const offset = Number(decodeURIComponent(location.hash.slice(1)));
-    if (file && Number.isSafeInteger(offset) && offset >= 0) await goTo(offset);
-    else await tree.go(0, false);
+    const offset = Number(location.hash.slice(1));
+    if (Number.isSafeInteger(offset) && offset >= 0) await goTo(offset);
 }
 
 async function nextFault(wantsFocus = true) {
@@ -140,84 +108,83 @@ async function nextFault(wantsFocus = true) {
     await go(opened.faults[fault].path, wantsFocus);
 }
 
+// Returns whether the text is an offset.
 async function search() {
-    const text = $("search").value.trim(), isOffset = /^(0x[0-9a-f]+)$/i.test(text);
-    if (isOffset || text === word) return isOffset ? null : word;
+    const text = $("search").value.trim();
+    if (/^0x[0-9a-f]+$/i.test(text)) return true;
+    if (text === word) return false;
     word = text;
-    const count = await ask("search", word);
-    await showRows(count);
+    const count = await ask("show", word.toLowerCase());
     if (word) say(`${plural(count, "match", "matches")} of “${shown(word)}”`);
     else tell();
-    if (count) await tree.go(0, false);
-    return word;
+    $("none").hidden = count > 0;
+    tree.reset(count);
+    await tree.go(0, false);
+    return false;
 }
 
-// ---- the bar
+async function pressedInSearch(event) {
+    if (event.key === "Escape") $("search").value = "";
+    if (!["Enter", "ArrowDown", "Escape"].includes(event.key)) return;
+    event.preventDefault();
+    clearTimeout(pause);
+    if (await search()) await goTo(Number($("search").value.trim()));
+    else if (event.key !== "Escape" && tree.scroller.count) await tree.go(tree.cursor);
+}
 
 function showBar() {
-    const { rest, bar } = opened, size = Math.max(1, file.size);
-    const segments = bar.map(it => segment(it, it.size / size));
-    if (rest < file.size) {
-        const text = `not read: ${plural(file.size - rest, "byte")} after the fault`;
-        const last = made("button", { className: "rest", textContent: "not read", title: text, ariaLabel: text, place: -1, count: 0 });
-        last.style.flexGrow = file.size - rest;
-        last.onclick = () => go(opened.faults.at(-1).path);
-        segments.push(last);
+    const segments = opened.bar.map(segment), rest = file.size - opened.read, title = `not read: ${plural(rest, "byte")}`;
+    if (rest > 0) {
+        const onclick = () => go(opened.faults.at(-1)?.path ?? [0]);
+        segments.push(made("button", { className: "rest", textContent: "not read", title, ariaLabel: title, place: Infinity, onclick }));
+        segments.at(-1).style.flexGrow = rest;
     }
     $("bar").replaceChildren(...segments);
-    for (const it of segments) it.tabIndex = it === segments[0] ? 0 : -1;
+    stopAt(segments[0]);
 }
 
-function segment({ title, place, count, size, isBad, id }, share) {
-    const what = count > 1 ? plural(count, "small section") : title, percent = (100 * share).toFixed(share < 0.1 ? 1 : 0);
-    const text = `${what}: ${plural(size, "byte")}, ${percent} %${isBad ? ", with a fault" : ""}`;
-    const element = made("button", { title: text, ariaLabel: text, className: isBad ? "marked" : "", place, count }, share > 0.06 ? what : "");
-    element.style.flexGrow = size;
-    element.style.setProperty("--hue", id * 47 + 20);
+function segment({ title, place, count, size, isBad, id }) {
+    const what = count > 1 ? plural(count, "small section") : title, share = 100 * size / file.size;
+    const text = `${what}: ${plural(size, "byte")}, ${share.toFixed(share < 10 ? 1 : 0)} %${isBad ? ", with a fault" : ""}`;
+    const element = made("button", { title: text, ariaLabel: text, className: isBad ? "marked" : "", textContent: share > 6 ? what : "", place });
+    element.style.cssText = `flex-grow: ${size}; --hue: ${id * 47 + 20}`;
     element.onclick = () => go([place]);
     return element;
 }
 
+// The tab key stops at one segment; arrow keys move to the others.
+function stopAt(segment) {
+    for (const it of $("bar").children) it.tabIndex = it === segment ? 0 : -1;
+}
+
 $("bar").addEventListener("keydown", event => {
     const all = [...$("bar").children], at = all.indexOf(event.target);
-    const to = { ArrowRight: at + 1, ArrowLeft: at - 1, Home: 0, End: all.length - 1 }[event.key];
-    if (to === undefined || at < 0) return;
+    const next = all[{ ArrowRight: at + 1, ArrowLeft: at - 1, Home: 0, End: all.length - 1 }[event.key]];
+    if (!next) return;
     event.preventDefault();
-    const next = all[Math.max(0, Math.min(to, all.length - 1))];
-    for (const it of all) it.tabIndex = it === next ? 0 : -1;
+    stopAt(next);
     next.focus();
 });
-
-// ---- saving
 
 async function saveStripped() {
     $("strip").disabled = true;
     try {
-        const { bytes, fault: why } = await ask("strip", $("keep").checked);
-        if (why) return say(`Not saved: ${why}.`, true);
-        const link = made("a", { href: URL.createObjectURL(new Blob([bytes], { type: "application/wasm" })) });
-        link.download = `${file.name.replace(/\.wasm$/i, "")}.stripped.wasm`;
-        link.click();
-        setTimeout(() => URL.revokeObjectURL(link.href), 60_000);
-        say(`Saved ${shown(link.download)}: ${plural(bytes.length, "byte")} of ${plural(file.size, "byte")}.`);
+        const { bytes, why } = await ask("strip", $("keep").checked);
+        if (why) throw new Error(why);
+        const href = URL.createObjectURL(new Blob([bytes], { type: "application/wasm" })), download = file.name.replace(/(\.wasm)?$/i, ".stripped.wasm");
+        made("a", { href, download }).click();
+        setTimeout(() => URL.revokeObjectURL(href), 60_000);
+        say(`Saved ${shown(download)}: ${plural(bytes.length, "byte")} of ${plural(file.size, "byte")}.`);
     } catch (error) {
         say(`Not saved: ${error.message}`, true);
-    } finally {
-        $("strip").disabled = false;
     }
+    $("strip").disabled = false;
 }
 
-// ---- events
-
 const tree = new Tree($("tree"), ask, choose);
-const hexView = new Hex($("hex"), {
-    choose: offset => goTo(offset),
-    fail: error => say(`The file cannot be read any more: ${error.message}`, true),
-    say: text => ($("position").textContent = text),
-});
-let pause = 0;
-
-$("file").addEventListener("change", () => $("file").files[0] && open($("file").files[0]));
+const hexView = new Hex($("hex"), goTo, error => say(`The file cannot be read any more: ${error.message}`, true));
+const openFirst = ([given]) => given && open(given);
+$("file").addEventListener("change", () => openFirst($("file").files));
 $("next").addEventListener("click", () => nextFault());
 $("strip").addEventListener("click", saveStripped);
 $("theme").addEventListener("change", () => (document.documentElement.style.colorScheme = $("theme").value));
@@ -225,24 +192,17 @@ $("search").addEventListener("input", () => {
     clearTimeout(pause);
     pause = setTimeout(search, PAUSE);
 });
-$("search").addEventListener("keydown", async event => {
-    if (event.key === "Escape") $("search").value = "";
-    if (event.key !== "Enter" && event.key !== "ArrowDown" && event.key !== "Escape") return;
-    event.preventDefault();
-    clearTimeout(pause);
-    if (await search() === null) await goTo(Number($("search").value.trim()));
-    else if (event.key !== "Escape" && tree.scroller.count) await tree.go(tree.cursor);
-});
+$("search").addEventListener("keydown", pressedInSearch);
 addEventListener("keydown", event => {
-    if (event.key !== "/" || event.target.matches("input") || $("search").disabled) return;
+    if (event.key !== "/" || event.target.matches("input, select") || $("search").disabled) return;
     event.preventDefault();
     $("search").focus();
 });
-addEventListener("hashchange", () => file && opened && goToHash());
+addEventListener("hashchange", () => opened && goToHash());
 for (const kind of ["dragover", "dragleave", "drop"]) {
     addEventListener(kind, event => {
         event.preventDefault();
         document.body.classList.toggle("over", kind === "dragover");
-        if (kind === "drop" && event.dataTransfer.files[0]) open(event.dataTransfer.files[0]);
+        if (kind === "drop") openFirst(event.dataTransfer.files);
     });
 }

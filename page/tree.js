@@ -1,26 +1,25 @@
 // SPDX-License-Identifier: Apache-2.0 OR MIT
 // The tree, after the pattern "Tree View" of the ARIA Authoring Practices Guide. Its rows come from the worker.
 import { Scroller } from "./scroller.js";
+import { hex } from "./text.js";
 
-const ROW = 22, STAY_TYPED = 700;
+const ROW = 22;
 
 export class Tree {
-    /** `ask` calls the worker, `choose` is told the row that is chosen. */
+    /** `ask` calls the worker, `choose` is called with the row that is chosen. */
     constructor(box, ask, choose) {
-        Object.assign(this, { box, ask, choose, cursor: 0, turn: 0, drawn: 0, elements: new Map(), typed: "", typedAt: 0 });
-        this.queue = Promise.resolve();
+        Object.assign(this, { box, ask, choose, cursor: 0, turn: 0, drawn: 0, elements: new Map(), queue: Promise.resolve() });
         this.scroller = new Scroller(box, ROW, () => this.draw());
         box.addEventListener("click", event => this.clicked(event));
         box.addEventListener("keydown", event => this.pressed(event));
         box.addEventListener("focusin", () => this.scroller.show(this.cursor));
     }
 
-    /** Shows `count` rows from the first one on, or with a row that is chosen. */
-    reset(count, cursor = 0) {
-        this.cursor = cursor;
-        this.queue = Promise.resolve();
-        this.scroller.setCount(count, 0);
-        this.scroller.show(cursor);
+    /** Shows other rows, from the first one on. */
+    reset(count) {
+        Object.assign(this, { cursor: 0, queue: Promise.resolve() });
+        this.scroller.top = 0;
+        this.scroller.setCount(count);
     }
 
     async draw() {
@@ -34,7 +33,7 @@ export class Tree {
     // The row of the cursor always exists, as it is the one that the tab key stops at. The other elements are those in sight.
     render(rows) {
         const { list, top } = this.scroller, kept = new Set(rows.map(row => row.index));
-        for (const [index, element] of this.elements) if (!kept.has(index)) element.remove(), this.elements.delete(index);
+        for (const [index, element] of this.elements) if (!kept.has(index) && this.elements.delete(index)) element.remove();
         let next = list.firstChild;
         for (const row of rows) {
             const element = this.elements.get(row.index) ?? this.made(row.index);
@@ -56,19 +55,14 @@ export class Tree {
     }
 
     fill(element, row) {
-        const isChosen = row.index === this.cursor, texts = [row.head, row.name, row.tail, `0x${row.offset.toString(16)}`];
-        texts.forEach((text, i) => {
-            if (element.children[i].textContent !== text) element.children[i].textContent = text;
-        });
-        const set = (name, value) => (value === null ? element.removeAttribute(name) : element.setAttribute(name, value));
-        set("aria-level", row.level);
-        set("aria-setsize", row.size);
-        set("aria-posinset", row.place + 1);
-        set("aria-expanded", row.isOpen);
-        set("aria-selected", isChosen);
-        element.tabIndex = isChosen ? 0 : -1;
+        const isChosen = row.index === this.cursor, texts = [row.head, row.name, row.tail, hex(row.offset)];
+        const states = { level: row.level, setsize: row.size, posinset: row.place + 1, expanded: row.isOpen, selected: isChosen };
+        texts.forEach((text, i) => (element.children[i].textContent = text));
+        for (const [name, value] of Object.entries(states)) element.setAttribute(`aria-${name}`, value);
+        if (row.isOpen === null) element.removeAttribute("aria-expanded");
         element.title = texts.slice(0, 3).filter(Boolean).join(" ") + (row.isMarked ? " (with a fault inside)" : "");
         element.className = row.isBad ? "row bad" : row.isMarked ? "row marked" : "row";
+        element.tabIndex = isChosen ? 0 : -1;
         element.dataset.row = row.index;
         element.style.setProperty("--level", row.level);
     }
@@ -81,50 +75,30 @@ export class Tree {
         await Promise.all([this.draw(), this.choose(this.cursor)]);
     }
 
-    async toggle(isOpen, isAll = false) {
-        const { count, row } = await this.ask("toggle", this.cursor, isOpen, isAll);
-        this.wantsFocus = this.box.contains(document.activeElement);
-        this.cursor = row;
-        this.scroller.setCount(count);
-        this.scroller.show(row);
+    async toggle(isOpen) {
+        this.scroller.setCount(await this.ask("toggle", this.cursor, isOpen));
     }
 
     clicked(event) {
-        const element = event.target.closest(".row");
+        const element = event.target.closest(".row"), isOpen = element?.getAttribute("aria-expanded"), row = Number(element?.dataset.row);
         if (!element) return;
-        const row = Number(element.dataset.row), isAgain = row === this.cursor, isOpen = element.getAttribute("aria-expanded");
-        this.queue = this.queue.then(async () => {
-            await this.go(row);
-            if (isOpen !== null) await this.toggle(!(isOpen === "true" && (isAgain || event.offsetX < 0)));
-        });
+        const closes = isOpen === "true" && row === this.cursor;
+        this.queue = this.queue.then(() => this.go(row)).then(() => isOpen && this.toggle(!closes));
     }
 
+    // One key after the other, since a key may change the rows that the next one is about.
     pressed(event) {
-        if (event.ctrlKey || event.metaKey || event.altKey) return;
-        const isLetter = event.key.length === 1 && /\S/.test(event.key) && event.key !== "*" && event.key !== "/";
-        if (!isLetter && !(event.key in KEYS)) return;
+        if (!(event.key in KEYS) || event.ctrlKey || event.metaKey || event.altKey) return;
         event.preventDefault();
-        event.stopPropagation();
-        // One key after the other, since a key may change the rows that the next one is about.
-        this.queue = this.queue.then(() => (isLetter ? this.type(event.key) : this.press(event.key)));
-    }
-
-    async press(key) {
-        const [row] = await this.ask("rows", this.cursor, 1, this.cursor);
-        if (row) await KEYS[key](this, row);
-    }
-
-    // Goes to the next row whose text begins with the letters that were typed.
-    async type(letter) {
-        const now = performance.now();
-        this.typed = (now - this.typedAt < STAY_TYPED ? this.typed : "") + letter.toLowerCase();
-        this.typedAt = now;
-        await this.go(await this.ask("typed", this.typed, this.typed.length > 1 ? this.cursor - 1 : this.cursor));
+        this.queue = this.queue.then(async () => {
+            const row = (await this.ask("rows", this.cursor, 1, this.cursor))[0];
+            if (row) await KEYS[event.key](this, row);
+        });
     }
 }
 
 const page = tree => Math.max(1, tree.scroller.inSight.count - 3);
-const toggled = (tree, row) => (row.isOpen === null ? null : tree.toggle(!row.isOpen));
+const toggled = (tree, row) => row.isOpen !== null && tree.toggle(!row.isOpen);
 const KEYS = {
     ArrowDown: tree => tree.go(tree.cursor + 1),
     ArrowUp: tree => tree.go(tree.cursor - 1),
@@ -132,13 +106,12 @@ const KEYS = {
     PageUp: tree => tree.go(tree.cursor - page(tree)),
     Home: tree => tree.go(0),
     End: tree => tree.go(tree.scroller.count - 1),
-    ArrowRight: (tree, row) => (row.isOpen === false ? tree.toggle(true) : row.isOpen ? tree.go(tree.cursor + 1) : null),
+    ArrowRight: (tree, row) => (row.isOpen ? tree.go(tree.cursor + 1) : row.isOpen === false && tree.toggle(true)),
     ArrowLeft: async (tree, row) => {
         if (row.isOpen) return tree.toggle(false);
         const parent = await tree.ask("parent", row.index);
-        return parent < 0 ? null : tree.go(parent);
+        return parent >= 0 && tree.go(parent);
     },
     Enter: toggled,
     " ": toggled,
-    "*": tree => tree.toggle(true, true),
 };

@@ -20,24 +20,32 @@ async function parse() {
         for (const event of reader.finish()) model.add(event);
         return "";
     } catch (error) {
-        return error instanceof RangeError ? "out of memory: a section is too large for this page" : `not read: ${error.message}`;
+        return error instanceof RangeError ? "Out of memory: a section is too large for this page." : `Not read: ${error.message}`;
     }
 }
 
-// The segments of the bar. Where there are many sections, small ones that follow each other are one segment.
+// The segments of the bar. Where there are many sections, small ones that follow each other share a segment.
 function bar() {
     const segments = [], least = model.parts.length > MOST_IN_BAR ? file.size / MOST_IN_BAR : 0;
     model.parts.forEach((part, place) => {
+        const size = endOf(part) - firstOf(part), isBad = model.marked.has(part), last = segments.at(-1), isSmall = size < least;
         if (part.kind === "fault") return;
-        const first = firstOf(part), size = endOf(part) - first, isBad = model.marked.has(part), last = segments.at(-1);
-        if (size < least && last?.isMerged && last.size < least) {
+        if (isSmall && last?.isSmall && last.size < least) {
             Object.assign(last, { size: last.size + size, count: last.count + 1, isBad: last.isBad || isBad });
             return;
         }
-        const [title, name] = rowOf({ part }, model);
-        segments.push({ title: name || title, place, first, size, isBad, id: part.id ?? 0, isMerged: size < least, count: 1 });
+        const [head, name] = rowOf({ part }, model);
+        segments.push({ title: name || head, place, size, isBad, isSmall, id: part.id ?? 0, count: 1 });
     });
     return segments;
+}
+
+function row(index) {
+    const { part, level, size, place, isOpen } = model.rows[index], [head, name = "", tail = ""] = rowOf(model.rows[index], model);
+    return {
+        index, head, name, tail, level, size, place, offset: firstOf(part), isOpen: childrenOf(part).length ? isOpen : null,
+        isBad: part.kind === "fault", isMarked: model.marked.has(part),
+    };
 }
 
 const CALLS = {
@@ -45,56 +53,31 @@ const CALLS = {
         const began = performance.now();
         parser = fromModule(module);
         file = given;
-        model = new Model();
         const problem = await parse(), last = model.parts.at(-1);
         return {
-            problem, count: model.showAll(), bar: bar(), took: performance.now() - began,
-            sections: model.parts.filter(part => part.id !== undefined).length,
-            // What comes after the last part, if reading stopped.
-            rest: last?.kind === "fault" ? endOf(model.parts.at(-2) ?? { end: 0 }) : file.size,
+            problem, count: model.show(""), bar: bar(), sections: model.parts.filter(part => part.id !== undefined).length,
+            // Where reading stopped.
+            read: last?.kind === "fault" || problem ? endOf(model.parts.findLast(part => part.kind !== "fault") ?? { end: 0 }) : file.size,
             faults: model.faults.map(({ fault, path }) => ({ offset: fault.offset, text: faultOf(fault), path })),
+            took: performance.now() - began,
         };
     },
-    rows: (first, count, also) => [...new Set([...Array.from({ length: count }, (_, i) => first + i), also])]
-        .filter(row => row >= 0 && row < model.rows.length).sort((a, b) => a - b).map(row),
-    toggle: (row, isOpen, isAll) => model.toggle(row, isOpen, isAll),
-    parent: row => model.parentOf(row),
-    search: word => (word ? model.search(word.toLowerCase()) : model.showAll()),
-    reveal: path => model.reveal(path),
-    find: offset => model.pathTo(offset),
-    details: row => {
-        const { part } = model.rows[row];
-        return {
-            first: firstOf(part), start: part.start ?? part.offset, end: endOf(part), isBad: part.kind === "fault",
-            place: model.pathTo(firstOf(part))[0], rows: detailsOf(model.rows[row], model),
-        };
+    /** The rows from the first one on, and one more row, in order. */
+    rows: (first, count, also) => [...new Set([also, ...Array.from({ length: count }, (_, i) => first + i)])]
+        .filter(index => model.rows[index]).sort((a, b) => a - b).map(row),
+    details(index) {
+        const { part } = model.rows[index], first = firstOf(part), place = model.pathTo(first)[0];
+        return { first, start: part.start ?? first, end: endOf(part), isBad: part.kind === "fault", place, rows: detailsOf(model.rows[index], model) };
     },
-    // The first row after this one whose text begins with the letters, from the top again where there is none below.
-    typed: (letters, from) => {
-        const { rows } = model;
-        for (let i = 1; i <= Math.min(rows.length, 100_000); i++) {
-            const at = (from + i) % rows.length;
-            if (rowOf(rows[at], model).filter(Boolean).some(text => text.toLowerCase().startsWith(letters))) return at;
-        }
-        return from;
-    },
-    strip: async keepNames => {
+    async strip(keepNames) {
         const { fault, bytes } = parser.strip(await file.arrayBuffer(), { keepNames });
-        return fault ? { fault: faultOf(fault) } : { bytes };
+        return fault ? { why: faultOf(fault) } : { bytes };
     },
 };
 
-function row(index) {
-    const node = model.rows[index], { part, level, size, place, isOpen } = node, [head, name = "", tail = ""] = rowOf(node, model);
-    return {
-        index, head, name, tail, level, size, place, offset: firstOf(part), isOpen: childrenOf(part).length ? isOpen : null,
-        isBad: part.kind === "fault", isMarked: model.marked.has(part),
-    };
-}
-
 onmessage = async ({ data: { id, call, args } }) => {
     try {
-        postMessage({ id, value: await CALLS[call](...args) });
+        postMessage({ id, value: call in CALLS ? await CALLS[call](...args) : model[call](...args) });
     } catch (error) {
         postMessage({ id, error: error.message });
     }
