@@ -23,7 +23,7 @@ const inside = part => plural(childrenOf(part).length, "item");
 
 function signature(t) {
     if (t.params) return `(${t.params.map(typeText).join(", ")}) → (${t.results.map(typeText).join(", ")})`;
-    return `${t.kind} { ${t.fields.map(field => `${field.mutable ? "mut " : ""}${typeText(field.type)}`).join(", ")} }`;
+    return `${t.kind} (${t.fields.map(field => `${field.mutable ? "mut " : ""}${typeText(field.type)}`).join(", ")})`;
 }
 
 function typed(t, model) {

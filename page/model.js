@@ -20,7 +20,8 @@ export const endOf = part => part.end ?? part.offset + 1;
 export function childrenOf(part) {
     if (part.kind === "custom" && part.contents) return part.contents.kind === "fault" ? [part.contents] : childrenOf(part.contents);
     if (part.kind === "type") return part.explicit ? part.types : NONE;
-    if (part.kind !== "element") for (const key of LISTS) if (Array.isArray(part[key])) return part[key];
+    // The fields of a struct, and the functions of a segment, are part of it.
+    if (part.kind !== "element" && part.final === undefined) for (const key of LISTS) if (Array.isArray(part[key])) return part[key];
     return NONE;
 }
 

@@ -5,7 +5,7 @@ import { hex, plural, shown } from "./text.js";
 import { Tree } from "./tree.js";
 
 const $ = id => document.getElementById(id), PAUSE = 150;
-let worker = null, waiting = new Map(), requests = 0, file = null, opened = null, fault = -1, word = "", pause = 0;
+let worker = null, waiting = new Map(), requests = 0, file = null, opened = null, fault = -1, word = "", pause = 0, link = location.hash;
 const made = (tag, properties) => Object.assign(document.createElement(tag), properties);
 
 function say(text, isFault = false) {
@@ -59,8 +59,9 @@ async function open(given) {
     showBar();
     tell();
     tree.reset(opened.count);
-    if (location.hash) await goToHash();
-    else await (opened.faults.length ? nextFault(false) : tree.go(0, false));
+    await (opened.faults.length && !link ? nextFault(false) : tree.go(0, false));
+    // A link is for the first file, as the address then follows what is chosen.
+    if (link) await goToLink();
 }
 
 function tell() {
@@ -98,8 +99,9 @@ async function goTo(offset) {
     hexView.show(offset, offset);
 }
 
-async function goToHash() {
-    const offset = Number(location.hash.slice(1));
+async function goToLink() {
+    const offset = Number(link.slice(1));
+    link = "";
     if (Number.isSafeInteger(offset) && offset >= 0) await goTo(offset);
 }
 
@@ -198,7 +200,10 @@ addEventListener("keydown", event => {
     event.preventDefault();
     $("search").focus();
 });
-addEventListener("hashchange", () => opened && goToHash());
+addEventListener("hashchange", () => {
+    link = location.hash;
+    if (opened) goToLink();
+});
 for (const kind of ["dragover", "dragleave", "drop"]) {
     addEventListener(kind, event => {
         event.preventDefault();

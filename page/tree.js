@@ -109,7 +109,7 @@ const KEYS = {
     ArrowRight: (tree, row) => (row.isOpen ? tree.go(tree.cursor + 1) : row.isOpen === false && tree.toggle(true)),
     ArrowLeft: async (tree, row) => {
         if (row.isOpen) return tree.toggle(false);
-        const parent = await tree.ask("parent", row.index);
+        const parent = await tree.ask("parentOf", row.index);
         return parent >= 0 && tree.go(parent);
     },
     Enter: toggled,
