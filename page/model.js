@@ -60,6 +60,7 @@ export class Model {
             this.code = Object.assign(event, { bodies: [] });
         }
         this.parts.push(event);
+        this.isStopped = event.kind === "fault";
         this.scan(event, [this.parts.length - 1], []);
         if (event.name === "import") this.imported = this.counts.func ?? 0;
     }

@@ -15,6 +15,7 @@ async function parse() {
         for (let at = 0; at < file.size; at += STEP) {
             const chunk = new Uint8Array(await file.slice(at, at + STEP).arrayBuffer());
             for (const event of reader.push(chunk)) model.add(event);
+            if (model.isStopped) return "";
             postMessage({ read: Math.min(at + STEP, file.size) });
         }
         for (const event of reader.finish()) model.add(event);
