@@ -82,7 +82,7 @@ export class Hex {
             for (let at = from; at < end; at++) {
                 const byte = this.byteAt(at), kind = this.kindOf(at), joins = at + 1 < end && kind === this.kindOf(at + 1);
                 const gap = isText ? "" : at % 8 === 7 ? "  " : " ", cell = line.appendChild(document.createElement("span"));
-                cell.textContent = (byte === undefined ? (isText ? " " : "  ") : isText ? letterOf(byte) : padded(byte, 2)) + (joins ? gap : "");
+                cell.textContent = (byte === undefined ? "  ".slice(isText) : isText ? letterOf(byte) : padded(byte, 2)) + (joins ? gap : "");
                 cell.className = kind;
                 cell.dataset.at = at;
                 if (!joins) line.append(gap);

@@ -13,7 +13,7 @@ const WORDS = { external: "kind", init: "initial value", memory64: "64-bit", tab
 const SKIPPED = new Set([
     "kind", "start", "end", "bodies", "contents", "fault", "code", "encoding", "explicit", "owned", "id", "of", "dataStart",
 ]);
-const NUMBERED = new Set(["start", "export", "symbol", "relocation", "comdat symbol"]);
+const NUMBERED = new Set(["start", "export", "symbol", "comdat symbol"]);
 const OFFSET = new Set(["relocation", "hint", "symbol"]);
 
 const bytesIn = ({ start, end }) => plural(end - start, "byte");
@@ -33,14 +33,10 @@ function typed(t, model) {
     return `${t.mutable ? "mut " : ""}${typeText(t.content)}`;
 }
 
-/** An index with its name, as `func 3 add`. */
-function reference(model, space, index) {
-    return `${space} ${index} ${shown(model.nameOf(space, index))}`.trim();
-}
-
-function nameOfSymbol(model, symbol) {
-    return shown(symbol?.name ?? (symbol?.symbol && symbol.index !== null ? model.nameOf(spaceOf(symbol.symbol), symbol.index) : ""));
-}
+// An index with its name, as `func 3 add`.
+const reference = (model, space, index) => `${space} ${index} ${shown(model.nameOf(space, index))}`.trim();
+const nameOfSymbol = (model, symbol) =>
+    shown(symbol?.name ?? (symbol?.symbol && symbol.index !== null ? model.nameOf(spaceOf(symbol.symbol), symbol.index) : ""));
 
 // The rows: what it is, its name, and what else there is to say. The first two of an item with an index are its index and its name.
 
@@ -71,12 +67,11 @@ const ROWS = {
     symbol: (part, model) => [`${part.symbol} symbol`, nameOfSymbol(model, part), part.index === null ? "undefined" : ""],
     "comdat symbol": (part, model) => [reference(model, spaceOf(part.symbol), part.index)],
     "init function": (part, model) => ["init function", nameOfSymbol(model, model.symbols[part.symbol]), `priority ${part.priority}`],
-    relocation: (part, model) => [part.type, target(model, part), `at ${hex(part.offset)}`],
+    relocation: ({ type, index, offset }, model) => {
+        const target = type.startsWith("TYPE_INDEX") ? reference(model, "type", index) : `symbol ${index}`;
+        return [type, `${target} ${nameOfSymbol(model, model.symbols[target[0] === "s" ? index : -1])}`.trim(), `at ${hex(offset)}`];
+    },
 };
-
-function target(model, { type, index }) {
-    return type.startsWith("TYPE_INDEX") ? reference(model, "type", index) : `symbol ${index} ${nameOfSymbol(model, model.symbols[index])}`.trim();
-}
 
 /** The head, the name and the tail of a row. */
 export function rowOf({ part, within }, model) {
@@ -92,7 +87,7 @@ function valueText(model, key, value, part) {
     if (typeof value === "boolean") return value ? "yes" : "no";
     if (typeof value === "string") return shown(value, LONGEST);
     if (key === "type" && typeof value === "number") return `${value}: ${typed(value, model)}`;
-    if (key === "index" && typeof value === "number") return indexText(model, value, part);
+    if (key === "index" && typeof value === "number") return reference(model, spaceOf(part.external ?? part.symbol ?? "func"), value);
     if (typeof value !== "object") return numbers.format(value);
     if (Array.isArray(value)) return listText(model, part.kind === "element" && key === "functions" ? "index" : "", value, part);
     if (value.heap !== undefined) return typeText(value);
@@ -100,11 +95,6 @@ function valueText(model, key, value, part) {
     if (value.start !== undefined) return range(value);
     if (value.initial !== undefined || value.content !== undefined) return typed(value, model);
     return Object.entries(value).map(([name, it]) => `${wordOf(name)} ${valueText(model, name, it, part)}`).join(", ");
-}
-
-function indexText(model, index, part) {
-    if (part.kind === "relocation") return `${index}: ${target(model, part)}`;
-    return reference(model, spaceOf(part.external ?? part.symbol ?? "func"), index);
 }
 
 function listText(model, key, list, part) {
@@ -115,15 +105,15 @@ function listText(model, key, list, part) {
 const wordOf = key => WORDS[key] ?? key.replace(/[A-Z]/g, char => ` ${char.toLowerCase()}`);
 
 /** Pairs of a term and what it is. */
-export function detailsOf({ part }, model) {
+export function detailsOf(part, model) {
     const first = firstOf(part), identity = model.identityOf(part), { contents } = part, children = childrenOf(part);
     const isFault = part.kind === "fault", rows = [["offset", isFault ? hex(first) : range({ start: first, end: endOf(part) })]];
     if (!isFault && part.start !== first) rows.push(["content", range(part)]);
     if (identity) rows.push(["index", reference(model, ...identity)]);
     const inner = contents && contents.kind !== "fault" && contents.start === undefined ? contents : {};
     for (const [key, value] of Object.entries({ ...inner, ...part })) {
-        if (SKIPPED.has(key) || value === children || key === "index" && !NUMBERED.has(part.kind) || key === "offset" && !OFFSET.has(part.kind)) continue;
-        rows.push([wordOf(key), valueText(model, key, value, part)]);
+        const isOther = key === "index" ? !NUMBERED.has(part.kind) : key === "offset" ? !OFFSET.has(part.kind) : SKIPPED.has(key);
+        if (!isOther && value !== children) rows.push([wordOf(key), valueText(model, key, value, part)]);
     }
     return rows;
 }

@@ -9,7 +9,7 @@ const LISTS = [
 // The kinds whose `offset` is their first byte. Elsewhere `offset` is a field of the item.
 const EVENTS = new Set(["version", "section", "start", "data count", "code", "body", "custom", "unknown", "fault"]);
 const DEFINED = new Set(["function", "table", "memory", "global", "tag", "element", "data"]);
-const SPACES = { function: "func", funcexact: "func", body: "func", struct: "type", array: "type" };
+const SPACES = { function: "func", funcexact: "func", body: "func" };
 
 /** The index space of a kind of item. */
 export const spaceOf = word => SPACES[word] ?? word;
@@ -25,16 +25,8 @@ export function childrenOf(part) {
     return NONE;
 }
 
-// The place of the last part that begins at an offset or before it, or -1.
-function lastUpTo(parts, offset) {
-    let low = 0, high = parts.length;
-    while (low < high) {
-        const middle = (low + high) >> 1;
-        if (firstOf(parts[middle]) <= offset) low = middle + 1;
-        else high = middle;
-    }
-    return low - 1;
-}
+/** The place of the last part that begins at an offset or before it, or -1. */
+export const placeIn = (parts, offset) => parts.findLastIndex(part => firstOf(part) <= offset);
 
 const nodesOf = (parts, within, level) =>
     parts.map((part, place) => ({ part, within, place, level, size: parts.length, isOpen: false, nodes: null }));
@@ -49,20 +41,16 @@ export class Model {
 
     /** Adds an event of the stream. */
     add(event) {
-        if (event.kind === "end") return;
-        if (event.kind === "body") {
-            event.index = this.next("func");
-            this.code.bodies.push(event);
-            return;
-        }
+        if (event.kind === "body") this.code.bodies.push(Object.assign(event, { index: this.next("func") }));
+        if (event.kind === "body" || event.kind === "end") return;
         if (event.kind === "code") {
             this.counts.func = this.imported;
             this.code = Object.assign(event, { bodies: [] });
         }
-        this.parts.push(event);
         this.isStopped = event.kind === "fault";
+        this.parts.push(event);
         this.scan(event, [this.parts.length - 1], []);
-        if (event.name === "import") this.imported = this.counts.func ?? 0;
+        if (event.kind === "section" && event.name === "import") this.imported = this.counts.func ?? 0;
     }
 
     next(space) {
@@ -94,7 +82,8 @@ export class Model {
         }
         if (item.kind === "import") item.index = this.next(spaceOf(item.external));
         else if (DEFINED.has(item.kind)) item.index = this.next(spaceOf(item.kind));
-        if (item.external) this.name(this.otherNames, spaceOf(item.external), item.index, item.module ? `${item.module}.${item.name}` : item.name);
+        const name = item.kind === "import" ? `${item.module}.${item.name}` : item.name;
+        if (item.external) this.name(this.otherNames, spaceOf(item.external), item.index, name);
     }
 
     name(names, space, index, name) {
@@ -111,9 +100,8 @@ export class Model {
     identityOf(part) {
         if (part.kind === "type" && part.types.length === 1) return ["type", part.types[0].index];
         if (part.kind === "import") return [spaceOf(part.external), part.index];
-        const isType = part.params || part.kind === "struct" || part.kind === "array";
-        return part.index !== undefined && (isType || part.kind === "body" || DEFINED.has(part.kind)) ?
-            [isType ? "type" : spaceOf(part.kind), part.index] : null;
+        if (part.final !== undefined) return ["type", part.index];
+        return part.index !== undefined && (part.kind === "body" || DEFINED.has(part.kind)) ? [spaceOf(part.kind), part.index] : null;
     }
 
     /** Shows all parts, of which none is open, or those in which a word occurs, without regard to case. Returns how many rows there are. */
@@ -132,8 +120,8 @@ export class Model {
     // What a search looks at.
     textOf(part) {
         if (part.kind === "fault") return part.text;
-        const identity = this.identityOf(part), title = part.id !== undefined ? part.kind : "";
-        return `${title} ${part.module ?? ""} ${part.name ?? ""} ${part.version ?? ""} ${identity ? this.nameOf(...identity) : ""}`;
+        const identity = this.identityOf(part);
+        return [part.id && part.kind, part.module, part.name, part.version, identity && this.nameOf(...identity)].filter(Boolean).join(" ");
     }
 
     flatten() {
@@ -148,15 +136,10 @@ export class Model {
     }
 
     /** Opens or closes a row. Returns how many rows there are. */
-    toggle(row, isOpen) {
-        this.setOpen(this.rows[row], isOpen);
+    toggle(row, isOpen, node = this.rows[row]) {
+        node.nodes ??= nodesOf(childrenOf(node.part), node.part, node.level + 1);
+        node.isOpen = isOpen;
         return this.flatten();
-    }
-
-    setOpen(node, isOpen) {
-        const children = childrenOf(node.part);
-        node.isOpen = isOpen && children.length > 0;
-        if (node.isOpen) node.nodes ??= nodesOf(children, node.part, node.level + 1);
     }
 
     /** The row of the parent, or -1. */
@@ -170,17 +153,17 @@ export class Model {
     reveal([first, ...places]) {
         let node = this.top[first];
         for (const place of places) {
-            this.setOpen(node, true);
+            if (!node.isOpen) this.toggle(0, true, node);
             node = node.nodes[place];
         }
-        return { count: this.flatten(), row: this.rows.indexOf(node) };
+        return { count: this.rows.length, row: this.rows.indexOf(node) };
     }
 
     /** The places of the innermost part that an offset is in. Bytes between items are of the part around them. */
     pathTo(offset) {
         const path = [];
         for (let parts = this.parts; parts.length; parts = childrenOf(parts[path.at(-1)])) {
-            const place = lastUpTo(parts, offset);
+            const place = placeIn(parts, offset);
             if (place < 0 || path.length && offset >= endOf(parts[place])) break;
             path.push(place);
         }

@@ -4,20 +4,17 @@ import { Hex } from "./hex.js";
 import { hex, plural, shown } from "./text.js";
 import { Tree } from "./tree.js";
 
-const $ = id => document.getElementById(id), PAUSE = 150;
+const $ = id => document.getElementById(id), PAUSE = 150, OFFSET = /^0x[0-9a-f]+$/i;
 let worker = null, waiting = new Map(), requests = 0, file = null, opened = null, fault = -1, word = "", pause = 0, link = location.hash;
 const made = (tag, properties) => Object.assign(document.createElement(tag), properties);
-
-function say(text, isFault = false) {
-    Object.assign($("said"), { textContent: text, className: isFault ? "fault" : "" });
-}
+const say = (text, isFault = false) => Object.assign($("said"), { textContent: text, className: isFault ? "fault" : "" });
 
 // In the page that is one file, the worker and the parser are texts inside it, since such a page may load neither.
 function startWorker() {
     const text = $("worker")?.textContent;
     worker?.terminate();
     waiting = new Map();
-    worker = text ? new Worker(URL.createObjectURL(new Blob([text], { type: "text/javascript" }))) : new Worker("worker.js", { type: "module" });
+    worker = text ? new Worker(URL.createObjectURL(new Blob([text]))) : new Worker("worker.js", { type: "module" });
     worker.onerror = event => say(`The worker failed: ${event.message}`, true);
     worker.onmessage = ({ data: { read, id, value, error } }) => {
         if (read !== undefined) $("progress").value = read;
@@ -27,18 +24,13 @@ function startWorker() {
     };
 }
 
-function ask(call, ...args) {
-    return new Promise((resolve, reject) => {
-        waiting.set(++requests, { resolve, reject });
-        worker.postMessage({ id: requests, call, args });
-    });
-}
+const ask = (call, ...args) => new Promise((resolve, reject) => {
+    waiting.set(++requests, { resolve, reject });
+    worker.postMessage({ id: requests, call, args });
+});
 
-async function loadParser() {
-    const text = $("wasm")?.textContent;
-    return WebAssembly.compile(text ? Uint8Array.from(atob(text), char => char.charCodeAt(0)) : await (await fetch("pulleynavy.wasm")).arrayBuffer());
-}
-const loading = loadParser();
+const bytesOf = async text => (text ? Uint8Array.from(atob(text), it => it.charCodeAt(0)) : (await fetch("pulleynavy.wasm")).arrayBuffer());
+const loading = bytesOf($("wasm")?.textContent).then(WebAssembly.compile);
 loading.catch(error => say(`The parser cannot be loaded: ${error.message}`, true));
 
 // A file that is opened meanwhile ends the worker of this one, whose answer then never comes.
@@ -54,30 +46,31 @@ async function open(given) {
     $("search").value = word = "";
     fault = -1;
     $("next").hidden = !opened.faults.length;
-    $("strip").disabled = $("keep").disabled = opened.read < file.size || opened.faults.some(it => it.path.length === 1) || opened.problem !== "";
+    $("strip").disabled = $("keep").disabled = !opened.isWhole;
     hexView.open(file, opened.faults.map(it => it.offset));
-    showBar();
+    $("bar").replaceChildren(...opened.bar.map(segment));
     tell();
     tree.reset(opened.count);
     await (opened.faults.length && !link ? nextFault(false) : tree.go(0, false));
     // A link is for the first file, as the address then follows what is chosen.
-    if (link) await goToLink();
+    if (link) await goToLink(link);
 }
 
 function tell() {
     const { faults: [first, ...more], problem, sections, took } = opened;
     const what = `${shown(file.name)}: ${plural(file.size, "byte")}, ${plural(sections, "section")}, read in ${Math.round(took)} ms. `;
-    const said = first ? `Fault at ${hex(first.offset)}: ${shown(first.text)}${more.length ? `, and ${plural(more.length, "more fault")}` : ""}.` : "No faults.";
-    say(what + (problem || said), Boolean(problem || first));
+    const others = more.length ? `, and ${plural(more.length, "more fault")}` : "";
+    say(what + (problem || (first ? `Fault at ${hex(first.offset)}: ${shown(first.text)}${others}.` : "No faults.")), Boolean(problem || first));
 }
 
 async function choose(row) {
     if (!tree.scroller.count) return;
     const { first, start, end, place, rows, isBad } = await ask("details", row), all = [...$("bar").children];
-    hexView.select({ first, start, end });
     $("hex-title").textContent = isBad ? `Bytes, fault at ${hex(first)}` : `Bytes ${hex(first)} to ${hex(end)}`;
     $("details").replaceChildren(...rows.flatMap(([term, text]) => [made("dt", { textContent: term }), made("dd", { textContent: text })]));
-    const here = all.findLast(it => it.place <= place) ?? all[0];
+    // After the details, which share the height with the bytes.
+    hexView.select({ first, start, end });
+    const here = all.findLast(it => it.place <= place);
     for (const it of all) it.ariaPressed = it === here;
     stopAt(here);
     history.replaceState(null, "", `#${hex(first)}`);
@@ -99,10 +92,10 @@ async function goTo(offset) {
     hexView.show(offset, offset);
 }
 
-async function goToLink() {
-    const offset = Number(link.slice(1));
-    link = "";
-    if (Number.isSafeInteger(offset) && offset >= 0) await goTo(offset);
+async function goToLink(hash) {
+    const offset = Number(hash.slice(1));
+    link = opened ? "" : hash;
+    if (opened && Number.isSafeInteger(offset) && offset >= 0) await goTo(offset);
 }
 
 async function nextFault(wantsFocus = true) {
@@ -110,11 +103,9 @@ async function nextFault(wantsFocus = true) {
     await go(opened.faults[fault].path, wantsFocus);
 }
 
-// Returns whether the text is an offset.
 async function search() {
     const text = $("search").value.trim();
-    if (/^0x[0-9a-f]+$/i.test(text)) return true;
-    if (text === word) return false;
+    if (OFFSET.test(text) || text === word) return;
     word = text;
     const count = await ask("show", word.toLowerCase());
     if (word) say(`${plural(count, "match", "matches")} of “${shown(word)}”`);
@@ -122,43 +113,26 @@ async function search() {
     $("none").hidden = count > 0;
     tree.reset(count);
     await tree.go(0, false);
-    return false;
 }
 
-async function pressedInSearch(event) {
-    if (event.key === "Escape") $("search").value = "";
-    if (!["Enter", "ArrowDown", "Escape"].includes(event.key)) return;
-    event.preventDefault();
-    clearTimeout(pause);
-    if (await search()) await goTo(Number($("search").value.trim()));
-    else if (event.key !== "Escape" && tree.scroller.count) await tree.go(tree.cursor);
+async function pressedInSearch({ key }) {
+    if (key === "Escape") $("search").value = "";
+    if (key === "Escape" || key === "Enter") await search();
+    const text = $("search").value.trim();
+    if (key === "Enter" && OFFSET.test(text)) await goTo(Number(text));
+    else if (key === "Enter" && tree.scroller.count) await tree.go(tree.cursor);
 }
 
-function showBar() {
-    const segments = opened.bar.map(segment), rest = file.size - opened.read, title = `not read: ${plural(rest, "byte")}`;
-    if (rest > 0) {
-        const onclick = () => go(opened.faults.at(-1)?.path ?? [0]);
-        segments.push(made("button", { className: "rest", textContent: "not read", title, ariaLabel: title, place: Infinity, onclick }));
-        segments.at(-1).style.flexGrow = rest;
-    }
-    $("bar").replaceChildren(...segments);
-    stopAt(segments[0]);
-}
-
-function segment({ title, place, count, size, isBad, id }) {
-    const what = count > 1 ? plural(count, "small section") : title, share = 100 * size / file.size;
-    const text = `${what}: ${plural(size, "byte")}, ${share.toFixed(share < 10 ? 1 : 0)} %${isBad ? ", with a fault" : ""}`;
-    const element = made("button", { title: text, ariaLabel: text, className: isBad ? "marked" : "", textContent: share > 6 ? what : "", place });
+function segment({ title, place, size, isBad, isRest, id }) {
+    const share = 100 * size / file.size, className = isRest ? "rest" : isBad ? "marked" : "", onclick = () => go([place]);
+    const text = `${title}: ${plural(size, "byte")}, ${share.toFixed(share < 10 ? 1 : 0)} %${isBad ? ", with a fault" : ""}`;
+    const element = made("button", { title: text, ariaLabel: text, className, textContent: share > 6 ? title : "", place, onclick });
     element.style.cssText = `flex-grow: ${size}; --hue: ${id * 47 + 20}`;
-    element.onclick = () => go([place]);
     return element;
 }
 
 // The tab key stops at one segment; arrow keys move to the others.
-function stopAt(segment) {
-    for (const it of $("bar").children) it.tabIndex = it === segment ? 0 : -1;
-}
-
+const stopAt = segment => [...$("bar").children].forEach(it => (it.tabIndex = it === segment ? 0 : -1));
 $("bar").addEventListener("keydown", event => {
     const all = [...$("bar").children], at = all.indexOf(event.target);
     const next = all[{ ArrowRight: at + 1, ArrowLeft: at - 1, Home: 0, End: all.length - 1 }[event.key]];
@@ -173,7 +147,7 @@ async function saveStripped() {
     try {
         const { bytes, why } = await ask("strip", $("keep").checked);
         if (why) throw new Error(why);
-        const href = URL.createObjectURL(new Blob([bytes], { type: "application/wasm" })), download = file.name.replace(/(\.wasm)?$/i, ".stripped.wasm");
+        const href = URL.createObjectURL(new Blob([bytes])), download = file.name.replace(/(\.wasm)?$/i, ".stripped.wasm");
         made("a", { href, download }).click();
         setTimeout(() => URL.revokeObjectURL(href), 60_000);
         say(`Saved ${shown(download)}: ${plural(bytes.length, "byte")} of ${plural(file.size, "byte")}.`);
@@ -195,15 +169,7 @@ $("search").addEventListener("input", () => {
     pause = setTimeout(search, PAUSE);
 });
 $("search").addEventListener("keydown", pressedInSearch);
-addEventListener("keydown", event => {
-    if (event.key !== "/" || event.target.matches("input, select") || $("search").disabled) return;
-    event.preventDefault();
-    $("search").focus();
-});
-addEventListener("hashchange", () => {
-    link = location.hash;
-    if (opened) goToLink();
-});
+addEventListener("hashchange", () => goToLink(location.hash));
 for (const kind of ["dragover", "dragleave", "drop"]) {
     addEventListener(kind, event => {
         event.preventDefault();

@@ -16,21 +16,14 @@ export class Scroller {
         new ResizeObserver(() => this.setCount(this.count)).observe(box);
     }
 
-    get lowest() {
-        return Math.max(0, this.count * this.rowHeight - this.box.clientHeight);
-    }
-
-    get isScaled() {
-        return this.count * this.rowHeight > MOST;
-    }
-
-    get inSight() {
-        return { first: Math.floor(this.top / this.rowHeight), count: Math.ceil(this.box.clientHeight / this.rowHeight) + 1 };
-    }
+    get height() { return this.count * this.rowHeight; }
+    get lowest() { return Math.max(0, this.height - this.box.clientHeight); }
+    get isScaled() { return this.height > MOST; }
+    get inSight() { return { first: Math.floor(this.top / this.rowHeight), count: Math.ceil(this.box.clientHeight / this.rowHeight) + 1 }; }
 
     setCount(count) {
         this.count = count;
-        const height = Math.min(count * this.rowHeight, MOST);
+        const height = Math.min(this.height, MOST);
         this.room.style.height = `${height}px`;
         this.list.style.height = `${Math.min(height, this.box.clientHeight)}px`;
         this.moveTo(this.top);

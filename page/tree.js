@@ -80,10 +80,9 @@ export class Tree {
     }
 
     clicked(event) {
-        const element = event.target.closest(".row"), isOpen = element?.getAttribute("aria-expanded"), row = Number(element?.dataset.row);
-        if (!element) return;
+        const element = event.target.closest(".row"), isOpen = element?.ariaExpanded, row = Number(element?.dataset.row);
         const closes = isOpen === "true" && row === this.cursor;
-        this.queue = this.queue.then(() => this.go(row)).then(() => isOpen && this.toggle(!closes));
+        if (element) this.queue = this.queue.then(() => this.go(row)).then(() => isOpen && this.toggle(!closes));
     }
 
     // One key after the other, since a key may change the rows that the next one is about.
@@ -100,18 +99,14 @@ export class Tree {
 const page = tree => Math.max(1, tree.scroller.inSight.count - 3);
 const toggled = (tree, row) => row.isOpen !== null && tree.toggle(!row.isOpen);
 const KEYS = {
-    ArrowDown: tree => tree.go(tree.cursor + 1),
-    ArrowUp: tree => tree.go(tree.cursor - 1),
-    PageDown: tree => tree.go(tree.cursor + page(tree)),
-    PageUp: tree => tree.go(tree.cursor - page(tree)),
-    Home: tree => tree.go(0),
-    End: tree => tree.go(tree.scroller.count - 1),
+    ArrowDown: tree => tree.go(tree.cursor + 1), ArrowUp: tree => tree.go(tree.cursor - 1),
+    PageDown: tree => tree.go(tree.cursor + page(tree)), PageUp: tree => tree.go(tree.cursor - page(tree)),
+    Home: tree => tree.go(0), End: tree => tree.go(tree.scroller.count - 1),
     ArrowRight: (tree, row) => (row.isOpen ? tree.go(tree.cursor + 1) : row.isOpen === false && tree.toggle(true)),
     ArrowLeft: async (tree, row) => {
         if (row.isOpen) return tree.toggle(false);
         const parent = await tree.ask("parentOf", row.index);
         return parent >= 0 && tree.go(parent);
     },
-    Enter: toggled,
-    " ": toggled,
+    Enter: toggled, " ": toggled,
 };

@@ -2,7 +2,7 @@
 // The worker: parses a file and keeps its tree, so that the page only asks for what it shows.
 import { fromModule } from "./pulleynavy.js";
 import { detailsOf, rowOf } from "./labels.js";
-import { Model, childrenOf, endOf, firstOf } from "./model.js";
+import { Model, childrenOf, endOf, firstOf, placeIn } from "./model.js";
 import { faultOf } from "./text.js";
 
 const STEP = 2 ** 20, MOST_IN_BAR = 100;
@@ -26,19 +26,19 @@ async function parse() {
 }
 
 // The segments of the bar. Where there are many sections, small ones that follow each other share a segment.
-function bar() {
+function bar(rest) {
     const segments = [], least = model.parts.length > MOST_IN_BAR ? file.size / MOST_IN_BAR : 0;
     model.parts.forEach((part, place) => {
-        const size = endOf(part) - firstOf(part), isBad = model.marked.has(part), last = segments.at(-1), isSmall = size < least;
+        const size = Math.min(endOf(part), file.size) - firstOf(part), isBad = model.marked.has(part), last = segments.at(-1), isSmall = size < least;
         if (part.kind === "fault") return;
         if (isSmall && last?.isSmall && last.size < least) {
-            Object.assign(last, { size: last.size + size, count: last.count + 1, isBad: last.isBad || isBad });
+            Object.assign(last, { title: "small sections", size: last.size + size, isBad: last.isBad || isBad });
             return;
         }
         const [head, name] = rowOf({ part }, model);
-        segments.push({ title: name || head, place, size, isBad, isSmall, id: part.id ?? 0, count: 1 });
+        segments.push({ title: name || head, place, size, isBad, isSmall, id: part.id ?? 0 });
     });
-    return segments;
+    return rest ? [...segments, { title: "not read", place: model.parts.length - 1, size: rest, isRest: true }] : segments;
 }
 
 function row(index) {
@@ -55,10 +55,10 @@ const CALLS = {
         parser = fromModule(module);
         file = given;
         const problem = await parse(), last = model.parts.at(-1);
+        const isWhole = last?.kind !== "fault" && !problem, read = model.parts.findLast(part => part.kind !== "fault")?.end ?? 0;
         return {
-            problem, count: model.show(""), bar: bar(), sections: model.parts.filter(part => part.id !== undefined).length,
-            // Where reading stopped.
-            read: last?.kind === "fault" || problem ? endOf(model.parts.findLast(part => part.kind !== "fault") ?? { end: 0 }) : file.size,
+            problem, isWhole, count: model.show(""), bar: bar(Math.max(0, file.size - read)),
+            sections: model.parts.filter(part => part.id !== undefined).length,
             faults: model.faults.map(({ fault, path }) => ({ offset: fault.offset, text: faultOf(fault), path })),
             took: performance.now() - began,
         };
@@ -67,8 +67,8 @@ const CALLS = {
     rows: (first, count, also) => [...new Set([also, ...Array.from({ length: count }, (_, i) => first + i)])]
         .filter(index => model.rows[index]).sort((a, b) => a - b).map(row),
     details(index) {
-        const { part } = model.rows[index], first = firstOf(part), place = model.pathTo(first)[0];
-        return { first, start: part.start ?? first, end: endOf(part), isBad: part.kind === "fault", place, rows: detailsOf(model.rows[index], model) };
+        const { part } = model.rows[index], first = firstOf(part), isBad = part.kind === "fault";
+        return { first, start: part.start ?? first, end: endOf(part), isBad, place: placeIn(model.parts, first), rows: detailsOf(part, model) };
     },
     async strip(keepNames) {
         const { fault, bytes } = parser.strip(await file.arrayBuffer(), { keepNames });

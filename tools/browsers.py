@@ -88,7 +88,7 @@ class Chromium(Browser):
         self.process = subprocess.Popen([driver, "--port=0"], stdout=subprocess.PIPE, stderr=subprocess.DEVNULL, text=True)
         port = next(line.split()[-1].rstrip(".") for line in self.process.stdout if "started successfully on port" in line)
         self.place = "http://127.0.0.1:%s/session" % port
-        words = ["--headless=new", "--no-sandbox", "--hide-scrollbars", "--disable-gpu", "--disable-dev-shm-usage", "--force-prefers-reduced-motion"]
+        words = ["--headless=new", "--no-sandbox", "--hide-scrollbars", "--disable-gpu", "--disable-dev-shm-usage"]
         preferences = {"download.default_directory": folder}
         wanted = {"goog:chromeOptions": {"binary": program, "args": words, "prefs": preferences}, "goog:loggingPrefs": {"browser": "ALL"}}
         made = self.call("POST", "", {"capabilities": {"alwaysMatch": wanted}})
@@ -127,7 +127,8 @@ class Chromium(Browser):
 
 
 PREFERENCES = {
-    "marionette.port": 0, "browser.shell.checkDefaultBrowser": False, "browser.startup.page": 0, "datareporting.policy.dataSubmissionEnabled": False,
+    "marionette.port": 0, "browser.shell.checkDefaultBrowser": False, "browser.startup.page": 0,
+    "datareporting.policy.dataSubmissionEnabled": False,
     "browser.download.folderList": 2, "browser.download.alwaysOpenPanel": False, "toolkit.telemetry.reportingpolicy.firstRun": False,
     "app.update.enabled": False, "browser.download.start_downloads_in_tmp_dir": False, "browser.aboutwelcome.enabled": False,
     "network.captive-portal-service.enabled": False, "network.connectivity-service.enabled": False,
@@ -138,8 +139,8 @@ MARIONETTE = {
     "screenshot": "TakeScreenshot", "value": "ElementSendKeys", "computedlabel": "GetComputedLabel", "computedrole": "GetComputedRole",
     "frame": "SwitchToFrame", "window/rect": "SetWindowRect",
 }
-MESSAGES = """return Services.console.getMessageArray().filter(one => one instanceof Ci.nsIScriptError && !(one.flags & Ci.nsIScriptError.infoFlag)
-    && /inspector\\.html|127\\.0\\.0\\.1|^blob:/.test(one.sourceName)).map(one => one.message)"""
+MESSAGES = """return Services.console.getMessageArray().filter(one => one instanceof Ci.nsIScriptError
+    && !(one.flags & Ci.nsIScriptError.infoFlag) && /inspector\\.html|127\\.0\\.0\\.1|^blob:/.test(one.sourceName)).map(one => one.message)"""
 
 
 class Firefox(Browser):
