@@ -11,8 +11,7 @@ const letterOf = byte => (byte > 32 && byte < 127 ? String.fromCharCode(byte) : 
 export class Hex {
     /** `choose` is called with the offset of a byte that is clicked, `fail` if the file cannot be read. */
     constructor(box, choose, fail) {
-        Object.assign(this, { box, fail, file: new Blob(), blocks: new Map(), faults: new Set(), perRow: 0, mark: -1 });
-        this.chosen = { first: 0, start: 0, end: 0 };
+        Object.assign(this, { box, fail, file: new Blob(), blocks: new Map(), faults: new Set(), perRow: 0, mark: -1, chosen: {} });
         this.scroller = new Scroller(box, ROW, () => this.draw());
         new ResizeObserver(() => this.setWidth()).observe(box);
         box.addEventListener("click", ({ target }) => target.dataset.at < this.file.size && choose(Number(target.dataset.at)));
@@ -82,7 +81,8 @@ export class Hex {
             for (let at = from; at < end; at++) {
                 const byte = this.byteAt(at), kind = this.kindOf(at), joins = at + 1 < end && kind === this.kindOf(at + 1);
                 const gap = isText ? "" : at % 8 === 7 ? "  " : " ", cell = line.appendChild(document.createElement("span"));
-                cell.textContent = (byte === undefined ? "  ".slice(isText) : isText ? letterOf(byte) : padded(byte, 2)) + (joins ? gap : "");
+                const text = byte === undefined ? "  ".slice(isText) : isText ? letterOf(byte) : padded(byte, 2);
+                cell.textContent = joins ? text + gap : text;
                 cell.className = kind;
                 cell.dataset.at = at;
                 if (!joins) line.append(gap);

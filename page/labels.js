@@ -110,8 +110,7 @@ export function detailsOf(part, model) {
     const isFault = part.kind === "fault", rows = [["offset", isFault ? hex(first) : range({ start: first, end: endOf(part) })]];
     if (!isFault && part.start !== first) rows.push(["content", range(part)]);
     if (identity) rows.push(["index", reference(model, ...identity)]);
-    const inner = contents && contents.kind !== "fault" && contents.start === undefined ? contents : {};
-    for (const [key, value] of Object.entries({ ...inner, ...part })) {
+    for (const [key, value] of Object.entries({ ...(contents?.kind === "fault" || contents?.start >= 0 ? {} : contents), ...part })) {
         const isOther = key === "index" ? !NUMBERED.has(part.kind) : key === "offset" ? !OFFSET.has(part.kind) : SKIPPED.has(key);
         if (!isOther && value !== children) rows.push([wordOf(key), valueText(model, key, value, part)]);
     }

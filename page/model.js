@@ -33,10 +33,10 @@ const nodesOf = (parts, within, level) =>
 
 export class Model {
     constructor() {
-        // Each fault with the places that lead to it, and the parts that have a fault inside.
-        Object.assign(this, { parts: [], faults: [], marked: new Set() });
-        // How many indices of each space are taken. Names of imports and exports are for items that the name section leaves out.
+        // `counts` is how many indices of each space are taken, `otherNames` has the names of imports and exports.
         Object.assign(this, { counts: {}, imported: 0, types: [], symbols: NONE, names: {}, otherNames: {}, code: null });
+        // The faults with the places that lead to them, and the parts that have a fault inside.
+        Object.assign(this, { parts: [], faults: [], marked: new Set() });
     }
 
     /** Adds an event of the stream. */

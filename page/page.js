@@ -60,7 +60,8 @@ function tell() {
     const { faults: [first, ...more], problem, sections, took } = opened;
     const what = `${shown(file.name)}: ${plural(file.size, "byte")}, ${plural(sections, "section")}, read in ${Math.round(took)} ms. `;
     const others = more.length ? `, and ${plural(more.length, "more fault")}` : "";
-    say(what + (problem || (first ? `Fault at ${hex(first.offset)}: ${shown(first.text)}${others}.` : "No faults.")), Boolean(problem || first));
+    const said = first ? `Fault at ${hex(first.offset)}: ${shown(first.text)}${others}.` : "No faults.";
+    say(what + (problem || said), Boolean(problem || first));
 }
 
 async function choose(row) {

@@ -29,14 +29,12 @@ async function parse() {
 function bar(rest) {
     const segments = [], least = model.parts.length > MOST_IN_BAR ? file.size / MOST_IN_BAR : 0;
     model.parts.forEach((part, place) => {
-        const size = Math.min(endOf(part), file.size) - firstOf(part), isBad = model.marked.has(part), last = segments.at(-1), isSmall = size < least;
+        const size = Math.min(endOf(part), file.size) - firstOf(part), isBad = model.marked.has(part), last = segments.at(-1);
+        const isSmall = size < least, [head, name] = rowOf({ part }, model);
         if (part.kind === "fault") return;
         if (isSmall && last?.isSmall && last.size < least) {
             Object.assign(last, { title: "small sections", size: last.size + size, isBad: last.isBad || isBad });
-            return;
-        }
-        const [head, name] = rowOf({ part }, model);
-        segments.push({ title: name || head, place, size, isBad, isSmall, id: part.id ?? 0 });
+        } else segments.push({ title: name || head, place, size, isBad, isSmall, id: part.id ?? 0 });
     });
     return rest ? [...segments, { title: "not read", place: model.parts.length - 1, size: rest, isRest: true }] : segments;
 }
@@ -67,8 +65,8 @@ const CALLS = {
     rows: (first, count, also) => [...new Set([also, ...Array.from({ length: count }, (_, i) => first + i)])]
         .filter(index => model.rows[index]).sort((a, b) => a - b).map(row),
     details(index) {
-        const { part } = model.rows[index], first = firstOf(part), isBad = part.kind === "fault";
-        return { first, start: part.start ?? first, end: endOf(part), isBad, place: placeIn(model.parts, first), rows: detailsOf(part, model) };
+        const { part } = model.rows[index], first = firstOf(part), start = part.start ?? first, place = placeIn(model.parts, first);
+        return { first, start, end: endOf(part), isBad: part.kind === "fault", place, rows: detailsOf(part, model) };
     },
     async strip(keepNames) {
         const { fault, bytes } = parser.strip(await file.arrayBuffer(), { keepNames });

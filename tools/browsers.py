@@ -133,14 +133,16 @@ PREFERENCES = {
     "app.update.enabled": False, "browser.download.start_downloads_in_tmp_dir": False, "browser.aboutwelcome.enabled": False,
     "network.captive-portal-service.enabled": False, "network.connectivity-service.enabled": False,
 }
+# What errors of scripts the console has, without advice about scrolling.
+MESSAGES = """return Services.console.getMessageArray().filter(one => one instanceof Ci.nsIScriptError
+    && !(one.flags & Ci.nsIScriptError.infoFlag) && /inspector\\.html|127\\.0\\.0\\.1|^blob:/.test(one.sourceName))
+    .map(one => one.message).filter(message => !message.includes("scroll-linked"))"""
 # The commands of Marionette whose names differ from those of WebDriver.
 MARIONETTE = {
     "url": "Navigate", "execute/sync": "ExecuteScript", "element": "FindElement", "elements": "FindElements", "actions": "PerformActions",
     "screenshot": "TakeScreenshot", "value": "ElementSendKeys", "computedlabel": "GetComputedLabel", "computedrole": "GetComputedRole",
     "frame": "SwitchToFrame", "window/rect": "SetWindowRect",
 }
-MESSAGES = """return Services.console.getMessageArray().filter(one => one instanceof Ci.nsIScriptError
-    && !(one.flags & Ci.nsIScriptError.infoFlag) && /inspector\\.html|127\\.0\\.0\\.1|^blob:/.test(one.sourceName)).map(one => one.message)"""
 
 
 class Firefox(Browser):
