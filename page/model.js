@@ -121,7 +121,7 @@ export class Model {
     textOf(part) {
         if (part.kind === "fault") return part.text;
         const identity = this.identityOf(part);
-        return [part.id && part.kind, part.module, part.name, part.version, identity && this.nameOf(...identity)].filter(Boolean).join(" ");
+        return [part.id && !part.name && part.kind, part.module, part.name, part.version, identity && this.nameOf(...identity)].filter(Boolean).join(" ");
     }
 
     flatten() {

@@ -49,9 +49,9 @@ async function open(given) {
     $("strip").disabled = $("keep").disabled = !opened.isWhole;
     hexView.open(file, opened.faults.map(it => it.offset));
     $("bar").replaceChildren(...opened.bar.map(segment));
-    tell();
     tree.reset(opened.count);
     await (opened.faults.length && !link ? nextFault(false) : tree.go(0, false));
+    tell();
     // A link is for the first file, as the address then follows what is chosen.
     if (link) await goToLink(link);
 }

@@ -211,20 +211,20 @@ class Firefox(Browser):
             self.process.wait()
 
 
-def missing(*names):
-    """The paths of programs, or none with a line that says which is missing."""
+def found(*names):
+    """The paths of programs, or none with a line that says which are missing."""
     paths = [next((path for path in map(shutil.which, name.split("|")) if path), None) for name in names]
-    for name, path in zip(names, paths):
-        if not path:
-            print("missing: %s" % name.replace("|", " or "))
-    return paths if all(paths) else None
+    lacking = [name.replace("|", " or ") for name, path in zip(names, paths) if not path]
+    if lacking:
+        print("missing: %s" % ", ".join(lacking))
+    return None if lacking else paths
 
 
 @contextlib.contextmanager
 def started(kind, folder):
     """A browser that runs until the end of the block, or None where the machine has none. Downloads go to `folder`."""
     os.makedirs(folder)
-    paths = missing("chromium|google-chrome", "chromedriver") if kind is Chromium else missing("firefox-esr|firefox")
+    paths = found("chromium|google-chrome", "chromedriver") if kind is Chromium else found("firefox-esr|firefox")
     browser = paths and kind(*paths, folder)
     try:
         yield browser
