@@ -1,0 +1,180 @@
+// SPDX-License-Identifier: Apache-2.0 OR MIT
+// The page: opens a file in a worker, and shows the bar of sections, the tree, the bytes and the details.
+import { Hex } from "./hex.js";
+import { hex, plural, shown } from "./text.js";
+import { Tree } from "./tree.js";
+
+const $ = id => document.getElementById(id), PAUSE = 150, OFFSET = /^0x[0-9a-f]+$/i;
+let worker = null, waiting = new Map(), requests = 0, file = null, opened = null, fault = -1, word = "", pause = 0, link = location.hash;
+const made = (tag, properties) => Object.assign(document.createElement(tag), properties);
+const say = (text, isFault = false) => Object.assign($("said"), { textContent: text, className: isFault ? "fault" : "" });
+
+// In the page that is one file, the worker and the parser are texts inside it, since such a page may load neither.
+function startWorker() {
+    const text = $("worker")?.textContent;
+    worker?.terminate();
+    waiting = new Map();
+    worker = text ? new Worker(URL.createObjectURL(new Blob([text]))) : new Worker("worker.js", { type: "module" });
+    worker.onerror = event => say(`The worker failed: ${event.message}`, true);
+    worker.onmessage = ({ data: { read, id, value, error } }) => {
+        if (read !== undefined) $("progress").value = read;
+        else if (error === undefined) waiting.get(id).resolve(value);
+        else waiting.get(id).reject(new Error(error));
+        waiting.delete(id);
+    };
+}
+
+const ask = (call, ...args) => new Promise((resolve, reject) => {
+    waiting.set(++requests, { resolve, reject });
+    worker.postMessage({ id: requests, call, args });
+});
+
+const bytesOf = async text => (text ? Uint8Array.from(atob(text), it => it.charCodeAt(0)) : (await fetch("pulleynavy.wasm")).arrayBuffer());
+const loading = bytesOf($("wasm")?.textContent).then(WebAssembly.compile);
+loading.catch(error => say(`The parser cannot be loaded: ${error.message}`, true));
+
+// A file that is opened meanwhile ends the worker of this one, whose answer then never comes.
+async function open(given) {
+    const module = await loading;
+    file = given;
+    startWorker();
+    say(`Reading ${shown(file.name)}, ${plural(file.size, "byte")}`);
+    Object.assign($("progress"), { max: Math.max(1, file.size), value: 0, hidden: false });
+    opened = await ask("open", module, file);
+    $("progress").hidden = $("empty").hidden = true;
+    document.querySelector("main").hidden = document.querySelector("footer").hidden = $("search").disabled = false;
+    $("search").value = word = "";
+    fault = -1;
+    $("next").hidden = !opened.faults.length;
+    $("strip").disabled = $("keep").disabled = !opened.isWhole;
+    hexView.open(file, opened.faults.map(it => it.offset));
+    $("bar").replaceChildren(...opened.bar.map(segment));
+    tree.reset(opened.count);
+    await (opened.faults.length && !link ? nextFault(false) : tree.go(0, false));
+    tell();
+    // A link is for the first file, as the address then follows what is chosen.
+    if (link) await goToLink(link);
+}
+
+function tell() {
+    const { faults: [first, ...more], problem, sections, took } = opened;
+    const what = `${shown(file.name)}: ${plural(file.size, "byte")}, ${plural(sections, "section")}, read in ${Math.round(took)} ms. `;
+    const others = more.length ? `, and ${plural(more.length, "more fault")}` : "";
+    const said = first ? `Fault at ${hex(first.offset)}: ${shown(first.text)}${others}.` : "No faults.";
+    say(what + (problem || said), Boolean(problem || first));
+}
+
+async function choose(row) {
+    if (!tree.scroller.count) return;
+    const { first, start, end, place, rows, isBad } = await ask("details", row), all = [...$("bar").children];
+    $("hex-title").textContent = isBad ? `Bytes, fault at ${hex(first)}` : `Bytes ${hex(first)} to ${hex(end)}`;
+    $("details").replaceChildren(...rows.flatMap(([term, text]) => [made("dt", { textContent: term }), made("dd", { textContent: text })]));
+    // After the details, which share the height with the bytes.
+    hexView.select({ first, start, end });
+    const here = all.findLast(it => it.place <= place);
+    for (const it of all) it.ariaPressed = it === here;
+    stopAt(here);
+    history.replaceState(null, "", `#${hex(first)}`);
+}
+
+async function go(path, wantsFocus = false) {
+    if (word) await ask("show", "");
+    if (word) tell();
+    $("search").value = word = "";
+    $("none").hidden = true;
+    const { count, row } = await ask("reveal", path);
+    tree.scroller.setCount(count);
+    await tree.go(row, wantsFocus);
+}
+
+async function goTo(offset) {
+    if (!(offset <= file.size)) return say(`${hex(offset)} is past the end of the file, which is ${hex(file.size)}.`, true);
+    await go(await ask("pathTo", offset));
+    hexView.show(offset, offset);
+}
+
+async function goToLink(hash) {
+    const offset = Number(hash.slice(1));
+    link = opened ? "" : hash;
+    if (opened && Number.isSafeInteger(offset) && offset >= 0) await goTo(offset);
+}
+
+async function nextFault(wantsFocus = true) {
+    fault = (fault + 1) % opened.faults.length;
+    await go(opened.faults[fault].path, wantsFocus);
+}
+
+async function search() {
+    const text = $("search").value.trim();
+    if (OFFSET.test(text) || text === word) return;
+    word = text;
+    const count = await ask("show", word.toLowerCase());
+    if (word) say(`${plural(count, "match", "matches")} of “${shown(word)}”`);
+    else tell();
+    $("none").hidden = count > 0;
+    tree.reset(count);
+    await tree.go(0, false);
+}
+
+async function pressedInSearch({ key }) {
+    if (key === "Escape") $("search").value = "";
+    if (key === "Escape" || key === "Enter") await search();
+    const text = $("search").value.trim();
+    if (key === "Enter" && OFFSET.test(text)) await goTo(Number(text));
+    else if (key === "Enter" && tree.scroller.count) await tree.go(tree.cursor);
+}
+
+function segment({ title, place, size, isBad, isRest, id }) {
+    const share = 100 * size / file.size, className = isRest ? "rest" : isBad ? "marked" : "", onclick = () => go([place]);
+    const text = `${title}: ${plural(size, "byte")}, ${share.toFixed(share < 10 ? 1 : 0)} %${isBad ? ", with a fault" : ""}`;
+    const element = made("button", { title: text, ariaLabel: text, className, textContent: share > 6 ? title : "", place, onclick });
+    element.style.cssText = `flex-grow: ${size}; --hue: ${id * 47 + 20}`;
+    return element;
+}
+
+// The tab key stops at one segment; arrow keys move to the others.
+const stopAt = segment => [...$("bar").children].forEach(it => (it.tabIndex = it === segment ? 0 : -1));
+$("bar").addEventListener("keydown", event => {
+    const all = [...$("bar").children], at = all.indexOf(event.target);
+    const next = all[{ ArrowRight: at + 1, ArrowLeft: at - 1, Home: 0, End: all.length - 1 }[event.key]];
+    if (!next) return;
+    event.preventDefault();
+    stopAt(next);
+    next.focus();
+});
+
+async function saveStripped() {
+    $("strip").disabled = true;
+    try {
+        const { bytes, why } = await ask("strip", $("keep").checked);
+        if (why) throw new Error(why);
+        const href = URL.createObjectURL(new Blob([bytes])), download = file.name.replace(/(\.wasm)?$/i, ".stripped.wasm");
+        made("a", { href, download }).click();
+        setTimeout(() => URL.revokeObjectURL(href), 60_000);
+        say(`Saved ${shown(download)}: ${plural(bytes.length, "byte")} of ${plural(file.size, "byte")}.`);
+    } catch (error) {
+        say(`Not saved: ${error.message}`, true);
+    }
+    $("strip").disabled = false;
+}
+
+const tree = new Tree($("tree"), ask, choose);
+const hexView = new Hex($("hex"), goTo, error => say(`The file cannot be read any more: ${error.message}`, true));
+const openFirst = ([given]) => given && open(given);
+$("file").addEventListener("change", () => openFirst($("file").files));
+$("next").addEventListener("click", () => nextFault());
+$("strip").addEventListener("click", saveStripped);
+$("theme").addEventListener("change", () => (document.documentElement.style.colorScheme = $("theme").value));
+$("search").addEventListener("input", () => {
+    clearTimeout(pause);
+    pause = setTimeout(search, PAUSE);
+});
+$("search").addEventListener("keydown", pressedInSearch);
+addEventListener("hashchange", () => goToLink(location.hash));
+for (const kind of ["dragover", "dragleave", "drop"]) {
+    addEventListener(kind, event => {
+        event.preventDefault();
+        document.body.classList.toggle("over", kind === "dragover");
+        if (kind === "drop") openFirst(event.dataTransfer.files);
+    });
+}
