@@ -2,7 +2,7 @@
 // The bytes of the file. It reads what is in sight, block by block, so the file is never in memory as a whole.
 import { Scroller } from "./scroller.js";
 
-const ROW = 20, BLOCK = 65536, MOST_BLOCKS = 32;
+const ROW = 20, BLOCK = 65536, MOST_BLOCKS = 32, NOTHING = { first: 0, start: 0, end: 0 };
 // Below this width, in pixels, a row has 8 bytes instead of 16.
 const NARROW = 600;
 const padded = (n, digits) => n.toString(16).padStart(digits, "0");
@@ -11,16 +11,15 @@ const letterOf = byte => (byte > 32 && byte < 127 ? String.fromCharCode(byte) : 
 export class Hex {
     /** `choose` is called with the offset of a byte that is clicked, `fail` if the file cannot be read. */
     constructor(box, choose, fail) {
-        Object.assign(this, { box, fail, file: new Blob(), blocks: new Map(), faults: new Set(), perRow: 0, mark: -1, chosen: {} });
+        Object.assign(this, { box, fail, file: new Blob(), blocks: new Map(), faults: new Set(), perRow: 0, mark: -1, chosen: NOTHING });
         this.scroller = new Scroller(box, ROW, () => this.draw());
         new ResizeObserver(() => this.setWidth()).observe(box);
         box.addEventListener("click", ({ target }) => target.dataset.at < this.file.size && choose(Number(target.dataset.at)));
     }
 
     open(file, faults) {
-        Object.assign(this, { file, faults: new Set(faults), blocks: new Map(), perRow: 0 });
+        Object.assign(this, { file, faults: new Set(faults), blocks: new Map(), perRow: 0, mark: -1, chosen: NOTHING });
         this.digits = Math.max(8, file.size.toString(16).length);
-        this.select({ first: 0, start: 0, end: 0 });
         this.setWidth();
     }
 
@@ -30,17 +29,12 @@ export class Hex {
         this.perRow = perRow;
         // The offset past the last byte has a place too, as a fault may be there.
         this.scroller.setCount(Math.floor(this.file.size / perRow) + 1);
-        this.show(this.chosen.first);
+        this.show(this.chosen.first, this);
     }
 
-    /** Highlights a range of bytes, of which those before `start` are an id and a size. */
-    select(range) {
-        this.chosen = range;
-        this.show(range.first);
-    }
-
-    show(offset, mark = -1) {
-        this.mark = mark;
+    /** Shows an offset, with a mark or a highlighted range of bytes, of which those before `start` are an id and a size. */
+    show(offset, { mark = -1, chosen = this.chosen }) {
+        Object.assign(this, { mark, chosen });
         if (this.perRow) this.scroller.show(Math.floor(offset / this.perRow));
         this.draw();
     }

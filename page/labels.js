@@ -13,8 +13,9 @@ const WORDS = { external: "kind", init: "initial value", memory64: "64-bit", tab
 const SKIPPED = new Set([
     "kind", "start", "end", "bodies", "contents", "fault", "code", "encoding", "explicit", "owned", "id", "of", "dataStart",
 ]);
-const NUMBERED = new Set(["start", "export", "symbol", "comdat symbol"]);
-const OFFSET = new Set(["relocation", "hint", "symbol"]);
+const NUMBERED = new Set(["start", "export", "symbol", "comdat symbol"]), OFFSET = new Set(["relocation", "hint", "symbol"]);
+// Fields that are an index of this space.
+const INDICES = { type: "type", supertype: "type", memory: "memory", table: "table", function: "func" };
 
 const bytesIn = ({ start, end }) => plural(end - start, "byte");
 const range = it => `${hex(it.start)} to ${hex(it.end)}, ${bytesIn(it)}`;
@@ -86,7 +87,10 @@ function valueText(model, key, value, part) {
     if (value === null) return "none";
     if (typeof value === "boolean") return value ? "yes" : "no";
     if (typeof value === "string") return shown(value, LONGEST);
-    if (key === "type" && typeof value === "number") return `${value}: ${typed(value, model)}`;
+    if (typeof value === "number" && key in INDICES) {
+        const isType = INDICES[key] === "type" && model.types[value];
+        return reference(model, INDICES[key], value) + (isType ? `: ${signature(model.types[value])}` : "");
+    }
     if (key === "index" && typeof value === "number") return reference(model, spaceOf(part.external ?? part.symbol ?? "func"), value);
     if (typeof value !== "object") return numbers.format(value);
     if (Array.isArray(value)) return listText(model, part.kind === "element" && key === "functions" ? "index" : "", value, part);

@@ -54,8 +54,7 @@ export class Model {
     }
 
     next(space) {
-        this.counts[space] = (this.counts[space] ?? 0) + 1;
-        return this.counts[space] - 1;
+        return (this.counts[space] = (this.counts[space] ?? 0) + 1) - 1;
     }
 
     // Numbers the items inside a part, and notes their names and faults.
@@ -121,7 +120,8 @@ export class Model {
     textOf(part) {
         if (part.kind === "fault") return part.text;
         const identity = this.identityOf(part);
-        return [part.id && !part.name && part.kind, part.module, part.name, part.version, identity && this.nameOf(...identity)].filter(Boolean).join(" ");
+        const words = [part.id && !part.name && part.kind, part.module, part.name, part.version, identity && this.nameOf(...identity)];
+        return words.filter(Boolean).join(" ");
     }
 
     flatten() {

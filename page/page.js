@@ -70,7 +70,7 @@ async function choose(row) {
     $("hex-title").textContent = isBad ? `Bytes, fault at ${hex(first)}` : `Bytes ${hex(first)} to ${hex(end)}`;
     $("details").replaceChildren(...rows.flatMap(([term, text]) => [made("dt", { textContent: term }), made("dd", { textContent: text })]));
     // After the details, which share the height with the bytes.
-    hexView.select({ first, start, end });
+    hexView.show(first, { chosen: { first, start, end } });
     const here = all.findLast(it => it.place <= place);
     for (const it of all) it.ariaPressed = it === here;
     stopAt(here);
@@ -90,7 +90,7 @@ async function go(path, wantsFocus = false) {
 async function goTo(offset) {
     if (!(offset <= file.size)) return say(`${hex(offset)} is past the end of the file, which is ${hex(file.size)}.`, true);
     await go(await ask("pathTo", offset));
-    hexView.show(offset, offset);
+    hexView.show(offset, { mark: offset });
 }
 
 async function goToLink(hash) {
@@ -161,6 +161,8 @@ async function saveStripped() {
 const tree = new Tree($("tree"), ask, choose);
 const hexView = new Hex($("hex"), goTo, error => say(`The file cannot be read any more: ${error.message}`, true));
 const openFirst = ([given]) => given && open(given);
+// Choosing the same file again is a change too.
+$("file").addEventListener("click", () => ($("file").value = ""));
 $("file").addEventListener("change", () => openFirst($("file").files));
 $("next").addEventListener("click", () => nextFault());
 $("strip").addEventListener("click", saveStripped);
