@@ -12,14 +12,15 @@ static void print_name(const uint8_t *bytes, pulleynavy_span name) {
     putchar(' ');
 }
 
-/* Prints the imports of a section up to its first fault. */
+/* Prints the imports of a section without those that have a fault. After a fault in a bundle, the list goes on after the bundle. */
 static void print_imports(const pulleynavy_event *event, const uint8_t *bytes, size_t batch) {
     static const char *kinds[] = {"func", "table", "memory", "global", "tag", "funcexact"};
     pulleynavy_imports imports = pulleynavy_imports_init(event, PULLEYNAVY_ALL_FEATURES);
     pulleynavy_import out[MOST];
     size_t size = (size_t)(event->end - event->start);
     for (size_t n; (n = pulleynavy_next_flat_imports(&imports, bytes, size, out, batch)) > 0;)
-        for (size_t i = 0; i < n && !out[i].fault.kind; i++) {
+        for (size_t i = 0; i < n; i++) {
+            if (out[i].fault.kind) continue;
             print_name(bytes, out[i].module_name);
             print_name(bytes, out[i].name);
             puts(kinds[out[i].ty.kind]);
