@@ -50,7 +50,8 @@
 
    Structs never grow: a new field means a new struct with a new name.
 
-   For x86-64 (v2) and aarch64 on Linux, and WebAssembly with 32-bit and 64-bit memory. docs/C.md says what each target trusts.
+   For x86-64 (v2) and aarch64 on Linux, and WebAssembly with 32-bit and 64-bit memory. Each trusts clang besides the proof, and the
+   32-bit module binaryen too. Only x86-64 has a second compiler to compare with.
 
    The numbers of kinds, faults and flags never change. */
 #ifndef PULLEYNAVY_H
