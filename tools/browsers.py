@@ -60,9 +60,6 @@ class Browser:
     def element(self, selector):
         return self.send("element", {"using": "css selector", "value": selector})[ELEMENT]
 
-    def elements(self, selector):
-        return [one[ELEMENT] for one in self.send("elements", {"using": "css selector", "value": selector})]
-
     def press(self, *keys):
         self.send("actions", {"actions": pressed(keys)})
 
