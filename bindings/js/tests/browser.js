@@ -76,7 +76,7 @@ try {
 } finally {
     child.kill();
     if (child.exitCode === null && child.signalCode === null) await new Promise(resolve => child.on("exit", resolve));
-    rmSync(profile, { recursive: true, force: true, maxRetries: 5 });
+    rmSync(profile, { recursive: true, force: true, maxRetries: 20, retryDelay: 100 });
     server.close();
     server.closeAllConnections();
 }
