@@ -122,8 +122,8 @@ module _ {T B : Type 0} (pass : Place → Outcome (Unit {0})) (own : Own pass) (
       let moved : ItemsOf (ReadsAs view reading) count.0 (cut all.used count.1) given =
       subst (λ (w : Place). ItemsOf (ReadsAs view reading) count.0 w given) there
       (subst (λ (z : Section). ItemsOf (ReadsAs view reading) z.count (place z.reader) given) (sym same) items) in
-      let so_many : AreSoMany count.0 given = all_read count.0 all.used count.1 end given passed.one last moved in
-      subst (λ (z : Section). AreSoMany z.count given) same so_many
+      let exactly_n : AreSoMany count.0 given = all_read count.0 all.used count.1 end given passed.one last moved in
+      subst (λ (z : Section). AreSoMany z.count given) same exactly_n
 
   unmapped : (count : ℕ) (given : List (Result T Error)) → AreSoMany count (map item_or_fault given) → AreSoMany count given
   unmapped zero [] h = h

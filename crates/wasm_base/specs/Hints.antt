@@ -11,14 +11,14 @@ use Rattle.wasm_base.specs.declared.fault.Fault.TheVariants.{OutOfMemory, Unexpe
 use Rattle.wasm_base.specs.declared.fault.NumberKind.TheVariants.{VarU32}
 
 -- whether a fault is that a growth of memory was refused
-abbrev pub is_want_of_memory : Fault → Bool
-is_want_of_memory OutOfMemory = true
-is_want_of_memory fault = false
+abbrev pub is_out_of_memory : Fault → Bool
+is_out_of_memory OutOfMemory = true
+is_out_of_memory fault = false
 
 -- What a call returned is no want of memory.
 abbrev pub TakesNoMemory : {X : Type 0} → Result X Error → Type 0
 TakesNoMemory (Ok x) = Unit {0}
-TakesNoMemory (Err e) = is_want_of_memory (fault_at e).fault ≡ false
+TakesNoMemory (Err e) = is_out_of_memory (fault_at e).fault ≡ false
 
 -- what an error hints at where so many bytes are missing: that number at missing bytes, nothing at any other fault
 abbrev pub hint_at : ℕ → Fault → Option ℕ

@@ -47,7 +47,7 @@ pub(crate) fn feed(alloc: Global, bytes: &[u8], size: usize) -> Result<Tally> {
     if size <= SMALL_PIECE {
         push_pieces(alloc, bytes, size)
     } else {
-        lend_pieces(alloc, bytes, size)
+        borrow_pieces(alloc, bytes, size)
     }
 }
 
@@ -72,7 +72,7 @@ fn push_pieces(alloc: Global, bytes: &[u8], size: usize) -> Result<Tally> {
     Ok(tally)
 }
 
-fn lend_pieces(alloc: Global, bytes: &[u8], size: usize) -> Result<Tally> {
+fn borrow_pieces(alloc: Global, bytes: &[u8], size: usize) -> Result<Tally> {
     let mut tally = Tally::new();
     let mut feeder = Feeder::new(alloc, 0, WasmFeatures::all());
     let mut rest = bytes;
@@ -83,7 +83,7 @@ fn lend_pieces(alloc: Global, bytes: &[u8], size: usize) -> Result<Tally> {
             rest.split_at(left).0,
             |step|
                 ensures { ⊤ }
-            { tally_lent(step, &mut tally, &mut fault) },
+            { tally_borrowed(step, &mut tally, &mut fault) },
         )?;
         if is_last {
             break;
@@ -105,7 +105,7 @@ fn lend_pieces(alloc: Global, bytes: &[u8], size: usize) -> Result<Tally> {
 }
 
 // Whether this was the last step, of which a fault is kept.
-fn tally_lent(step: Result<Step<'_>>, tally: &mut Tally, fault: &mut Option<Error>) -> bool {
+fn tally_borrowed(step: Result<Step<'_>>, tally: &mut Tally, fault: &mut Option<Error>) -> bool {
     match step {
         Ok(step) => tally_step(step, tally),
         Err(error) => {

@@ -36,8 +36,8 @@ nil_first [] ys e = refl
 nil_first (x ∷ xs) ys e = cc
 
 -- a beginning of a sequence gives nothing
-pub silent_beginning : (bs : List ℕ) (n : ℕ) → ((at : Where) → without_from at bs ≡ []) → (at : Where) → without_from at (take n bs) ≡ []
-silent_beginning bs n silent at =
+pub silent_head : (bs : List ℕ) (n : ℕ) → ((at : Where) → without_from at bs ≡ []) → (at : Where) → without_from at (take n bs) ≡ []
+silent_head bs n silent at =
     nil_first (without_from at (take n bs)) (without_from (where_after at (take n bs)) (drop n bs))
     (sym (without_append at (take n bs) (drop n bs)) ∙ ap (without_from at) (take-append-drop n bs) ∙ silent at)
 
@@ -47,11 +47,11 @@ pub plain_keeps : (a b : Option (List ℕ)) (bs : List ℕ) (n : ℕ) → ((at :
 plain_keeps None b bs n silent p = tt
 plain_keeps (Some x) None bs n silent p = absurd p
 plain_keeps (Some x) (Some y) bs n silent p =
-    plain_gains (Some x) (Some y) (take n bs) [] (silent_beginning bs n silent) p ∙ append-nil (without_colors x)
+    plain_gains (Some x) (Some y) (take n bs) [] (silent_head bs n silent) p ∙ append-nil (without_colors x)
 
 -- a list and what it begins with
-beginning_of : (xs ys zs : List ℕ) (n : ℕ) → xs ++ ys ≡ take n zs → (xs ≡ take (length xs) zs) × (length xs ≤ length zs)
-beginning_of xs ys zs n e =
+head_of : (xs ys zs : List ℕ) (n : ℕ) → xs ++ ys ≡ take n zs → (xs ≡ take (length xs) zs) × (length xs ≤ length zs)
+head_of xs ys zs n e =
     let whole : zs ≡ xs ++ (ys ++ drop n zs) =
     sym (take-append-drop n zs) ∙ ap (λ l. l ++ drop n zs) (sym e) ∙ append_assoc xs ys (drop n zs) in (
       sym (ap (take (length xs)) whole ∙ take_at xs (ys ++ drop n zs) (length xs) refl),
@@ -132,18 +132,18 @@ escape_written (Ok n) a b bound some ok err =
 escape_written (Err e) a b bound some ok err = plain_keeps a b (27 ∷ []) err.0 (λ at. refl) err.1
 
 -- what a beginning of the bytes gives begins the text
-colored_beginning : (first j : ℕ) (later bytes : List ℕ) → IsColored first later bytes
+colored_head : (first j : ℕ) (later bytes : List ℕ) → IsColored first later bytes
     → (without_colors (take j bytes) ≡ take (length (without_colors (take j bytes))) (first ∷ later))
     × (length (without_colors (take j bytes)) ≤ length (first ∷ later))
-colored_beginning first j later bytes c =
-    beginning_of (without_colors (take j bytes)) (without_from (where_after Outside (take j bytes)) (drop j bytes)) (first ∷ later)
+colored_head first j later bytes c =
+    head_of (without_colors (take j bytes)) (without_from (where_after Outside (take j bytes)) (drop j bytes)) (first ∷ later)
     (suc c.count)
     (sym (without_append Outside (take j bytes) (drop j bytes)) ∙ ap without_colors (take-append-drop j bytes) ∙ c.gives)
 
 pub colored_bound : (first j : ℕ) (later bytes : List ℕ) → IsColored first later bytes
     → length (without_colors (take j bytes)) ≤ length later + 1
 colored_bound first j later bytes c =
-    let some : length (without_colors (take j bytes)) ≤ suc (length later) = (colored_beginning first j later bytes c).1 in
+    let some : length (without_colors (take j bytes)) ≤ suc (length later) = (colored_head first j later bytes c).1 in
     omega arith
 
 gives_some : (first j : ℕ) (more : List ℕ) → first ≢ 27 → 0 < j → 0 < length (without_colors (take j (first ∷ more)))
@@ -160,7 +160,7 @@ pub colored_written : (first j : ℕ) (later set bytes : List ℕ) (a b : Option
     → Appends a b (set ++ take j bytes)
     → Appends (plain a) (plain b) (take (length (without_colors (take j bytes))) (first ∷ later))
 colored_written first j later set bytes a b s c p =
-    subst (Appends (plain a) (plain b)) ((colored_beginning first j later bytes c).0)
+    subst (Appends (plain a) (plain b)) ((colored_head first j later bytes c).0)
     (plain_gains a b (set ++ take j bytes) (without_colors (take j bytes))
     (λ at. without_append at set (take j bytes) ∙ rw ((s at).0, (s at).1) refl) p)
 

@@ -6,7 +6,7 @@ use Rattle.wasm_feed.specs.Lists.{Lists}
 use Rattle.wasm_lines.specs.Calls.{Device, from_to}
 use Rattle.wasm_cli.proofs.ForCallers.{appends_kept}
 use Rattle.wasm_cli.specs.Devices.{over, Follows, IsUntouched, Says}
-use Rattle.wasm_cli.specs.Endings.{RunsUsage, HandsOn, FailsToHandOn, LeavesAlone, Finishes, status_of}
+use Rattle.wasm_cli.specs.Endings.{RunsUsage, Flushes, FailsToFlush, LeavesAlone, Finishes, status_of}
 use Rattle.wasm_cli.specs.ListRuns.{RunsListingAs, Runs, EndsAs, ListsAll, RunsProgram, usage}
 use Rattle.wasm_cli.specs.declared.list.command.Command.{Command}
 use Rattle.wasm_feed.specs.declared.listing.Ended.{Ended}
@@ -59,37 +59,37 @@ untouched_twice : (first second : Device) → Follows first second → IsUntouch
 untouched_twice first second f u v = record { bytes = v.bytes ∙ (f.bytes ∙ u.bytes); failed = v.failed ∙ (f.failed ∙ u.failed) }
 
 -- the listing ended, and the output then handed on what it had taken, or failed
-handed : (first second first_errors second_errors : Device) (how : Ended) (handed_on : Bool) (status result : ℕ) → Follows first second
+passes_on : (first second first_errors second_errors : Device) (how : Ended) (forwarded : Bool) (status result : ℕ) → Follows first second
     → Follows first_errors second_errors
     → first.has_failed ≡ first.had_failed → IsUntouched first_errors → status ≡ status_of (Ok how)
-    → HandsOn status handed_on second second_errors result ⊎ FailsToHandOn second second_errors result
-    → EndsAs (Ok how) handed_on (over first second) (over first_errors second_errors) result
-handed first second first_errors second_errors how handed_on status result f fe sink silent answers (inl h) = inl (record {
+    → Flushes status forwarded second second_errors result ⊎ FailsToFlush second second_errors result
+    → EndsAs (Ok how) forwarded (over first second) (over first_errors second_errors) result
+passes_on first second first_errors second_errors how forwarded status result f fe sink silent answers (inl h) = inl (record {
   answers = h.answers ∙ answers;
   all = h.all;
   sink = h.sink ∙ (f.failed ∙ sink);
   silent = untouched_twice first_errors second_errors fe silent h.silent;
 })
-handed first second first_errors second_errors how handed_on status result f fe sink silent answers (inr h) = inr (record {
+passes_on first second first_errors second_errors how forwarded status result f fe sink silent answers (inr h) = inr (record {
   answers = h.answers;
   sink = h.sink;
   says = said first_errors second_errors _ fe silent h.says;
 })
 
 -- a run that listed its input, and then its end
-listed_all : (input first second first_errors second_errors : Device) (handed_on : Bool) (status result : ℕ) → Follows first second
+listed_all : (input first second first_errors second_errors : Device) (forwarded : Bool) (status result : ℕ) → Follows first second
     → Follows first_errors second_errors
     → (how : Result Ended ListError) → RunsListingAs how input first first_errors status
-    → Finishes status handed_on second second_errors result
-    → ListsAll handed_on input (over first second) (over first_errors second_errors) result
-listed_all input first second first_errors second_errors handed_on status result f fe (Ok how) r finish = record {
+    → Finishes status forwarded second second_errors result
+    → ListsAll forwarded input (over first second) (over first_errors second_errors) result
+listed_all input first second first_errors second_errors forwarded status result f fe (Ok how) r finish = record {
   how = Ok how;
   lists = lists_kept _ _ _ _ _ how r.lists.lists (subst (λ (b : Option (List ℕ)). Keeps b second.after) f.bytes finish.keeps);
   source = r.lists.source;
-  ends = handed first second first_errors second_errors how handed_on status result f fe r.lists.sink r.reports r.answers
+  ends = passes_on first second first_errors second_errors how forwarded status result f fe r.lists.sink r.reports r.answers
       (finish.ended (subst (λ (n : ℕ). n < 2) (sym r.answers) (below_two how)));
 }
-listed_all input first second first_errors second_errors handed_on status result f fe (Err why) r finish =
+listed_all input first second first_errors second_errors forwarded status result f fe (Err why) r finish =
     let alone : LeavesAlone status second second_errors result = finish.given_up (omega (arith, r.answers)) in
     let kept : second.after ≡ first.after = alone.sink.bytes ∙ f.bytes in
     record {
@@ -105,11 +105,11 @@ listed_all input first second first_errors second_errors handed_on status result
     }
 
 -- a run that refused its arguments, and then its end
-refused_all : (input first second first_errors second_errors : Device) (handed_on : Bool) (status result : ℕ) → Follows first second
+refused_all : (input first second first_errors second_errors : Device) (forwarded : Bool) (status result : ℕ) → Follows first second
     → Follows first_errors second_errors
-    → RunsUsage usage input first first_errors status → Finishes status handed_on second second_errors result
+    → RunsUsage usage input first first_errors status → Finishes status forwarded second second_errors result
     → RunsUsage usage input (over first second) (over first_errors second_errors) result
-refused_all input first second first_errors second_errors handed_on status result f fe r finish =
+refused_all input first second first_errors second_errors forwarded status result f fe r finish =
     let alone : LeavesAlone status second second_errors result = finish.given_up (omega (arith, r.answers)) in
     record {
       source = r.source;
@@ -118,16 +118,16 @@ refused_all input first second first_errors second_errors handed_on status resul
       says = said_before first_errors second_errors _ fe r.says alone.silent;
     }
 
-pub program : (command : Command) (input first second first_errors second_errors : Device) (handed_on : Bool) (status result : ℕ)
+pub program : (command : Command) (input first second first_errors second_errors : Device) (forwarded : Bool) (status result : ℕ)
     → Follows first second → Follows first_errors second_errors
-    → Runs command input first first_errors status → Finishes status handed_on second second_errors result
-    → RunsProgram (Some command) handed_on input (over first second) (over first_errors second_errors) result
-program command input first second first_errors second_errors handed_on status result f fe runs finish = record {
-  lists = λ c. let r = runs.lists (some_is c) in listed_all input first second first_errors second_errors handed_on status result f fe r.how
+    → Runs command input first first_errors status → Finishes status forwarded second second_errors result
+    → RunsProgram (Some command) forwarded input (over first second) (over first_errors second_errors) result
+program command input first second first_errors second_errors forwarded status result f fe runs finish = record {
+  lists = λ c. let r = runs.lists (some_is c) in listed_all input first second first_errors second_errors forwarded status result f fe r.how
       r.runs finish;
   strips = λ c. record {
     written = first;
-    handed = second;
+    passes_on = second;
     said = first_errors;
     said_last = second_errors;
     first = status;
@@ -136,6 +136,6 @@ program command input first second first_errors second_errors handed_on status r
     strips = runs.strips (some_is c);
     ends = finish;
   };
-  refuses = λ c. refused_all input first second first_errors second_errors handed_on status result f fe (runs.refuses (some_is c)) finish;
+  refuses = λ c. refused_all input first second first_errors second_errors forwarded status result f fe (runs.refuses (some_is c)) finish;
   without_arguments = λ none. absurd cc;
 }

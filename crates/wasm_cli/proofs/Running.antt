@@ -50,10 +50,10 @@ module _ (style : Style) where
   }
 
 -- all of a text was written, and then the output failed to hand it on
-pub not_handed_on : (r : Result (Unit {0}) Failed) (a b c : Option (List ℕ)) (text : List ℕ) → Appends a b text → Keeps b c
+pub not_forwarded : (r : Result (Unit {0}) Failed) (a b c : Option (List ℕ)) (text : List ℕ) → Appends a b text → Keeps b c
     → OnErr r ((n : ℕ) × Appends a c (take n text))
-not_handed_on (Ok done) a b c text w k = tt
-not_handed_on (Err e) a b c text w k = (
+not_forwarded (Ok done) a b c text w k = tt
+not_forwarded (Err e) a b c text w k = (
   length text,
   subst (Appends a c) (sym (take_all (length text) text (le_refl (length text))))
       (appends_kept a b c text w k),

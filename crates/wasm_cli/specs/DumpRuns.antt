@@ -17,12 +17,12 @@ use Rattle.wasm_cli.specs.Words.{ChooseInTurn}
 use Rattle.wasm_cli.specs.declared.dump.options.Options.{Options}
 
 -- What was written was handed on, or the output failed to; after a dump that was given up nothing is done.
-abbrev pub HandsOn : (how : Result Ended ListError) (had_failed has_failed handed_on : Bool) → Result Ended ListError
+abbrev pub Flushes : (how : Result Ended ListError) (had_failed has_failed forwarded : Bool) → Result Ended ListError
     → Type 0
-HandsOn (Ok ended) had_failed has_failed handed_on result =
-    ((result ≡ Ok ended) × (handed_on ≡ true) × (has_failed ≡ had_failed))
+Flushes (Ok ended) had_failed has_failed forwarded result =
+    ((result ≡ Ok ended) × (forwarded ≡ true) × (has_failed ≡ had_failed))
     ⊎ ((result ≡ Err Output) × (has_failed ≡ true))
-HandsOn (Err why) had_failed has_failed handed_on result = (result ≡ Err why) × (has_failed ≡ had_failed)
+Flushes (Err why) had_failed has_failed forwarded result = (result ≡ Err why) × (has_failed ≡ had_failed)
 
 -- The input was dumped to the output as these options say.
 pub record DumpsAs (options : Options) (only : List Only) (input output : Device) (how : Result Ended ListError)
@@ -32,12 +32,12 @@ pub record DumpsAs (options : Options) (only : List Only) (input output : Device
   pub sink : output.has_failed ≡ output_failed how output.had_failed
 
 -- The input was dumped as these options say, and what was written handed on.
-pub record RunsDump (options : Options) (only : List Only) (input output : Device) (handed_on : Bool)
+pub record RunsDump (options : Options) (only : List Only) (input output : Device) (forwarded : Bool)
     (result : Result Ended ListError) : Type 0 where
   pub how : Result Ended ListError
   pub dumps : Dumps (style_of options) only options.has_bytes (bytes_of input) (bytes_of output) how
   pub source : input.has_failed ≡ input_failed how input.had_failed
-  pub ends : HandsOn how (output_failed how output.had_failed) output.has_failed handed_on result
+  pub ends : Flushes how (output_failed how output.had_failed) output.has_failed forwarded result
 
 abbrev pub usage : List ℕ
 usage = codes "usage: wasm_dump [--help] [--version] [OPTION]... [--section ID|NAME]... [FILE]...\n"
@@ -72,54 +72,54 @@ help_text =
     codes "other arguments, and 3 where a file, the output or memory failed.\n"))))))))))))))))))
 
 -- These sections of the input were shown, and how that ended is answered.
-pub record Shows (options : Options) (only : List Only) (handed_on : Bool) (input output errors : Device) (status : ℕ) :
+pub record Shows (options : Options) (only : List Only) (forwarded : Bool) (input output errors : Device) (status : ℕ) :
     Type 0 where
   pub how : Result Ended ListError
-  pub runs : RunsDump options only input output handed_on how
+  pub runs : RunsDump options only input output forwarded how
   pub answers : status ≡ status_of how
   pub reports : Reports how errors
 
 -- the same of those that words choose
-pub record ShowsThose (options : Options) (words : List (List ℕ)) (handed_on : Bool) (input output errors : Device)
+pub record ShowsThose (options : Options) (words : List (List ℕ)) (forwarded : Bool) (input output errors : Device)
     (status : ℕ) : Type 0 where
   pub only : List Only
   pub chosen : ChooseInTurn words only
-  pub shows : Shows options only handed_on input output errors status
+  pub shows : Shows options only forwarded input output errors status
 
 -- the same with these options, unless memory was refused for what the words choose
-abbrev pub ShowsChosen : (words : List (List ℕ)) → Options → (handed_on : Bool) (input output errors : Device)
+abbrev pub ShowsChosen : (words : List (List ℕ)) → Options → (forwarded : Bool) (input output errors : Device)
     (status : ℕ) → Type 0
-ShowsChosen words options handed_on input output errors status =
-    ShowsThose options words handed_on input (seen_as options.is_colored output) errors status
+ShowsChosen words options forwarded input output errors status =
+    ShowsThose options words forwarded input (seen_as options.is_colored output) errors status
     ⊎ CannotBegin input output errors status
 
 -- a text was written and handed on, or the output failed
-abbrev pub Tells : (text : List ℕ) (handed_on : Bool) (output errors : Device) (status : ℕ) → Type 0
-Tells text handed_on output errors status =
-    (WritesAll text output errors status × (handed_on ≡ true)) ⊎ WritesSome text output errors status
+abbrev pub Tells : (text : List ℕ) (forwarded : Bool) (output errors : Device) (status : ℕ) → Type 0
+Tells text forwarded output errors status =
+    (WritesAll text output errors status × (forwarded ≡ true)) ⊎ WritesSome text output errors status
 
 -- the same, and the input was left alone
-pub record RunsTelling (text : List ℕ) (handed_on : Bool) (input output errors : Device) (status : ℕ) : Type 0 where
+pub record RunsTelling (text : List ℕ) (forwarded : Bool) (input output errors : Device) (status : ℕ) : Type 0 where
   pub source : IsUntouched input
-  pub tells : Tells text handed_on output errors status
+  pub says_which : Tells text forwarded output errors status
 
 -- A run over the input that was asked for this; files it refuses, since it cannot open them. Where colours were asked
 -- for, what the output took says the same without them.
-pub record Runs (asked : Asked) (handed_on : Bool) (input output errors : Device) (status : ℕ) : Type 0 where
+pub record Runs (asked : Asked) (forwarded : Bool) (input output errors : Device) (status : ℕ) : Type 0 where
   pub shows : (options : Options) → asked ≡ all options
-      → Shows options (All ∷ []) handed_on input (seen_as options.is_colored output) errors status
+      → Shows options (All ∷ []) forwarded input (seen_as options.is_colored output) errors status
   pub shows_chosen : (options : Options) (words : List (List ℕ)) → asked ≡ sections options words
-      → ShowsChosen words options handed_on input output errors status
-  pub helps : asked ≡ help → RunsTelling help_text handed_on input output errors status
-  pub says_version : asked ≡ version → RunsTelling version_text handed_on input output errors status
+      → ShowsChosen words options forwarded input output errors status
+  pub helps : asked ≡ help → RunsTelling help_text forwarded input output errors status
+  pub says_version : asked ≡ version → RunsTelling version_text forwarded input output errors status
   pub refuses_names : asked ≡ names_of_input → RunsUsage names_usage input output errors status
   pub refuses : asked ≡ unknown → RunsUsage usage input output errors status
   pub refuses_files : (named : NamedFiles) → asked ≡ files named → RunsUsage usage input output errors status
 
 -- The whole program, which was asked for this if the arguments could be had, or one was no text; unless memory was
 -- refused before that was known, where it may have been.
-abbrev pub RunsProgram : Option Asked → (wants_memory : Type 0) (handed_on : Bool) (input output errors : Device)
+abbrev pub RunsProgram : Option Asked → (needs_memory : Type 0) (forwarded : Bool) (input output errors : Device)
     (status : ℕ) → Type 0
-RunsProgram (Some asked) wants_memory handed_on input output errors status =
-    Runs asked handed_on input output errors status ⊎ (wants_memory × CannotBegin input output errors status)
-RunsProgram None wants_memory handed_on input output errors status = CannotBegin input output errors status
+RunsProgram (Some asked) needs_memory forwarded input output errors status =
+    Runs asked forwarded input output errors status ⊎ (needs_memory × CannotBegin input output errors status)
+RunsProgram None needs_memory forwarded input output errors status = CannotBegin input output errors status

@@ -52,14 +52,14 @@ pub record WritesSome (bytes : List ℕ) (output errors : Device) (status : ℕ)
   pub gives_up : GivesUpAs Output errors status
 
 -- The output handed on all that it had taken, nothing was said, and the status stays.
-pub record HandsOn (status : ℕ) (handed_on : Bool) (output errors : Device) (result : ℕ) : Type 0 where
+pub record Flushes (status : ℕ) (forwarded : Bool) (output errors : Device) (result : ℕ) : Type 0 where
   pub answers : result ≡ status
-  pub all : handed_on ≡ true
+  pub all : forwarded ≡ true
   pub sink : output.has_failed ≡ output.had_failed
   pub silent : IsUntouched errors
 
 -- The output failed to hand on what it had taken: this was said, and the status is 3.
-pub record FailsToHandOn (output errors : Device) (result : ℕ) : Type 0 where
+pub record FailsToFlush (output errors : Device) (result : ℕ) : Type 0 where
   pub answers : result ≡ 3
   pub sink : output.has_failed ≡ true
   pub says : Says errors (complaint_of Output)
@@ -71,7 +71,7 @@ pub record LeavesAlone (status : ℕ) (output errors : Device) (result : ℕ) : 
   pub silent : IsUntouched errors
 
 -- The end of a run: after a status of 0 or 1 the output is to hand on all that it has taken.
-pub record Finishes (status : ℕ) (handed_on : Bool) (output errors : Device) (result : ℕ) : Type 0 where
+pub record Finishes (status : ℕ) (forwarded : Bool) (output errors : Device) (result : ℕ) : Type 0 where
   pub keeps : Keeps output.before output.after
-  pub ended : status < 2 → HandsOn status handed_on output errors result ⊎ FailsToHandOn output errors result
+  pub ended : status < 2 → Flushes status forwarded output errors result ⊎ FailsToFlush output errors result
   pub given_up : 2 ≤ status → LeavesAlone status output errors result

@@ -8,7 +8,7 @@ use Rattle.wasm_feed.specs.declared.listing.Ended.{Ended}
 use Rattle.wasm_lines.specs.declared.devices.ListError.{ListError}
 use Rattle.wasm_cli.specs.Arguments.{is_no_text}
 use Rattle.wasm_cli.specs.Devices.{over, Follows, Says, complaint_of}
-use Rattle.wasm_cli.specs.Endings.{status_of, Reports, RunsUsage, CannotBegin, HandsOn, FailsToHandOn, Finishes}
+use Rattle.wasm_cli.specs.Endings.{status_of, Reports, RunsUsage, CannotBegin, Flushes, FailsToFlush, Finishes}
 use Rattle.wasm_cli.specs.ListCommands.{command_of}
 use Rattle.wasm_cli.specs.Strips.{RunsStripping}
 use Rattle.wasm_cli.specs.declared.list.command.Command.{Command}
@@ -41,29 +41,29 @@ pub record GivesUp (why : ListError) (output errors : Device) (status : ℕ) : T
   pub says : Says errors (complaint_of why)
 
 -- How a listing that ended so is answered: what was listed is handed on before the status is 0 or 1.
-abbrev pub EndsAs : Result Ended ListError → (handed_on : Bool) (output errors : Device) (status : ℕ) → Type 0
-EndsAs (Ok how) handed_on output errors status =
-    HandsOn (status_of (Ok how)) handed_on output errors status ⊎ FailsToHandOn output errors status
-EndsAs (Err why) handed_on output errors status = GivesUp why output errors status
+abbrev pub EndsAs : Result Ended ListError → (forwarded : Bool) (output errors : Device) (status : ℕ) → Type 0
+EndsAs (Ok how) forwarded output errors status =
+    Flushes (status_of (Ok how)) forwarded output errors status ⊎ FailsToFlush output errors status
+EndsAs (Err why) forwarded output errors status = GivesUp why output errors status
 
 -- the whole program, where it lists its input
-pub record ListsAll (handed_on : Bool) (input output errors : Device) (status : ℕ) : Type 0 where
+pub record ListsAll (forwarded : Bool) (input output errors : Device) (status : ℕ) : Type 0 where
   pub how : Result Ended ListError
   pub lists : Lists (bytes_of input) (bytes_of output) how
   pub source : input.has_failed ≡ input_failed how input.had_failed
-  pub ends : EndsAs how handed_on output errors status
+  pub ends : EndsAs how forwarded output errors status
 
 -- the whole program, where it strips its input: what was written is handed on after a status of 0 or 1
-pub record StripsAll (handed_on : Bool) (input output errors : Device) (status : ℕ) : Type 0 where
+pub record StripsAll (forwarded : Bool) (input output errors : Device) (status : ℕ) : Type 0 where
   pub written : Device
-  pub handed : Device
+  pub passes_on : Device
   pub said : Device
   pub said_last : Device
   pub first : ℕ
-  pub follows : Follows written handed × Follows said said_last
-  pub devices : (output ≡ over written handed) × (errors ≡ over said said_last)
+  pub follows : Follows written passes_on × Follows said said_last
+  pub devices : (output ≡ over written passes_on) × (errors ≡ over said said_last)
   pub strips : RunsStripping input written said first
-  pub ends : Finishes first handed_on handed said_last status
+  pub ends : Finishes first forwarded passes_on said_last status
 
 -- what is asked for, if the arguments could be had: the first one is the program's own name. One that is no text is
 -- another argument.
@@ -72,9 +72,9 @@ command_after_name words (Ok arguments) = Some (command_of (drop 1 (words argume
 command_after_name words (Err e) = if is_no_text (error_kind e) then Some Unknown else None
 
 -- The whole program, which was asked for this if the arguments could be had, or one was no text.
-pub record RunsProgram (command : Option Command) (handed_on : Bool) (input output errors : Device) (status : ℕ) : Type
+pub record RunsProgram (command : Option Command) (forwarded : Bool) (input output errors : Device) (status : ℕ) : Type
     0 where
-  pub lists : command ≡ Some Listing → ListsAll handed_on input output errors status
-  pub strips : command ≡ Some Stripping → StripsAll handed_on input output errors status
+  pub lists : command ≡ Some Listing → ListsAll forwarded input output errors status
+  pub strips : command ≡ Some Stripping → StripsAll forwarded input output errors status
   pub refuses : command ≡ Some Unknown → RunsUsage usage input output errors status
   pub without_arguments : command ≡ None → CannotBegin input output errors status

@@ -6,8 +6,8 @@ use Rattle.std.specs.Vec.Iter.{into_iter_items}
 use Rattle.wasm_grammar.specs.Ids.{id_named}
 use Rattle.wasm_dumper.specs.declared.events.Only.{Only}
 use Rattle.wasm_dumper.specs.declared.events.Only.TheVariants.{All, Id, Name}
-use Rattle.wasm_cli.specs.declared.dump.command.Beginning.{Beginning}
-use Rattle.wasm_cli.specs.declared.dump.command.Beginning.TheVariants.{Word, Marked, Other, Nothing}
+use Rattle.wasm_cli.specs.declared.dump.command.Head.{Head}
+use Rattle.wasm_cli.specs.declared.dump.command.Head.TheVariants.{Word, Marked, Other, Nothing}
 use Rattle.wasm_cli.specs.declared.dump.options.Mark.{Mark}
 use Rattle.wasm_cli.specs.declared.dump.options.Options.{Options}
 use Rattle.wasm_cli.specs.Options.{mark_named, no_options, with_marks}
@@ -63,7 +63,7 @@ pub record BeginsWithNone (rest old : List (List ℕ)) : Type 0 where
   pub others : rest_of old ≡ rest
 
 -- These arguments begin with that, and those are left.
-abbrev pub Begins : Beginning → (old new : List (List ℕ)) → Type 0
+abbrev pub Begins : Head → (old new : List (List ℕ)) → Type 0
 Begins (Word word) old new = BeginsWith (string_bytes word ∷ []) [] old new
 Begins (Marked mark) old new = BeginsWith [] (mark ∷ []) old new
 Begins (Other first) old new = BeginsWithNone (string_bytes first ∷ new) old

@@ -59,7 +59,7 @@ fn message(error: ListError) -> &'static [u8]
 
 /// Hands on all that was written, after a status of 0 or 1, and answers the status that then holds.
 pub fn finish<W: Write, E: Sink>(status: u8, output: &mut WriteSink<W>, errors: &mut E) -> u8
-    ensures { Finishes status output.new.handed_on
+    ensures { Finishes status output.new.forwarded
         (writer_device W.contents output.old output.new)
         (device_of E.taken E.has_failed errors.old errors.new) result }
 {

@@ -1,6 +1,6 @@
 // Entries whose indices ascend.
 ghost use Rattle.std.specs.Prelude.{◌≡◌, false};
-ghost use Rattle.wasm_base.specs.Hints.{TakesNoMemory, is_want_of_memory};
+ghost use Rattle.wasm_base.specs.Hints.{TakesNoMemory, is_out_of_memory};
 ghost use Rattle.wasm_custom.specs.Ascending.{InOrder, is_above};
 
 use wasm_base::{Error, Fault, Result};
@@ -24,7 +24,7 @@ pub(crate) fn in_order<T: Drop>(
     fault: Fault,
     start: u64,
 ) -> Result<T>
-    requires { is_want_of_memory fault ≡ false }
+    requires { is_out_of_memory fault ≡ false }
     ensures order { InOrder last.old index fault start entry result last.new }
     ensures memory { TakesNoMemory result }
 {

@@ -2,7 +2,7 @@
 ghost use Rattle.std.specs.Prelude.{◌≡◌, false, IfOk, IfErr, is_err, codes, nat_eq};
 ghost use Rattle.std.specs.List.{starts_with};
 ghost use Rattle.wasm_base.specs.FaultAt.{fault_at};
-ghost use Rattle.wasm_base.specs.Hints.{TakesNoMemory, is_want_of_memory};
+ghost use Rattle.wasm_base.specs.Hints.{TakesNoMemory, is_out_of_memory};
 ghost use Rattle.wasm_base.specs.Owned.{out_of_memory};
 ghost use Rattle.wasm_base.specs.Window.{place};
 ghost use Rattle.wasm_custom.specs.Known.{unknown, known_parts, known_of, owns_lists, branch_hints_in, producers_in, core_dump_in, core_modules_in, core_instances_in, core_stack_in, linking_section_in, relocations_in, KnowsUnlessMemory};
@@ -139,7 +139,7 @@ fn core_stack<'a, A: Allocator + Copy>(
 // too, made anew, so that it has the offset 0 whatever the reader said.
 fn unknown_but_for_memory<'a, A: Allocator>(error: Error) -> Result<KnownCustom<'a, A>>
     ensures known { IfOk result (λ known. known_parts known ≡ unknown) }
-    ensures other { is_want_of_memory (fault_at error).fault ≡ is_err result }
+    ensures other { is_out_of_memory (fault_at error).fault ≡ is_err result }
     ensures refused { IfErr result (λ e. fault_at e ≡ out_of_memory) }
 {
     match error.fault() {

@@ -1,7 +1,7 @@
 // Names.
 ghost use Rattle.std.specs.Prelude.{⊤, ◌≡◌, ℕ, false, length, refl};
 ghost use Rattle.std.specs.Iterator.{at_most};
-ghost use Rattle.wasm_base.specs.Hints.{Hints, TakesNoMemory, is_want_of_memory};
+ghost use Rattle.wasm_base.specs.Hints.{Hints, TakesNoMemory, is_out_of_memory};
 ghost use Rattle.wasm_base.specs.Item.{ReadsAs};
 ghost use Rattle.wasm_base.specs.Outcome.{GivesResult};
 ghost use Rattle.wasm_base.specs.Section.{NextItem, all_items, most_items};
@@ -60,7 +60,7 @@ pub trait MapEntry<'a>: FromReader<'a> {
 
     ghost order_fault: { Fault };
 
-    ghost takes_no_memory: { is_want_of_memory order_fault ≡ false };
+    ghost takes_no_memory: { is_out_of_memory order_fault ≡ false };
 
     /// The fault of an entry whose index isn't above every index that was given before.
     fn order_fault() -> Fault

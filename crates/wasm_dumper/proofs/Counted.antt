@@ -18,8 +18,8 @@ abbrev pub left_over : (reading : Place → Outcome ℕ) (ended : Bool) (left : 
 left_over reading true left p = 0
 left_over reading false left p = numbers_read reading left p
 
-abbrev to_come : (reading : Place → Outcome ℕ) → Items → ℕ
-to_come reading s = left_over reading s.ended s.left (place s.reader)
+abbrev remaining_ones : (reading : Place → Outcome ℕ) → Items → ℕ
+remaining_ones reading s = left_over reading s.ended s.left (place s.reader)
 
 abbrev found_count : {T : Type 0} → Result T Error → ℕ
 found_count (Ok x) = 1
@@ -36,7 +36,7 @@ module _ {T : Type 0} (meaning : Place → Outcome T → Type 0) (reading : Plac
     (agrees : (p : Place) (o : Outcome T) → meaning p o → ReadsAs one_number reading p o) where
   next_by : (b : Bool) (n : ℕ) (s t : Items) (x : Result (ℕ × T) Error) → s.ended ≡ b → s.left ≡ n
       → NextItem (AtItsOffset meaning) s (Some x) t
-      → left_over reading b n (place s.reader) ≡ found_count x + to_come reading t
+      → left_over reading b n (place s.reader) ≡ found_count x + remaining_ones reading t
   next_by true n s t x e m h = absurd (let f = (h.over e).0 in cc)
   next_by false zero s t (Ok x) e m h = absurd (h.last e m)
   next_by false zero s t (Err f) e m h =

@@ -9,7 +9,7 @@ use Rattle.wasm_lines.specs.Calls.{Change, Device, bytes_of, from_to, input_fail
 use Rattle.wasm_feed.specs.Feed.{Feed, new_feed}
 use Rattle.wasm_feed.specs.Beside.{beside, lending, seen, FillsAlike, IsAlike, ReadsEnough}
 use Rattle.wasm_feed.specs.Cursors.{feed_of}
-use Rattle.wasm_feed.specs.Lists.{IsBeginning, ListsBy, Refills}
+use Rattle.wasm_feed.specs.Lists.{IsHead, ListsBy, Refills}
 use Rattle.wasm_feed.specs.declared.feeder.Cursor.{Cursor}
 use Rattle.wasm_feed.specs.FeedersLaws.{IsAlong}
 use Rattle.wasm_parser.specs.Along.{Came}
@@ -19,7 +19,7 @@ use Rattle.wasm_parser.specs.GivesNextEvent.{MayBe}
 use Rattle.wasm_grammar.specs.EventRanges.{consumed_by}
 use Rattle.wasm_grammar.specs.Reading.{Report, Event, Reading}
 use Rattle.wasm_feed.proofs.ForCallers.{feeders_go_along}
-use Rattle.wasm_lines.specs.Page.{WritesBeginning, PutsBytes}
+use Rattle.wasm_lines.specs.Page.{WritesHead, PutsBytes}
 use Rattle.wasm_base.specs.declared.error.Error.{Error}
 use Rattle.wasm_parser.specs.ParseAnswer.{report_of, is_end, ParseAnswer}
 use Rattle.wasm_feed.specs.Step.{answer_of, chunk_of, is_request, shown, Steps}
@@ -442,7 +442,7 @@ dumped outline numbers bytes lists counts writes source sink = record {
 cut_off : (style : Style) (only : List Only) (has_bytes : Bool) (full rest : Option (List ℕ)) (had has : Bool) → has ≡ had
     → (taken : Option (List ℕ)) (failed : Bool) (outline : List ℕ) (numbers : List Number) (bytes : List ℕ) (why : ListError)
     (w : Writing)
-    → IsBeginning (chosen_line only) (from_to full rest) (from_to (Some []) (Some outline))
+    → IsHead (chosen_line only) (from_to full rest) (from_to (Some []) (Some outline))
     → AreOfSource (Some why) false only has_bytes (from_to full rest) numbers bytes
     → IsCutShort (origin style taken failed outline numbers bytes) why w → DumpsFrom style only has_bytes
     (source full rest had has) taken failed (Err why) w
@@ -453,7 +453,7 @@ cut_off style only has_bytes full rest had has h taken failed outline numbers by
 cut_off style only has_bytes full rest had has h taken failed outline numbers bytes Input w b n c = absurd (c.no_input refl)
 
 -- what was listed is a beginning
-nothing_cut : (outline : Option (List ℕ)) → WritesBeginning outline outline []
+nothing_cut : (outline : Option (List ℕ)) → WritesHead outline outline []
 nothing_cut outline = record { moved = []; unwritten = []; parts = refl; wrote = Appends-nil outline }
 
 -- the tree has stopped before a step
@@ -500,7 +500,7 @@ pub shows_step : (only : List Only) (has_bytes : Bool) (c c' : Counts) (f : Feed
 shows_step only has_bytes c c' f stored piece items rest bytes old new x now ready after next from sees read items_are rest_is parses shows
     finished wants turns kept answer counted = record {
       answer = x;
-      steps = progress.lent f stored piece items rest bytes old new x from sees read items_are rest_is parses shows finished wants;
+      steps = progress.loan f stored piece items rest bytes old new x from sees read items_are rest_is parses shows finished wants;
       turns = turns;
       shows = rw (← kept) answer;
       counted = counted;
@@ -567,7 +567,7 @@ module _ (only : List Only) (has_bytes : Bool) (full rest : Option (List ℕ)) (
         same,
       )
 
-  begins : (t : Turn) → next ≡ t → IsBeginning (chosen_line only) (from_to full rest) (from_to (Some []) (Some outline))
+  begins : (t : Turn) → next ≡ t → IsHead (chosen_line only) (from_to full rest) (from_to (Some []) (Some outline))
   begins turn.Advance t =
       let (listing, less) =
       progress.advanced (chosen_line only) full rest (Some []) (Some d.outline) f [] d.listing g s.answer s.steps _ _

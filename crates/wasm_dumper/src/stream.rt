@@ -164,7 +164,7 @@ fn dump_into<R: Source, O: Tree>(
         drop(answer);
         go_on(out)?;
         match turn {
-            Turn::Advance => ahead.pass_lent(&mut cursor, &stored),
+            Turn::Advance => ahead.pass_borrowed(&mut cursor, &stored),
             Turn::Read => {
                 out.write_out();
                 go_on(out)?;

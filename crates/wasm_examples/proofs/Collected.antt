@@ -50,23 +50,23 @@ module _ {V X : Type 0} (takes : V → X → V → Type 0) where
 
 -- a compiler inside of what is told a stream
 module _ {C D : Type 0} (compiles : C → Window → C → Type 0) (inside : D → C) where
-  abbrev pub Told : D → Event → D → Type 0
-  Told v e w = Visits compiles (inside v) (bodies_of e) (inside w)
+  abbrev pub ReportedAs : D → Event → D → Type 0
+  ReportedAs v e w = Visits compiles (inside v) (bodies_of e) (inside w)
 
-  told : (v : D) (events : List Event) (w : D) → Visits Told v events w
+  in_report : (v : D) (events : List Event) (w : D) → Visits ReportedAs v events w
       → Visits (λ (a : C) (e : Event) (b : C). Visits compiles a (bodies_of e) b) (inside v) events (inside w)
-  told v [] w h = ap inside h
-  told v (e ∷ events) w h = (inside h.0, h.1, told h.0 events w h.2)
+  in_report v [] w h = ap inside h
+  in_report v (e ∷ events) w h = (inside h.0, h.1, in_report h.0 events w h.2)
 
   pub compiled : (pieces : List (Bor (List ℕ))) (features : ℕ) (before : D) (r : Result ℕ Error) (after : D)
-      → VisitsStream Told pieces features before r after → CompilesStream compiles pieces features (inside before) r (inside after)
+      → VisitsStream ReportedAs pieces features before r after → CompilesStream compiles pieces features (inside before) r (inside after)
   compiled pieces features before (Ok most) after (all, stores) = (
     (
       all.offset,
       record {
         events = all.events;
         reading = all.reads (joined pieces) refl;
-        handed = visits-flat compiles bodies_of (inside before) all.events (inside after) (told before all.events after all.visits);
+        passes_on = visits-flat compiles bodies_of (inside before) all.events (inside after) (in_report before all.events after all.visits);
       },
     ),
     stores,
@@ -76,7 +76,7 @@ module _ {C D : Type 0} (compiles : C → Window → C → Type 0) (inside : D �
       inr (record {
         events = events;
         reading = reads (joined pieces) refl;
-        handed = visits-flat compiles bodies_of (inside before) events (inside after) (told before events after visits);
+        passes_on = visits-flat compiles bodies_of (inside before) events (inside after) (in_report before events after visits);
       })
 
 -- where nothing was there before

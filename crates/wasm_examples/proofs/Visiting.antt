@@ -90,13 +90,13 @@ module _ {V : Type 0} (takes : V → Event → V → Type 0) where
         inr (h.events, u.0, h.visits)
 
     -- what came with a part
-    pub told : (bytes : Bor (List ℕ)) (payload : Payload) (r : Result Turn Error) (after : V) → Steps f (Ok (Parsed bytes payload)) g
+    pub in_report : (bytes : Bor (List ℕ)) (payload : Payload) (r : Result Turn Error) (after : V) → Steps f (Ok (Parsed bytes payload)) g
         → Tells takes before bytes.now payload r after → VisitsNext takes f before r g after
-    told bytes payload (Ok Advance) after s t = part_visited bytes payload after s t.0 t.1
-    told bytes payload (Ok Read) after s t = absurd t
-    told bytes payload (Ok (End how)) after s t = subst (λ (x : V). VisitsNext takes f before (Ok (End how)) g x) (sym t.1)
+    in_report bytes payload (Ok Advance) after s t = part_visited bytes payload after s t.0 t.1
+    in_report bytes payload (Ok Read) after s t = absurd t
+    in_report bytes payload (Ok (End how)) after s t = subst (λ (x : V). VisitsNext takes f before (Ok (End how)) g x) (sym t.1)
         (ended_there bytes payload how s t.0)
-    told bytes payload (Err e) after s t = λ features given begun h l. inl t
+    in_report bytes payload (Err e) after s t = λ features given begun h l. inl t
 
   -- ---- the parts that are held
 
@@ -278,18 +278,18 @@ module _ {V : Type 0} (takes : V → Event → V → Type 0) where
           visits = a.visited.visits;
         }))
 
-    is_told : mid.eof ≡ true
-    is_told = ap (λ (x : Feed). x.eof) e
+    is_reported : mid.eof ≡ true
+    is_reported = ap (λ (x : Feed). x.eof) e
 
     pub last_visited : (over : Bool) → VisitsHeld takes mid now (Ok over) new after
         → VisitsStream takes pieces features begun (Ok most) after
     last_visited true h = (
-      subst (λ (eof : Bool). HasVisitedAll takes features eof (joined pieces) begun after) is_told
+      subst (λ (eof : Bool). HasVisitedAll takes features eof (joined pieces) begun after) is_reported
           (h features (joined pieces) begun given small),
       a.stores,
     )
-    last_visited false h = let no : true ≡ false = sym is_told ∙ (sym h.1 ∙ h.0.2.0) in cc
+    last_visited false h = let no : true ≡ false = sym is_reported ∙ (sym h.1 ∙ h.0.2.0) in cc
 
     pub last_stopped : (x : Error) → VisitsHeld takes mid now (Err x) new after → VisitsStream takes pieces features begun (Err x) after
-    last_stopped x h = subst (λ (eof : Bool). StopsAt takes features eof (joined pieces) begun x after) is_told
+    last_stopped x h = subst (λ (eof : Bool). StopsAt takes features eof (joined pieces) begun x after) is_reported
         (h features (joined pieces) begun given small)

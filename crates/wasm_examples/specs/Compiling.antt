@@ -23,7 +23,7 @@ pub record HandsOnBodies {C : Type 0} (compiles : C → Window → C → Type 0)
     (end : Ending) (after : C) : Type 0 where
   pub events : List Event
   pub reading : Reading stream 0 features (events ++ last_event end ∷ [])
-  pub handed : Visits compiles before (flat_map bodies_of events) after
+  pub passes_on : Visits compiles before (flat_map bodies_of events) after
 
 -- It was handed all bodies of the stream that these pieces are, wherever it is cut, and the result is bounded as that
 -- of a visit; or those before the fault at which the stream stops; or memory was refused.

@@ -17,9 +17,9 @@ use Rattle.wasm_parser.proofs.ForCallers.{answers_go_along}
 use Rattle.wasm_lines.specs.Calls.{from_to}
 use Rattle.wasm_feed.specs.Feed.{Feed, new_feed, pushed}
 use Rattle.wasm_lines.specs.Listing.{listing_by}
-use Rattle.wasm_feed.specs.Lists.{IsEndedBy, IsWhole, IsListed, Begins, IsBeginning, Fills, Refills, ListsBy}
+use Rattle.wasm_feed.specs.Lists.{IsEndedBy, IsWhole, IsListed, Begins, IsHead, Fills, Refills, ListsBy}
 use Rattle.wasm_feed.specs.Progress.{weight, Progress, Wants}
-use Rattle.wasm_lines.specs.Page.{WritesBeginning, IsCut, PutsBytes}
+use Rattle.wasm_lines.specs.Page.{WritesHead, IsCut, PutsBytes}
 use Rattle.wasm_feed.specs.Step.{chunk_of, answer_of, Stepped, Steps}
 use Rattle.wasm_feed.specs.Turns.{text_after, turn_after}
 use Rattle.wasm_feed.specs.declared.feeder.Step.{Step}
@@ -144,9 +144,9 @@ module _ (text_of : Report → List ℕ) where
     }
 
     -- a beginning of those that waited is written
-    cut_beginning : (written' : Option (List ℕ)) → WritesBeginning written written' page
-        → IsBeginning text_of (from_to source rest) (from_to taken written')
-    cut_beginning written' w = record {
+    cut_head : (written' : Option (List ℕ)) → WritesHead written written' page
+        → IsHead text_of (from_to source rest) (from_to taken written')
+    cut_head written' w = record {
       given = p.given;
       shown = p.lines ++ w.moved;
       gave = p.gave;
@@ -157,7 +157,7 @@ module _ (text_of : Report → List ℕ) where
 
     pub cut : (written' : Option (List ℕ)) (e : ListError) → IsCut written written' page e
         → ListsBy text_of (from_to source rest) (from_to taken written') (Err e)
-    cut written' e w = grind (arith, cut_beginning)
+    cut written' e w = grind (arith, cut_head)
 
     -- no memory for what came
     pub no_memory : (rest' : Option (List ℕ)) (piece : List ℕ) → Consumes rest rest' piece
@@ -316,9 +316,9 @@ module _ (text_of : Report → List ℕ) where
           }
 
       -- the last lines were cut
-      end_beginning : (how : Ended) → turn.End how ≡ turn_after x → (written'' : Option (List ℕ))
-          → WritesBeginning written' written'' page' → IsBeginning text_of (from_to source rest) (from_to taken written'')
-      end_beginning how t written'' v =
+      end_head : (how : Ended) → turn.End how ≡ turn_after x → (written'' : Option (List ℕ))
+          → WritesHead written' written'' page' → IsHead text_of (from_to source rest) (from_to taken written'')
+      end_head how t written'' v =
           let a = end_at g x s how t in
           let (wrote, parts) = put_line written' (text_after text_of x) page' (last_event a.end) w a.same in
           record {
@@ -335,16 +335,16 @@ module _ (text_of : Report → List ℕ) where
 
       pub end_cut : (how : Ended) → turn.End how ≡ turn_after x → (written'' : Option (List ℕ)) (e : ListError)
           → IsCut written' written'' page' e → ListsBy text_of (from_to source rest) (from_to taken written'') (Err e)
-      end_cut how t written'' e v = grind (arith, end_beginning)
+      end_cut how t written'' e v = grind (arith, end_head)
 
   -- ---- a read
 
   -- the lines that waited are written
-  pub wants_written : (source rest taken written written' : Option (List ℕ)) (f : Feed) (page : List ℕ)
+  pub to_be_written : (source rest taken written written' : Option (List ℕ)) (f : Feed) (page : List ℕ)
       → Wants text_of (from_to source rest) (from_to taken written) f page → Appends written written' page
       → Wants text_of (from_to source rest) (from_to taken written') f []
   unfolding written_out
-  wants_written source rest taken written written' f page p w = record {
+  to_be_written source rest taken written written' f page p w = record {
     progress = search written_out;
     hint = p.hint;
     undecided = p.undecided;

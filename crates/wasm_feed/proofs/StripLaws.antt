@@ -151,7 +151,7 @@ read_kept keep stream a s features events r =
     let others : List Event = header_event 0 a.encoding ∷ (l.others
     ++ last_event (ended (0 + length (header_bytes a.encoding ++ bytes_of_frames keep a.frames))) ∷ []) in
     let (b, e, f) = accepted_kept keep stream a in
-    let told : TellsFrames 0 features a.encoding (filter (frame_stays keep) a.frames) others =
+    let reported_as : TellsFrames 0 features a.encoding (filter (frame_stays keep) a.frames) others =
     grind arith in (
       others,
       (frames_give_events (stripped keep a.encoding a.frames) 0 features others (stream_kept keep stream a s) b).1

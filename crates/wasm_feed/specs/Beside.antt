@@ -63,7 +63,7 @@ MayCome f piece = f.eof ≡ true → piece ≡ []
 -- The feeder holds bytes that decide what comes next, whatever follows, and has not asked for more.
 pub record HasDecided (f : Feed) (piece : List ℕ) : Type 0 where
   pub holds : 0 < length f.held
-  pub wants_none : f.wants_more ≡ false
+  pub needs_none : f.wants_more ≡ false
   pub goes_on : f.eof ≡ false
   pub below : end_of f + length piece < 2 ^ 64
   pub decides : waiting (grammar_of f.state) f.held ≡ enough

@@ -63,7 +63,7 @@ pub record Begins (text_of : Report → List ℕ) (stream shown : List ℕ) : Ty
   pub parts : listing_by text_of events ≡ shown ++ more
 
 -- Written is a beginning of the listing of what the source gave.
-pub record IsBeginning (text_of : Report → List ℕ) (input output : Change) : Type 0 where
+pub record IsHead (text_of : Report → List ℕ) (input output : Change) : Type 0 where
   pub given : List ℕ
   pub shown : List ℕ
   pub gave : Consumes input.before input.after given
@@ -74,8 +74,8 @@ pub record IsBeginning (text_of : Report → List ℕ) (input output : Change) :
 abbrev pub ListsBy : (text_of : Report → List ℕ) (input output : Change) → Result Ended ListError → Type 0
 ListsBy text_of input output (Ok how) = IsListed text_of input output how
 ListsBy text_of input output (Err Input) = IsAllButLast text_of input output
-ListsBy text_of input output (Err Output) = IsBeginning text_of input output
-ListsBy text_of input output (Err Memory) = IsBeginning text_of input output
+ListsBy text_of input output (Err Output) = IsHead text_of input output
+ListsBy text_of input output (Err Memory) = IsHead text_of input output
 
 -- what a listing of a source has written at each of its ends
 abbrev pub Lists : (input output : Change) → Result Ended ListError → Type 0

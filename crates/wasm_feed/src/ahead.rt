@@ -5,7 +5,7 @@ ghost use Rattle.wasm_feed.specs.Cursors.{feed_of};
 ghost use Rattle.wasm_lines.specs.Calls.{input_failed};
 ghost use Rattle.wasm_lines.specs.declared.devices.ListError.TheVariants.{Memory};
 
-use crate::feeder::{Cursor, keep, make_ready, pass_lent};
+use crate::feeder::{Cursor, keep, make_ready, pass_borrowed};
 use std::alloc::Allocator;
 use std::marker::Model;
 use wasm_lines::{Failed, ListError, Source};
@@ -13,7 +13,7 @@ use wasm_lines::{Failed, ListError, Source};
 /// The remaining bytes of the chunk that was read last, in the buffer that it was read into.
 ///
 /// With a cursor and the bytes that are stored before them, it is a feeder that reads from a source and parses each chunk where it is. A
-/// loop calls `make_ready`, then `parse_next` on what is `seen`, and then `pass_lent`, or `refill` where the step asked for more.
+/// loop calls `make_ready`, then `parse_next` on what is `seen`, and then `pass_borrowed`, or `refill` where the step asked for more.
 #[derive(Drop)]
 pub struct Ahead<A: Allocator> {
     buffer: Vec<u8, A>,
@@ -104,11 +104,11 @@ impl<A: Allocator> Ahead<A> {
     }
 
     /// Passes the bytes that a step consumed.
-    pub fn pass_lent(&mut self, cursor: &mut Cursor, stored: &[u8])
+    pub fn pass_borrowed(&mut self, cursor: &mut Cursor, stored: &[u8])
         ensures { beside (feed_of stored.now cursor.new) self.new
             ≡ lending stored.now self.old cursor.old }
     {
-        let count = pass_lent(cursor, stored, self.bytes());
+        let count = pass_borrowed(cursor, stored, self.bytes());
         self.pass(count);
     }
 

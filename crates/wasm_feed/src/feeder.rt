@@ -16,7 +16,7 @@ mod lending;
 use crate::buffer::{after, append};
 pub use lending::seen;
 use lending::take_left;
-pub(crate) use lending::{keep, make_ready, pass_lent};
+pub(crate) use lending::{keep, make_ready, pass_borrowed};
 use std::alloc::{Allocator, Global};
 use std::marker::Model;
 use wasm_lines::{ListError, Source};
@@ -295,9 +295,9 @@ impl<A: Allocator> Feeder<A> {
     ) -> Result<(usize, R)>
         requires may_come { MayCome self.old piece.now }
         requires callable { F.IsAlwaysCallable look }
-        ensures steps { IfOk result (λ told. (s : _) × F.post look s told.1
-            × StepsOver self.old piece.now s told.0 self.new) }
-        ensures within { IfOk result (λ told. told.0 ≤ length piece.now) }
+        ensures steps { IfOk result (λ reported_as. (s : _) × F.post look s reported_as.1
+            × StepsOver self.old piece.now s reported_as.0 self.new) }
+        ensures within { IfOk result (λ reported_as. reported_as.0 ≤ length piece.now) }
         ensures unchanged { OnErr result (self.new ≡ self.old) }
         ensures memory { IfErr result (λ e. fault_at e ≡ out_of_memory) }
     {
@@ -305,9 +305,9 @@ impl<A: Allocator> Feeder<A> {
             return Err(Error::new(Fault::OutOfMemory, 0));
         };
         let rest = &piece[ready..];
-        let told = look(parse_next(&mut self.cursor, seen(&self.bytes, rest)));
+        let reported_as = look(parse_next(&mut self.cursor, seen(&self.bytes, rest)));
         let taken = take_left(&mut self.cursor, &mut self.bytes, rest);
-        Ok((ready + taken, told))
+        Ok((ready + taken, reported_as))
     }
 }
 

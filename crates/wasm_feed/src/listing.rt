@@ -78,7 +78,7 @@ pub fn list_in<A: Allocator + Copy, R: Source, W: Sink>(
         let turn = put_answer(&mut page, output, &answer);
         drop(answer);
         match turn? {
-            Turn::Advance => ahead.pass_lent(&mut cursor, &stored),
+            Turn::Advance => ahead.pass_borrowed(&mut cursor, &stored),
             Turn::Read => {
                 page.write_out(output)?;
                 ahead.refill(&mut cursor, &mut stored, input)?;

@@ -6,4 +6,4 @@ pub mod SectionEvents
 pub mod SectionPlaces
 pub mod SectionRanks
 pub mod TileEvents
-pub mod Told
+pub mod ReportedAs

@@ -59,13 +59,13 @@ bytes_after t (code_start count width size) earlier = size
 bytes_after t (code_entry content) earlier = earlier - length t.bytes
 bytes_after t other earlier = 0
 
-abbrev pub bodies_to_come : List Tile → ℕ
-bodies_to_come [] = 0
-bodies_to_come (t ∷ earlier) = bodies_after t.shape (bodies_to_come earlier)
+abbrev pub bodies_left : List Tile → ℕ
+bodies_left [] = 0
+bodies_left (t ∷ earlier) = bodies_after t.shape (bodies_left earlier)
 
-abbrev pub bytes_to_come : List Tile → ℕ
-bytes_to_come [] = 0
-bytes_to_come (t ∷ earlier) = bytes_after t t.shape (bytes_to_come earlier)
+abbrev pub bytes_left : List Tile → ℕ
+bytes_left [] = 0
+bytes_left (t ∷ earlier) = bytes_after t t.shape (bytes_left earlier)
 
 -- what the tiles say to a section after them: it ranks above each of them, and the counts agree
 abbrev pub context_of : List Tile → SectionContext
@@ -87,7 +87,7 @@ inside before bodies code_bytes offset =
 abbrev pub grammar : (start : ℕ) → List Tile → Grammar
 grammar start [] = header_grammar start
 grammar start (t ∷ earlier) =
-    inside (context_of (t ∷ earlier)) (bodies_to_come (t ∷ earlier)) (bytes_to_come (t ∷ earlier))
+    inside (context_of (t ∷ earlier)) (bodies_left (t ∷ earlier)) (bytes_left (t ∷ earlier))
     (start + length (bytes_of (t ∷ earlier)))
 
 -- each tile is what its bytes are, after the earlier ones

@@ -22,7 +22,7 @@ use Rattle.wasm_items.specs.Init.{constant_operands_at}
 use Rattle.wasm_items.specs.Init.{numbered_operands_at, operands_of, aggregate_operands_of, vector_operands_of, after_opcode}
 use Rattle.wasm_items.specs.Init.{instructions_at, end_of_expression, expression_at}
 use Rattle.wasm_items.specs.Instructions.{is_end, operator_at, instruction_at, with_more, instructions_from, instructions_in}
-use Rattle.wasm_items.specs.Instructions.{instructions_to_come, is_last, NextInstruction, Tile, end_of_window}
+use Rattle.wasm_items.specs.Instructions.{instructions_left, is_last, NextInstruction, Tile, end_of_window}
 use Rattle.wasm_items.specs.Instructions.{GivesItsInstructions}
 use Rattle.wasm_items.specs.Windows.{expression_window}
 use Rattle.wasm_items.specs.declared.init.ConstExpr.{ConstExpr}
@@ -88,14 +88,14 @@ same_from (suc m) (suc n) p lm ln = by (λ q le. same_from m n q (omega (arith, 
 
 -- One was read: it is the first that was to come, and the others are to come now.
 pub next_given : (p q : Place) (read : Result ConstInstruction Error) (ended : Bool) → Gives (λ x. x) read q (instruction_at p)
-    → ended ≡ is_last read → instructions_in p ≡ item_or_fault read ∷ instructions_to_come ended q
+    → ended ≡ is_last read → instructions_in p ≡ item_or_fault read ∷ instructions_left ended q
 unfolding instructions_in
 next_given p q (Err e) ended g b = ap (with_more (λ r. instructions_from (length p.rest) r)) g ∙ rw b refl
 next_given p q (Ok x) ended g b = ap (with_more (λ r. instructions_from (length p.rest) r)) g ∙ by ended b
   where
     by : (t : Bool) → t ≡ is_end x.operator
         → (let o : List (Result ConstInstruction FaultAt) = Ok x ∷ (if is_end x.operator then [] else instructions_from (length p.rest) q)
-        in o) ≡ Ok x ∷ instructions_to_come t q
+        in o) ≡ Ok x ∷ instructions_left t q
     by true b = rw (sym b) refl
     by false b = rw (sym b) (ap (λ (l : List (Result ConstInstruction FaultAt)). Ok x ∷ l)
         (same_from (length p.rest) (suc (length q.rest)) q (omega (arith, shorter p x q g)) (omega arith)))

@@ -22,8 +22,8 @@ pub byte_passed : (p : Place) (b : ℕ) (q : Place) → byte_at p ≡ Ok (b, q) 
 byte_passed p b q e = first_passed p p.rest b q refl e
 
 -- A reader that goes on has no more bytes to come.
-pub fewer_to_come : (old new : Window) → KeepsWindow old new → length (place new).rest ≤ length (place old).rest
-fewer_to_come old new kept =
+pub fewer_remaining : (old new : Window) → KeepsWindow old new → length (place new).rest ≤ length (place old).rest
+fewer_remaining old new kept =
     omega (arith, kept.forward, ap length kept.bytes, length-drop new.position new.bytes, length-drop old.position old.bytes)
 
 -- what the instructions that are left come to, of so many at most, is this

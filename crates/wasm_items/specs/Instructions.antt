@@ -49,8 +49,8 @@ unfoldable pub instructions_in : Place → List (Result ConstInstruction FaultAt
 instructions_in p = instructions_from (suc (length p.rest)) p
 
 -- the instructions that an iterator gives from a place on, if it hasn't given the last
-abbrev pub instructions_to_come : (ended : Bool) → Place → List (Result ConstInstruction FaultAt)
-instructions_to_come ended p = if ended then [] else instructions_in p
+abbrev pub instructions_left : (ended : Bool) → Place → List (Result ConstInstruction FaultAt)
+instructions_left ended p = if ended then [] else instructions_in p
 
 -- whether nothing comes after what was read
 abbrev pub is_last : Result ConstInstruction Error → Bool

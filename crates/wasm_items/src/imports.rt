@@ -1,6 +1,6 @@
 // Imports.
 ghost use Rattle.std.specs.Prelude.{◌≡◌, ◌<◌, false, length};
-ghost use Rattle.wasm_base.specs.Hints.{TakesNoMemory, is_want_of_memory};
+ghost use Rattle.wasm_base.specs.Hints.{TakesNoMemory, is_out_of_memory};
 ghost use Rattle.wasm_base.specs.Item.{ReadsAs};
 ghost use Rattle.wasm_base.specs.Outcome.{GivesBy};
 ghost use Rattle.wasm_base.specs.Window.{place, KeepsWindow};
@@ -153,7 +153,7 @@ fn takes_bundles(reader: &BinaryReader<'_>) -> bool
 // Passes over the byte of a bundle. Where bundles aren't taken, this is the fault at it.
 fn pass_bundle_byte(fault: Fault, reader: &mut BinaryReader<'_>) -> Result<()>
     requires byte { 0 < length (place reader.old).rest }
-    requires other { is_want_of_memory fault ≡ false }
+    requires other { is_out_of_memory fault ≡ false }
     ensures gives { GivesBy (λ nothing. nothing) result reader.old reader.new (bundle_byte_at fault) }
     ensures keeps { KeepsWindow reader.old reader.new }
     ensures memory { TakesNoMemory result }

@@ -34,12 +34,12 @@ impl<'a> Model for ConstInstructions<'a> {
     ghost use Rattle.std.specs.Prelude.{List, Result};
     ghost use Rattle.wasm_base.specs.FaultAt.{FaultAt};
     ghost use Rattle.wasm_base.specs.Window.{place};
-    ghost use Rattle.wasm_items.specs.Instructions.{instructions_to_come};
+    ghost use Rattle.wasm_items.specs.Instructions.{instructions_left};
     ghost use Rattle.wasm_items.specs.declared.instructions.ConstInstruction.{ConstInstruction};
 
     ghost Value = { List (Result ConstInstruction FaultAt) };
 
-    ghost view = { λ s. instructions_to_come s.ended (place s.reader) };
+    ghost view = { λ s. instructions_left s.ended (place s.reader) };
 }
 
 impl<'a> ConstExpr<'a> {

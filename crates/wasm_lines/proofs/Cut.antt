@@ -2,13 +2,13 @@
 use Rattle.std.proofs.Common.{◌≡◌, ℕ, List, [], take, drop, Option, Err, sym, subst}
 use Rattle.std.proofs.lemmas.List.{take-append-drop}
 use Rattle.std.specs.Io.KnownBytes.{Appends}
-use Rattle.wasm_lines.specs.Page.{WritesBeginning, IsCut, WritesOut}
+use Rattle.wasm_lines.specs.Page.{WritesHead, IsCut, WritesOut}
 use Rattle.wasm_lines.specs.declared.devices.ListError.{ListError}
 use Rattle.wasm_lines.specs.declared.devices.ListError.TheVariants.{Input, Output, Memory}
 
 -- so many bytes of those that wait
 pub first_bytes : (taken written : Option (List ℕ)) (waiting bytes : List ℕ) (n : ℕ) → bytes ≡ waiting
-    → Appends taken written (take n bytes) → WritesBeginning taken written waiting
+    → Appends taken written (take n bytes) → WritesHead taken written waiting
 first_bytes taken written waiting bytes n e a = record {
   moved = take n waiting;
   unwritten = drop n waiting;

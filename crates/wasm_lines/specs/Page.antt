@@ -5,7 +5,7 @@ use Rattle.wasm_lines.specs.declared.devices.ListError.{ListError}
 use Rattle.wasm_lines.specs.declared.devices.ListError.TheVariants.{Input, Output, Memory}
 
 -- A sink got a beginning of these bytes, and the others are unwritten.
-pub record WritesBeginning (taken written : Option (List ℕ)) (bytes : List ℕ) : Type 0 where
+pub record WritesHead (taken written : Option (List ℕ)) (bytes : List ℕ) : Type 0 where
   pub moved : List ℕ
   pub unwritten : List ℕ
   pub parts : bytes ≡ moved ++ unwritten
@@ -13,14 +13,14 @@ pub record WritesBeginning (taken written : Option (List ℕ)) (bytes : List ℕ
 
 -- A page was given up, since the sink failed or memory was refused: a beginning of what waited was written.
 abbrev pub IsCut : (taken written : Option (List ℕ)) (waiting : List ℕ) → ListError → Type 0
-IsCut taken written waiting Output = WritesBeginning taken written waiting
-IsCut taken written waiting Memory = WritesBeginning taken written waiting
+IsCut taken written waiting Output = WritesHead taken written waiting
+IsCut taken written waiting Memory = WritesHead taken written waiting
 IsCut taken written waiting Input = ⊥
 
 -- All bytes that waited were written; or the sink failed, and no growth was asked for.
 abbrev pub WritesOut : (taken written : Option (List ℕ)) (waiting new : List ℕ) → Result (Unit {0}) ListError → Type 0
 WritesOut taken written waiting new (Ok done) = Appends taken written waiting × (new ≡ [])
-WritesOut taken written waiting new (Err Output) = WritesBeginning taken written waiting
+WritesOut taken written waiting new (Err Output) = WritesHead taken written waiting
 WritesOut taken written waiting new (Err Input) = ⊥
 WritesOut taken written waiting new (Err Memory) = ⊥
 

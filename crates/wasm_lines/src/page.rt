@@ -2,7 +2,7 @@
 ghost use Rattle.std.specs.Prelude.{◌≡◌, ◌≤◌, ◌+◌, ◌++◌, [], codes, length, take, vec_len, IfErr, IfOk, OnErr, OnOk};
 ghost use Rattle.wasm_lines.specs.Calls.{output_failed};
 ghost use Rattle.std.specs.Io.KnownBytes.{Appends};
-ghost use Rattle.wasm_lines.specs.Page.{IsCut, Puts, PutsBytes, WritesBeginning, WritesOut};
+ghost use Rattle.wasm_lines.specs.Page.{IsCut, Puts, PutsBytes, WritesHead, WritesOut};
 ghost use Rattle.wasm_lines.specs.declared.devices.ListError.TheVariants.{Memory, Output};
 
 use crate::devices::{ListError, Sink, write_all};
@@ -64,7 +64,7 @@ fn write_first<W: Sink>(bytes: &[u8], len: usize, output: &mut W) -> Result<(), 
     ensures writes { OnOk result (Appends (W.taken output.old) (W.taken output.new)
         (take len bytes.now)) }
     ensures output { IfErr result (λ e. e ≡ Output) }
-    ensures cut { OnErr result (WritesBeginning (W.taken output.old) (W.taken output.new)
+    ensures cut { OnErr result (WritesHead (W.taken output.old) (W.taken output.new)
         (take len bytes.now)) }
     ensures failed { W.has_failed output.new
         ≡ output_failed result (W.has_failed output.old) }

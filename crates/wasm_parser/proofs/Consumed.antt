@@ -5,7 +5,7 @@ use Rattle.wasm_grammar.specs.Content.{Ending, ended}
 use Rattle.wasm_grammar.specs.Grammar.{Tile, final, verdict}
 use Rattle.wasm_grammar.specs.Reading.{stream_end, Event, events_of, last_event}
 use Rattle.wasm_grammar.specs.EventRanges.{consumed_by}
-use Rattle.wasm_grammar.specs.Tiling.{bytes_of, grammar, context_of, bodies_to_come, bytes_to_come}
+use Rattle.wasm_grammar.specs.Tiling.{bytes_of, grammar, context_of, bodies_left, bytes_left}
 use Rattle.wasm_grammar.proofs.readings.EndToEnd.{tiles_consume}
 use Rattle.wasm_grammar.proofs.readings.Endings.{header_end, inside_end}
 use Rattle.wasm_parser.specs.ParserLaws.{EndConsumesAll}
@@ -28,7 +28,7 @@ rest_is_none : (start : ℕ) (tiles : List Tile) (rest : List ℕ) (offset : ℕ
 rest_is_none start [] rest offset e = absurd (header_end start rest offset e)
 rest_is_none start (t ∷ ts) rest offset e =
     let us : List Tile = t ∷ ts in
-    (inside_end (nat_eq (bodies_to_come us + bytes_to_come us) 0) (context_of us) (bodies_to_come us) (bytes_to_come us)
+    (inside_end (nat_eq (bodies_left us + bytes_left us) 0) (context_of us) (bodies_left us) (bytes_left us)
     (start + length (bytes_of us)) rest offset e).1
 
 -- the last event consumes nothing

@@ -10,7 +10,7 @@ use Rattle.wasm_parser.specs.Along.{Along}
 use Rattle.wasm_grammar.specs.EventRanges.{consumed_by}
 use Rattle.wasm_grammar.specs.Grammar.{Shape, code_entry, Tile, tile, SectionContext, verdict, section_grammar, body_grammar}
 use Rattle.wasm_parser.specs.ParserState.{ParserState, IsStateAfter, greatest, ends_in_code, skipped_state}
-use Rattle.wasm_grammar.specs.Tiling.{is_start, bytes_of, encoding_of, counts, bytes_to_come, grammar, Faultless}
+use Rattle.wasm_grammar.specs.Tiling.{is_start, bytes_of, encoding_of, counts, bytes_left, grammar, Faultless}
 use Rattle.wasm_grammar.specs.Reading as reading
 use Rattle.wasm_grammar.specs.Reading.{Event, tile_report, event_of, events_of}
 use Rattle.wasm_grammar.specs.Sections.{ReportsBody}
@@ -28,7 +28,7 @@ body_at : (b : Bool) (context : SectionContext) (bodies code_bytes offset : ℕ)
     → verdict (cond b (section_grammar context offset) (body_grammar bodies code_bytes offset)) d ≡ tile t → IsBody t.shape
 body_at b context bodies code_bytes offset d t e l v = grind (arith, bodied)
 
-body_next : (start : ℕ) (ts : List Tile) (d : List ℕ) (t : Tile) → 0 < bytes_to_come ts → verdict (grammar start ts) d ≡ tile t
+body_next : (start : ℕ) (ts : List Tile) (d : List ℕ) (t : Tile) → 0 < bytes_left ts → verdict (grammar start ts) d ≡ tile t
     → IsBody t.shape
 body_next start ts d t l v = grind (arith, body_at)
 
@@ -39,10 +39,10 @@ record KnowsSame (ts us : List Tile) : Type 0 where
   same_counts : (n : ℕ) → counts n ts ≡ counts n us
   in_code : ends_in_code ts ≡ true
   not_start : is_start ts ≡ is_start us
-  code_bytes : bytes_to_come ts + length (bytes_of ts) ≡ bytes_to_come us + length (bytes_of us)
+  code_bytes : bytes_left ts + length (bytes_of ts) ≡ bytes_left us + length (bytes_of us)
 
 -- one more body
-after_body : (ts us : List Tile) (shape : Shape) (bytes : List ℕ) → IsBody shape → length bytes ≤ bytes_to_come ts → is_start us ≡ false
+after_body : (ts us : List Tile) (shape : Shape) (bytes : List ℕ) → IsBody shape → length bytes ≤ bytes_left ts → is_start us ≡ false
     → KnowsSame ts us → KnowsSame (record { shape = shape; bytes = bytes } ∷ ts) us
 after_body ts us (code_entry content) bytes b l s k = record {
   encoding = k.encoding;
@@ -56,7 +56,7 @@ after_body ts us _ bytes b l s k = absurd b
 
 -- tiles that take no more than what is left of a code section are its bodies
 only_bodies : (start : ℕ) (us later : List Tile) → ends_in_code us ≡ true → is_start us ≡ false → Faultless start (later ++ us)
-    → length (bytes_of (later ++ us)) ≤ length (bytes_of us) + bytes_to_come us → KnowsSame (later ++ us) us
+    → length (bytes_of (later ++ us)) ≤ length (bytes_of us) + bytes_left us → KnowsSame (later ++ us) us
 only_bodies start us [] c s f l = record {
   encoding = refl;
   rank = refl;
@@ -141,7 +141,7 @@ record Bodies (start features : ℕ) (us later : List Tile) : Type 0 where
   parts : events_of start features (later ++ us) ≡ events_of start features us ++ events
 
 bodies_later : (start features : ℕ) (us later : List Tile) → ends_in_code us ≡ true → is_start us ≡ false → Faultless start (later ++ us)
-    → length (bytes_of (later ++ us)) ≤ length (bytes_of us) + bytes_to_come us → Bodies start features us later
+    → length (bytes_of (later ++ us)) ≤ length (bytes_of us) + bytes_left us → Bodies start features us later
 bodies_later start features us [] c s f l = record {
   events = [];
   each = All-nil ReportsBody;
@@ -178,7 +178,7 @@ module _ (start features : ℕ) (prefix bodies : List ℕ) (p : ParserState) (ev
       let ends : ends_in_code a.is_after.tiles ≡ true = a.is_after.in_code c in
       let begun = some_tile a.is_after.tiles ends in
       let f : Faultless start (later ++ a.is_after.tiles) = subst (Faultless start) z k.faultless in
-      let fits : length (bytes_of (later ++ a.is_after.tiles)) ≤ length (bytes_of a.is_after.tiles) + bytes_to_come a.is_after.tiles =
+      let fits : length (bytes_of (later ++ a.is_after.tiles)) ≤ length (bytes_of a.is_after.tiles) + bytes_left a.is_after.tiles =
       omega (arith, n, at, l) in
       let same : KnowsSame k.tiles a.is_after.tiles = subst (λ (x : List Tile). KnowsSame x a.is_after.tiles) (sym z)
       (only_bodies start a.is_after.tiles later ends begun f fits) in

@@ -7,7 +7,7 @@ use Rattle.wasm_grammar.specs.Content.{Kind, items, data_count, index, count_of,
 use Rattle.wasm_grammar.specs.Grammar.{Shape, section, code_start, Tile, tile, SectionContext, verdict}
 use Rattle.wasm_grammar.specs.Grammar.{header_grammar, section_grammar, body_grammar, content_grammar}
 use Rattle.wasm_grammar.specs.Tiling.{bytes_of, grammar, context_of, inside, encoding_in, tile_rank, count_in, counts}
-use Rattle.wasm_grammar.specs.Tiling.{bodies_to_come, bytes_to_come, bodies_after, bytes_after, is_start}
+use Rattle.wasm_grammar.specs.Tiling.{bodies_left, bytes_left, bodies_after, bytes_after, is_start}
 use Rattle.wasm_parser.specs.StateAfter.{known_rank, state_after_tile}
 use Rattle.wasm_parser.specs.ParserState.{ParserState, initial_state, greatest, is_of_code, IsStateAfter, known_context, grammar_of}
 use Rattle.wasm_grammar.proofs.accepted.KindIds.{IdOf, id_of_kind}
@@ -35,8 +35,8 @@ grammar_at p start prefix s [] z = grind arith
 grammar_at p start prefix s (t ∷ ts) z =
     let h : p.expects_header ≡ false = s.expects_header ∙ ap is_start z in
     let o : p.offset ≡ start + length (bytes_of (t ∷ ts)) = cc in
-    let m : p.bodies ≡ bodies_to_come (t ∷ ts) = s.bodies ∙ ap bodies_to_come z in
-    let l : p.code_bytes ≡ bytes_to_come (t ∷ ts) = s.code_bytes ∙ ap bytes_to_come z in
+    let m : p.bodies ≡ bodies_left (t ∷ ts) = s.bodies ∙ ap bodies_left z in
+    let l : p.code_bytes ≡ bytes_left (t ∷ ts) = s.code_bytes ∙ ap bytes_left z in
     let q : known_context p ≡ context_of (t ∷ ts) = context_same p start prefix s t ts z in
     rw h (λ i. inside (q i) (m i) (l i) (o i))
 
@@ -212,7 +212,7 @@ state_goes_on p start prefix s d t e =
       bodies = cc;
       code_bytes = cc;
       in_code = λ h. sym (ap (λ (x : ParserState). x.in_code) q) ∙ h;
-      open_code = λ l. ap (λ (x : ParserState). x.in_code) q ∙ code_is_open t (bodies_to_come s.tiles) (bytes_to_come s.tiles) t.shape l;
+      open_code = λ l. ap (λ (x : ParserState). x.in_code) q ∙ code_is_open t (bodies_left s.tiles) (bytes_left s.tiles) t.shape l;
     }
 
 -- its tiles are one more

@@ -216,8 +216,8 @@ gives_reading start features bytes stream = record {
       let a = accepted_ends bytes start stream in
       let l : map given_report given ≡ map event_report (events_of start features w.reading.tiles) ++ stream_end w.reading.end ∷ [] =
       grind (arith, map_append) in
-      let told = map event_report (events_of start features w.reading.tiles) in
-      let e = ends_append (start + length bytes) told (stream_end w.reading.end) in (
+      let reported_as = map event_report (events_of start features w.reading.tiles) in
+      let e = ends_append (start + length bytes) reported_as (stream_end w.reading.end) in (
         λ h.
             let (ts, reads) = a.0 h in
             let same : w.reading.end ≡ ended (start + length bytes) =

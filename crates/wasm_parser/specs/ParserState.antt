@@ -4,8 +4,8 @@ use Rattle.std.specs.Prelude.{Some, None, not, ◌&&◌, nat_lt, nat_eq, if◌th
 use Rattle.wasm_grammar.specs.declared.encoding.Encoding.{Encoding}
 use Rattle.wasm_grammar.specs.declared.encoding.Encoding.TheVariants.{Module}
 use Rattle.wasm_grammar.specs.Grammar.{Shape, code_start, code_entry, Tile, SectionContext, Grammar, header_grammar}
-use Rattle.wasm_grammar.specs.Tiling.{bytes_of, Faultless, inside, encoding_of, tile_rank, counts, bodies_to_come}
-use Rattle.wasm_grammar.specs.Tiling.{bytes_to_come, is_start}
+use Rattle.wasm_grammar.specs.Tiling.{bytes_of, Faultless, inside, encoding_of, tile_rank, counts, bodies_left}
+use Rattle.wasm_grammar.specs.Tiling.{bytes_left, is_start}
 use Rattle.wasm_grammar.specs.Ids.{function_id, code_id, data_id, data_count_id}
 
 -- the greatest rank of these tiles
@@ -73,11 +73,11 @@ pub record IsStateAfter (p : ParserState) (start : ℕ) (prefix : List ℕ) : Ty
   pub codes : option_to_list p.codes ≡ counts code_id tiles
   pub datas : option_to_list p.datas ≡ counts data_id tiles
   pub data_counts : option_to_list p.data_counts ≡ counts data_count_id tiles
-  pub bodies : p.bodies ≡ bodies_to_come tiles
-  pub code_bytes : p.code_bytes ≡ bytes_to_come tiles
+  pub bodies : p.bodies ≡ bodies_left tiles
+  pub code_bytes : p.code_bytes ≡ bytes_left tiles
   -- it knows where a code section is not at its end; it may have forgotten one that is
   pub in_code : p.in_code ≡ true → ends_in_code tiles ≡ true
-  pub open_code : 0 < bodies_to_come tiles + bytes_to_come tiles → p.in_code ≡ true
+  pub open_code : 0 < bodies_left tiles + bytes_left tiles → p.in_code ≡ true
 
 -- what a parser knows of the tiles before
 abbrev pub known_context : ParserState → SectionContext

@@ -6,14 +6,14 @@ use Rattle.wasm_grammar.specs.Grammar.{Tile}
 use Rattle.wasm_parser.specs.ParserState.{ParserState, IsStateAfter, skippable_of, skipped_state}
 use Rattle.wasm_grammar.specs.Reading.{Event}
 use Rattle.wasm_grammar.specs.Sections.{ReportsBody}
-use Rattle.wasm_grammar.specs.Tiling.{bytes_of, bodies_to_come, Faultless}
+use Rattle.wasm_grammar.specs.Tiling.{bytes_of, bodies_left, Faultless}
 
 -- These bytes are the rest of a code section that is then at its end, with all its bodies.
 pub record CompletesCode (start : ℕ) (prefix bodies : List ℕ) : Type 0 where
   pub tiles : List Tile
   pub faultless : Faultless start tiles
   pub whole : bytes_of tiles ≡ prefix ++ bodies
-  pub no_body_left : bodies_to_come tiles ≡ 0
+  pub no_body_left : bodies_left tiles ≡ 0
 
 -- Wherever the parser is in a code section, it is then after as many bytes as the section has left, whatever they are,
 -- as long as some such bytes complete it.

@@ -15,7 +15,7 @@ use Rattle.std.proofs.Math.Seq.{take-length}
 use Rattle.std.proofs.lemmas.List.{take_more}
 use Rattle.std.proofs.lemmas.List.Folds.{list_any-append}
 use Rattle.wasm_lines.specs.Calls.{output_failed}
-use Rattle.wasm_lines.specs.Page.{WritesBeginning, IsCut}
+use Rattle.wasm_lines.specs.Page.{WritesHead, IsCut}
 use Rattle.wasm_lines.specs.declared.devices.ListError.{ListError}
 use Rattle.wasm_lines.specs.declared.devices.ListError.TheVariants.{Input, Output, Memory}
 use Rattle.wasm_tree.specs.Said.{StopsIn, PutsText, HasLine, Says, SaysSome, SaysWith}
@@ -32,8 +32,8 @@ after_text waiting text moved waiting' bytes e = sym (append_assoc waiting text 
     ∙ (ap (λ (x : List ℕ). x ++ bytes) e ∙ append_assoc moved waiting' bytes)
 
 -- a page that is given up before more is put on it
-wider : (taken written : Option (List ℕ)) (waiting bytes : List ℕ) → WritesBeginning taken written waiting
-    → WritesBeginning taken written (waiting ++ bytes)
+wider : (taken written : Option (List ℕ)) (waiting bytes : List ℕ) → WritesHead taken written waiting
+    → WritesHead taken written (waiting ++ bytes)
 wider taken written waiting bytes w = record {
   moved = w.moved;
   unwritten = w.unwritten ++ bytes;
@@ -49,8 +49,8 @@ cut_wider taken written waiting bytes Input w = absurd w
 
 -- of a page that is given up later
 begins_later : (taken mid written : Option (List ℕ)) (waiting text moved waiting' bytes : List ℕ) → Appends taken mid moved
-    → waiting ++ text ≡ moved ++ waiting' → WritesBeginning mid written (waiting' ++ bytes)
-    → WritesBeginning taken written (waiting ++ (text ++ bytes))
+    → waiting ++ text ≡ moved ++ waiting' → WritesHead mid written (waiting' ++ bytes)
+    → WritesHead taken written (waiting ++ (text ++ bytes))
 begins_later taken mid written waiting text moved waiting' bytes a e w = record {
   moved = moved ++ w.moved;
   unwritten = w.unwritten;

@@ -12,7 +12,7 @@ use Rattle.std.specs.Option.{is_some, unwrap_or}
 use Rattle.std.proofs.lemmas.List.Folds.{list_all-append}
 use Rattle.wasm_lines.specs.Calls.{output_failed}
 use Rattle.wasm_lines.specs.declared.devices.ListError.{ListError}
-use Rattle.wasm_lines.specs.Page.{WritesBeginning, IsCut}
+use Rattle.wasm_lines.specs.Page.{WritesHead, IsCut}
 use Rattle.wasm_lines.specs.declared.devices.ListError.TheVariants.{Input, Output, Memory}
 use Rattle.wasm_tree.specs.Numbers.{Number, blank_numbers, number_text}
 use Rattle.wasm_tree.specs.Said.{PutsText, StopsIn}
@@ -117,7 +117,7 @@ grown written waiting bytes moved waiting' e = append_assoc written moved waitin
 
 -- what was written of a page that was given up
 beginning : (taken written : Option (List ℕ)) (waiting : List ℕ) (why : ListError) → IsCut taken written waiting why
-    → WritesBeginning taken written waiting
+    → WritesHead taken written waiting
 beginning taken written waiting Output w = w
 beginning taken written waiting Memory w = w
 beginning taken written waiting Input w = absurd w

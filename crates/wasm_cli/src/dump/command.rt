@@ -29,7 +29,7 @@ struct Split {
 
 // What arguments begin with.
 #[derive(Drop)]
-enum Beginning {
+enum Head {
     // A word that chooses sections.
     Word(String),
     // An option that stands alone.
@@ -41,22 +41,22 @@ enum Beginning {
 }
 
 // Takes what arguments begin with: `--section` and a word, another option, or another argument.
-fn take_beginning(arguments: &mut Args) -> Beginning
+fn take_head(arguments: &mut Args) -> Head
     ensures { Begins result (map string_bytes (into_iter_items arguments.old))
         (map string_bytes (into_iter_items arguments.new)) }
 {
     let Some(first) = arguments.next() else {
-        return Beginning::Nothing;
+        return Head::Nothing;
     };
     if let Some(mark) = mark_of(first.as_str()) {
-        return Beginning::Marked(mark);
+        return Head::Marked(mark);
     }
     if first.as_str() != "--section" {
-        return Beginning::Other(first);
+        return Head::Other(first);
     }
     match arguments.next() {
-        Some(word) => Beginning::Word(word),
-        None => Beginning::Other(first),
+        Some(word) => Head::Word(word),
+        None => Head::Other(first),
     }
 }
 
@@ -68,10 +68,10 @@ fn split_words(alloc: Global, mut arguments: Args) -> Result<Split, AllocError>
     let mut words = Vec::new(alloc);
     let mut options = Options::new();
     'words: loop {
-        match take_beginning(&mut arguments) {
-            Beginning::Word(word) => words.push(word)?,
-            Beginning::Marked(mark) => options = options.with(mark),
-            Beginning::Other(first) => {
+        match take_head(&mut arguments) {
+            Head::Word(word) => words.push(word)?,
+            Head::Marked(mark) => options = options.with(mark),
+            Head::Other(first) => {
                 let rest = Rest {
                     first,
                     more: arguments,
@@ -82,7 +82,7 @@ fn split_words(alloc: Global, mut arguments: Args) -> Result<Split, AllocError>
                     rest: Some(rest),
                 });
             }
-            Beginning::Nothing => {
+            Head::Nothing => {
                 return Ok(Split {
                     words,
                     options,

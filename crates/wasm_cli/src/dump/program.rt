@@ -8,7 +8,7 @@ ghost use Rattle.wasm_cli.specs.Devices.{Says};
 ghost use Rattle.wasm_cli.specs.Endings.{Reports, status_of};
 ghost use Rattle.wasm_cli.specs.Colors.{plain_device, seen_as};
 ghost use Rattle.wasm_cli.specs.DumpCommands.{WantsMemory, asked_if_any, asked_of};
-ghost use Rattle.wasm_cli.specs.DumpRuns.{DumpsAs, HandsOn, Runs, RunsDump, RunsProgram, Shows, ShowsChosen, Tells, help_text, names_usage, version_text};
+ghost use Rattle.wasm_cli.specs.DumpRuns.{DumpsAs, Flushes, Runs, RunsDump, RunsProgram, Shows, ShowsChosen, Tells, help_text, names_usage, version_text};
 
 use super::colored::Colored;
 use super::command::{Command, chosen_by, command_asked};
@@ -90,7 +90,7 @@ pub fn run_program<R: Source, W: Write, E: Sink>(
     errors: &mut E,
 ) -> (ExitCode, WriteSink<W>)
     ensures { RunsProgram (asked_if_any (λ args. map string_bytes (into_iter_items args)) arguments)
-        (WantsMemory (λ args. map string_bytes (into_iter_items args)) arguments) result.1.handed_on
+        (WantsMemory (λ args. map string_bytes (into_iter_items args)) arguments) result.1.forwarded
         (device_of R.remaining R.has_failed input.old input.new)
         (writer_device W.contents output result.1)
         (device_of E.taken E.has_failed errors.old errors.new) (exit_status result.0) }
@@ -111,7 +111,7 @@ fn run_command<R: Source, W: Write, E: Sink>(
     output: WriteSink<W>,
     errors: &mut E,
 ) -> (u8, WriteSink<W>)
-    ensures { Runs (asked_of command) result.1.handed_on
+    ensures { Runs (asked_of command) result.1.forwarded
         (device_of R.remaining R.has_failed input.old input.new)
         (writer_device W.contents output result.1)
         (device_of E.taken E.has_failed errors.old errors.new) result.0 }
@@ -152,7 +152,7 @@ pub(super) fn refuse_names<E: Sink>(errors: &mut E) -> u8
 fn write_text<W: Write>(text: &[u8], output: &mut WriteSink<W>) -> Result<(), Failed>
     ensures ok { OnOk result
         (Appends (W.contents output.old.writer) (W.contents output.new.writer) text.now) }
-    ensures all { OnOk result (output.new.handed_on ≡ true) }
+    ensures all { OnOk result (output.new.forwarded ≡ true) }
     ensures err { OnErr result ((n : ℕ)
         × Appends (W.contents output.old.writer) (W.contents output.new.writer) (take n text.now)) }
     ensures failed { output.new.failed ≡ (if is_ok result then output.old.failed else true) }
@@ -167,7 +167,7 @@ fn show_text<W: Write, E: Sink>(
     mut output: WriteSink<W>,
     errors: &mut E,
 ) -> (u8, WriteSink<W>)
-    ensures { Tells text.now result.1.handed_on
+    ensures { Tells text.now result.1.forwarded
         (writer_device W.contents output result.1)
         (device_of E.taken E.has_failed errors.old errors.new) result.0 }
 {
@@ -186,7 +186,7 @@ fn show_chosen<R: Source, W: Write, E: Sink>(
     output: WriteSink<W>,
     errors: &mut E,
 ) -> (u8, WriteSink<W>)
-    ensures { ShowsChosen (map string_bytes words.now) options result.1.handed_on
+    ensures { ShowsChosen (map string_bytes words.now) options result.1.forwarded
         (device_of R.remaining R.has_failed input.old input.new)
         (writer_device W.contents output result.1)
         (device_of E.taken E.has_failed errors.old errors.new) result.0 }
@@ -206,7 +206,7 @@ pub(super) fn show_input<R: Source, W: Write, E: Sink>(
     output: WriteSink<W>,
     errors: &mut E,
 ) -> (u8, WriteSink<W>)
-    ensures { Shows options only.now result.1.handed_on
+    ensures { Shows options only.now result.1.forwarded
         (device_of R.remaining R.has_failed input.old input.new)
         (seen_as options.is_colored (writer_device W.contents output result.1))
         (device_of E.taken E.has_failed errors.old errors.new) result.0 }
@@ -228,12 +228,12 @@ pub(super) fn answer<E: Sink>(how: Result<Ended, ListError>, errors: &mut E) -> 
 }
 
 // Hands on all that was written, after a dump that was not given up.
-fn hand_on<W: Write>(
+fn forward_all<W: Write>(
     how: Result<Ended, ListError>,
     output: &mut WriteSink<W>,
 ) -> Result<Ended, ListError>
     ensures keeps { Keeps (W.contents output.old.writer) (W.contents output.new.writer) }
-    ensures ends { HandsOn how output.old.failed output.new.failed output.new.handed_on result }
+    ensures ends { Flushes how output.old.failed output.new.failed output.new.forwarded result }
 {
     match how {
         Ok(ended) => match output.flush() {
@@ -281,10 +281,10 @@ fn dump_plain<R: Source, W: Write>(
     output: WriteSink<W>,
 ) -> (Result<Ended, ListError>, WriteSink<W>)
     ensures { RunsDump options only.now (device_of R.remaining R.has_failed input.old input.new)
-        (writer_device W.contents output result.1) result.1.handed_on result.0 }
+        (writer_device W.contents output result.1) result.1.forwarded result.0 }
 {
     let (how, mut output) = dump_over(alloc, only, options, names, input, output);
-    let result = hand_on(how, &mut output);
+    let result = forward_all(how, &mut output);
     (result, output)
 }
 
@@ -298,12 +298,12 @@ fn dump_colored<R: Source, W: Write>(
     output: WriteSink<W>,
 ) -> (Result<Ended, ListError>, WriteSink<W>)
     ensures { RunsDump options only.now (device_of R.remaining R.has_failed input.old input.new)
-        (plain_device (writer_device W.contents output result.1)) result.1.handed_on result.0 }
+        (plain_device (writer_device W.contents output result.1)) result.1.forwarded result.0 }
 {
     let colored = Colored::new(output);
     let (how, colored) = dump_over(alloc, only, options, names, input, colored);
     let mut output = colored.into_inner();
-    let result = hand_on(how, &mut output);
+    let result = forward_all(how, &mut output);
     (result, output)
 }
 
@@ -321,7 +321,7 @@ pub fn dump_as<R: Source, W: Write>(
     ensures { RunsDump options only.now
         (device_of R.remaining R.has_failed input.old input.new)
         (seen_as options.is_colored (writer_device W.contents output result.1))
-        result.1.handed_on result.0 }
+        result.1.forwarded result.0 }
 {
     if options.is_colored {
         dump_colored(alloc, only, options, names, input, output)

@@ -42,7 +42,7 @@ pub fn run_program<R: Source, W: Write, E: Sink>(
 ) -> ExitCode
     ensures { RunsProgram
         (command_if_any (λ args. map string_bytes (into_iter_items args)) arguments)
-        output.new.handed_on
+        output.new.forwarded
         (device_of R.remaining R.has_failed input.old input.new)
         (writer_device W.contents output.old output.new)
         (device_of E.taken E.has_failed errors.old errors.new) (exit_status result) }

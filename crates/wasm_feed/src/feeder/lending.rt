@@ -114,7 +114,7 @@ fn missing(parser: &Parser, bytes: &[u8]) -> usize
 }
 
 /// Passes the bytes that a step consumed of a piece that it read where it is, and says how many.
-pub(crate) fn pass_lent(cursor: &mut Cursor, stored: &[u8], piece: &[u8]) -> usize
+pub(crate) fn pass_borrowed(cursor: &mut Cursor, stored: &[u8], piece: &[u8]) -> usize
     ensures passes { beside (feed_of stored.now cursor.new) (drop result piece.now)
         ≡ lending stored.now piece.now cursor.old }
     ensures within { result ≤ length piece.now }
@@ -134,7 +134,7 @@ pub(crate) fn keep<A: Allocator>(cursor: &mut Cursor, stored: &mut Vec<u8, A>, p
         ≡ lending stored.old.items piece.now cursor.old }
     ensures bounded { vec_len stored.new ≤ vec_len stored.old + length piece.now }
 {
-    let count = pass_lent(cursor, stored, piece);
+    let count = pass_borrowed(cursor, stored, piece);
     if count == piece.len() {
         return;
     }
@@ -171,7 +171,7 @@ pub(super) fn take_left<A: Allocator>(
             keep(cursor, stored, piece);
             return piece.len();
         }
-        return pass_lent(cursor, stored, piece);
+        return pass_borrowed(cursor, stored, piece);
     }
     0
 }

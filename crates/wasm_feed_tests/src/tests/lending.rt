@@ -1,7 +1,7 @@
 // Pieces that a feeder lends.
 ghost use Rattle.wasm_feed.specs.Beside.{MayCome};
 
-use super::feeding::{MODULE, Told, push, say};
+use super::feeding::{MODULE, ReportedAs, push, say};
 use super::same;
 use bitflags::Flags;
 use std::alloc::{AllocError, Allocator, Global};
@@ -18,41 +18,48 @@ fn lendable<'a, A: Allocator>(feeder: &Feeder<A>, piece: &'a [u8]) -> &'a [u8]
 }
 
 // One step over a piece: what it tells, and what is left of the piece.
-fn over<'a, A: Allocator>(feeder: &mut Feeder<A>, piece: &'a [u8]) -> Result<(Told, &'a [u8])> {
-    let lent = lendable(feeder, piece);
-    let (taken, told) = feeder.step_over(lent, say)?;
-    Ok((told, lent.split_at(taken).1))
+fn over<'a, A: Allocator>(
+    feeder: &mut Feeder<A>,
+    piece: &'a [u8],
+) -> Result<(ReportedAs, &'a [u8])> {
+    let loan = lendable(feeder, piece);
+    let (taken, reported_as) = feeder.step_over(loan, say)?;
+    Ok((reported_as, loan.split_at(taken).1))
 }
 
 // What a step over a piece tells, where memory suffices.
-fn told_over<A: Allocator>(rt: &impl Abort, feeder: &mut Feeder<A>, piece: &[u8]) -> Told {
-    let (told, _) = over(feeder, piece).expect(rt, "out of memory");
-    told
+fn reported_over<A: Allocator>(
+    rt: &impl Abort,
+    feeder: &mut Feeder<A>,
+    piece: &[u8],
+) -> ReportedAs {
+    let (reported_as, _) = over(feeder, piece).expect(rt, "out of memory");
+    reported_as
 }
 
 // Each call that makes a step tells the same, also over more bytes, and nothing more is held or stored.
-fn stays(rt: &impl Abort, feeder: &mut Feeder, told: Told) {
+fn stays(rt: &impl Abort, feeder: &mut Feeder, reported_as: ReportedAs) {
     let before = (feeder.held(), feeder.stored());
     for _ in 0..2 {
         let steps = [
             say(feeder.step()),
             say(feeder.open().step()),
             feeder.step_with(say),
-            told_over(rt, feeder, b"\x01\x01\0"),
-            told_over(rt, feeder, b""),
+            reported_over(rt, feeder, b"\x01\x01\0"),
+            reported_over(rt, feeder, b""),
         ];
-        same(rt, steps, [told; 5]);
+        same(rt, steps, [reported_as; 5]);
         assert!(rt; !feeder.wants_more());
         same(rt, (feeder.held(), feeder.stored()), before);
     }
 }
 
 // The steps over a piece are these, after each of which so many bytes are held and stored.
-fn tells<A: Allocator>(
+fn says_which<A: Allocator>(
     rt: &impl Abort,
     feeder: &mut Feeder<A>,
     piece: &[u8],
-    rows: &[(Told, usize, usize)],
+    rows: &[(ReportedAs, usize, usize)],
 ) {
     let mut rest = piece;
     for row in rows {
@@ -64,18 +71,18 @@ fn tells<A: Allocator>(
 }
 
 #[test]
-fn parts_that_lie_whole_in_a_piece_are_not_stored(rt: HostRuntime) {
-    let (asks, shows, ends) = (Told::Asks, Told::Shows, Told::Ends);
+fn parts_complete_in_a_piece_are_not_stored(rt: HostRuntime) {
+    let (asks, shows, ends) = (ReportedAs::Asks, ReportedAs::Shows, ReportedAs::Ends);
     let mut feeder = Feeder::new(rt.alloc(), 0, WasmFeatures::all());
     let (first, second) = MODULE.split_at(14);
     let rows = [(shows(8), 0, 0), (shows(4), 0, 0), (asks(1), 2, 2)];
-    tells(&rt, &mut feeder, first, &rows);
+    says_which(&rt, &mut feeder, first, &rows);
     assert!(rt; feeder.wants_more());
     let rows = [(shows(3), 3, 6), (shows(3), 0, 6), (asks(1), 0, 6)];
-    tells(&rt, &mut feeder, second, &rows);
+    says_which(&rt, &mut feeder, second, &rows);
     feeder.finish();
     let rows = [(ends(18), 0, 6), (ends(18), 0, 6)];
-    tells(&rt, &mut feeder, b"", &rows);
+    says_which(&rt, &mut feeder, b"", &rows);
 }
 
 // A custom section of 605 bytes, and a function section.
@@ -90,40 +97,40 @@ fn custom_of_605(alloc: Global) -> std::result::Result<Vec<u8>, AllocError> {
 // Of the second piece only what the first one misses is stored.
 #[test]
 fn only_what_a_part_misses_is_stored(rt: HostRuntime) {
-    let (asks, shows) = (Told::Asks, Told::Shows);
+    let (asks, shows) = (ReportedAs::Asks, ReportedAs::Shows);
     let mut feeder = Feeder::new(rt.alloc(), 0, WasmFeatures::all());
     let stream = custom_of_605(rt.alloc()).expect(&rt, "out of memory");
     let (first, second) = stream.as_slice().split_at(stream.len().min(20));
     let rows = [(shows(8), 0, 0), (asks(593), 12, 12)];
-    tells(&rt, &mut feeder, first, &rows);
+    says_which(&rt, &mut feeder, first, &rows);
     let rows = [(shows(605), 0, 605), (shows(4), 0, 0), (asks(1), 0, 0)];
-    tells(&rt, &mut feeder, second, &rows);
+    says_which(&rt, &mut feeder, second, &rows);
 }
 
 // Pushes and steps over pieces take turns.
 #[test]
 fn a_piece_comes_after_what_was_pushed(rt: HostRuntime) {
-    let (asks, shows) = (Told::Asks, Told::Shows);
+    let (asks, shows) = (ReportedAs::Asks, ReportedAs::Shows);
     let mut feeder = Feeder::new(rt.alloc(), 0, WasmFeatures::all());
     let (first, second) = MODULE.split_at(13);
     same(&rt, push(&mut feeder, first), Ok(()));
     let rows = [(shows(8), 5, 13), (shows(4), 1, 13), (asks(1), 1, 13)];
-    tells(&rt, &mut feeder, b"", &rows);
+    says_which(&rt, &mut feeder, b"", &rows);
     let rows = [(shows(3), 3, 6), (shows(3), 0, 6)];
-    tells(&rt, &mut feeder, second, &rows);
+    says_which(&rt, &mut feeder, second, &rows);
 }
 
 // Where the growth for a piece is refused, nothing is told, and the same piece can be given again.
 #[test]
-fn a_refused_piece_is_given_again(rt: HostRuntime) {
+fn a_refused_piece_is_pushed_again(rt: HostRuntime) {
     let heap = Sparing::new(rt.alloc(), 0);
     let mut feeder = Feeder::new_in(&heap, 0, WasmFeatures::all());
     let refused = over(&mut feeder, MODULE).err();
     same(&rt, refused, Some(Error::new(Fault::OutOfMemory, 0)));
     assert!(rt; feeder.wants_more());
     heap.give(20);
-    let told = over(&mut feeder, MODULE);
-    same(&rt, told, Ok((Told::Shows(8), &MODULE[8..])));
+    let reported_as = over(&mut feeder, MODULE);
+    same(&rt, reported_as, Ok((ReportedAs::Shows(8), &MODULE[8..])));
 }
 
 #[test]
@@ -134,10 +141,10 @@ fn the_end_stays(rt: HostRuntime) {
     feeder.finish();
     feeder.finish();
     assert!(rt; feeder.is_finished());
-    same(&rt, say(feeder.step()), Told::Shows(8));
-    stays(&rt, &mut feeder, Told::Ends(8));
+    same(&rt, say(feeder.step()), ReportedAs::Shows(8));
+    stays(&rt, &mut feeder, ReportedAs::Ends(8));
     feeder.finish();
-    stays(&rt, &mut feeder, Told::Ends(8));
+    stays(&rt, &mut feeder, ReportedAs::Ends(8));
 }
 
 // After the end of input: a section that is cut short.
@@ -146,18 +153,22 @@ fn the_fault_of_a_cut_stays(rt: HostRuntime) {
     let mut feeder = Feeder::new(rt.alloc(), 0, WasmFeatures::all());
     same(&rt, push(&mut feeder, b"\0asm\x01\0\0\0\x01"), Ok(()));
     feeder.finish();
-    same(&rt, told_over(&rt, &mut feeder, b""), Told::Shows(8));
+    same(
+        &rt,
+        reported_over(&rt, &mut feeder, b""),
+        ReportedAs::Shows(8),
+    );
     let cut = Error::new(Fault::UnexpectedEof, 9);
-    stays(&rt, &mut feeder, Told::Refuses(cut));
+    stays(&rt, &mut feeder, ReportedAs::Refuses(cut));
 }
 
 // A fault in bytes that were lent is held, so other bytes after it change nothing.
 #[test]
 fn a_fault_stays(rt: HostRuntime) {
     let mut feeder = Feeder::new(rt.alloc(), 0, WasmFeatures::all());
-    let malformed = Told::Refuses(Error::new(Fault::MalformedSectionId, 8));
-    let rows = [(Told::Shows(8), 0, 0), (malformed, 2, 2)];
-    tells(&rt, &mut feeder, b"\0asm\x01\0\0\0\x80\0", &rows);
+    let malformed = ReportedAs::Refuses(Error::new(Fault::MalformedSectionId, 8));
+    let rows = [(ReportedAs::Shows(8), 0, 0), (malformed, 2, 2)];
+    says_which(&rt, &mut feeder, b"\0asm\x01\0\0\0\x80\0", &rows);
     stays(&rt, &mut feeder, malformed);
     feeder.finish();
     stays(&rt, &mut feeder, malformed);
@@ -167,11 +178,11 @@ fn a_fault_stays(rt: HostRuntime) {
 #[test]
 fn a_byte_past_the_top_of_the_offsets(rt: HostRuntime) {
     let mut feeder = Feeder::new(rt.alloc(), u64::MAX - 8, WasmFeatures::all());
-    let header = told_over(&rt, &mut feeder, b"\0asm\x01\0\0\0");
-    same(&rt, header, Told::Shows(8));
-    let past = Told::Refuses(Error::new(Fault::OffsetRange, u64::MAX));
+    let header = reported_over(&rt, &mut feeder, b"\0asm\x01\0\0\0");
+    same(&rt, header, ReportedAs::Shows(8));
+    let past = ReportedAs::Refuses(Error::new(Fault::OffsetRange, u64::MAX));
     for _ in 0..2 {
-        same(&rt, told_over(&rt, &mut feeder, b"\0"), past);
+        same(&rt, reported_over(&rt, &mut feeder, b"\0"), past);
     }
     same(&rt, say(feeder.step()), past);
 }
@@ -180,9 +191,9 @@ fn a_byte_past_the_top_of_the_offsets(rt: HostRuntime) {
 fn a_piece_past_the_top_of_the_offsets(rt: HostRuntime) {
     let start = u64::MAX - 8;
     let mut feeder = Feeder::new(rt.alloc(), start, WasmFeatures::all());
-    let past = Told::Refuses(Error::new(Fault::OffsetRange, start));
-    let told = told_over(&rt, &mut feeder, b"\0asm\x01\0\0\0\0");
-    same(&rt, told, past);
+    let past = ReportedAs::Refuses(Error::new(Fault::OffsetRange, start));
+    let reported_as = reported_over(&rt, &mut feeder, b"\0asm\x01\0\0\0\0");
+    same(&rt, reported_as, past);
     feeder.finish();
-    same(&rt, told_over(&rt, &mut feeder, b""), past);
+    same(&rt, reported_over(&rt, &mut feeder, b""), past);
 }

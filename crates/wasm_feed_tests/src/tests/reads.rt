@@ -1,5 +1,5 @@
 // Loops over a source by a feeder.
-use super::feeding::{MODULE, Told, say};
+use super::feeding::{MODULE, ReportedAs, say};
 use super::same;
 use bitflags::Flags;
 use std::alloc::Global;
@@ -32,10 +32,10 @@ fn read_by(rt: &impl Abort, alloc: Global, bytes: &[u8], size: usize) -> (u32, u
     let mut most = 0;
     for _turn in 0..200 {
         match say(feeder.open().step()) {
-            Told::Asks(_) => {}
-            Told::Shows(_) => steps = steps.wrapping_add(1),
-            Told::Ends(_) => return (reads, steps.wrapping_add(1), most),
-            Told::Refuses(error) => panic!(rt; "{error:?}"),
+            ReportedAs::Asks(_) => {}
+            ReportedAs::Shows(_) => steps = steps.wrapping_add(1),
+            ReportedAs::Ends(_) => return (reads, steps.wrapping_add(1), most),
+            ReportedAs::Refuses(error) => panic!(rt; "{error:?}"),
         }
         if read_more(rt, &mut feeder, &mut source, buffer.as_mut_slice()) {
             reads = reads.wrapping_add(1);
@@ -65,7 +65,7 @@ fn a_source_with_nothing_is_at_its_end(rt: HostRuntime) {
         (0, 0, false),
     );
     let missing = Error::new(Fault::UnexpectedEof, 0);
-    same(&rt, say(feeder.step()), Told::Refuses(missing));
+    same(&rt, say(feeder.step()), ReportedAs::Refuses(missing));
     assert!(rt; !feeder.wants_more());
 }
 
@@ -75,7 +75,7 @@ fn next_said(
     ahead: &mut Ahead<Global>,
     cursor: &mut Cursor,
     stored: &mut Vec<u8>,
-) -> Told {
+) -> ReportedAs {
     same(rt, ahead.make_ready(cursor, stored), Ok(()));
     say(parse_next(cursor, seen(stored, ahead.bytes())))
 }
@@ -86,10 +86,10 @@ fn stays(
     ahead: &mut Ahead<Global>,
     cursor: &mut Cursor,
     stored: &mut Vec<u8>,
-    said: Told,
+    said: ReportedAs,
 ) {
     for _ in 0..3 {
-        ahead.pass_lent(cursor, stored);
+        ahead.pass_borrowed(cursor, stored);
         same(rt, next_said(rt, ahead, cursor, stored), said);
     }
 }
@@ -135,7 +135,7 @@ fn refill(
 ) {
     let failed = read_chunk(ahead, cursor, stored, &mut Broken);
     same(rt, failed, Err(ListError::Input));
-    let Told::Asks(_) = next_said(rt, ahead, cursor, stored) else {
+    let ReportedAs::Asks(_) = next_said(rt, ahead, cursor, stored) else {
         panic!(rt; "no request");
     };
     let read = read_chunk(ahead, cursor, stored, source);
@@ -144,7 +144,12 @@ fn refill(
 
 // How many reads and how many steps without a request it takes to read these bytes by chunks of so many, parsed where they are, and what
 // the last step says.
-fn read_lent(rt: &impl Abort, alloc: Global, bytes: &[u8], size: usize) -> (u32, u32, Told) {
+fn read_borrowed(
+    rt: &impl Abort,
+    alloc: Global,
+    bytes: &[u8],
+    size: usize,
+) -> (u32, u32, ReportedAs) {
     let room = vec![in alloc; 0u8; size.max(1)].expect(rt, "out of memory");
     let mut source = SliceSource::new(bytes);
     let mut ahead = Ahead::new(room);
@@ -154,12 +159,12 @@ fn read_lent(rt: &impl Abort, alloc: Global, bytes: &[u8], size: usize) -> (u32,
     let mut steps = 0u32;
     for _turn in 0..200 {
         match next_said(rt, &mut ahead, &mut cursor, &mut stored) {
-            Told::Asks(_) => {
+            ReportedAs::Asks(_) => {
                 refill(rt, &mut ahead, &mut cursor, &mut stored, &mut source);
                 reads = reads.wrapping_add(1);
             }
-            Told::Shows(_) => {
-                ahead.pass_lent(&mut cursor, &stored);
+            ReportedAs::Shows(_) => {
+                ahead.pass_borrowed(&mut cursor, &stored);
                 steps = steps.wrapping_add(1);
             }
             last => {
@@ -174,20 +179,20 @@ fn read_lent(rt: &impl Abort, alloc: Global, bytes: &[u8], size: usize) -> (u32,
 #[test]
 fn chunks_are_parsed_where_they_are(rt: HostRuntime) {
     let heap = rt.alloc();
-    let end = Told::Ends(18);
-    same(&rt, read_lent(&rt, heap, MODULE, 18), (2, 4, end));
-    same(&rt, read_lent(&rt, heap, MODULE, 3), (7, 4, end));
-    same(&rt, read_lent(&rt, heap, MODULE, 1), (19, 4, end));
+    let end = ReportedAs::Ends(18);
+    same(&rt, read_borrowed(&rt, heap, MODULE, 18), (2, 4, end));
+    same(&rt, read_borrowed(&rt, heap, MODULE, 3), (7, 4, end));
+    same(&rt, read_borrowed(&rt, heap, MODULE, 1), (19, 4, end));
 }
 
 #[test]
 fn a_fault_in_a_chunk_stays(rt: HostRuntime) {
     let heap = rt.alloc();
-    let fault = Told::Refuses(Error::new(Fault::MalformedSectionId, 8));
+    let fault = ReportedAs::Refuses(Error::new(Fault::MalformedSectionId, 8));
     let stream = b"\0asm\x01\0\0\0\x80\x01\x01\0";
-    same(&rt, read_lent(&rt, heap, stream, 100), (1, 1, fault));
-    same(&rt, read_lent(&rt, heap, stream, 9), (1, 1, fault));
-    same(&rt, read_lent(&rt, heap, stream, 1), (9, 1, fault));
-    let none = Told::Refuses(Error::new(Fault::UnexpectedEof, 0));
-    same(&rt, read_lent(&rt, heap, b"", 4), (1, 0, none));
+    same(&rt, read_borrowed(&rt, heap, stream, 100), (1, 1, fault));
+    same(&rt, read_borrowed(&rt, heap, stream, 9), (1, 1, fault));
+    same(&rt, read_borrowed(&rt, heap, stream, 1), (9, 1, fault));
+    let none = ReportedAs::Refuses(Error::new(Fault::UnexpectedEof, 0));
+    same(&rt, read_borrowed(&rt, heap, b"", 4), (1, 0, none));
 }

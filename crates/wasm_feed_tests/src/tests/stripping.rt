@@ -146,7 +146,7 @@ fn strips_modules(rt: HostRuntime) {
 }
 
 #[test]
-fn strips_nothing_from_what_is_left(rt: HostRuntime) {
+fn stripping_again_changes_nothing(rt: HostRuntime) {
     for (_, with_names, without) in rows() {
         leaves(&rt, rt.alloc(), with_names, true, with_names);
         leaves(&rt, rt.alloc(), without, false, without);

@@ -4,7 +4,7 @@ use Rattle.std.specs.List.{All}
 use Rattle.wasm_grammar.specs.declared.encoding.Encoding.{Encoding}
 use Rattle.wasm_grammar.specs.Content.{ended}
 use Rattle.wasm_grammar.specs.Grammar.{version, Tile, tile, verdict, header_grammar}
-use Rattle.wasm_grammar.specs.Tiling.{bytes_of, context_of, bodies_to_come, bytes_to_come, encoding_of}
+use Rattle.wasm_grammar.specs.Tiling.{bytes_of, context_of, bodies_left, bytes_left, encoding_of}
 use Rattle.wasm_grammar.specs.Reading.{Reads}
 use Rattle.wasm_grammar.specs.Accepted.{IsAccepted, IsMatched, header_bytes}
 use Rattle.wasm_grammar.proofs.PlainLists.{all_prefix}
@@ -47,7 +47,7 @@ pub reads_accepted : (stream : List ℕ) (start p : ℕ) (ts : List Tile) → Al
 reads_accepted stream start p [] a r = absurd (header_end start r.rest p r.stops)
 reads_accepted stream start p (t ∷ ts) a r =
     let us : List Tile = t ∷ ts in
-    let (b, d, e) = inside_end (nat_eq (bodies_to_come us + bytes_to_come us) 0) (context_of us) (bodies_to_come us) (bytes_to_come us)
+    let (b, d, e) = inside_end (nat_eq (bodies_left us + bytes_left us) 0) (context_of us) (bodies_left us) (bytes_left us)
     (start + length (bytes_of us)) r.rest p r.stops in
     let f : All (λ b. b < 256) (bytes_of us) = all_prefix (λ b. b < 256) (bytes_of us) r.rest (rw r.whole at a) in
     let q : Settled us = closed_at start Settled Pending (accepted_goes start) us

@@ -9,21 +9,21 @@ use Rattle.wasm_grammar.specs.declared.encoding.Encoding.{Encoding}
 use Rattle.wasm_grammar.specs.declared.encoding.Encoding.TheVariants.{Module, Component}
 use Rattle.wasm_grammar.specs.Content.{Kind, items, data_count, code, kind_of, rank_of, count_of, Form, whole}
 use Rattle.wasm_grammar.specs.Grammar.{version, section, code_start, code_entry, Tile, section_grammar, body_grammar}
-use Rattle.wasm_grammar.specs.Tiling.{bytes_of, grammar, context_of, tile_rank, count_in, counts, bodies_to_come, bytes_to_come, is_start}
+use Rattle.wasm_grammar.specs.Tiling.{bytes_of, grammar, context_of, tile_rank, count_in, counts, bodies_left, bytes_left, is_start}
 use Rattle.wasm_grammar.specs.Accepted.{SectionFrame, frame_count, frame_rank}
 use Rattle.wasm_grammar.proofs.accepted.Counts.{one_count, counts_of, counts_push, Knows}
 use Rattle.wasm_grammar.proofs.accepted.Tiles.{made, IsWhole, header_version, not_code}
 use Rattle.wasm_grammar.specs.Ids.{code_id, data_count_id, data_id, function_id}
 
 -- what may come after tiles that are at the end of a section
-pub grammar_closed : (start : ℕ) (ts : List Tile) → is_start ts ≡ false → nat_eq (bodies_to_come ts + bytes_to_come ts) 0 ≡ true
+pub grammar_closed : (start : ℕ) (ts : List Tile) → is_start ts ≡ false → nat_eq (bodies_left ts + bytes_left ts) 0 ≡ true
     → grammar start ts ≡ section_grammar (context_of ts) (start + length (bytes_of ts))
 grammar_closed start [] b e = cc
 grammar_closed start (t ∷ ts) b e = cc
 
 -- what may come after tiles that are within a code section
-pub grammar_open : (start : ℕ) (ts : List Tile) → is_start ts ≡ false → nat_eq (bodies_to_come ts + bytes_to_come ts) 0 ≡ false
-    → grammar start ts ≡ body_grammar (bodies_to_come ts) (bytes_to_come ts) (start + length (bytes_of ts))
+pub grammar_open : (start : ℕ) (ts : List Tile) → is_start ts ≡ false → nat_eq (bodies_left ts + bytes_left ts) 0 ≡ false
+    → grammar start ts ≡ body_grammar (bodies_left ts) (bytes_left ts) (start + length (bytes_of ts))
 grammar_open start [] b e = cc
 grammar_open start (t ∷ ts) b e = cc
 

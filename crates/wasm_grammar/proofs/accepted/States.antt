@@ -8,7 +8,7 @@ use Rattle.wasm_grammar.specs.declared.encoding.Encoding.{Encoding}
 use Rattle.wasm_grammar.specs.declared.encoding.Encoding.TheVariants.{Module}
 use Rattle.wasm_grammar.specs.Content.{code, kind_of, rank_of}
 use Rattle.wasm_grammar.specs.Grammar.{section, code_start, code_entry, Tile, tile, SectionContext, verdict, content_grammar, wrong_count}
-use Rattle.wasm_grammar.specs.Tiling.{bytes_of, context_of, bodies_to_come, bytes_to_come, encoding_of}
+use Rattle.wasm_grammar.specs.Tiling.{bytes_of, context_of, bodies_left, bytes_left, encoding_of}
 use Rattle.wasm_grammar.specs.Accepted.{Sized, sized_bytes, IsNumber, IsSized, SectionFrame, frame_bytes, frame_count, frame_rank, IsFrame}
 use Rattle.wasm_grammar.specs.Accepted.{FitsAfter, CodeDivision, IsSection}
 use Rattle.wasm_grammar.proofs.parts.Placed.{Follows}
@@ -61,7 +61,7 @@ pub record Settled (ts : List Tile) : Type 0 where
   pub joined : bytes_of ts ≡ stream_of (encoding_of ts) frames
   pub knows : Knows (encoding_of ts) frames (context_of ts)
   pub sections : InOrder (encoding_of ts) frames
-  pub closed : nat_eq (bodies_to_come ts + bytes_to_come ts) 0 ≡ true
+  pub closed : nat_eq (bodies_left ts + bytes_left ts) 0 ≡ true
 
 -- The tiles are a header, whole sections, and a beginning of a code section.
 pub record Pending (ts : List Tile) : Type 0 where
@@ -79,8 +79,8 @@ pub record Pending (ts : List Tile) : Type 0 where
   pub bodies : List Sized
   pub each : All IsSized bodies
   pub joined : bytes_of ts ≡ stream_of Module frames ++ code_id ∷ (field ++ (head ++ flat_map sized_bytes bodies))
-  pub bodies_miss : count ≡ length bodies + bodies_to_come ts
-  pub bytes_miss : size ≡ length head + length (flat_map sized_bytes bodies) + bytes_to_come ts
+  pub bodies_miss : count ≡ length bodies + bodies_left ts
+  pub bytes_miss : size ≡ length head + length (flat_map sized_bytes bodies) + bytes_left ts
   pub knows : (f : SectionFrame) → f.id ≡ code_id → frame_count f ≡ count → Knows Module (frames ++ f ∷ []) (context_of ts)
   pub fits : (f : SectionFrame) → f.id ≡ code_id → frame_count f ≡ count → FitsAfter Module frames f
 
@@ -89,9 +89,9 @@ abbrev whole_code : List ℕ → List ℕ → List Sized → SectionFrame
 whole_code field head bodies = record { id = code_id; sized = record { field = field; content = head ++ flat_map sized_bytes bodies } }
 
 -- a code section that misses nothing is whole
-pub settles : (ts : List Tile) → Pending ts → nat_eq (bodies_to_come ts + bytes_to_come ts) 0 ≡ true → Settled ts
+pub settles : (ts : List Tile) → Pending ts → nat_eq (bodies_left ts + bytes_left ts) 0 ≡ true → Settled ts
 settles ts p e =
-    let z : bodies_to_come ts + bytes_to_come ts ≡ 0 = grind arith in
+    let z : bodies_left ts + bytes_left ts ≡ 0 = grind arith in
     let f : SectionFrame = whole_code p.field p.head p.bodies in
     let m : p.count ≡ length p.bodies = omega (arith, p.bodies_miss) in
     let s : p.size ≡ length (p.head ++ flat_map sized_bytes p.bodies) =
@@ -241,14 +241,14 @@ body_bytes head bodies s =
     )
 
 -- within a code section, one more body
-pub body_pending : (ts : List Tile) (t : Tile) → Pending ts → BodyParts (bodies_to_come ts) (bytes_to_come ts) t → Pending (t ∷ ts)
+pub body_pending : (ts : List Tile) (t : Tile) → Pending ts → BodyParts (bodies_left ts) (bytes_left ts) t → Pending (t ∷ ts)
 body_pending ts t q h =
     let s : Sized = record { field = h.field; content = h.content } in
     let b : List ℕ = sized_bytes s in
     let l : length q.bodies + 1 ≡ length (q.bodies ++ s ∷ []) = sym (length-append q.bodies (s ∷ [])) in
     let n : length b ≡ length h.field + length h.content = length-append h.field h.content in
-    let m : q.count ≡ length (q.bodies ++ s ∷ []) + (bodies_to_come ts - 1) = omega (arith, q.bodies_miss, h.missing) in
-    let y : q.size ≡ length q.head + length (flat_map sized_bytes (q.bodies ++ s ∷ [])) + (bytes_to_come ts - length b) =
+    let m : q.count ≡ length (q.bodies ++ s ∷ []) + (bodies_left ts - 1) = omega (arith, q.bodies_miss, h.missing) in
+    let y : q.size ≡ length q.head + length (flat_map sized_bytes (q.bodies ++ s ∷ [])) + (bytes_left ts - length b) =
     omega (arith, q.bytes_miss, h.fits, body_bytes q.head q.bodies s) in
     let r : Pending (made (code_entry h.content) b ∷ ts) = record {
       of_module = q.of_module;

@@ -9,7 +9,7 @@ use Rattle.wasm_grammar.specs.declared.encoding.Encoding.TheVariants.{Module}
 use Rattle.wasm_grammar.specs.Content.{kind_of, rank_of, value_of, count_of}
 use Rattle.wasm_grammar.specs.FrameEvents.{body_events}
 use Rattle.wasm_grammar.specs.Grammar.{section, code_start, code_entry, Tile, tile, SectionContext, verdict, section_grammar}
-use Rattle.wasm_grammar.specs.Tiling.{bytes_of, grammar, Faultless, context_of, bodies_to_come, bytes_to_come, is_start}
+use Rattle.wasm_grammar.specs.Tiling.{bytes_of, grammar, Faultless, context_of, bodies_left, bytes_left, is_start}
 use Rattle.wasm_grammar.specs.Reading.{events_of}
 use Rattle.wasm_grammar.specs.Accepted.{Sized, sized_bytes, IsSized, SectionFrame, frame_bytes, frame_count, frame_rank, IsFrame}
 use Rattle.wasm_grammar.specs.Accepted.{FitsAfter, CodeDivision}
@@ -97,7 +97,7 @@ pub record Through (start : ℕ) (ts : List Tile) (bodies : List Sized) : Type 0
   pub begun : is_start tiles ≡ false
   pub faultless : Faultless start tiles
   pub joined : bytes_of tiles ≡ bytes_of ts ++ flat_map sized_bytes bodies
-  pub closed : nat_eq (bodies_to_come tiles + bytes_to_come tiles) 0 ≡ true
+  pub closed : nat_eq (bodies_left tiles + bytes_left tiles) 0 ≡ true
   pub knows : (encoding : Encoding) (fs : List SectionFrame) → Knows encoding fs (context_of ts) → Knows encoding fs (context_of tiles)
   pub listed : (features : ℕ) → events_of start features tiles ≡ events_of start features ts
       ++ body_events features (start + length (bytes_of ts)) bodies
@@ -107,12 +107,12 @@ some_left : (a b n : ℕ) → a ≡ suc n → nat_eq (a + b) 0 ≡ false
 some_left a b n e = ne_eqb (a + b) 0 (λ z. absurd (omega arith))
 
 -- a body that a code section misses is a tile
-body_at : (start : ℕ) (ts : List Tile) (s : Sized) (n : ℕ) → is_start ts ≡ false → IsSized s → bodies_to_come ts ≡ suc n
-    → length (sized_bytes s) ≤ bytes_to_come ts
+body_at : (start : ℕ) (ts : List Tile) (s : Sized) (n : ℕ) → is_start ts ≡ false → IsSized s → bodies_left ts ≡ suc n
+    → length (sized_bytes s) ≤ bytes_left ts
     → verdict (grammar start ts) (sized_bytes s) ≡ tile (made (code_entry s.content) (sized_bytes s))
 body_at start ts s n b i e l =
-    rw (grammar_open start ts b (some_left (bodies_to_come ts) (bytes_to_come ts) n e), e)
-    (body_tile n (bytes_to_come ts) (start + length (bytes_of ts)) s.field s.content i (omega (arith, length-append s.field s.content)))
+    rw (grammar_open start ts b (some_left (bodies_left ts) (bytes_left ts) n e), e)
+    (body_tile n (bytes_left ts) (start + length (bytes_of ts)) s.field s.content i (omega (arith, length-append s.field s.content)))
 
 -- the events of bodies after one more
 body_listed : (start features : ℕ) (ts : List Tile) (s : Sized) (bodies : List Sized)
@@ -127,7 +127,7 @@ body_listed start features ts s bodies =
 
 -- bodies that a code section misses are tiles
 pub bodies_walk : (start : ℕ) (bodies : List Sized) (ts : List Tile) → is_start ts ≡ false → Faultless start ts → All IsSized bodies
-    → bodies_to_come ts ≡ length bodies → bytes_to_come ts ≡ length (flat_map sized_bytes bodies) → Through start ts bodies
+    → bodies_left ts ≡ length bodies → bytes_left ts ≡ length (flat_map sized_bytes bodies) → Through start ts bodies
 bodies_walk start [] ts b f a m l = record {
   tiles = ts;
   begun = b;

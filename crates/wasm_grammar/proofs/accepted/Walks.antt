@@ -11,7 +11,7 @@ use Rattle.wasm_grammar.specs.Content.{code, kind_of, ended}
 use Rattle.wasm_grammar.specs.FrameEvents.{header_event, section_event, code_events, FrameEvents, FramesEvents, body_events}
 use Rattle.wasm_grammar.specs.Grammar.{version, section, code_start, Tile, tile, final, SectionContext, verdict, end_at_section}
 use Rattle.wasm_grammar.specs.Grammar.{section_grammar}
-use Rattle.wasm_grammar.specs.Tiling.{bytes_of, grammar, Faultless, context_of, bodies_to_come, bytes_to_come, is_start}
+use Rattle.wasm_grammar.specs.Tiling.{bytes_of, grammar, Faultless, context_of, bodies_left, bytes_left, is_start}
 use Rattle.wasm_grammar.specs.Reading.{Event, events_of, Reads}
 use Rattle.wasm_grammar.specs.Accepted.{sized_bytes, SectionFrame, frame_bytes, IsFrame, FitsAfter, CodeDivision, IsAccepted, header_bytes}
 use Rattle.wasm_grammar.proofs.accepted.Counts.{Knows}
@@ -28,7 +28,7 @@ abbrev pub stream_of : Encoding → List SectionFrame → List ℕ
 stream_of encoding fs = header_bytes encoding ++ flat_map frame_bytes fs
 
 -- the events of tiles are a header's, and those of these frames
-pub record Told (start features : ℕ) (encoding : Encoding) (fs : List SectionFrame) (tiles : List Tile) : Type 0 where
+pub record ReportedAs (start features : ℕ) (encoding : Encoding) (fs : List SectionFrame) (tiles : List Tile) : Type 0 where
   pub inner : List Event
   pub sections : FramesEvents features encoding (start + length (header_bytes encoding)) fs inner
   pub listed : events_of start features tiles ≡ header_event start encoding ∷ inner
@@ -39,8 +39,8 @@ pub record Closed (start : ℕ) (encoding : Encoding) (fs : List SectionFrame) (
   pub faultless : Faultless start tiles
   pub joined : bytes_of tiles ≡ stream_of encoding fs
   pub knows : Knows encoding fs (context_of tiles)
-  pub closed : nat_eq (bodies_to_come tiles + bytes_to_come tiles) 0 ≡ true
-  pub told : (features : ℕ) → Told start features encoding fs tiles
+  pub closed : nat_eq (bodies_left tiles + bytes_left tiles) 0 ≡ true
+  pub reported_as : (features : ℕ) → ReportedAs start features encoding fs tiles
 
 -- some tiles are
 pub record Reached (start : ℕ) (encoding : Encoding) (fs : List SectionFrame) : Type 0 where
@@ -68,11 +68,11 @@ room_for start encoding fs f prefix e r =
     omega arith
 
 -- one more frame, with its events
-told_more : (start features : ℕ) (encoding : Encoding) (fs : List SectionFrame) (f : SectionFrame) (ts us : List Tile) (events : List Event)
-    → bytes_of ts ≡ stream_of encoding fs → Told start features encoding fs ts
+reported_more : (start features : ℕ) (encoding : Encoding) (fs : List SectionFrame) (f : SectionFrame) (ts us : List Tile) (events : List Event)
+    → bytes_of ts ≡ stream_of encoding fs → ReportedAs start features encoding fs ts
     → FrameEvents features encoding (start + length (bytes_of ts)) f events → events_of start features us ≡ events_of start features ts
-    ++ events → Told start features encoding (fs ++ f ∷ []) us
-told_more start features encoding fs f ts us events j t e l = grind (arith, push_events)
+    ++ events → ReportedAs start features encoding (fs ++ f ∷ []) us
+reported_more start features encoding fs f ts us events j t e l = grind (arith, push_events)
 
 -- one more frame that fits and is no code section
 whole_step : (start : ℕ) (encoding : Encoding) (fs : List SectionFrame) (f : SectionFrame) → Reached start encoding fs
@@ -92,7 +92,7 @@ whole_step start encoding fs f q r i a w =
         joined = stream_more encoding fs f (bytes_of ts) c.joined;
         knows = search knows_section;
         closed = refl;
-        told = λ features. told_more start features encoding fs f ts _ (section_event features o w.0 f ∷ []) c.joined (c.told features)
+        reported_as = λ features. reported_more start features encoding fs f ts _ (section_event features o w.0 f ∷ []) c.joined (c.reported_as features)
             (rw w.1 refl)
             (search section_tile_event);
       };
@@ -143,8 +143,8 @@ module_step start fs f z d q r i a =
         joined = t.joined ∙ (search (code_bytes, stream_more));
         knows = t.knows Module (fs ++ f ∷ []) (search (knows_code, division_count));
         closed = t.closed;
-        told = λ features. told_more start features Module fs f ts t.tiles (code_events features (start + length (bytes_of ts)) f d)
-            c.joined (c.told features)
+        reported_as = λ features. reported_more start features Module fs f ts t.tiles (code_events features (start + length (bytes_of ts)) f d)
+            c.joined (c.reported_as features)
             (rw (ap (kind_of Module) z) (d, refl))
             (grind (arith, code_listed));
       };
@@ -202,7 +202,7 @@ begins start encoding = record {
     joined = sym (append-nil (header_bytes encoding));
     knows = knows_header encoding (header_bytes encoding);
     closed = refl;
-    told = λ features. record {
+    reported_as = λ features. record {
       inner = [];
       sections = refl;
       listed =

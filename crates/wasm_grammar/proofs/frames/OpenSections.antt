@@ -3,14 +3,14 @@ use Rattle.std.proofs.Common.{◌≡◌, ℕ, ◌+◌, ◌<◌, ◌⊎◌, inl, 
 use Rattle.std.specs.List.{All}
 use Rattle.wasm_grammar.specs.Content.{code, kind_of}
 use Rattle.wasm_grammar.specs.Grammar.{Tile, tile, verdict, section_grammar, body_grammar}
-use Rattle.wasm_grammar.specs.Tiling.{bytes_of, grammar, Faultless, context_of, encoding_of, bodies_to_come, bytes_to_come}
+use Rattle.wasm_grammar.specs.Tiling.{bytes_of, grammar, Faultless, context_of, encoding_of, bodies_left, bytes_left}
 use Rattle.wasm_grammar.proofs.PlainLists.{all_prefix}
 use Rattle.wasm_grammar.proofs.accepted.Parts.{SectionParts, section_parts, BodyParts, body_parts}
 use Rattle.wasm_grammar.proofs.accepted.Tiles.{IsWhole, whole_or_code}
 
 -- a code section misses no body and no byte
 abbrev pub misses_nothing : List Tile → Bool
-misses_nothing ts = nat_eq (bodies_to_come ts + bytes_to_come ts) 0
+misses_nothing ts = nat_eq (bodies_left ts + bytes_left ts) 0
 
 -- What holds of tiles that are whole sections, and what of those that end in a code section, goes on with each tile.
 pub record Goes (start : ℕ) (Closed Open : List Tile → Type 0) : Type 0 where
@@ -22,7 +22,7 @@ pub record Goes (start : ℕ) (Closed Open : List Tile → Type 0) : Type 0 wher
       → (s : SectionParts (context_of (u ∷ ts)) o t)
       → kind_of (encoding_of (u ∷ ts)) s.id ≡ code → Open (t ∷ u ∷ ts)
   pub body : (u : Tile) (ts : List Tile) (t : Tile) → verdict (grammar start (u ∷ ts)) t.bytes ≡ tile t → Open (u ∷ ts)
-      → BodyParts (bodies_to_come (u ∷ ts)) (bytes_to_come (u ∷ ts)) t → Open (t ∷ u ∷ ts)
+      → BodyParts (bodies_left (u ∷ ts)) (bytes_left (u ∷ ts)) t → Open (t ∷ u ∷ ts)
   pub closes : (ts : List Tile) → Open ts → misses_nothing ts ≡ true → Closed ts
   pub closed : (ts : List Tile) → Closed ts → misses_nothing ts ≡ true
 
@@ -35,7 +35,7 @@ module _ (start : ℕ) (Closed Open : List Tile → Type 0) (g : Goes start Clos
   -- one tile more
   step : (u : Tile) (ts : List Tile) (t : Tile) → verdict (grammar start (u ∷ ts)) t.bytes ≡ tile t → Closed (u ∷ ts) ⊎ Open (u ∷ ts)
       → (b : Bool) → misses_nothing (u ∷ ts) ≡ b → (o : ℕ)
-      → verdict (cond b (section_grammar (context_of (u ∷ ts)) o) (body_grammar (bodies_to_come (u ∷ ts)) (bytes_to_come (u ∷ ts)) o))
+      → verdict (cond b (section_grammar (context_of (u ∷ ts)) o) (body_grammar (bodies_left (u ∷ ts)) (bytes_left (u ∷ ts)) o))
       t.bytes
       ≡ tile t → Closed (t ∷ u ∷ ts) ⊎ Open (t ∷ u ∷ ts)
   step u ts t h q true e o v =
@@ -48,7 +48,7 @@ module _ (start : ℕ) (Closed Open : List Tile → Type 0) (g : Goes start Clos
   step u ts t h (inl q) false e o v =
       let z : misses_nothing (u ∷ ts) ≡ true = g.closed (u ∷ ts) q in cc
   step u ts t h (inr q) false e o v =
-      inr (g.body u ts t h q (body_parts (bodies_to_come (u ∷ ts)) (bytes_to_come (u ∷ ts)) o t.bytes t v))
+      inr (g.body u ts t h q (body_parts (bodies_left (u ∷ ts)) (bytes_left (u ∷ ts)) o t.bytes t v))
 
   -- all tiles of bytes
   pub sections_of_tiles : (t : Tile) (ts : List Tile) → Faultless start (t ∷ ts) → All (λ b. b < 256) (bytes_of (t ∷ ts)) → Closed (t ∷ ts)

@@ -11,7 +11,7 @@ use Rattle.wasm_grammar.specs.Grammar.{section, code_start, Tile, tile, verdict,
 use Rattle.wasm_grammar.specs.Reading.{events_of, Reads}
 use Rattle.wasm_grammar.specs.SectionLaws.{SectionsTile}
 use Rattle.wasm_grammar.specs.Sections.{sections_of, bytes_in, id_and_bytes, id_and_content, places_of}
-use Rattle.wasm_grammar.specs.Tiling.{bytes_of, context_of, grammar, encoding_of, bodies_to_come, bytes_to_come}
+use Rattle.wasm_grammar.specs.Tiling.{bytes_of, context_of, grammar, encoding_of, bodies_left, bytes_left}
 use Rattle.wasm_grammar.specs.declared.encoding.Encoding.{Encoding}
 use Rattle.wasm_grammar.proofs.readings.Endings.{header_end, inside_end}
 use Rattle.wasm_grammar.proofs.frames.Same.{frames_same}
@@ -79,7 +79,7 @@ record Closed (start features : ℕ) (ts : List Tile) : Type 0 where
   sized : All (λ f. IsSized f.sized) frames
   joined : bytes_of ts ≡ stream_of encoding frames
   places : sections_of (events_of start features ts) ≡ places_of (start + length (header_bytes encoding)) frames
-  whole : bodies_to_come ts + bytes_to_come ts ≡ 0
+  whole : bodies_left ts + bytes_left ts ≡ 0
 
 -- The tiles are a header, these sections, and a beginning of a code section, which is reported with all its length.
 record Open (start features : ℕ) (ts : List Tile) : Type 0 where
@@ -90,7 +90,7 @@ record Open (start features : ℕ) (ts : List Tile) : Type 0 where
   field : List ℕ
   long : IsNumber field size
   inner : List ℕ
-  misses : size ≡ length inner + bytes_to_come ts
+  misses : size ≡ length inner + bytes_left ts
   joined : bytes_of ts ≡ stream_of encoding frames ++ 10 ∷ (field ++ inner)
   places : sections_of (events_of start features ts)
       ≡ places_of (start + length (header_bytes encoding)) frames
@@ -132,7 +132,7 @@ header_closed start features t a h =
     }
 
 -- a code section that misses nothing is whole
-closes : (start features : ℕ) (ts : List Tile) → Open start features ts → bodies_to_come ts + bytes_to_come ts ≡ 0
+closes : (start features : ℕ) (ts : List Tile) → Open start features ts → bodies_left ts + bytes_left ts ≡ 0
     → Closed start features ts
 closes start features ts q z =
     let f : SectionFrame = record { id = 10; sized = record { field = q.field; content = q.inner } } in
@@ -201,7 +201,7 @@ closed_code start features u ts o t h q s e =
     let p : sections_of (events_of start features (t ∷ u ∷ ts)) ≡ sections_of (events_of start features (u ∷ ts))
     ++ (10, record { start = low + length bytes - length c.head; end = low + length bytes + code_bytes }) ∷ [] =
     grind (arith, sections_more) in
-    let l : bytes_to_come (t ∷ u ∷ ts) ≡ code_bytes = rw z in
+    let l : bytes_left (t ∷ u ∷ ts) ≡ code_bytes = rw z in
     record {
       encoding = q.encoding;
       frames = q.frames;
@@ -217,10 +217,10 @@ closed_code start features u ts o t h q s e =
 
 -- within a code section, one more body
 open_body : (start features : ℕ) (u : Tile) (ts : List Tile) (t : Tile) → verdict (grammar start (u ∷ ts)) t.bytes ≡ tile t
-    → Open start features (u ∷ ts) → BodyParts (bodies_to_come (u ∷ ts)) (bytes_to_come (u ∷ ts)) t → Open start features (t ∷ u ∷ ts)
+    → Open start features (u ∷ ts) → BodyParts (bodies_left (u ∷ ts)) (bytes_left (u ∷ ts)) t → Open start features (t ∷ u ∷ ts)
 open_body start features u ts t h q c =
     let low : ℕ = start + length (bytes_of (u ∷ ts)) in
-    let l : bytes_to_come (t ∷ u ∷ ts) ≡ bytes_to_come (u ∷ ts) - length (c.field ++ c.content) =
+    let l : bytes_left (t ∷ u ∷ ts) ≡ bytes_left (u ∷ ts) - length (c.field ++ c.content) =
     cc in
     let b : length t.bytes ≡ length (c.field ++ c.content) = rw c.is in
     let p : sections_of (events_of start features (t ∷ u ∷ ts)) ≡ sections_of (events_of start features (u ∷ ts)) =
@@ -261,7 +261,7 @@ closed_end : (stream : List ℕ) (start features p : ℕ) (ts : List Tile) → A
 closed_end stream start features p [] a r = absurd (header_end start r.rest p r.stops)
 closed_end stream start features p (t ∷ ts) a r =
     let us : List Tile = t ∷ ts in
-    let (b, d, e) = inside_end (nat_eq (bodies_to_come us + bytes_to_come us) 0) (context_of us) (bodies_to_come us) (bytes_to_come us)
+    let (b, d, e) = inside_end (nat_eq (bodies_left us + bytes_left us) 0) (context_of us) (bodies_left us) (bytes_left us)
     (start + length (bytes_of us)) r.rest p r.stops in
     let f : All (λ b. b < 256) (bytes_of us) = all_prefix (λ b. b < 256) (bytes_of us) r.rest (rw r.whole at a) in (
       closed_at start (Closed start features) (Open start features) (places_go start features) us

@@ -8,7 +8,7 @@ use Rattle.wasm_grammar.specs.FrameEvents.{code_events, KindEvents, FramesEvents
 use Rattle.wasm_grammar.specs.FrameLaws.{OneDivision, FramesGiveEvents}
 use Rattle.wasm_grammar.specs.Reading.{Event, Reads}
 use Rattle.wasm_grammar.specs.declared.encoding.Encoding.{Encoding}
-use Rattle.wasm_grammar.proofs.accepted.Walks.{Told, Reached, accepted_walk, accepted_ends_there}
+use Rattle.wasm_grammar.proofs.accepted.Walks.{ReportedAs, Reached, accepted_walk, accepted_ends_there}
 use Rattle.wasm_grammar.proofs.frames.Same.{prefixes_same, numbers_same, sized_same, frames_same}
 use Rattle.wasm_grammar.proofs.readings.Readings.{reads_same}
 
@@ -67,7 +67,7 @@ pub frames_give_events : FramesGiveEvents
 frames_give_events stream start features events s a =
     let q : Reached start a.encoding a.frames = accepted_walk stream start s.fits a in
     let reads : Reads stream start q.tiles (ended (start + length stream)) = accepted_ends_there stream start a q in
-    let t : Told start features a.encoding a.frames q.tiles = q.there.told features in (
+    let t : ReportedAs start features a.encoding a.frames q.tiles = q.there.reported_as features in (
       λ r.
           let (z, y) = reads_same stream start r.tiles q.tiles r.end (ended (start + length stream)) r.reads reads in
           let z' : r.tiles ≡ q.tiles = z in

@@ -11,7 +11,7 @@ use Rattle.wasm_grammar.specs.Grammar.{Shape, section, Tile, tile, final, Sectio
 use Rattle.wasm_grammar.specs.Reading.{code_start, code_entry, Event, tile_report, event_of, stream_end, last_event, events_of}
 use Rattle.wasm_grammar.specs.SectionLaws.{BodiesFollowTheirCount}
 use Rattle.wasm_grammar.specs.Sections.{ReportsBody, ReportsFault, BodiesFollow}
-use Rattle.wasm_grammar.specs.Tiling.{bytes_of, context_of, grammar, bodies_to_come, bytes_to_come, Faultless}
+use Rattle.wasm_grammar.specs.Tiling.{bytes_of, context_of, grammar, bodies_left, bytes_left, Faultless}
 use Rattle.wasm_grammar.proofs.readings.Endings.{inside_end}
 use Rattle.wasm_grammar.proofs.parts.Placed.{placed, IsBody, IsHeader, headed}
 use Rattle.wasm_grammar.proofs.PlainLists.{split_last}
@@ -48,7 +48,7 @@ no_last end w e = cc
 -- bodies alone, with those that are missed as many as it counts
 record Open (ts : List Tile) (count : ℕ) (after : List Event) : Type 0 where
   each : All ReportsBody after
-  misses : length after + bodies_to_come ts ≡ count
+  misses : length after + bodies_left ts ≡ count
 
 -- as many bodies as it counts, and another event
 record Shut (count : ℕ) (after : List Event) : Type 0 where
@@ -74,16 +74,16 @@ shut_more count after e s = record {
 
 -- a tile more after the bodies so far
 open_more : (start features : ℕ) (u : Tile) (ts : List Tile) (t : Tile) (count : ℕ) (after : List Event) (b : Bool)
-    → nat_eq (bodies_to_come (u ∷ ts) + bytes_to_come (u ∷ ts)) 0 ≡ b → (o : ℕ)
-    → verdict (cond b (section_grammar (context_of (u ∷ ts)) o) (body_grammar (bodies_to_come (u ∷ ts)) (bytes_to_come (u ∷ ts)) o)) t.bytes
+    → nat_eq (bodies_left (u ∷ ts) + bytes_left (u ∷ ts)) 0 ≡ b → (o : ℕ)
+    → verdict (cond b (section_grammar (context_of (u ∷ ts)) o) (body_grammar (bodies_left (u ∷ ts)) (bytes_left (u ∷ ts)) o)) t.bytes
     ≡ tile t → Open (u ∷ ts) count after
     → (Open (t ∷ u ∷ ts) count (after ++ event_of features o t ∷ [])) ⊎ Shut count (after ++ event_of features o t ∷ [])
 open_more start features u ts t count after true z o e s = grind (arith, placed)
 open_more start features u ts t count after false z o e s =
-    let p : BodyParts (bodies_to_come (u ∷ ts)) (bytes_to_come (u ∷ ts)) t =
+    let p : BodyParts (bodies_left (u ∷ ts)) (bytes_left (u ∷ ts)) t =
     search body_parts in
     let h : t.shape ≡ Grammar.code_entry p.content = ap (λ (x : Tile). x.shape) p.is in
-    let l : bodies_to_come (t ∷ u ∷ ts) ≡ bodies_to_come (u ∷ ts) - 1 = rw h in
+    let l : bodies_left (t ∷ u ∷ ts) ≡ bodies_left (u ∷ ts) - 1 = rw h in
     inl (record {
       each = All-push ReportsBody after (event_of features o t) s.each (_, ap (tile_report features o (o + length t.bytes)) h);
       misses = omega (arith, s.misses, p.missing, length-append after (event_of features o t ∷ []));
@@ -106,7 +106,7 @@ follows start features (t ∷ ts) f before after e count from to size z c =
   where
     started : (t : Tile) (ts : List Tile) (o : ℕ) → e ≡ event_of features o t → after ≡ [] → Open (t ∷ ts) count after
     started t ts o q n =
-        let m : bodies_to_come (t ∷ ts)
+        let m : bodies_left (t ∷ ts)
         ≡ count = grind arith in
         subst (Open (t ∷ ts) count) (sym n) (record { each = All-nil ReportsBody; misses = omega arith })
 
@@ -115,7 +115,7 @@ follows start features (t ∷ ts) f before after e count from to size z c =
         ⊎ Shut count (l ++ event_of features (start + length (bytes_of ts)) t ∷ [])
     more t ts f l (inr s) = inr (shut_more count l _ s)
     more t [] f l (inl s) = inr (grind (arith, header_apart, headed))
-    more t (u ∷ ts) f l (inl s) = open_more start features u ts t count l (nat_eq (bodies_to_come (u ∷ ts) + bytes_to_come (u ∷ ts)) 0) refl
+    more t (u ∷ ts) f l (inl s) = open_more start features u ts t count l (nat_eq (bodies_left (u ∷ ts) + bytes_left (u ∷ ts)) 0) refl
         (start + length (bytes_of (u ∷ ts))) f.1 s
 
 -- the same of the reading, with how it ends
@@ -128,24 +128,24 @@ ends start features ts rest end v count after s = record {
   whole = refl;
   each = s.each;
   other = λ q. no_last end q.0 q.1;
-  many = many ts end v s (bodies_to_come ts) refl;
+  many = many ts end v s (bodies_left ts) refl;
 }
   where
-    none_left : (ts : List Tile) (o : ℕ) → verdict (grammar start ts) rest ≡ final (ended o) → bodies_to_come ts ≡ 0
+    none_left : (ts : List Tile) (o : ℕ) → verdict (grammar start ts) rest ≡ final (ended o) → bodies_left ts ≡ 0
     none_left [] o v = refl
     none_left (t ∷ ts) o v =
-        let (z, d, x) = inside_end (nat_eq (bodies_to_come (t ∷ ts) + bytes_to_come (t ∷ ts)) 0) (context_of (t ∷ ts))
-        (bodies_to_come (t ∷ ts))
-        (bytes_to_come (t ∷ ts)) (start + length (bytes_of (t ∷ ts))) rest o v in
-        let n : bodies_to_come (t ∷ ts) + bytes_to_come (t ∷ ts) ≡ 0 = eqb-true _ _ z in
+        let (z, d, x) = inside_end (nat_eq (bodies_left (t ∷ ts) + bytes_left (t ∷ ts)) 0) (context_of (t ∷ ts))
+        (bodies_left (t ∷ ts))
+        (bytes_left (t ∷ ts)) (start + length (bytes_of (t ∷ ts))) rest o v in
+        let n : bodies_left (t ∷ ts) + bytes_left (t ∷ ts) ≡ 0 = eqb-true _ _ z in
         omega arith
 
-    many : (ts : List Tile) (end : Ending) → verdict (grammar start ts) rest ≡ final end → Open ts count after → (m : ℕ) → bodies_to_come ts
+    many : (ts : List Tile) (end : Ending) → verdict (grammar start ts) rest ≡ final end → Open ts count after → (m : ℕ) → bodies_left ts
         ≡ m
         → (length after ≡ count) ⊎ ((length after < count) × ReportsFault (last_event end) × (let l : List Event = [] in l ≡ []))
     many ts end v s zero m = inl (omega (arith, s.misses))
     many ts (fault f) v s (suc n) m = inr (omega (arith, s.misses), (f, refl), refl)
-    many ts (ended o) v s (suc n) m = let z : bodies_to_come ts ≡ 0 = none_left ts o v in absurd (omega arith)
+    many ts (ended o) v s (suc n) m = let z : bodies_left ts ≡ 0 = none_left ts o v in absurd (omega arith)
 
 shut_follow : (count : ℕ) (after : List Event) → Shut count after → BodiesFollow count after
 shut_follow count after s = record {

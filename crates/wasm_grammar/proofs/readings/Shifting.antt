@@ -17,7 +17,7 @@ use Rattle.wasm_grammar.specs.Grammar.{after_id, section_grammar, body_of, body_
 use Rattle.wasm_grammar.specs.Laws.{StartOnlyMoves}
 use Rattle.wasm_grammar.specs.Shifted.{shifted_fault, shifted_ending, shifted_report, shifted_event, shifted_events, PassesTheTop}
 use Rattle.wasm_grammar.specs.Reading.{section_report, tile_report, event_of, last_event, events_of, Reads}
-use Rattle.wasm_grammar.specs.Tiling.{inside, context_of, grammar, bodies_to_come, bytes_to_come, bytes_of, Faultless}
+use Rattle.wasm_grammar.specs.Tiling.{inside, context_of, grammar, bodies_left, bytes_left, bytes_of, Faultless}
 use Rattle.wasm_grammar.specs.declared.encoding.Encoding.{Encoding}
 use Rattle.wasm_grammar.proofs.readings.EndToEnd.{Closes, tile_closes}
 use Rattle.wasm_grammar.proofs.readings.Readings.{reads_same}
@@ -184,10 +184,10 @@ Like-inside by b p bodies code_bytes o = grind (arith, Like-section, Like-body)
 Like-grammar : (by start : ℕ) (ts : List Tile) → Like by (grammar start ts) (grammar (start + by) ts)
 Like-grammar by start [] = Like-header by start
 Like-grammar by start (t ∷ ts) =
-    subst (λ (o : ℕ). Like by (inside (context_of (t ∷ ts)) (bodies_to_come (t ∷ ts)) (bytes_to_come (t ∷ ts))
-    (start + length (bytes_of (t ∷ ts)))) (inside (context_of (t ∷ ts)) (bodies_to_come (t ∷ ts)) (bytes_to_come (t ∷ ts)) o)) (omega arith)
-    (Like-inside by (nat_eq (bodies_to_come (t ∷ ts) + bytes_to_come (t ∷ ts)) 0) (context_of (t ∷ ts)) (bodies_to_come (t ∷ ts))
-    (bytes_to_come (t ∷ ts)) (start + length (bytes_of (t ∷ ts))))
+    subst (λ (o : ℕ). Like by (inside (context_of (t ∷ ts)) (bodies_left (t ∷ ts)) (bytes_left (t ∷ ts))
+    (start + length (bytes_of (t ∷ ts)))) (inside (context_of (t ∷ ts)) (bodies_left (t ∷ ts)) (bytes_left (t ∷ ts)) o)) (omega arith)
+    (Like-inside by (nat_eq (bodies_left (t ∷ ts) + bytes_left (t ∷ ts)) 0) (context_of (t ∷ ts)) (bodies_left (t ∷ ts))
+    (bytes_left (t ∷ ts)) (start + length (bytes_of (t ∷ ts))))
 
 -- ---- readings
 

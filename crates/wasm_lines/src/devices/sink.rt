@@ -131,7 +131,7 @@ pub struct WriteSink<W> {
     writer: W,
     failed: bool,
     // Whether the writer was flushed after the last write.
-    handed_on: bool,
+    forwarded: bool,
 }
 
 impl<W: Write> WriteSink<W> {
@@ -139,12 +139,12 @@ impl<W: Write> WriteSink<W> {
     pub fn new(writer: W) -> Self
         ensures writer { result.writer ≡ writer }
         ensures failed { result.failed ≡ false }
-        ensures all { result.handed_on ≡ true }
+        ensures all { result.forwarded ≡ true }
     {
         WriteSink {
             writer,
             failed: false,
-            handed_on: true,
+            forwarded: true,
         }
     }
 
@@ -152,12 +152,12 @@ impl<W: Write> WriteSink<W> {
     pub fn flush(&mut self) -> Result<(), Failed>
         ensures bytes { Keeps (W.contents self.old.writer) (W.contents self.new.writer) }
         ensures failed { self.new.failed ≡ (if is_ok result then self.old.failed else true) }
-        ensures all { OnOk result (self.new.handed_on ≡ true) }
-        ensures kept { OnErr result (self.new.handed_on ≡ self.old.handed_on) }
+        ensures all { OnOk result (self.new.forwarded ≡ true) }
+        ensures kept { OnErr result (self.new.forwarded ≡ self.old.forwarded) }
     {
         match self.writer.flush() {
             Ok(()) => {
-                self.handed_on = true;
+                self.forwarded = true;
                 Ok(())
             }
             Err(_) => {
@@ -179,9 +179,9 @@ impl<W: Write> Sink for WriteSink<W> {
         ensures bytes { WriteAppends (W.contents self.old.writer) (W.contents self.new.writer)
             result buf.now }
         ensures failed { self.new.failed ≡ (if is_ok result then self.old.failed else true) }
-        ensures kept { self.new.handed_on ≡ false }
+        ensures kept { self.new.forwarded ≡ false }
     {
-        self.handed_on = false;
+        self.forwarded = false;
         match self.writer.write(buf) {
             Ok(count) if count > 0 || buf.is_empty() => Ok(count),
             _ => {

@@ -39,8 +39,8 @@ events-smaller-in-Advance g c =
     let s = shows_step _ _ _ _ _ _ _ _ _ _ _ _ _ _ _ _ _ ready.same ready.enough c.seen.ensures c.deref.ensures.value c.bytes.ensures
     a.parses a.shows a.finished a.wants t.turns ready.keeps (t.shows a.parses.items) (t.counts a.parses.items) in
     (same_going _ _ _ _ _ (beside (feed_of c.events.stored.items c.events.cursor) c.events.ahead) _ _ _ _
-    (subst (λ (l : List ℕ). beside (feed_of l c.pass_lent.new.cursor) c.pass_lent.new.self
-    ≡ lending l c.make_ready.new.ahead c.parse_next-answer.new.cursor) c.deref-in-Advance.ensures.value c.pass_lent.ensures)
+    (subst (λ (l : List ℕ). beside (feed_of l c.pass_borrowed.new.cursor) c.pass_borrowed.new.self
+    ≡ lending l c.make_ready.new.ahead c.parse_next-answer.new.cursor) c.deref-in-Advance.ensures.value c.pass_borrowed.ensures)
     (advanced _ _ _ _ _ _ _ _ c.events.invariant.dumping _ _ _ _ s c.in_ok-go_on.ensures.ok c.in-Advance.is)).1
 
 pub events-preserved-in-Advance : goal.events-preserved-in-Advance
@@ -52,8 +52,8 @@ events-preserved-in-Advance g c =
     a.parses a.shows a.finished a.wants t.turns ready.keeps (t.shows a.parses.items) (t.counts a.parses.items) in
     record {
       dumping = (same_going _ _ _ _ _ (beside (feed_of c.events.stored.items c.events.cursor) c.events.ahead) _ _ _ _
-          (subst (λ (l : List ℕ). beside (feed_of l c.pass_lent.new.cursor) c.pass_lent.new.self
-          ≡ lending l c.make_ready.new.ahead c.parse_next-answer.new.cursor) c.deref-in-Advance.ensures.value c.pass_lent.ensures)
+          (subst (λ (l : List ℕ). beside (feed_of l c.pass_borrowed.new.cursor) c.pass_borrowed.new.self
+          ≡ lending l c.make_ready.new.ahead c.parse_next-answer.new.cursor) c.deref-in-Advance.ensures.value c.pass_borrowed.ensures)
           (advanced _ _ _ _ _ _ _ _ c.events.invariant.dumping _ _ _ _ s c.in_ok-go_on.ensures.ok c.in-Advance.is)).0;
       input = c.events.invariant.input;
     }

@@ -6,9 +6,9 @@ use Rattle.wasm_feed.specs.Beside.{beside}
 use Rattle.wasm_feed.specs.Cursors.{feed_of}
 use Rattle.wasm_feed.specs.Feed.{empty_feed}
 use Rattle.wasm_lines.specs.Listing.{line_of}
-use Rattle.wasm_feed.proofs.Beside.{lent, begun_beside, same_lighter, filled_alike}
+use Rattle.wasm_feed.proofs.Beside.{loan, begun_beside, same_lighter, filled_alike}
 use Rattle.wasm_lines.proofs.ForCallers.{cut_of}
-use Rattle.wasm_feed.proofs.Progress.{begun, no_memory, cut, wants_written, advanced, asked, listed_all, end_cut, not_filled}
+use Rattle.wasm_feed.proofs.Progress.{begun, no_memory, cut, to_be_written, advanced, asked, listed_all, end_cut, not_filled}
 use Rattle.wasm_feed.proofs.listing.list_in.Goals as goal
 
 pub returns-in_err-vec : goal.returns-in_err-vec
@@ -51,23 +51,23 @@ pub events-smaller-in-Advance : goal.events-smaller-in-Advance
 events-smaller-in-Advance g c =
     let a = c.parse_next-answer.ensures in
     let ready = c.in_ok-make_ready.ensures in
-    let s = lent _ _ _ _ _ _ _ _ _ ready.same ready.enough c.seen.ensures c.deref.ensures.value c.bytes.ensures a.parses a.shows a.finished
+    let s = loan _ _ _ _ _ _ _ _ _ ready.same ready.enough c.seen.ensures c.deref.ensures.value c.bytes.ensures a.parses a.shows a.finished
     a.wants in
     let t = c.in_ok-turn.ensures.takes in
     (same_lighter line_of _ _ (beside (feed_of c.events.stored.items c.events.cursor) c.events.ahead) _ _ _
-    (rw c.deref-in-Advance.ensures.value at c.pass_lent.ensures)
+    (rw c.deref-in-Advance.ensures.value at c.pass_borrowed.ensures)
     (advanced line_of _ _ _ _ _ _ c.events.invariant.progress _ _ s _ _ t.0 (sym c.in-Advance.is ∙ t.1))).1
 
 pub events-preserved-in-Advance : goal.events-preserved-in-Advance
 events-preserved-in-Advance g c =
     let a = c.parse_next-answer.ensures in
     let ready = c.in_ok-make_ready.ensures in
-    let s = lent _ _ _ _ _ _ _ _ _ ready.same ready.enough c.seen.ensures c.deref.ensures.value c.bytes.ensures a.parses a.shows a.finished
+    let s = loan _ _ _ _ _ _ _ _ _ ready.same ready.enough c.seen.ensures c.deref.ensures.value c.bytes.ensures a.parses a.shows a.finished
     a.wants in
     let t = c.in_ok-turn.ensures.takes in
     record {
       progress = (same_lighter line_of _ _ (beside (feed_of c.events.stored.items c.events.cursor) c.events.ahead) _ _ _
-          (rw c.deref-in-Advance.ensures.value at c.pass_lent.ensures)
+          (rw c.deref-in-Advance.ensures.value at c.pass_borrowed.ensures)
           (advanced line_of _ _ _ _ _ _ c.events.invariant.progress _ _ s _ _ t.0 (sym c.in-Advance.is ∙ t.1))).0;
       input = c.events.invariant.input;
       output = grind (arith, common_steps);
@@ -77,7 +77,7 @@ pub returns-in_err-write_out-in-Read : goal.returns-in_err-write_out-in-Read
 returns-in_err-write_out-in-Read g c =
     let a = c.parse_next-answer.ensures in
     let ready = c.in_ok-make_ready.ensures in
-    let s = lent _ _ _ _ _ _ _ _ _ ready.same ready.enough c.seen.ensures c.deref.ensures.value c.bytes.ensures a.parses a.shows a.finished
+    let s = loan _ _ _ _ _ _ _ _ _ ready.same ready.enough c.seen.ensures c.deref.ensures.value c.bytes.ensures a.parses a.shows a.finished
     a.wants in
     let t = c.in_ok-turn.ensures.takes in
     let asks = (asked line_of _ _ _ _ _ _ c.events.invariant.progress _ _ s _ _ t.0 (sym c.in-Read.is ∙ t.1)).0 in
@@ -92,11 +92,11 @@ pub returns-in_err-refill-in-Read : goal.returns-in_err-refill-in-Read
 returns-in_err-refill-in-Read g c =
     let a = c.parse_next-answer.ensures in
     let ready = c.in_ok-make_ready.ensures in
-    let s = lent _ _ _ _ _ _ _ _ _ ready.same ready.enough c.seen.ensures c.deref.ensures.value c.bytes.ensures a.parses a.shows a.finished
+    let s = loan _ _ _ _ _ _ _ _ _ ready.same ready.enough c.seen.ensures c.deref.ensures.value c.bytes.ensures a.parses a.shows a.finished
     a.wants in
     let t = c.in_ok-turn.ensures.takes in
     let asks = (asked line_of _ _ _ _ _ _ c.events.invariant.progress _ _ s _ _ t.0 (sym c.in-Read.is ∙ t.1)).0 in
-    let written = wants_written line_of _ _ _ _ _ _ _ asks c.in_ok-write_out-in-Read.ensures.writes.0 in
+    let written = to_be_written line_of _ _ _ _ _ _ _ asks c.in_ok-write_out-in-Read.ensures.writes.0 in
     let e = err_from_is_err_and c.from_residual-in_err-refill-in-Read.result c.from_residual-in_err-refill-in-Read.ensures.1 in
     record {
       lists = rw (e.1, e.2) (not_filled line_of _ _ _ _ _ written _
@@ -110,11 +110,11 @@ pub events-smaller : goal.events-smaller
 events-smaller g c =
     let a = c.parse_next-answer.ensures in
     let ready = c.in_ok-make_ready.ensures in
-    let s = lent _ _ _ _ _ _ _ _ _ ready.same ready.enough c.seen.ensures c.deref.ensures.value c.bytes.ensures a.parses a.shows a.finished
+    let s = loan _ _ _ _ _ _ _ _ _ ready.same ready.enough c.seen.ensures c.deref.ensures.value c.bytes.ensures a.parses a.shows a.finished
     a.wants in
     let t = c.in_ok-turn.ensures.takes in
     let (asks, same) = asked line_of _ _ _ _ _ _ c.events.invariant.progress _ _ s _ _ t.0 (sym c.in-Read.is ∙ t.1) in
-    let written = wants_written line_of _ _ _ _ _ _ _ asks c.in_ok-write_out-in-Read.ensures.writes.0 in
+    let written = to_be_written line_of _ _ _ _ _ _ _ asks c.in_ok-write_out-in-Read.ensures.writes.0 in
     let less = (filled_alike line_of _ _ _ _ _ _ _ written c.in_ok-refill-in-Read.ensures.refills).1 in
     rw same at less
 
@@ -122,12 +122,12 @@ pub events-preserved : goal.events-preserved
 events-preserved g c =
     let a = c.parse_next-answer.ensures in
     let ready = c.in_ok-make_ready.ensures in
-    let s = lent _ _ _ _ _ _ _ _ _ ready.same ready.enough c.seen.ensures c.deref.ensures.value c.bytes.ensures a.parses a.shows a.finished
+    let s = loan _ _ _ _ _ _ _ _ _ ready.same ready.enough c.seen.ensures c.deref.ensures.value c.bytes.ensures a.parses a.shows a.finished
     a.wants in
     let t = c.in_ok-turn.ensures.takes in
     let asks = (asked line_of _ _ _ _ _ _ c.events.invariant.progress _ _ s _ _ t.0 (sym c.in-Read.is ∙ t.1)).0 in
     let (written, none) = c.in_ok-write_out-in-Read.ensures.writes in
-    let after = (filled_alike line_of _ _ _ _ _ _ _ (wants_written line_of _ _ _ _ _ _ _ asks written)
+    let after = (filled_alike line_of _ _ _ _ _ _ _ (to_be_written line_of _ _ _ _ _ _ _ asks written)
     c.in_ok-refill-in-Read.ensures.refills).0 in
     record {
       progress = rw none after;
@@ -139,7 +139,7 @@ pub returns-in_err-write_out-in-End : goal.returns-in_err-write_out-in-End
 returns-in_err-write_out-in-End g c =
     let a = c.parse_next-answer.ensures in
     let ready = c.in_ok-make_ready.ensures in
-    let s = lent _ _ _ _ _ _ _ _ _ ready.same ready.enough c.seen.ensures c.deref.ensures.value c.bytes.ensures a.parses a.shows a.finished
+    let s = loan _ _ _ _ _ _ _ _ _ ready.same ready.enough c.seen.ensures c.deref.ensures.value c.bytes.ensures a.parses a.shows a.finished
     a.wants in
     let t = c.in_ok-turn.ensures.takes in
     let e = err_from_is_err_and c.from_residual-in_err-write_out-in-End.result c.from_residual-in_err-write_out-in-End.ensures.1 in
@@ -154,7 +154,7 @@ pub returns-in-End : goal.returns-in-End
 returns-in-End g c =
     let a = c.parse_next-answer.ensures in
     let ready = c.in_ok-make_ready.ensures in
-    let s = lent _ _ _ _ _ _ _ _ _ ready.same ready.enough c.seen.ensures c.deref.ensures.value c.bytes.ensures a.parses a.shows a.finished
+    let s = loan _ _ _ _ _ _ _ _ _ ready.same ready.enough c.seen.ensures c.deref.ensures.value c.bytes.ensures a.parses a.shows a.finished
     a.wants in
     let t = c.in_ok-turn.ensures.takes in
     record {

@@ -68,7 +68,7 @@ fn compiled(
 }
 
 #[test]
-fn bodies_are_handed_on(rt: HostRuntime) -> std::result::Result<(), Fail> {
+fn bodies_are_forwarded(rt: HostRuntime) -> std::result::Result<(), Fail> {
     for size in [1, 3, 7, 41] {
         let (places, most) = compiled(rt.alloc(), MODULE, size)?;
         same(&rt, places, (23, 30, 2));
@@ -78,7 +78,7 @@ fn bodies_are_handed_on(rt: HostRuntime) -> std::result::Result<(), Fail> {
 }
 
 #[test]
-fn bodies_before_a_fault_are_handed_on(rt: HostRuntime) -> std::result::Result<(), Fail> {
+fn bodies_before_a_fault_are_forwarded(rt: HostRuntime) -> std::result::Result<(), Fail> {
     let stream = b"\0asm\x01\0\0\0\x03\x02\x01\0\x0a\x04\x01\x02\0\x0b\x80";
     let (places, most) = compiled(rt.alloc(), stream, 2)?;
     same(&rt, places, (16, 18, 1));

@@ -1,6 +1,6 @@
 use Rattle.std.proofs.Common.{rules, length, refl, arith}
 use Rattle.wasm_base.specs.Window.{place}
-use Rattle.wasm_items.proofs.PassedInstructions.{next_instruction, fewer_to_come}
+use Rattle.wasm_items.proofs.PassedInstructions.{next_instruction, fewer_remaining}
 use Rattle.wasm_items.specs.Init.{end_of_expression}
 use Rattle.wasm_items.proofs.init.pass_expression.Goals as goal
 
@@ -16,6 +16,6 @@ instructions-preserved c = record {
   left = next_instruction c.instructions.invariant.left.most (place c.instructions.reader) _ c.in_ok-opcode.opcode
       (place c.read_u8.new.self) (place c.read_operands.new.reader) c.instructions.invariant.left.fewer c.instructions.invariant.left.so_far
       (search rules) (search rules) c.in_ok-read_operands.field-0 (search rules)
-      (fewer_to_come c.read_u8.new.self c.read_operands.new.reader c.read_operands.ensures.keeps);
+      (fewer_remaining c.read_u8.new.self c.read_operands.new.reader c.read_operands.ensures.keeps);
   keeps = search rules;
 }

@@ -14,7 +14,7 @@ fn reader(bytes: &'static [u8]) -> BinaryReader<'static> {
     BinaryReader::new(bytes, 0)
 }
 
-fn want_of_memory() -> Error {
+fn memory_ran_out() -> Error {
     Error::new(Fault::OutOfMemory, 0)
 }
 
@@ -39,7 +39,7 @@ impl<'a> FromReaderIn<'a> for Refused {
 
     fn from_reader(_alloc: Global, reader: &mut BinaryReader<'a>) -> Result<Self> {
         if reader.read_u8()? == 0 {
-            return Err(want_of_memory());
+            return Err(memory_ran_out());
         }
         Ok(Refused)
     }
@@ -78,17 +78,17 @@ fn a_list_of_lists(rt: HostRuntime) -> std::result::Result<(), Fail> {
 }
 
 #[test]
-fn nothing_comes_after_a_want_of_memory(rt: HostRuntime) -> std::result::Result<(), Fail> {
+fn nothing_comes_after_out_of_memory(rt: HostRuntime) -> std::result::Result<(), Fail> {
     let section = SectionLimited::<Refused>::new(reader(b"\x03\x01\x00\x01"))?;
     let mut items = section.into_iter_in(rt.alloc());
     same(&rt, items.next(), Some(Ok(Refused)));
-    same(&rt, items.next(), Some(Err(want_of_memory())));
+    same(&rt, items.next(), Some(Err(memory_ran_out())));
     is_over(&rt, &mut items);
     Ok(())
 }
 
 #[test]
-fn a_list_whose_item_wants_memory(rt: HostRuntime) {
+fn a_list_whose_item_allocates(rt: HostRuntime) {
     let list = read_list_in::<Refused>(rt.alloc(), &mut reader(b"\x03\x01\x00\x01"));
-    same(&rt, list.err(), Some(want_of_memory()));
+    same(&rt, list.err(), Some(memory_ran_out()));
 }

@@ -12,7 +12,7 @@ fn section<'a, T>(bytes: &'a [u8], offset: u64) -> Result<SectionLimited<'a, T>>
 }
 
 #[test]
-fn numbers_with_offsets_and_a_byte_left(rt: HostRuntime) -> std::result::Result<(), Fail> {
+fn numbers_with_offsets_and_a_trailing_byte(rt: HostRuntime) -> std::result::Result<(), Fail> {
     let mut items = section::<u32>(&[2, 5, 0x80, 1, 7], 100)?.into_iter_with_offsets();
     is_next(&rt, &mut items, 3, Some(Ok((101, 5))));
     is_next(&rt, &mut items, 2, Some(Ok((102, 128))));
@@ -23,7 +23,7 @@ fn numbers_with_offsets_and_a_byte_left(rt: HostRuntime) -> std::result::Result<
 }
 
 #[test]
-fn numbers_and_a_byte_left(rt: HostRuntime) -> std::result::Result<(), Fail> {
+fn numbers_and_a_trailing_byte(rt: HostRuntime) -> std::result::Result<(), Fail> {
     let mut items = section::<u32>(&[2, 5, 0x80, 1, 7], 100)?.into_iter();
     is_next(&rt, &mut items, 3, Some(Ok(5)));
     is_next(&rt, &mut items, 2, Some(Ok(128)));

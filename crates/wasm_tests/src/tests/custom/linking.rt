@@ -216,7 +216,7 @@ fn a_section_of_relocations(rt: HostRuntime) -> Result<(), Fail> {
 }
 
 #[test]
-fn relocations_with_offsets_and_a_byte_left(rt: HostRuntime) -> Result<(), Fail> {
+fn relocations_with_offsets_and_a_trailing_byte(rt: HostRuntime) -> Result<(), Fail> {
     let bytes = b"\x85\x00\x81\x00\x05\x01\x02\x03\xff";
     let section = RelocSectionReader::new(window(bytes, 70000))?;
     same(&rt, places(&section), (5, 70000..70009, 70002..70009));

@@ -7,7 +7,7 @@ returns g c =
     let d = c.dump_over-how.ensures in
     record {
       how = c.dump_over-how.result.0;
-      dumps = dumps_kept (style_of c.args.options) _ _ _ _ _ _ _ _ d.dumps c.hand_on-result.ensures.keeps;
+      dumps = dumps_kept (style_of c.args.options) _ _ _ _ _ _ _ _ d.dumps c.forward_all-result.ensures.keeps;
       source = d.source;
-      ends = rw d.sink at c.hand_on-result.ensures.ends;
+      ends = rw d.sink at c.forward_all-result.ensures.ends;
     }

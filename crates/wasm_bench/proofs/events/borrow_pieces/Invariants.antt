@@ -1,5 +1,5 @@
 use Rattle.std.proofs.Common.{◌≡◌, ◌≤◌, true, length}
-use Rattle.wasm_bench.proofs.events.lend_pieces.Given as goal
+use Rattle.wasm_bench.proofs.events.borrow_pieces.Given as goal
 
 -- what is left of the piece is the first of what is left: nothing after the end of input
 abbrev pub invariant-steps : goal.invariant-steps
