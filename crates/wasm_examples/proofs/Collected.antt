@@ -53,10 +53,10 @@ module _ {C D : Type 0} (compiles : C → Window → C → Type 0) (inside : D �
   abbrev pub ReportedAs : D → Event → D → Type 0
   ReportedAs v e w = Visits compiles (inside v) (bodies_of e) (inside w)
 
-  in_report : (v : D) (events : List Event) (w : D) → Visits ReportedAs v events w
+  noted : (v : D) (events : List Event) (w : D) → Visits ReportedAs v events w
       → Visits (λ (a : C) (e : Event) (b : C). Visits compiles a (bodies_of e) b) (inside v) events (inside w)
-  in_report v [] w h = ap inside h
-  in_report v (e ∷ events) w h = (inside h.0, h.1, in_report h.0 events w h.2)
+  noted v [] w h = ap inside h
+  noted v (e ∷ events) w h = (inside h.0, h.1, noted h.0 events w h.2)
 
   pub compiled : (pieces : List (Bor (List ℕ))) (features : ℕ) (before : D) (r : Result ℕ Error) (after : D)
       → VisitsStream ReportedAs pieces features before r after → CompilesStream compiles pieces features (inside before) r (inside after)
@@ -66,7 +66,7 @@ module _ {C D : Type 0} (compiles : C → Window → C → Type 0) (inside : D �
       record {
         events = all.events;
         reading = all.reads (joined pieces) refl;
-        passes_on = visits-flat compiles bodies_of (inside before) all.events (inside after) (in_report before all.events after all.visits);
+        passes_on = visits-flat compiles bodies_of (inside before) all.events (inside after) (noted before all.events after all.visits);
       },
     ),
     stores,
@@ -76,7 +76,7 @@ module _ {C D : Type 0} (compiles : C → Window → C → Type 0) (inside : D �
       inr (record {
         events = events;
         reading = reads (joined pieces) refl;
-        passes_on = visits-flat compiles bodies_of (inside before) events (inside after) (in_report before events after visits);
+        passes_on = visits-flat compiles bodies_of (inside before) events (inside after) (noted before events after visits);
       })
 
 -- where nothing was there before

@@ -17,7 +17,7 @@ use Rattle.wasm_parser.specs.ParseAnswer.{unread, BeginsAfterCount}
 use Rattle.wasm_parser.proofs.ForCallers.{gives, item_came, fault_came}
 use Rattle.wasm_examples.specs.Folding.{unless_refused, ReadsTo}
 use Rattle.wasm_examples.specs.Outside.{OutsideParts, no_parts, Refused, at_fault, no_such, with_import, with_export, imported, exported}
-use Rattle.wasm_examples.specs.Outside.{after_number, items_place, in_report, Comes, IsMemory, IsOutside}
+use Rattle.wasm_examples.specs.Outside.{after_number, items_place, noted, Comes, IsMemory, IsOutside}
 use Rattle.wasm_examples.specs.declared.outside.Misfit.{Misfit}
 use Rattle.wasm_examples.specs.declared.outside.Misfit.TheVariants as misfits
 
@@ -96,7 +96,7 @@ items_begin s h = ap (λ (x : Outcome ℕ). after_number x (place (unread s.read
 
 -- what refuses a part refuses the module
 pub misfit_there : (stream : List ℕ) (of : Result OutsideParts Refused) (m : Misfit) (after : OutsideParts)
-    → ((r : Refused) → of ≡ Err r → ReadsTo in_report no_parts stream (Err r)) → Comes of (Err m) after → IsOutside stream (Err m)
+    → ((r : Refused) → of ≡ Err r → ReadsTo noted no_parts stream (Err r)) → Comes of (Err m) after → IsOutside stream (Err m)
 misfit_there stream of (misfits.Stream e) after refused (inl i) = inl i
 misfit_there stream of (misfits.Stream e) after refused (inr h) = inr (refused (at_fault (fault_at e)) h)
 misfit_there stream of (misfits.NoSuch k) after refused h = refused (no_such k) h

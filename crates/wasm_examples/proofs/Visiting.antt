@@ -90,13 +90,13 @@ module _ {V : Type 0} (takes : V → Event → V → Type 0) where
         inr (h.events, u.0, h.visits)
 
     -- what came with a part
-    pub in_report : (bytes : Bor (List ℕ)) (payload : Payload) (r : Result Turn Error) (after : V) → Steps f (Ok (Parsed bytes payload)) g
+    pub noted : (bytes : Bor (List ℕ)) (payload : Payload) (r : Result Turn Error) (after : V) → Steps f (Ok (Parsed bytes payload)) g
         → Tells takes before bytes.now payload r after → VisitsNext takes f before r g after
-    in_report bytes payload (Ok Advance) after s t = part_visited bytes payload after s t.0 t.1
-    in_report bytes payload (Ok Read) after s t = absurd t
-    in_report bytes payload (Ok (End how)) after s t = subst (λ (x : V). VisitsNext takes f before (Ok (End how)) g x) (sym t.1)
+    noted bytes payload (Ok Advance) after s t = part_visited bytes payload after s t.0 t.1
+    noted bytes payload (Ok Read) after s t = absurd t
+    noted bytes payload (Ok (End how)) after s t = subst (λ (x : V). VisitsNext takes f before (Ok (End how)) g x) (sym t.1)
         (ended_there bytes payload how s t.0)
-    in_report bytes payload (Err e) after s t = λ features given begun h l. inl t
+    noted bytes payload (Err e) after s t = λ features given begun h l. inl t
 
   -- ---- the parts that are held
 

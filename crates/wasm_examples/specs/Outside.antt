@@ -121,8 +121,8 @@ abbrev pub with_section : OutsideParts → ExternalKind → ℕ → Result Outsi
 with_section o kind count = Ok (record o { spans = with_more o.spans kind count })
 
 -- what a part of the module adds: imports, functions, tables, memories, globals, exports and tags
-abbrev pub in_report : OutsideParts → Report → Result OutsideParts Refused
-in_report o (counted id count window) =
+abbrev pub noted : OutsideParts → Report → Result OutsideParts Refused
+noted o (counted id count window) =
     if nat_eq id import_id then imported o (map import_alone (flattened count (items_place window)))
     else if nat_eq id function_id then with_section o kinds.Func count
     else if nat_eq id table_id then with_section o kinds.Table count
@@ -131,8 +131,8 @@ in_report o (counted id count window) =
     else if nat_eq id export_id then exported o count (items_place window)
     else if nat_eq id tag_id then with_section o kinds.Tag count
     else Ok o
-in_report o (stream_end (fault f)) = Err (at_fault f)
-in_report o other = Ok o
+noted o (stream_end (fault f)) = Err (at_fault f)
+noted o other = Ok o
 
 -- ---- what calls answer
 
@@ -150,7 +150,7 @@ IsMemory (misfits.NoSuch place) = ⊥
 -- This is the outside of the module that the stream is, by its reading with all features from offset 0; or it has none,
 -- for this reason; or memory was refused.
 abbrev pub IsOutside : List ℕ → Result Outside Misfit → Type 0
-IsOutside stream (Ok o) = ReadsTo in_report no_parts stream (Ok (outside_parts o))
+IsOutside stream (Ok o) = ReadsTo noted no_parts stream (Ok (outside_parts o))
 IsOutside stream (Err (misfits.Stream e)) = (fault_at e ≡ out_of_memory)
-    ⊎ ReadsTo in_report no_parts stream (Err (at_fault (fault_at e)))
-IsOutside stream (Err (misfits.NoSuch place)) = ReadsTo in_report no_parts stream (Err (no_such place))
+    ⊎ ReadsTo noted no_parts stream (Err (at_fault (fault_at e)))
+IsOutside stream (Err (misfits.NoSuch place)) = ReadsTo noted no_parts stream (Err (no_such place))

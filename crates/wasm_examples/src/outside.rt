@@ -5,7 +5,7 @@ ghost use Rattle.wasm_parser.specs.ParseAnswer.{report_of, ItemsBegin};
 ghost use Rattle.wasm_items.specs.Exports.{export_parts};
 ghost use Rattle.wasm_items.specs.Imports.{import_parts};
 ghost use Rattle.wasm_examples.specs.Imported.{imports_of};
-ghost use Rattle.wasm_examples.specs.Outside.{kind_of_type, outside_parts, with_import, with_export, imported, exported, in_report, Comes, IsMemory, IsOutside};
+ghost use Rattle.wasm_examples.specs.Outside.{kind_of_type, outside_parts, with_import, with_export, imported, exported, noted, Comes, IsMemory, IsOutside};
 
 use std::alloc::Global;
 use wasm_base::Error;
@@ -151,7 +151,7 @@ impl<'a> Outside<'a> {
 
     fn add(&mut self, payload: Payload<'a>) -> Result<(), Misfit>
         ensures { ItemsBegin payload.entry → Comes
-            (in_report (outside_parts self.old) (report_of payload.entry))
+            (noted (outside_parts self.old) (report_of payload.entry))
             result (outside_parts self.new) }
     {
         match payload {

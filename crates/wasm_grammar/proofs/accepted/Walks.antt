@@ -68,7 +68,8 @@ room_for start encoding fs f prefix e r =
     omega arith
 
 -- one more frame, with its events
-reported_more : (start features : ℕ) (encoding : Encoding) (fs : List SectionFrame) (f : SectionFrame) (ts us : List Tile) (events : List Event)
+reported_more :
+    (start features : ℕ) (encoding : Encoding) (fs : List SectionFrame) (f : SectionFrame) (ts us : List Tile) (events : List Event)
     → bytes_of ts ≡ stream_of encoding fs → ReportedAs start features encoding fs ts
     → FrameEvents features encoding (start + length (bytes_of ts)) f events → events_of start features us ≡ events_of start features ts
     ++ events → ReportedAs start features encoding (fs ++ f ∷ []) us
@@ -92,7 +93,8 @@ whole_step start encoding fs f q r i a w =
         joined = stream_more encoding fs f (bytes_of ts) c.joined;
         knows = search knows_section;
         closed = refl;
-        reported_as = λ features. reported_more start features encoding fs f ts _ (section_event features o w.0 f ∷ []) c.joined (c.reported_as features)
+        reported_as = λ features.
+            reported_more start features encoding fs f ts _ (section_event features o w.0 f ∷ []) c.joined (c.reported_as features)
             (rw w.1 refl)
             (search section_tile_event);
       };
@@ -143,7 +145,8 @@ module_step start fs f z d q r i a =
         joined = t.joined ∙ (search (code_bytes, stream_more));
         knows = t.knows Module (fs ++ f ∷ []) (search (knows_code, division_count));
         closed = t.closed;
-        reported_as = λ features. reported_more start features Module fs f ts t.tiles (code_events features (start + length (bytes_of ts)) f d)
+        reported_as = λ features.
+            reported_more start features Module fs f ts t.tiles (code_events features (start + length (bytes_of ts)) f d)
             c.joined (c.reported_as features)
             (rw (ap (kind_of Module) z) (d, refl))
             (grind (arith, code_listed));

@@ -4,7 +4,7 @@ use Rattle.wasm_base.specs.FaultAt.{fault_at}
 use Rattle.wasm_parser.specs.ParseAll.{walk_over}
 use Rattle.wasm_items.specs.Exports.{export_parts}
 use Rattle.wasm_items.specs.Imports.{import_parts}
-use Rattle.wasm_examples.specs.Outside.{outside_parts, no_parts, in_report, at_fault}
+use Rattle.wasm_examples.specs.Outside.{outside_parts, no_parts, noted, at_fault}
 use Rattle.wasm_parser.specs.ParseAnswer.{report_of}
 use Rattle.wasm_examples.proofs.Folding.{items, goes_on, refused, fault_came, nothing_came, begun}
 use Rattle.wasm_examples.proofs.Loading.{misfit_there}
@@ -14,7 +14,7 @@ pub loop-payload-init : goal.loop-payload-init
 loop-payload-init c = record {
   can = tt;
   finite = tt;
-  came = begun in_report no_parts c.args.bytes.now c.into_iter-payload-iterator.result _
+  came = begun noted no_parts c.args.bytes.now c.into_iter-payload-iterator.result _
       (c.into_iter-payload-iterator.ensures.into_iter_gives ∙ (c.parse_all-payload-items.ensures.walks
       ∙ ap (λ p. walk_over p c.args.bytes.now) c.new-3.ensures))
       (λ i. record {
@@ -28,7 +28,7 @@ pub returns-in_err-payload : goal.returns-in_err-payload
 returns-in_err-payload c =
     let small : length c.args.bytes.now < 2 ^ 64 = omega arith in
     let e = err_from_is_err_and c.from_residual.result c.from_residual.ensures.1 in
-    rw (e.1, e.2) (inr (fault_came in_report no_parts c.args.bytes.now c.loop-payload.payload-iterator c.next.new.self
+    rw (e.1, e.2) (inr (fault_came noted no_parts c.args.bytes.now c.loop-payload.payload-iterator c.next.new.self
     (outside_parts c.loop-payload.outside) c.loop-payload.invariant.came small c.in_err-payload.field-0.0
     (at_fault (fault_at c.in_err-payload.field-0.0)) refl (rw c.in_err-payload.was at c.in-Some.ensures.steps)))
 
@@ -36,11 +36,11 @@ pub returns-in_err-add : goal.returns-in_err-add
 returns-in_err-add c =
     let small : length c.args.bytes.now < 2 ^ 64 = omega arith in
     let next = rw c.in_ok-payload.was at c.in-Some.ensures.steps in
-    let begin = items in_report no_parts c.args.bytes.now c.loop-payload.payload-iterator c.next.new.self (outside_parts c.loop-payload.outside)
+    let begin = items noted no_parts c.args.bytes.now c.loop-payload.payload-iterator c.next.new.self (outside_parts c.loop-payload.outside)
     c.loop-payload.invariant.came small c.in_ok-payload.field-0 next in
     let e = err_from_is_err_and c.from_residual-in_err-add.result c.from_residual-in_err-add.ensures.1 in
-    rw (e.1, e.2) (misfit_there c.args.bytes.now (in_report (outside_parts c.loop-payload.outside) (report_of c.in_ok-payload.field-0))
-    c.in_err-add.field-0.0 _ (refused in_report no_parts c.args.bytes.now c.loop-payload.payload-iterator c.next.new.self
+    rw (e.1, e.2) (misfit_there c.args.bytes.now (noted (outside_parts c.loop-payload.outside) (report_of c.in_ok-payload.field-0))
+    c.in_err-add.field-0.0 _ (refused noted no_parts c.args.bytes.now c.loop-payload.payload-iterator c.next.new.self
     (outside_parts c.loop-payload.outside) c.loop-payload.invariant.came small c.in_ok-payload.field-0 next)
     (rw c.in_err-add.was at (c.add.ensures begin)))
 
@@ -48,17 +48,17 @@ pub loop-payload-preserved : goal.loop-payload-preserved
 loop-payload-preserved c =
     let small : length c.args.bytes.now < 2 ^ 64 = omega arith in
     let next = rw c.in_ok-payload.was at c.in-Some.ensures.steps in
-    let begin = items in_report no_parts c.args.bytes.now c.loop-payload.payload-iterator c.next.new.self (outside_parts c.loop-payload.outside)
+    let begin = items noted no_parts c.args.bytes.now c.loop-payload.payload-iterator c.next.new.self (outside_parts c.loop-payload.outside)
     c.loop-payload.invariant.came small c.in_ok-payload.field-0 next in
     record {
       can = tt;
       finite = tt;
-      came = goes_on in_report no_parts c.args.bytes.now c.loop-payload.payload-iterator c.next.new.self (outside_parts c.loop-payload.outside)
+      came = goes_on noted no_parts c.args.bytes.now c.loop-payload.payload-iterator c.next.new.self (outside_parts c.loop-payload.outside)
           c.loop-payload.invariant.came small c.in_ok-payload.field-0 next _ (rw c.in_ok-add.was at (c.add.ensures begin));
     }
 
 pub returns : goal.returns
 returns c =
     let small : length c.args.bytes.now < 2 ^ 64 = omega arith in
-    nothing_came in_report no_parts c.args.bytes.now c.loop-payload.payload-iterator c.next.new.self (outside_parts c.loop-payload.outside)
+    nothing_came noted no_parts c.args.bytes.now c.loop-payload.payload-iterator c.next.new.self (outside_parts c.loop-payload.outside)
     c.loop-payload.invariant.came small c.in-None.ensures.steps

@@ -1,4 +1,4 @@
-use Rattle.wasm_examples.specs.Outside.{outside_parts, no_parts, in_report}
+use Rattle.wasm_examples.specs.Outside.{outside_parts, no_parts, noted}
 use Rattle.wasm_examples.proofs.Folding.{Came}
 use Rattle.wasm_examples.proofs.outside.outside_of.Given as goal
 
@@ -6,5 +6,5 @@ abbrev pub invariant-loop-payload : goal.invariant-loop-payload
 invariant-loop-payload l = record {
   can : goal.iterator-loop-payload.can_next l.payload-iterator;
   finite : goal.iterator-loop-payload.is_finite l.payload-iterator;
-  came : Came in_report no_parts l.fn.bytes l.payload-iterator (outside_parts l.outside);
+  came : Came noted no_parts l.fn.bytes l.payload-iterator (outside_parts l.outside);
 }

@@ -1,5 +1,5 @@
 use Rattle.std.proofs.lemmas.Result.{err_from_is_err_and}
-use Rattle.wasm_examples.proofs.Visiting.{asked, stopped, in_report}
+use Rattle.wasm_examples.proofs.Visiting.{asked, stopped, noted}
 use Rattle.wasm_examples.proofs.visits.visit_next.Goals as goal
 
 pub returns-in_err-step : goal.returns-in_err-step
@@ -16,4 +16,4 @@ returns-in-NeedMoreData g c =
 pub returns-in-Parsed : goal.returns-in-Parsed
 returns-in-Parsed g c =
     let made = rw c.open.ensures.opens at c.step.ensures in
-    in_report _ _ _ _ _ _ _ _ (rw (c.in_ok-step.was, c.in-Parsed.is) at made) c.tell.ensures
+    noted _ _ _ _ _ _ _ _ (rw (c.in_ok-step.was, c.in-Parsed.is) at made) c.tell.ensures
