@@ -6,7 +6,7 @@ use Rattle.wasm_lines.specs.Page.{WritesHead, IsCut, WritesOut}
 use Rattle.wasm_lines.specs.declared.devices.ListError.{ListError}
 use Rattle.wasm_lines.specs.declared.devices.ListError.TheVariants.{Input, Output, Memory}
 
--- so many bytes of those that wait
+-- the first `n` of the bytes that are not written yet
 pub first_bytes : (taken written : Option (List ℕ)) (waiting bytes : List ℕ) (n : ℕ) → bytes ≡ waiting
     → Appends taken written (take n bytes) → WritesHead taken written waiting
 first_bytes taken written waiting bytes n e a = record {

@@ -24,7 +24,7 @@ decimal_by_two n lo hi =
     let c : n % 10 ≡ n % 100 % 10 = omega arith in
     rw (decimal_step n (omega arith) hi, decimal_step (n / 10) (omega arith) (omega arith), append_assoc, a, b, ← c)
 
--- the last digits of what is left after a division are those of the number
+-- the last digits of a remainder are those of the number
 pub last_two : (n : ℕ) → last_digits 2 (n % 100) ≡ last_digits 2 n
 unfolding last_digits
 last_two n =

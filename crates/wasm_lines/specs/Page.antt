@@ -4,14 +4,14 @@ use Rattle.std.specs.Io.KnownBytes.{Appends}
 use Rattle.wasm_lines.specs.declared.devices.ListError.{ListError}
 use Rattle.wasm_lines.specs.declared.devices.ListError.TheVariants.{Input, Output, Memory}
 
--- A sink got a beginning of these bytes, and the others are unwritten.
+-- A sink received a prefix of these bytes, and the others are unwritten.
 pub record WritesHead (taken written : Option (List ℕ)) (bytes : List ℕ) : Type 0 where
   pub moved : List ℕ
   pub unwritten : List ℕ
   pub parts : bytes ≡ moved ++ unwritten
   pub wrote : Appends taken written moved
 
--- A page was given up, since the sink failed or memory was refused: a beginning of what waited was written.
+-- A page was abandoned, since the sink or an allocation failed: a prefix of the waiting bytes was written.
 abbrev pub IsCut : (taken written : Option (List ℕ)) (waiting : List ℕ) → ListError → Type 0
 IsCut taken written waiting Output = WritesHead taken written waiting
 IsCut taken written waiting Memory = WritesHead taken written waiting

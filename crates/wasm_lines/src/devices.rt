@@ -1,4 +1,4 @@
-// What streams are read from and written to: sources, sinks, and why a call that uses them was given up.
+// What streams are read from and written to: sources, sinks, and the error of a call that uses them.
 mod sink;
 mod source;
 
@@ -10,7 +10,7 @@ use std::alloc::AllocError;
 #[derive(Clone, Copy, Debug, PartialEq, Eq)]
 pub struct Failed;
 
-/// Why a call was given up that reads from a source or writes to a sink.
+/// The error of a call that reads from a source or writes to a sink.
 #[derive(Clone, Copy, Debug, PartialEq, Eq)]
 pub enum ListError {
     /// The source failed.

@@ -58,7 +58,7 @@ fn begin_anew<A: Allocator, W: Sink>(
     fill(bytes)
 }
 
-// Writes the first bytes. `Output` where the sink fails, and a beginning of them is then written.
+// Writes the first bytes. Returns `Output` if the sink fails; a prefix of them is then written.
 fn write_first<W: Sink>(bytes: &[u8], len: usize, output: &mut W) -> Result<(), ListError>
     requires { len ≤ length bytes.now }
     ensures writes { OnOk result (Appends (W.taken output.old) (W.taken output.new)
@@ -75,7 +75,7 @@ fn write_first<W: Sink>(bytes: &[u8], len: usize, output: &mut W) -> Result<(), 
     }
 }
 
-// Makes room for so many bytes after the first ones, which are written where there is none, and says where it begins.
+// Makes room for this many bytes after the first ones, which are written if there is none, and returns where it starts.
 #[inline(always)]
 fn make_room<A: Allocator, W: Sink>(
     bytes: &mut Vec<u8, A>,
@@ -121,7 +121,7 @@ impl<A: Allocator> Model for Page<A> {
 }
 
 impl<A: Allocator> Page<A> {
-    /// An empty one. It takes memory from this allocator when bytes are put.
+    /// An empty page. It allocates from this allocator when bytes are put.
     pub fn new(alloc: A) -> Self
         ensures { result ≡ [] }
     {
@@ -154,7 +154,7 @@ impl<A: Allocator> Page<A> {
         Ok(())
     }
 
-    /// Puts a text after those that wait, where it is written, with the errors of `put`.
+    /// Puts a text after the bytes that wait, in place, with the errors of `put`.
     #[inline(always)]
     pub fn put_text<T: ShortText, W: Sink>(
         &mut self,
@@ -203,7 +203,7 @@ impl<A: Allocator> Page<A> {
         Ok(())
     }
 
-    /// Writes the bytes that wait. `Output` where the sink fails, and a beginning of them is then written.
+    /// Writes the bytes that wait. Returns `Output` if the sink fails; a prefix of them is then written.
     pub fn write_out<W: Sink>(&mut self, output: &mut W) -> Result<(), ListError>
         ensures writes { WritesOut (W.taken output.old) (W.taken output.new)
             self.old self.new result }

@@ -7,7 +7,7 @@ use crate::digits::write_number;
 /// most 20.
 pub const TEXT_BYTES: usize = 159;
 
-/// A text of at most 159 bytes, which is written where it is to be.
+/// A text of at most 159 bytes, which is written in place.
 pub trait ShortText {
     /// The text.
     ghost text: { Self → List ℕ };

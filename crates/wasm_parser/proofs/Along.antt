@@ -1,4 +1,4 @@
--- Where a caller is along a stream: at its start, where more came, and after an answer.
+-- Where a caller is in a stream: at its start, after more bytes arrived, and after a call.
 use Rattle.std.proofs.Common.{◌≡◌, ℕ, ◌+◌, ◌^◌, ◌<◌, ◌≤◌, Bool, true, false, nat_eq, List, [], ◌∷◌, ◌++◌, length, Result, Ok, Err, refl}
 use Rattle.std.proofs.Common.{sym, ap, subst, subst₂, ◌∙◌, arith, length-append, append_assoc, append-nil, inl, inr}
 use Rattle.std.proofs.lemmas.List.{take_at, drop_at, nil_from_length}
@@ -36,7 +36,7 @@ use Rattle.wasm_parser.specs.declared.payload.Chunk.TheVariants.{NeedMoreData, P
 pub begins : (start features : ℕ) → Along start features [] (initial_state start features) [] []
 begins start features = record { prefix = []; is_after = nothing_passed start features; whole = refl; has_features = refl; listed = refl }
 
--- more is given
+-- more bytes arrive
 pub pushed : (start features : ℕ) (given : List ℕ) (p : ParserState) (held : List ℕ) (events : List Event) (piece : List ℕ)
     → Along start features given p held events → Along start features (given ++ piece) p (held ++ piece) events
 pushed start features given p held events piece a = record {
@@ -47,7 +47,7 @@ pushed start features given p held events piece a = record {
   listed = a.listed;
 }
 
--- ---- the streams that the given bytes may be the first of
+-- ---- the streams of which the bytes so far may be a prefix
 
 pub whole_begins : (start features : ℕ) (eof : Bool) (given : List ℕ) (events : List Event) → ReadsEach start features eof given events
     → BeginsEach start features eof given events
@@ -65,7 +65,7 @@ may_be false given stream m = m
 -- where the parser is, by what it passed
 module _ (start features : ℕ) (given : List ℕ) (p : ParserState) (held : List ℕ) (events : List Event)
     (a : Along start features given p held events) where
-  -- what is held ends where what was given does
+  -- the stored bytes end where the bytes so far do
   pub ends_at : p.offset + length held ≡ start + length given
   ends_at =
       let o : p.offset ≡ start + length a.prefix = a.is_after.offset in
@@ -75,7 +75,7 @@ module _ (start features : ℕ) (given : List ℕ) (p : ParserState) (held : Lis
   verdict_same : (rest : List ℕ) → verdict (grammar_of p) rest ≡ verdict (grammar start a.is_after.tiles) rest
   verdict_same rest = ap (λ (g : Grammar). verdict g rest) (grammar_same p start a.prefix a.is_after)
 
-  -- a stream that the given bytes begin
+  -- a stream of which the bytes so far are a prefix
   from_here : (stream more : List ℕ) → stream ≡ given ++ more → stream ≡ bytes_of a.is_after.tiles ++ (held ++ more)
   from_here stream more e =
       e ∙ (ap (λ (x : List ℕ). x ++ more) a.whole ∙ (append_assoc a.prefix held more
@@ -112,7 +112,7 @@ module _ (start features : ℕ) (given : List ℕ) (p : ParserState) (held : Lis
             ∙ ap (λ (x : List Event). x ++ (m.more ++ last_event o.end ∷ [])) (sym a.listed)));
       }
 
-  -- the events that came so far
+  -- the events so far
   pub events_begin : (eof : Bool) → BeginsEach start features eof given events
   events_begin eof stream m = let (more, e) = may_be eof given stream m in begins_with stream more e
 
@@ -264,7 +264,7 @@ module _ (start features : ℕ) (given : List ℕ) (p : ParserState) (held : Lis
       answered_on eof x bytes new rest (waiting (grammar_of p) held) refl
       ((as_table p new eof held x r).within (omega (arith, o, l))) w n
 
--- ---- the same is answered
+-- ---- the same result
 
 again : (p new other : ParserState) (eof : Bool) (held : List ℕ) (one two : Result Chunk Error) → is_last one ≡ true
     → ParseAnswer p eof held one new → ParseAnswer new eof held two other → SaysTheSame one two

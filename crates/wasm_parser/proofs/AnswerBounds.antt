@@ -45,9 +45,9 @@ tile_takes p xs t e = takes_at p.expects_header p xs t e
 not_zero : (n : ℕ) → 0 < n → nat_eq n 0 ≡ false
 not_zero n l = grind arith
 
--- ---- an answer, or a request
+-- ---- a result, or a request
 
--- bytes that decide are answered, and others are asked for
+-- bytes that decide get a result, and others a request for more
 abbrev pub IsOn : ParserState → (eof : Bool) (rest : List ℕ) → Result Chunk Error → ParserState → Type 0
 IsOn p eof rest r new =
     Answers p (verdict (grammar_of p) rest) r new ⊎ ((need : ℕ) × (hint : ℕ) × (waiting (grammar_of p) rest ≡ wants need hint)
@@ -69,7 +69,7 @@ consumes_at p new rest consumed payload (tile t) e a =
 consumes_at p new rest consumed payload (final (fault f)) e a = absurd a
 consumes_at p new rest consumed payload (final (ended o)) e a = grind arith
 
--- what the answers of a parser consume
+-- what the calls of a parser consume
 consumes_any : (p new : ParserState) (rest : List ℕ) (r : Result Chunk Error) → Answers p (verdict (grammar_of p) rest) r new
     → Consumes rest r
 consumes_any p new rest r a = grind (arith, consumes_at)
@@ -134,7 +134,7 @@ asks_for_some p new eof rest r h = asks_by (nat_lt (p.offset + length rest) (2 ^
 
 -- ---- what more bytes change
 
--- a request is none that is answered
+-- a request is no final result
 on_last : (p new : ParserState) (bytes more : List ℕ) (r : Result Chunk Error) (w : Waiting) → waiting (grammar_of p) bytes ≡ w
     → AnswersOn false w p (verdict (grammar_of p) bytes) r new → ¬ IsRequest r → p.offset + length (bytes ++ more) < 2 ^ 64
     → (eof : Bool) → ParseAnswer p eof (bytes ++ more) r new

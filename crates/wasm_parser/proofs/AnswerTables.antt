@@ -1,4 +1,4 @@
--- An answer by what comes next and by what the parser answers: the equation of `ParseAnswer`, case by case.
+-- The result of a call by what comes next: the equation of `ParseAnswer`, case by case.
 use Rattle.std.proofs.Common.{◌≡◌, ℕ, ◌+◌, ◌^◌, ◌<◌, ◌≤◌, Bool, true, false, cond, List, length, Result, Ok, Err}
 use Rattle.std.proofs.Common.{nat_lt, ltb-true, ltb-false, refl, sym, ap, ◌∙◌, arith}
 use Rattle.wasm_base.specs.FaultAt.{FaultAt, fault_at, at_offset}
@@ -17,8 +17,8 @@ use Rattle.wasm_parser.specs.declared.payload.Chunk.TheVariants.{NeedMoreData, P
 
 -- ---- the tables
 
--- The parser answers what comes next, and has passed it; at a fault it stays, and at the end of the stream it is at the
--- end.
+-- The parser returns what comes next and consumes it; at a fault its state is unchanged, and after the end of the stream
+-- it is at the end.
 abbrev pub Answers : ParserState → Verdict → Result Chunk Error → ParserState → Type 0
 Answers old (tile t) (Ok (Parsed consumed payload)) new =
     (consumed ≡ length t.bytes) × IsPayload (tile_report old.features old.offset (old.offset + length t.bytes) t.shape)
@@ -28,23 +28,23 @@ Answers old (final (ended offset)) (Ok (Parsed consumed payload)) new = (consume
 Answers old (final (fault f)) (Err e) new = (fault_at e ≡ f) × (new ≡ old)
 Answers old _ _ new = ⊥
 
--- an answer that is this fault and changes nothing
+-- The result is this fault, and the state is unchanged.
 abbrev pub IsFaultAlone : FaultAt → ParserState → Result Chunk Error → ParserState → Type 0
 IsFaultAlone f old (Ok chunk) new = ⊥
 IsFaultAlone f old (Err e) new = (fault_at e ≡ f) × (new ≡ old)
 
--- More bytes are asked for, about so many, and nothing changes.
+-- More bytes are requested, with this hint, and the state is unchanged.
 abbrev pub AsksFor : (hint : ℕ) → ParserState → Result Chunk Error → ParserState → Type 0
 AsksFor hint old (Ok (NeedMoreData asked)) new = (asked ≡ hint) × (new ≡ old)
 AsksFor hint old _ new = ⊥
 
--- At the end of the stream the parser answers what comes next. Where more bytes may come it does so exactly if those
--- that are there decide it, and otherwise asks for more.
+-- At the end of the input the parser returns what comes next. If more bytes may come it does so exactly if the bytes so
+-- far decide it, and otherwise requests more.
 abbrev pub AnswersOn : (eof : Bool) → Waiting → ParserState → Verdict → Result Chunk Error → ParserState → Type 0
 AnswersOn false (wants need hint) old v result new = AsksFor hint old result new
 AnswersOn _ _ old v result new = Answers old v result new
 
--- both cases of an answer: bytes that pass the top, and others
+-- both cases: bytes that pass the largest offset, and others
 pub record AnswersAsTable (old : ParserState) (eof : Bool) (rest : List ℕ) (result : Result Chunk Error)
     (new : ParserState) : Type 0 where
   pub past_the_top : 2 ^ 64 ≤ old.offset + length rest → IsFaultAlone (at_offset OffsetRange old.offset) old result new
@@ -58,7 +58,7 @@ goes_on features from to shape = grind arith
 
 -- ---- from the equation to the table
 
--- what is known of the end, in the state after a report
+-- the end, in the state after a report
 state_at : (p new : ParserState) (to : ℕ) (r : Report) (b : Bool) → is_end r ≡ b
     → new ≡ cond (is_end r) (ended_state p) (state_after p to r) → new ≡ cond b (ended_state p) (state_after p to r)
 state_at p new to r b e s = s ∙ ap (λ (c : Bool). cond c (ended_state p) (state_after p to r)) e
@@ -109,7 +109,7 @@ module _ (p new : ParserState) where
   on_table false enough v r a i s = by_verdict r v a i s
   on_table false (wants need hint) v r a i s = by_asking hint r a s
 
--- the answer below the top, and past it
+-- the result below the largest offset, and above it
 answer_below : (p : ParserState) (eof : Bool) (rest : List ℕ) → p.offset + length rest < 2 ^ 64 → answer_to p eof rest
     ≡ answer_in_time eof (waiting (grammar_of p) rest) (answer_by p (verdict (grammar_of p) rest))
 answer_below p eof rest l = grind arith
@@ -128,7 +128,7 @@ as_table p new eof rest r h = record {
 
 -- ---- from the table to the equation
 
--- an answer that says this, and what it leaves behind
+-- a result, and the state after it
 record Says (p new : ParserState) (a : Answer) (r : Result Chunk Error) : Type 0 where
   says : said r ≡ a
   items : AnswerBegins r

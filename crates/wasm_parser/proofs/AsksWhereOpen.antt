@@ -14,7 +14,7 @@ use Rattle.wasm_parser.specs.declared.payload.Chunk.{Chunk}
 use Rattle.wasm_parser.proofs.StateLaws.{grammar_same}
 use Rattle.wasm_grammar.proofs.endings.Undecided.{enough_is_decided, two_streams}
 
--- an answer is no request
+-- a result is no request
 no_request : (p new : ParserState) (v : Verdict) (r : Result Chunk Error) → Answers p v r new → IsRequest r → ⊥
 no_request p new v r a q = grind arith
 

@@ -98,7 +98,7 @@ right_count context offset count d n = grind arith
 
 -- ---- a body
 
--- where a body is left
+-- a body remains
 a_body : (bodies code_bytes offset : ℕ) → 0 < bodies → body_grammar bodies code_bytes offset
     ≡ u32_field offset (λ size width. body_of offset code_bytes size width)
 unfolding body_grammar
@@ -109,7 +109,7 @@ body_there : (bodies code_bytes : ℕ) (p : Place) (r : Result Payload Error) (a
     → ReadsByGrammar (body_grammar bodies code_bytes p.offset) p r a
 body_there bodies code_bytes p r a l h = subst (λ (g : Grammar). ReadsByGrammar g p r a) (sym (a_body bodies code_bytes p.offset l)) h
 
--- none is left
+-- no body remains
 pub no_body_left : (bodies code_bytes : ℕ) (p : Place) (e : Error) (a : Place) → bodies ≡ 0 → fault_at e ≡ at_offset TrailingCode p.offset
     → hint_of e ≡ None → ReadsByGrammar (body_grammar bodies code_bytes p.offset) p (Err e) a
 unfolding body_grammar

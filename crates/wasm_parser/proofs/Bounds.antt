@@ -1,4 +1,4 @@
--- Where the faults lie that a parser answers.
+-- The offsets of the faults that a parser returns.
 use Rattle.std.proofs.Common.{◌≡◌, ℕ, ◌+◌, List, length}
 use Rattle.wasm_base.specs.FaultAt.{FaultAt}
 use Rattle.wasm_grammar.specs.Content.{fault}

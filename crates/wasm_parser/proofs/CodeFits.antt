@@ -18,7 +18,7 @@ abbrev pub Fits : (here : ℕ) → Shape → Type 0
 Fits here (code_start count width size) = here + size < 2 ^ 64
 Fits here _ = Unit {0}
 
--- the same of every tile of a grammar, so many bytes of which were passed
+-- the same of every tile of a grammar, `here` bytes of which were consumed
 abbrev AllFit : (here : ℕ) → Grammar → Type 0
 AllFit here (accept shape) = Fits here shape
 AllFit here (reject e) = Unit {0}

@@ -22,7 +22,7 @@ last_is d e (x ∷ xs) = last_is x e xs
 same_end : (a b : Ending) → stream_end a ≡ stream_end b → a ≡ b
 same_end a b e = cc
 
--- where a stream ends, nothing is left
+-- at the end of a stream no bytes remain
 rest_is_none : (start : ℕ) (tiles : List Tile) (rest : List ℕ) (offset : ℕ) → verdict (grammar start tiles) rest ≡ final (ended offset)
     → rest ≡ []
 rest_is_none start [] rest offset e = absurd (header_end start rest offset e)

@@ -45,7 +45,7 @@ single_more trailing p v q f (read w k) h l e =
     cc
 single_more trailing p v q f _ h l e = cc
 
--- ---- what a call that wants one number answers
+-- ---- the result of a call that reads one number
 
 pub single_refused : (trailing : Fault) (p : Place) (f : FaultAt) → unsigned_at VarU32 p ≡ Err f
     → wrong_single trailing p.offset p.rest (number VarU32 p.rest) ≡ Some f

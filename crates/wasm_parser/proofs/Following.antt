@@ -34,7 +34,7 @@ next_is p start prefix rest s v q before later e r c =
     before later e
     (grind arith) (c ∙ sym s.is_prefix)
 
--- what was answered says it
+-- the returned tile
 gives_tile : (p new : ParserState) (eof : Bool) (start : ℕ) (prefix bytes : List ℕ) (s : IsStateAfter p start prefix) (t : Tile)
     → verdict (grammar_of p) bytes ≡ tile t → (r : Result Chunk Error) → Answers p (tile t) r new
     → GivesEvent (event_of p.features (start + length (bytes_of s.tiles)) t) p eof start prefix bytes r new
@@ -44,7 +44,7 @@ gives_tile p new eof start prefix bytes s t v (Ok (Parsed consumed payload)) a =
     let g : Grown start s.tiles bytes t = grows start s.tiles bytes t s.faultless v' in grind (arith, take_at, state_goes_on)
 gives_tile p new eof start prefix bytes s t v _ a = absurd a
 
--- where a stream ends nothing of a code section is left
+-- at the end of a stream no bytes of a code section remain
 ended_at : (h b : Bool) (p : ParserState) (bytes : List ℕ) (o : ℕ) → nat_eq (p.bodies + p.code_bytes) 0 ≡ b
     → verdict (cond h (header_grammar p.offset) (cond b (section_grammar (known_context p) p.offset)
     (body_grammar p.bodies p.code_bytes p.offset))) bytes ≡ final (ended o) → p.bodies + p.code_bytes ≡ 0

@@ -120,7 +120,7 @@ pub too_few : (size : ℕ) (p : Place) (f : FaultAt) → content_at size p ≡ E
 unfolding content_at
 too_few size p f h = grind arith
 
--- content that isn't all there
+-- truncated content
 pub whole_missing : (context : SectionContext) (kind : Form) (id size : ℕ) (p : Place) (e : Error) (a : Place) → content_at size p
     ≡ Err (fault_at e) → hint_of e ≡ hint_at (missing_at size p) (fault_at e).fault
     → ReadsByGrammar (whole_grammar context kind id p.offset size) p (Err e) a

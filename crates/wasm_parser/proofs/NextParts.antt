@@ -1,4 +1,4 @@
--- What is read where a parser is, and what it answers then.
+-- What a parser reads at its offset, and what it then returns.
 use Rattle.std.proofs.Common.{◌≡◌, ℕ, ◌+◌, ◌-◌, ◌^◌, ◌<◌, Bool, true, false, not, List, length, Result, Ok, Err, nat_eq, refl}
 use Rattle.std.proofs.Common.{ap, subst, ◌∙◌, arith, add-zero}
 use Rattle.wasm_base.specs.Window.{Window, Place, place, window_over}

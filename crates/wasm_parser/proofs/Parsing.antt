@@ -1,4 +1,4 @@
--- What a call of the parser answers.
+-- What a call of `parse` returns.
 use Rattle.std.proofs.Common.{◌≡◌, ℕ, ◌+◌, ◌^◌, ◌<◌, ◌≤◌, Bool, true, false, cond, List, [], length, Some}
 use Rattle.std.proofs.Common.{Result, Ok, Err, nat_eq, refl, arith}
 use Rattle.wasm_parser.specs.ReadsPart.{is_lacking}
@@ -29,7 +29,7 @@ at_end : (p : ParserState) → p.expects_header ≡ false → nat_eq (p.bodies +
 unfolding section_grammar verdict
 at_end p h c = rw (h, c) refl
 
--- an answer to nothing, by what the end is
+-- the result on no bytes, by what the end is
 ends_as : (p q : ParserState) (e : Ending) (r : Result Chunk Error) → p.offset < 2 ^ 64 → is_at_section p ≡ true
     → end_at_section (known_context p) p.offset ≡ e → Answers p (final e) r q → ParseAnswer p true [] r q
 ends_as p q e r l h x a = grind (arith, Answers, at_end)
@@ -82,7 +82,7 @@ asks_at_section p rest hint l h a = from_table p p false rest (Ok (NeedMoreData 
       (search (grammar_at_section, asks_at));
 })
 
--- ---- what was read is answered
+-- ---- what was read is returned
 
 -- a tile that was read does not wait
 guarded_at : (h : Bool) (p : ParserState)
@@ -98,7 +98,7 @@ decided : (eof : Bool) (w : Waiting) (p : ParserState) (v : Verdict) (r : Result
     → Answers p v r q → AnswersOn eof w p v r q
 decided eof w p v r q e a = grind arith
 
--- an answer to bytes that decide
+-- the result on bytes that decide
 pub answered : (p : ParserState) (eof : Bool) (rest : List ℕ) (r : Result Chunk Error) (q : ParserState) → p.offset + length rest < 2 ^ 64
     → waiting (grammar_of p) rest ≡ enough → Answers p (verdict (grammar_of p) rest) r q → ParseAnswer p eof rest r q
 answered p eof rest r q l w a = from_table p q eof rest r (record {

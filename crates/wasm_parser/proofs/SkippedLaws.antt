@@ -32,7 +32,7 @@ body_next : (start : ℕ) (ts : List Tile) (d : List ℕ) (t : Tile) → 0 < byt
     → IsBody t.shape
 body_next start ts d t l v = grind (arith, body_at)
 
--- tiles after which a parser knows the same as after others but for what is left of a code section
+-- tiles after which a parser knows the same as after others, except for the remaining bytes of a code section
 record KnowsSame (ts us : List Tile) : Type 0 where
   encoding : encoding_of ts ≡ encoding_of us
   rank : greatest ts ≡ greatest us
@@ -54,7 +54,7 @@ after_body ts us (code_entry content) bytes b l s k = record {
 }
 after_body ts us _ bytes b l s k = absurd b
 
--- tiles that take no more than what is left of a code section are its bodies
+-- tiles that take no more than the remaining bytes of a code section are its bodies
 only_bodies : (start : ℕ) (us later : List Tile) → ends_in_code us ≡ true → is_start us ≡ false → Faultless start (later ++ us)
     → length (bytes_of (later ++ us)) ≤ length (bytes_of us) + bytes_left us → KnowsSame (later ++ us) us
 only_bodies start us [] c s f l = record {

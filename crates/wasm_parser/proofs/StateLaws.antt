@@ -80,7 +80,7 @@ none_of_rank n id ts h f z =
     let r : 0 < place_of id = rw q h in
     grind (arith, counts_none)
 
--- the count that is known of the section with this id, after one more tile
+-- the known count of the section with this id, after one more tile
 abbrev count_after : ℕ → Shape → Option ℕ → Option ℕ
 count_after n (section items id content) old = cond (nat_eq id n) (Some (count_of content)) old
 count_after n (section data_count id content) old = cond (nat_eq id n) (Some (count_of content)) old

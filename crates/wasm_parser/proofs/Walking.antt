@@ -1,4 +1,4 @@
--- What a walk over a whole stream gives.
+-- What a walk of a whole stream yields.
 use Rattle.std.proofs.Common.{◌≡◌, ℕ, ◌+◌, ◌<◌, ◌^◌, Bool, true, false, List, [], ◌∷◌, ◌++◌, length, drop, Option, Some, None, Result, Ok}
 use Rattle.std.proofs.Common.{Err, refl, sym, ap, subst, ◌∙◌, arith, length-append, append_assoc}
 use Rattle.std.proofs.lemmas.List.{drop_at}
@@ -29,7 +29,7 @@ use Rattle.wasm_parser.proofs.AnswerTables.{Answers, goes_on, as_table}
 
 -- ---- one step
 
--- a walk that is over gives nothing
+-- a finished walk yields nothing
 over_gives_nothing : (s t : Walk) (given : List (Result Payload Error)) → s.ended ≡ true → Yields NextPayload s given t → given ≡ []
 over_gives_nothing s t [] e run = refl
 over_gives_nothing s t (x ∷ given) e run = absurd (let z = (run.1.over e).0 in cc)
@@ -114,7 +114,7 @@ steps_on start features stream s m tiles w t consumed v n p b =
 
 -- ---- the whole walk
 
--- what a walk gives that goes on
+-- what an unfinished walk yields
 walks : (start features : ℕ) (stream : List ℕ) (given : List (Result Payload Error)) (s t u : Walk) (tiles : List Tile)
     → Walked start features stream s tiles → s.ended ≡ false → Yields NextPayload s given t → NextPayload t None u
     → ReadsOn start features stream tiles (map given_report given)
@@ -185,7 +185,7 @@ map_append (x ∷ xs) ys = ap (λ (l : List Report). x.report ∷ l) (map_append
 report_end : (o : ℕ) (e : Ending) → stream_end e ≡ stream_end (ended o) → e ≡ ended o
 report_end o e h = cc
 
--- what is given of the images of a list
+-- what `filter_map` keeps of a mapped list
 mapped : {X Y Z : Type 0} (f : X → Y) (h : Y → Option Z) (xs : List X) → filter_map (λ x. h (f x)) xs ≡ filter_map h (map f xs)
 mapped f h [] = refl
 mapped f h (x ∷ xs) = ap (cons_option (h (f x))) (mapped f h xs)
@@ -196,7 +196,7 @@ same_sections : (given : List (Result Payload Error)) (events : List Event) → 
 same_sections given events e = mapped event_report section_of events
     ∙ (ap (filter_map section_of) (sym e) ∙ sym (mapped given_report section_of given))
 
--- each payload that a walk gives holds its items
+-- each payload of a walk holds its items
 holds_one : (b : Bool) (s t : Walk) (x : Result Payload Error) → s.ended ≡ b → NextPayload s (Some x) t → HoldsItems x
 holds_one b s t x e n = grind arith
 

@@ -1,5 +1,5 @@
--- Where a caller is along a stream that it gives bit by bit, and what an answer then says of every stream that goes on
--- so.
+-- Where a caller is in a stream whose bytes arrive bit by bit, and what a result then says of every stream that begins
+-- with those bytes.
 use Rattle.std.specs.Prelude.{◌≡◌, ℕ, ◌+◌, ◌<◌, ◌≤◌, ◌^◌, Bool, true, false, List, [], ◌∷◌, ◌++◌, length, Result, Ok}
 use Rattle.std.specs.Prelude.{Err}
 use Rattle.wasm_base.specs.FaultAt.{fault_at, at_offset}
@@ -18,8 +18,7 @@ use Rattle.wasm_parser.specs.declared.payload.Chunk.{Chunk}
 use Rattle.wasm_parser.specs.declared.payload.Chunk.TheVariants.{NeedMoreData, Parsed}
 use Rattle.wasm_parser.specs.declared.payload.Payload.{Payload}
 
--- The bytes that were given are those that the parser has passed, which are read as these events, and those that are
--- held.
+-- The bytes so far are those that the parser has consumed, which are read as these events, and those that are held.
 pub record Along (start features : ℕ) (given : List ℕ) (p : ParserState) (held : List ℕ) (events : List Event) : Type
     0 where
   pub prefix : List ℕ
@@ -45,7 +44,7 @@ abbrev pub ReadsEach : (start features : ℕ) (eof : Bool) (given : List ℕ) (e
 ReadsEach start features eof given events =
     (stream : List ℕ) → MayBe eof given stream → Reading stream start features events
 
--- An event came next, by this payload that consumed these bytes: the parser is after it, or it is the last one.
+-- The next event, as a payload that consumed these bytes: the parser is after it, or it is the last one.
 pub record Came (start features : ℕ) (eof : Bool) (given : List ℕ) (events : List Event) (bytes : List ℕ)
     (payload : Payload) (new : ParserState) (rest : List ℕ) : Type 0 where
   pub event : Event
@@ -57,8 +56,8 @@ pub record Came (start features : ℕ) (eof : Bool) (given : List ℕ) (events :
   pub ends : is_end (report_of payload) ≡ true → ReadsEach start features eof given (events ++ event ∷ [])
   pub last : is_end (report_of payload) ≡ true → (offset : ℕ) × (event ≡ last_event (ended offset))
 
--- what an answer that consumed these bytes says of each of those streams: more is asked for, the next event came, or
--- the fault is the last one
+-- what a result that consumed these bytes says of each of those streams: more bytes are needed, this is the next event,
+-- or the fault is the last event
 abbrev pub GoesAlong : (start features : ℕ) (eof : Bool) (given : List ℕ) (events : List Event) → Result Chunk Error
     → (bytes : List ℕ) (new : ParserState) (rest : List ℕ) → Type 0
 GoesAlong start features eof given events (Ok (NeedMoreData hint)) bytes new rest =
@@ -69,38 +68,38 @@ GoesAlong start features eof given events (Err e) bytes new rest =
     ReadsEach start features eof given (events ++ last_event (fault (fault_at e)) ∷ [])
     × Along start features given new rest events
 
--- how many bytes an answer consumes
+-- how many bytes a result consumes
 abbrev pub taken_by : Result Chunk Error → ℕ
 taken_by (Ok (NeedMoreData hint)) = 0
 taken_by (Ok (Parsed consumed payload)) = consumed
 taken_by (Err e) = 0
 
--- whether an answer is the last: the end, or a fault
+-- whether a result is the last one: the end, or a fault
 abbrev pub is_last : Result Chunk Error → Bool
 is_last (Ok (NeedMoreData hint)) = false
 is_last (Ok (Parsed consumed payload)) = is_end (report_of payload)
 is_last (Err e) = true
 
--- two answers say the same: as many bytes, and the same of them
+-- two results consume as many bytes and say the same of them
 abbrev pub SaysTheSame : Result Chunk Error → Result Chunk Error → Type 0
 SaysTheSame one other = said one ≡ said other
 
--- What a caller leans on that gives a stream bit by bit, hands in again what was not consumed, and has it read from
--- this offset and with these features.
+-- What a caller relies on that receives a stream bit by bit, passes unconsumed bytes again, and reads from this offset
+-- with these features.
 pub record AnswersGoAlong : Type 0 where
-  -- a new parser is where nothing was given
+  -- a new parser is where no bytes have arrived
   pub begins : (start features : ℕ) → Along start features [] (initial_state start features) [] []
   -- more bytes come
   pub more : (start features : ℕ) (given : List ℕ) (p : ParserState) (held : List ℕ) (events : List Event)
       (piece : List ℕ) → Along start features given p held events
       → Along start features (given ++ piece) p (held ++ piece) events
-  -- what is held ends where what was given does
+  -- the held bytes end where the bytes so far do
   pub ends : (start features : ℕ) (given : List ℕ) (p : ParserState) (held : List ℕ) (events : List Event)
       → Along start features given p held events → p.offset + length held ≡ start + length given
-  -- the events that came are the first of each stream that goes on so
+  -- the events so far are the first of each stream with this prefix
   pub first : (start features : ℕ) (given : List ℕ) (p : ParserState) (held : List ℕ) (events : List Event) (eof : Bool)
       → Along start features given p held events → BeginsEach start features eof given events
-  -- an answer is the next one of each of them
+  -- a result is the next event of each of them
   pub answers : (start features : ℕ) (given : List ℕ) (p : ParserState) (held : List ℕ) (events : List Event)
       (eof : Bool) (answer : Result Chunk Error) (bytes : List ℕ) (new : ParserState) (rest : List ℕ)
       → Along start features given p held events → start + length given < 2 ^ 64
@@ -110,7 +109,7 @@ pub record AnswersGoAlong : Type 0 where
   pub cut_short : (start features : ℕ) (given : List ℕ) (p : ParserState) (held : List ℕ) (events : List Event)
       (eof : Bool) (hint : ℕ) → Along start features given p held events → IsUndecided p eof held hint → (end : Ending)
       × Reading given start features (events ++ last_event end ∷ [])
-  -- what came is what the events consumed, and what is held
+  -- the bytes so far are those that the events consumed, and the held ones
   pub consumed : (start features : ℕ) (given : List ℕ) (p : ParserState) (held : List ℕ) (events : List Event)
       → Along start features given p held events → given ≡ consumed_by events ++ held
   -- bytes that are there are consumed, and by a payload but the end some
@@ -118,7 +117,7 @@ pub record AnswersGoAlong : Type 0 where
       → ParseAnswer p eof held answer new → Consumes held answer
   pub takes_some : (p new : ParserState) (eof : Bool) (held : List ℕ) (consumed : ℕ) (payload : Payload)
       → ParseAnswer p eof held (Ok (Parsed consumed payload)) new → is_end (report_of payload) ≡ false → 0 < consumed
-  -- what is answered without a fault is below the top of the offsets, and a request is undecided
+  -- a result other than a fault is below the largest offset, and a request is undecided
   pub below : (p new : ParserState) (eof : Bool) (held : List ℕ) (chunk : Chunk) → ParseAnswer p eof held (Ok chunk) new
       → p.offset + length held < 2 ^ 64
   pub asks : (p new : ParserState) (eof : Bool) (held : List ℕ) (hint : ℕ)
@@ -136,9 +135,9 @@ pub record AnswersGoAlong : Type 0 where
   -- what the parser is afterwards
   pub becomes : (p new : ParserState) (eof : Bool) (held : List ℕ) (answer : Result Chunk Error)
       → ParseAnswer p eof held answer new → new ≡ state_after_answer p answer
-  -- on the same bytes the same is answered
+  -- equal bytes have equal results
   pub once : (p new other : ParserState) (eof : Bool) (held : List ℕ) (one two : Result Chunk Error)
       → ParseAnswer p eof held one new → ParseAnswer p eof held two other → SaysTheSame one two
-  -- after the last answer it is answered again
+  -- after the last result the next call returns it again
   pub again : (p new other : ParserState) (eof : Bool) (held : List ℕ) (one two : Result Chunk Error) → is_last one
       ≡ true → ParseAnswer p eof held one new → ParseAnswer new eof held two other → SaysTheSame one two

@@ -17,7 +17,7 @@ abbrev pub MayBe : (eof : Bool) (bytes rest : List ℕ) → Type 0
 MayBe true bytes rest = rest ≡ bytes
 MayBe false bytes rest = (more : List ℕ) × (rest ≡ bytes ++ more)
 
--- More bytes may come, and these don't decide what comes next where the parser is: at least so many more are wanted.
+-- More bytes may come, and these don't decide what comes next: at least `hint` more are needed.
 abbrev pub IsUndecided : ParserState → (eof : Bool) (bytes : List ℕ) (hint : ℕ) → Type 0
 IsUndecided p eof bytes hint = (eof ≡ false) × ((need : ℕ) × (waiting (grammar_of p) bytes ≡ wants need hint))
 

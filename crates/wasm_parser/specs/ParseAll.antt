@@ -32,7 +32,7 @@ most_payloads s = if s.ended then 0 else length s.bytes + 1
 abbrev pub consumed_between : Walk → Walk → ℕ
 consumed_between s t = length s.bytes - length t.bytes
 
--- The parser's answer is given, and the walk is after it; after the end and after a fault it is over.
+-- The parser's result is yielded, and the walk is after it; after the end and after a fault it is finished.
 abbrev pub GivesAnswer : Walk → Option (Result Payload Error) → Walk → Type 0
 GivesAnswer s None t = ⊥
 GivesAnswer s (Some (Ok payload)) t =
@@ -69,7 +69,7 @@ abbrev pub HoldsItems : Result Payload Error → Type 0
 HoldsItems (Ok payload) = ItemsBegin payload
 HoldsItems (Err e) = Unit {0}
 
--- What a walk gives up to its first `None` is the reading of this stream, which starts at this offset. Its last is the
+-- What a walk yields up to its first `None` is the reading of this stream, which starts at this offset. Its last is the
 -- end exactly if the stream is accepted, which then is a header and the sections that the payloads are.
 pub record GivesReading (start features : ℕ) (bytes : List ℕ) (walk : Walk) : Type 0 where
   pub reading : (given : List (Result Payload Error)) → Drains NextPayload walk given → (events : List Event)
@@ -80,7 +80,7 @@ pub record GivesReading (start features : ℕ) (bytes : List ℕ) (walk : Walk) 
   pub sections : (given : List (Result Payload Error)) → Drains NextPayload walk given → (a : IsAccepted bytes)
       → TiledBySections bytes start (sections_given given) a.encoding a.frames
 
--- The same of the walk of a parser that has passed nothing, wherever its stream starts and whatever its features are.
+-- The same of the walk of a parser that has consumed nothing, wherever its stream starts and whatever its features are.
 abbrev pub WalksWhole : ParserState → List ℕ → Walk → Type 0
 WalksWhole p bytes walk = (start features : ℕ) → p ≡ initial_state start features → start + length bytes < 2 ^ 64
     → GivesReading start features bytes walk

@@ -1,4 +1,4 @@
--- What one call of a parser answers.
+-- What one call of `parse` returns.
 use Rattle.std.specs.Prelude.{◌≡◌, ℕ, ◌+◌, ◌≤◌, ◌<◌, ◌^◌, Bool, true, false, List, length, nat_eq, nat_lt, Option, Some}
 use Rattle.std.specs.Prelude.{None}
 use Rattle.std.specs.Prelude.{IfSome, Result, Ok, Err, MatchResult, if◌then◌else◌}
@@ -107,7 +107,7 @@ abbrev pub HintsAs : Waiting → Result Payload Error → Type 0
 HintsAs w (Ok payload) = Unit {0}
 HintsAs w (Err e) = hint_of e ≡ asked w
 
--- The same of what may come at a place by this grammar.
+-- Like `MatchesVerdict`, for what may come at a place by this grammar.
 abbrev pub MatchesGrammar : (start : ℕ) (before : Place) → Grammar → Result Payload Error → (after : Place) → Type 0
 MatchesGrammar start before g result after =
     MatchesVerdict start before (verdict g before.rest) result after × HintsAs (waiting g before.rest) result
@@ -135,8 +135,8 @@ Advances old payload to new = (rest : List ℕ) (t : Tile) → verdict (grammar_
     ≡ old.offset + length t.bytes
     → IsPayload (tile_report old.features old.offset to t.shape) payload → new ≡ state_after_tile old t
 
--- what a parser may say: that it wants about so many bytes more; what comes next, and how many bytes that takes; or a
--- fault
+-- what a call may return: a request for about this many more bytes; what comes next, and how many bytes that consumes;
+-- or a fault
 pub data Answer : Type 0 where
   asks : (hint : ℕ) → Answer
   reports : Report → (consumed : ℕ) → Answer
@@ -167,7 +167,7 @@ answer_to p eof rest =
     answer_in_time eof (waiting (grammar_of p) rest) (answer_by p (verdict (grammar_of p) rest)) else
     refuses (at_offset OffsetRange p.offset)
 
--- what a parser is to be after an answer: it has passed what it reported, and is at the end once that was reported
+-- the parser's state after a call: it has consumed what it reported, and is at the end once that was reported
 abbrev pub state_after_answer : ParserState → Result Chunk Error → ParserState
 state_after_answer p (Ok (NeedMoreData hint)) = p
 state_after_answer p (Ok (Parsed consumed payload)) =
@@ -180,7 +180,7 @@ AnswerBegins (Ok (NeedMoreData hint)) = Unit {0}
 AnswerBegins (Ok (Parsed consumed payload)) = ItemsBegin payload
 AnswerBegins (Err e) = Unit {0}
 
--- what one call answers
+-- what one call returns
 pub record ParseAnswer (old : ParserState) (eof : Bool) (rest : List ℕ) (result : Result Chunk Error)
     (new : ParserState) : Type 0 where
   pub answer : said result ≡ answer_to old eof rest

@@ -1,4 +1,4 @@
--- Laws of what a parser knows and answers.
+-- Laws of what a parser knows and returns.
 use Rattle.std.specs.Prelude.{◌≡◌, ℕ, ◌+◌, ◌^◌, ◌<◌, ◌≤◌, ◌↔◌, Bool, false, Result, List, [], ◌∷◌, ◌++◌, length}
 use Rattle.wasm_grammar.specs.Grammar.{Tile, tile, verdict}
 use Rattle.wasm_grammar.specs.Content.{ended}
@@ -25,8 +25,8 @@ abbrev pub SomeNextEvent : Type 0
 SomeNextEvent = (p : ParserState) (start features : ℕ) (prefix rest : List ℕ) (events : List Event)
     → IsStateAfter p start prefix → Reading (prefix ++ rest) start features events → NextEvent events prefix
 
--- whatever was answered on bytes after which more may come, but for a request, is answered with more of them too,
--- whether these are then all or not
+-- A result other than a request, on bytes after which more may come, is the result with more bytes too, whether these
+-- are then all or not.
 abbrev pub AnswersLast : Type 0
 AnswersLast = (p new : ParserState) (bytes more : List ℕ) (result : Result Chunk Error)
     → ParseAnswer p false bytes result new → ¬ IsRequest result → p.offset + length (bytes ++ more) < 2 ^ 64

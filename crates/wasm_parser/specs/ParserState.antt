@@ -40,7 +40,7 @@ pub record ParserState : Type 0 where
   -- the bodies and bytes that a code section still misses
   pub bodies : ℕ
   pub code_bytes : ℕ
-  -- whether the start of a code section was the last that came, or a body
+  -- whether the last part was the start of a code section, or a body
   pub in_code : Bool
 
 -- a parser that has passed nothing of a stream
@@ -103,7 +103,7 @@ is_at_section p = not p.expects_header && nat_eq (p.bodies + p.code_bytes) 0
 abbrev pub ended_state : ParserState → ParserState
 ended_state p = record p { in_code = false }
 
--- how many bytes of a code section are left, from its start until something follows that is no body
+-- the remaining bytes of a code section, from its start until the first part that is no body
 abbrev pub skippable_of : ParserState → Option ℕ
 skippable_of p = if p.in_code then Some p.code_bytes else None
 

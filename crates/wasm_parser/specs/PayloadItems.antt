@@ -36,19 +36,19 @@ use Rattle.wasm_parser.specs.declared.payload.Payload.TheVariants.{TableSection,
 use Rattle.wasm_parser.specs.declared.payload.Payload.TheVariants.{GlobalSection, ExportSection, ElementSection}
 use Rattle.wasm_parser.specs.declared.payload.Payload.TheVariants.{DataSection}
 
--- what one call of `next` may give of items of this type
+-- what one call of `next` may return for items of this type
 abbrev pub NextOf : Type 0 → Type 1
 NextOf T = Items → Option (Result T Error) → Items → Type 0
 
--- Calls of `next` on the items of the section, up to the first `None`, give the items that the window has after its
+-- Calls of `next` on the items of the section, up to the first `None`, return the items that the window has after its
 -- count.
 abbrev pub GivesWindow : {T : Type 0} → NextOf T → (Place → Outcome T → Type 0) → (count : ℕ) → Window → Section
     → Type 0
 GivesWindow {T} next meaning count w s = (given : List (Result T Error)) → Drains next (all_items s) given
     → (q : Place) × (unsigned_at VarU32 (place w) ≡ Ok (count, q)) × ItemsOf meaning count q (map item_or_fault given)
 
--- A payload of this kind, of which a count and a window are reported, gives the items of that window, by the grammar of
--- its kind of section.
+-- A payload of this kind, for which a count and a window are reported, yields the items of that window, by the grammar
+-- of its kind of section.
 abbrev pub GivesItsItems : {T : Type 0} → (Section → Payload) → NextOf T → (Place → Outcome T → Type 0) → Type 0
 GivesItsItems payload_of next meaning = (id count : ℕ) (w : Window) (s : Section)
     → IsPayload (counted id count w) (payload_of s) → GivesWindow next meaning count w s

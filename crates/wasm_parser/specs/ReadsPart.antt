@@ -87,7 +87,7 @@ abbrev pub ReadsContent : ParserState → Kind → (id size : ℕ) → (before :
 ReadsContent p kind id size before result after =
     ReadsByGrammar (content_grammar (known_context p) kind id before.offset size) before result after
 
--- the content of a section that is whole, whatever came before it
+-- the content of a complete section, whatever came before it
 abbrev pub ReadsAnywhere : Form → (id size : ℕ) → (before : Place) → Result Payload Error → (after : Place) → Type 0
 ReadsAnywhere form id size before result after = (context : SectionContext) →
     ReadsByGrammar (whole_grammar context form id before.offset size) before result after
@@ -108,14 +108,14 @@ ReadsCodeStart functions size before result after = (context : SectionContext) �
 abbrev pub ReadsBody : ParserState → (before : Place) → Result Payload Error → (after : Place) → Type 0
 ReadsBody p before result after = ReadsByGrammar (body_grammar p.bodies p.code_bytes before.offset) before result after
 
--- so many bytes as a window of their own
+-- this many bytes as a window of their own
 unfoldable pub content_at : ℕ → Place → Outcome Window
 content_at size p = do
   bytes ← bytes_at size p
   Ok (window_over p.features p.offset bytes.0, bytes.1)
 
--- From here to the window's end there is nothing but the number, or this is wrong with it; a byte after it is the
--- given fault.
+-- From here to the window's end there is only this number, or the number's own fault; a byte after it is the given
+-- fault.
 abbrev pub ReadsSingleNumber : Fault → Place → Result ℕ Error → Type 0
 ReadsSingleNumber trailing p (Ok value) =
     (wrong_single trailing p.offset p.rest (number VarU32 p.rest) ≡ None) × (value_of (number VarU32 p.rest) ≡ value)

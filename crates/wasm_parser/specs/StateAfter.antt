@@ -22,7 +22,7 @@ rank_report (data_count_section count from to) = place_of data_count_id
 rank_report (code_start count from to size) = place_of code_id
 rank_report other = 0
 
--- the greatest rank of a section, this one's or the one that was known
+-- the greatest rank of a section so far
 abbrev pub known_rank : ℕ → ℕ → ℕ
 known_rank zero known = known
 known_rank (suc rank) known = suc rank
@@ -38,7 +38,7 @@ missing_bodies (code_start count from to size) known = count
 missing_bodies (code_entry window) known = known - 1
 missing_bodies other known = 0
 
--- the bytes that it still misses, after what took so many
+-- the bytes that a code section still lacks after a part of `taken` bytes
 abbrev pub missing_bytes : Report → (taken : ℕ) → ℕ → ℕ
 missing_bytes (code_start count from to size) taken known = size
 missing_bytes (code_entry window) taken known = known - taken
@@ -61,7 +61,7 @@ knowing p report = record p {
   data_counts = known_count data_count_id (count_report report) p.data_counts;
 }
 
--- the same after a section that says nothing of the parts to come, which ends at this offset
+-- the same after a section that implies nothing for later parts, which ends at this offset
 abbrev pub state_after_section : ParserState → (to : ℕ) → ParserState
 state_after_section p to = record p {
   offset = to;

@@ -2,14 +2,14 @@
 use wasm_base::WasmFeatures;
 use wasm_grammar::Encoding;
 
-/// All that a parser knows of the stream that it has passed, as plain values (core specification, Binary format, Modules).
+/// All that a parser knows of the stream so far, as plain values (core specification, Binary format, Modules).
 ///
-/// `Parser::checkpoint` gives one at any time, to be stored or sent, and `Parser::resume` goes on from it later.
+/// `Parser::checkpoint` returns one at any time, to be stored or sent; `Parser::resume` continues from it.
 #[derive(Clone, Copy, Debug, PartialEq, Eq)]
 pub struct Checkpoint {
     /// The offset of what comes next, in bytes from the start of the whole stream.
     pub offset: u64,
-    /// The features of the windows of the payloads to come.
+    /// The features of the windows of later payloads.
     pub features: WasmFeatures,
     /// Whether the header comes next, since nothing was passed.
     pub expects_header: bool,
@@ -29,6 +29,6 @@ pub struct Checkpoint {
     pub bodies: u32,
     /// How many bytes a code section still misses.
     pub code_bytes: u32,
-    /// Whether the start of a code section was the last that came, or a body.
+    /// Whether the last part was the start of a code section, or a body.
     pub in_code: bool,
 }

@@ -94,7 +94,7 @@ pub(crate) fn counted<'a>(id: u8, window: BinaryReader<'a>) -> Result<Payload<'a
     })
 }
 
-/// The content of a section that is a count, and so many items. That of a data section is the count that a data count
+/// The content of a section that is a count and its items. The count of a data section is the one that a data count
 /// section announced, if there was one.
 pub(crate) fn items<'a>(
     announced: Option<u32>,
@@ -170,7 +170,7 @@ fn only_u32(mut window: BinaryReader, trailing: Fault) -> Result<u32>
     Ok(number)
 }
 
-// Whether a count was told before that is another one than this. Where none was told, it doesn't differ.
+// Whether an earlier section announced another count than this.
 fn differs(known: Option<u32>, count: u32) -> bool
     ensures { result ≡ is_other known count }
 {
@@ -180,8 +180,8 @@ fn differs(known: Option<u32>, count: u32) -> bool
     }
 }
 
-/// Whether a section counts something, and the section that has to come with it is missing: its count is there and above 0,
-/// and the other section's count isn't there.
+/// Whether a section has items, and the section that must accompany it is missing: its count is known and above 0,
+/// and the other section's count is not known.
 pub(crate) fn lacks(count: Option<u32>, other: Option<u32>) -> bool
     ensures { result ≡ is_lacking count other }
 {

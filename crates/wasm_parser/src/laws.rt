@@ -25,16 +25,16 @@ pub fn parser_suffices()
     ensures { ParserSuffices }
 {}
 
-/// Whatever a parser answers on bytes after which more may come, but for a request for more, it answers too with more
-/// bytes after them, whether those are then all of the stream or not.
+/// A result of `parse` other than a request, on bytes after which more may come, is also the result with more bytes, whether
+/// those are then the whole stream or not.
 pub fn answers_last()
     ensures { AnswersLast }
 {}
 
-/// What a caller leans on that gives a stream bit by bit and hands in again what was not consumed. A new parser is along the
-/// stream at its start, and it is where it was when more bytes come. Each answer moves it, and is the next event of every stream
-/// that goes on so. A payload but the end consumes some bytes, and what the parser is afterwards follows from the answer. The
-/// same bytes are answered the same way, and so is a fault, or the end, that was answered before.
+/// What a caller relies on that receives a stream bit by bit and passes unconsumed bytes again. A new parser is at the start of
+/// the stream, and more bytes do not move it. Each result moves it, and is the next event of every stream with this prefix.
+/// Each payload except the end consumes some bytes, and the parser's state follows from the result. Equal bytes have
+/// equal results; a fault, or the end, is returned again.
 pub fn answers_go_along()
     ensures { AnswersGoAlong }
 {}
@@ -45,12 +45,12 @@ pub fn skipping_leaves_out_bodies()
     ensures { SkippingLeavesOutBodies }
 {}
 
-/// No parser could wait for less. `front` is the beginning of a stream that starts at `offset`, a faultless tiling or
-/// nothing, and `data` the bytes that have come after it (core specification, Binary format, Modules).
+/// No parser could decide earlier. `front` is a prefix of a stream that starts at `offset`, a faultless tiling or empty, and
+/// `data` the bytes that have arrived after it (core specification, Binary format, Modules).
 ///
-/// One event comes next after the front, however a stream goes on from there. Where the data suffices, it is the same in
-/// every stream that begins with both. Where it doesn't, another event comes next in the stream that ends after the data
-/// than in the one that goes on by a given ending; both are streams, if the offsets go on for 2^33 bytes after the data.
+/// One event comes next after the front, whatever the stream. If the data suffices, it is the same in every stream that begins
+/// with both. Otherwise the next event of the stream that ends after the data differs from that of the stream that continues
+/// with a given suffix; both are streams, if there are 2^33 more offsets after the data.
 pub fn short_is_undecided(offset: u64, front: &[u8], data: &[u8])
     ensures next { OneComesNext offset front.now }
     ensures decided { EnoughIsDecided offset front.now «data».now }

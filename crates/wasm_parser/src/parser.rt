@@ -38,9 +38,9 @@ use wasm_items::FunctionBody;
 
 /// Reads a module, or the header of a component, part by part (core specification, Binary format, Modules).
 ///
-/// A parser holds no bytes: it knows where it is in the stream, and what of the parts before that the next one
-/// must fit. `parse` is handed the rest of the stream and answers the part that comes next there; `parse_all` walks
-/// over a whole stream. Offsets count bytes from the start of the whole stream, which may begin at any offset.
+/// A parser buffers nothing. It keeps its offset and what earlier sections imply for later ones: order and counts. `parse` takes
+/// the bytes from that offset on and returns the next part; `parse_all` walks a whole stream. Offsets count bytes from the
+/// start of the stream, which may begin at any offset.
 #[derive(Debug, Drop)]
 pub struct Parser {
     offset: u64,
@@ -57,7 +57,7 @@ pub struct Parser {
     // The bodies and the bytes that a code section still misses.
     bodies: u32,
     code_bytes: u32,
-    // Whether the start of a code section came last, or a body.
+    // Whether the last part was the start of a code section, or a body.
     in_code: bool,
 }
 
@@ -82,14 +82,14 @@ impl Parser {
         }
     }
 
-    /// Reads what comes next in the stream of which these bytes are the rest, or the beginning of the rest.
+    /// Returns the next part of the stream, or requests more bytes. `bytes` are the stream's bytes from the parser's offset on.
     ///
-    /// `eof` says that no bytes come after these, so that missing bytes are a fault. Without it, `NeedMoreData` is answered
-    /// while these bytes don't decide what comes next, and leaves the parser unchanged: the caller hands in the same bytes
-    /// again with more after them. Whatever is answered otherwise would be answered with more bytes too; and no parser could
-    /// answer sooner, since more is asked for exactly where two streams that begin so have different next events.
+    /// `eof` says that no bytes come after these, so that missing bytes are a fault. Without it, `NeedMoreData` is returned while
+    /// these bytes don't decide what comes next, and the parser is unchanged: pass the same bytes again, with more after them.
+    /// More bytes never change any other result, and no parser could decide earlier: it requests more bytes exactly if two
+    /// streams that begin with these have different next events.
     ///
-    /// The parser is then after what it read, `consumed` bytes further; a caller hands in the bytes after those:
+    /// The parser is then `consumed` bytes further. Pass the bytes after those next:
     ///
     /// ```text
     /// loop {
@@ -108,10 +108,10 @@ impl Parser {
     /// }
     /// ```
     ///
-    /// A fault is reported at its offset in the whole stream, and leaves the parser unchanged: the faults of a header, of a
-    /// section's id, length, order and first fields, of a body's size, and of counts that don't match. A body that passes its
-    /// section is refused as soon as its size has been read, with `UnexpectedEof` at the body's start. `OffsetRange` at
-    /// the parser's offset, where the bytes pass the offsets of a stream.
+    /// A fault is reported at its offset in the stream, and the parser is unchanged: the faults of a header, of a section's id,
+    /// length, order and first fields, of a body's size, and of counts that don't match. A body that overruns its section is
+    /// refused as soon as its size has been read, with `UnexpectedEof` at the body's start. `OffsetRange` at the parser's offset
+    /// means that the bytes go beyond the largest offset of a stream.
     pub fn parse<'a>(&mut self, bytes: &'a [u8], eof: bool) -> Result<Chunk<'a>>
         ensures answers { ParseAnswer self.old eof bytes.now result self.new }
         ensures gives { GivesNextEvent self.old eof bytes.now result self.new }
@@ -141,7 +141,7 @@ impl Parser {
         ParseAll::over(self, bytes)
     }
 
-    /// How many bytes of a code section `skip_section` would pass: those left of it, from `CodeSectionStart` until a
+    /// The number of bytes that `skip_section` would skip: those remaining in a code section, from `CodeSectionStart` until a
     /// payload that is no body. `None` elsewhere.
     pub fn skippable(&self) -> Option<u32>
         ensures { result ≡ skippable_of self.now }
@@ -153,8 +153,8 @@ impl Parser {
         }
     }
 
-    /// Passes what is left of a code section, as many bytes as `skippable` says: the caller hands in the bytes after
-    /// those next. The parser must be in a code section, so that `skippable` is `Some`.
+    /// Skips the remaining bytes of a code section, as many as `skippable` returns; pass the bytes after those next. The parser
+    /// must be in a code section, so that `skippable` is `Some`.
     pub fn skip_section(&mut self)
         requires { IsSome (skippable_of self.old) }
         ensures state { self.new ≡ skipped_state self.old }
@@ -186,8 +186,8 @@ impl Parser {
         }
     }
 
-    /// The parser whose checkpoint this is. What is left of a code section must end within the offsets of a stream, below
-    /// 2^64, as it does in each checkpoint that `checkpoint` gives.
+    /// The parser that this checkpoint describes. The remaining bytes of a code section must end within the offsets of a stream,
+    /// below 2^64, as they do in each checkpoint that `checkpoint` returns.
     pub fn resume(checkpoint: Checkpoint) -> Self
         requires { checkpoint.offset + checkpoint.code_bytes < 2 ^ 64 }
         ensures { result ≡ state_of checkpoint }
@@ -222,7 +222,7 @@ impl Parser {
         self.features
     }
 
-    /// Gives the windows of the payloads to come these features.
+    /// Sets the features of the windows of later payloads.
     pub fn set_features(&mut self, features: WasmFeatures)
         ensures { self.new ≡ record self.old { features = feature_bits features } }
     {
@@ -443,8 +443,8 @@ impl Parser {
         })
     }
 
-    // Goes on to the end of what was read, which is at this offset. A section that has a rank ranks above all earlier ones.
-    // Sections that say nothing of the parts to come are told apart first, so that they cost no further look at their kind.
+    // Moves to the end of what was read, which is at this offset. A section that has a rank ranks above all earlier ones.
+    // Sections that imply nothing for later parts are distinguished first, so that their kind is looked at only once.
     fn advance(&mut self, payload: &Payload, end: u64)
         requires after { self.old.offset ≤ end }
         requires fits { end + missing_bytes (report_of payload.now)
@@ -458,7 +458,7 @@ impl Parser {
         }
     }
 
-    // Goes on to the end of a section that says nothing of the parts to come.
+    // Moves to the end of a section that implies nothing for later parts.
     fn pass_section(&mut self, end: u64)
         ensures { self.new ≡ state_after_section self.old end }
     {
@@ -485,7 +485,7 @@ impl Parser {
         self.in_code = is_of_code(payload);
     }
 
-    // Learns what the parts to come must fit. Most parts of a stream say nothing of that.
+    // Records what later parts must fit. Most parts of a stream imply nothing.
     fn learn(&mut self, payload: &Payload)
         ensures { self.new ≡ knowing self.old (report_of payload.now) }
     {
@@ -509,7 +509,7 @@ impl Parser {
         self.data_counts = known_count(counted, DATA_COUNT_SECTION, self.data_counts);
     }
 
-    // What comes next in the stream of which these bytes are the rest, or its beginning, and is then passed.
+    // Reads and consumes the next part, from bytes that are the rest of the stream or a prefix of it.
     fn answer<'a>(&mut self, bytes: &'a [u8], eof: bool) -> Result<Chunk<'a>>
         ensures { ParseAnswer self.old eof bytes.now result self.new }
     {
@@ -567,7 +567,7 @@ impl Parser {
     }
 }
 
-// Whether a field of so many bytes, and the bytes that it counts, are more than are left.
+// Whether a field of this width, and the bytes that it counts, exceed the remaining bytes.
 fn passes(code_bytes: u32, width: u64, size: u32) -> bool
     ensures { result ≡ nat_lt code_bytes (width + size) }
 {

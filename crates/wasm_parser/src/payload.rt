@@ -60,7 +60,7 @@ pub enum Payload<'a> {
     },
     /// The element segments of a module.
     ElementSection(ElementSectionReader<'a>),
-    /// How many data segments are to come; the range is that of the count.
+    /// The number of data segments that the data section will have; the range is that of the number.
     DataCountSection {
         /// How many data segments are announced.
         count: u32,
@@ -96,10 +96,10 @@ pub enum Payload<'a> {
     End(u64),
 }
 
-/// What a call of `parse` answers.
+/// What a call of `parse` returns.
 #[derive(Debug, Drop)]
 pub enum Chunk<'a> {
-    /// More bytes are wanted, about so many; nothing was consumed.
+    /// More bytes are needed, about this many; nothing was consumed.
     NeedMoreData(usize),
     /// So many bytes were consumed, and are this.
     Parsed {
@@ -157,8 +157,8 @@ impl<'a> Payload<'a> {
         }
     }
 
-    /// The id of the section that this is, and the offsets of its content in the whole stream: from the first byte
-    /// after its length up to its end. A header, a body and the end are none; a code section is its start.
+    /// The section's id and the offsets of its content in the stream, from the first byte after its length to its end.
+    /// `None` for a header, a body and the end; a code section is its `CodeSectionStart`.
     pub fn as_section(&self) -> Option<(u8, Range<u64>)>
         ensures { result ≡ section_of (report_of self.now) }
     {
@@ -168,7 +168,7 @@ impl<'a> Payload<'a> {
         }
     }
 
-    /// The same with the section's count, if it has one.
+    /// Like `as_section`, with the section's count, if it has one.
     pub fn section_parts(&self) -> Option<SectionParts>
         ensures { result ≡ parts_of (report_of self.now) }
     {

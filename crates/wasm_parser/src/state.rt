@@ -71,7 +71,7 @@ pub(crate) fn missing_bodies(payload: &Payload, known: u32) -> u32
     }
 }
 
-/// The bytes that a code section still misses, after what took so many.
+/// The bytes that a code section still lacks after a part of `taken` bytes.
 pub(crate) fn missing_bytes(payload: &Payload, taken: u64, known: u32) -> u32
     ensures { result ≡ missing_bytes (report_of payload.now) taken known }
 {

@@ -27,7 +27,7 @@ pub trait Sink {
         ensures { result ≡ has_failed self.now };
 }
 
-/// Writes all of the bytes, or where the sink fails, a beginning of them.
+/// Writes all bytes, or a prefix of them if the sink fails.
 pub fn write_all<W: Sink>(output: &mut W, bytes: &[u8]) -> Result<(), Failed>
     ensures ok { OnOk result (Appends (W.taken output.old) (W.taken output.new) bytes.now) }
     ensures err { OnErr result
@@ -61,7 +61,7 @@ pub struct BoundedSink<A: Allocator = Global> {
 }
 
 impl BoundedSink {
-    /// A sink with room for so many bytes.
+    /// A sink with room for `size` bytes.
     pub fn new(alloc: Global, size: usize) -> Result<Self, AllocError>
         ensures bytes { IfOk result (λ s. s.bytes.items ≡ []) }
         ensures size { IfOk result (λ s. s.size ≡ size) }
@@ -72,7 +72,7 @@ impl BoundedSink {
 }
 
 impl<A: Allocator> BoundedSink<A> {
-    /// The same as `new`, with memory from any allocator.
+    /// Like `new`, with memory from any allocator.
     pub fn new_in(alloc: A, size: usize) -> Result<Self, AllocError>
         ensures bytes { IfOk result (λ s. s.bytes.items ≡ []) }
         ensures size { IfOk result (λ s. s.size ≡ size) }
@@ -135,7 +135,7 @@ pub struct WriteSink<W> {
 }
 
 impl<W: Write> WriteSink<W> {
-    /// A sink that hands on to this writer.
+    /// A sink that forwards to this writer.
     pub fn new(writer: W) -> Self
         ensures writer { result.writer ≡ writer }
         ensures failed { result.failed ≡ false }

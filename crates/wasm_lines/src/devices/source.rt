@@ -72,7 +72,7 @@ pub struct ReadSource<R> {
 }
 
 impl<R: Read> ReadSource<R> {
-    /// A source that gives what this reader gives.
+    /// A source that returns what this reader returns.
     pub fn new(reader: R) -> Self
         ensures reader { result.reader ≡ reader }
         ensures failed { result.failed ≡ false }
