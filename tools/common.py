@@ -1,10 +1,12 @@
 """What the tools share: their arguments, the built programs, the models, and how differences are told."""
 import argparse
 import functools
+import hashlib
 import importlib.machinery
 import importlib.util
 import json
 import os
+import platform
 import subprocess
 import sys
 
@@ -140,6 +142,58 @@ def lines_in(output):
     if lines[-1] == "":
         return lines[:-1]
     return lines + ["(no line feed)"]
+
+
+# ---- prebuilt artifacts
+
+PREBUILT = os.path.join(TOP, "prebuilt")
+# The crates and folders that the artifacts are made of.
+MADE_OF = ("src", "specs", "proofs", "include")
+
+
+def sources():
+    """The files that the prebuilt artifacts are made of, in order."""
+    crates = sorted({crate for name in ("wasm_c", "wasm_list", "wasm_dump") for crate in crates_of(name)})
+    for crate in crates:
+        for path in files_of(crate):
+            if os.path.relpath(path, os.path.join(TOP, "crates", crate)).split(os.sep)[0] in MADE_OF:
+                yield path
+    for folder in ("page", os.path.join("bindings", "js")):
+        for name in sorted(os.listdir(os.path.join(TOP, folder))):
+            if name.endswith((".js", ".html", ".css")) or name == "pack":
+                yield os.path.join(TOP, folder, name)
+    yield os.path.join(TOP, "VERSION")
+    yield os.path.join(TOP, "crates.txt")
+
+
+def checksum_of_sources():
+    """A checksum of the names and bytes of all sources."""
+    whole = hashlib.sha256()
+    for path in sources():
+        with open(path, "rb") as file:
+            digest = hashlib.sha256(file.read()).hexdigest()
+        whole.update(("%s  %s\n" % (digest, os.path.relpath(path, TOP))).encode())
+    return whole.hexdigest()
+
+
+def made_from():
+    """What the prebuilt artifacts were made from, by name."""
+    try:
+        with open(os.path.join(PREBUILT, "MADE-FROM"), encoding="utf-8") as file:
+            return dict(line.rstrip("\n").split(": ", 1) for line in file)
+    except FileNotFoundError:
+        return {}
+
+
+def is_prebuilt():
+    """Whether the prebuilt artifacts are those of the sources."""
+    known = made_from().get("sources")
+    return known is not None and known == checksum_of_sources()
+
+
+def runs_prebuilt():
+    """Whether this machine can run the prebuilt programs: x86-64 Linux with the GNU C library."""
+    return platform.system() == "Linux" and platform.machine() == "x86_64" and platform.libc_ver()[0] == "glibc"
 
 
 # ---- models and files
