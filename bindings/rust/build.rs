@@ -1,11 +1,33 @@
-//! Links `libwasm_c.a`, which `rt lib` makes in `crates/wasm_c`; `PULLEYNAVY_LIB` names another folder that has it.
-use std::{env, path::PathBuf};
+//! Links the static library: that of `PULLEYNAVY_LIB`, of this package, of a checkout that built it, or of a checkout's `prebuilt/`.
+use std::{env, path::Path, path::PathBuf};
+
+/// The library for this processor, if there is one.
+fn library(package: &Path, machine: &str) -> Option<PathBuf> {
+    let places = [
+        package.join("lib").join(machine).join("libwasm_c.a"),
+        package.join("../../crates/wasm_c/out/libwasm_c.a"),
+        package.join(format!("../../prebuilt/libpulleynavy-{machine}.a")),
+    ];
+    let is_native = env::var("HOST").is_ok_and(|host| host.starts_with(machine));
+    places.into_iter().enumerate().find(|(place, path)| path.is_file() && (*place != 1 || is_native)).map(|(_, path)| path)
+}
 
 fn main() {
-    let default = PathBuf::from(env::var("CARGO_MANIFEST_DIR").unwrap()).join("../../crates/wasm_c/out");
-    let folder = env::var_os("PULLEYNAVY_LIB").map_or(default, PathBuf::from);
     println!("cargo::rerun-if-env-changed=PULLEYNAVY_LIB");
-    println!("cargo::rerun-if-changed={}", folder.join("libwasm_c.a").display());
-    println!("cargo::rustc-link-search=native={}", folder.display());
-    println!("cargo::rustc-link-lib=static=wasm_c");
+    let of = |name: &str| env::var(name).unwrap_or_default();
+    let (machine, system) = (of("CARGO_CFG_TARGET_ARCH"), of("CARGO_CFG_TARGET_OS"));
+    let path = match env::var_os("PULLEYNAVY_LIB") {
+        Some(folder) => PathBuf::from(folder).join("libwasm_c.a"),
+        None => {
+            let found = library(Path::new(&of("CARGO_MANIFEST_DIR")), &machine);
+            let Some(path) = found.filter(|_| matches!(system.as_str(), "linux" | "android" | "none")) else {
+                println!("cargo::error=pulleynavy has no library for {machine} and {system}: set PULLEYNAVY_LIB to a folder with libwasm_c.a");
+                return;
+            };
+            path
+        }
+    };
+    println!("cargo::rerun-if-changed={}", path.display());
+    println!("cargo::rustc-link-search=native={}", path.parent().unwrap_or(Path::new(".")).display());
+    println!("cargo::rustc-link-lib=static:+verbatim={}", path.file_name().unwrap_or_default().display());
 }

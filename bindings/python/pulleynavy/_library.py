@@ -14,17 +14,20 @@ MEMORY64 = 1
 COMPACT_IMPORTS = 2
 ALL_FEATURES = MEMORY64 | COMPACT_IMPORTS
 
+NAME = "libpulleynavy.so.0"
+
 
 @functools.lru_cache(maxsize=None)
 def load(path: str | None = None) -> Any:
-    """Loads the shared library from `path`, from `$PULLEYNAVY_LIB`, or as `libpulleynavy.so.0` from where the system looks.
+    """Loads the shared library from `path`, from `$PULLEYNAVY_LIB`, from this package, or from where the system looks.
 
     Raises `OSError` if it is not found, and `AttributeError` if it lacks a call of this version.
 
     >>> load().pulleynavy_version() > 0
     True
     """
-    library = ctypes.CDLL(path or os.environ.get("PULLEYNAVY_LIB") or "libpulleynavy.so.0")
+    own = os.path.join(os.path.dirname(os.path.abspath(__file__)), NAME)
+    library = ctypes.CDLL(path or os.environ.get("PULLEYNAVY_LIB") or (own if os.path.exists(own) else NAME))
     for name, (result, arguments) in declared.CALLS.items():
         call = getattr(library, name)
         call.restype, call.argtypes = result, arguments

@@ -1,0 +1,247 @@
+"""How each package is made from prebuilt/. A package has the same bytes whenever it is made: its dates are that of the release."""
+import glob
+import gzip
+import hashlib
+import io
+import json
+import os
+import shutil
+import subprocess
+import sys
+import tarfile
+
+import common
+
+MACHINES = {"x86_64": {"compiler": "gcc", "debian": "amd64"}, "aarch64": {"compiler": "aarch64-linux-gnu-gcc", "debian": "arm64"}}
+LICENSES = ("LICENSE-APACHE", "LICENSE-MIT", "NOTICE")
+# The library calls nothing, not even libc, so it fits every version of glibc and musl.
+SHARED = ["-shared", "-nostdlib", "-s", "-Wl,--gc-sections", "-Wl,--build-id=none"]
+WHEEL_TAGS = "manylinux_2_17_{0}.manylinux2014_{0}.musllinux_1_1_{0}"
+
+# A wheel for any Python 3, with a library for one machine.
+SETUP = """from setuptools import Distribution, setup
+from wheel.bdist_wheel import bdist_wheel
+
+
+class Binary(Distribution):
+    def has_ext_modules(self):
+        return True
+
+
+class Tagged(bdist_wheel):
+    def get_tag(self):
+        return "py3", "none", "%s"
+
+
+setup(distclass=Binary, cmdclass={"bdist_wheel": Tagged})
+"""
+
+
+class Missing(Exception):
+    """A program that makes a package is not there."""
+
+
+def prebuilt(name):
+    return os.path.join(common.PREBUILT, name)
+
+
+def archive(machine):
+    return prebuilt("libpulleynavy-%s.a" % machine)
+
+
+def soname():
+    return "libpulleynavy.so.%s" % common.version().split(".")[0]
+
+
+def source(*parts):
+    return os.path.join(common.TOP, *parts)
+
+
+def needed(program):
+    if not shutil.which(program):
+        raise Missing(program)
+    return program
+
+
+def epoch():
+    """The date of the release, in seconds: that of its section in the changelog."""
+    return int(os.environ["SOURCE_DATE_EPOCH"])
+
+
+def run(words, folder=None):
+    done = subprocess.run(words, cwd=folder, stdin=subprocess.DEVNULL, stdout=subprocess.PIPE, stderr=subprocess.STDOUT)
+    if done.returncode:
+        sys.stderr.write(done.stdout.decode(errors="replace"))
+        common.stop(common.DIFFERS, "%s failed with status %d" % (" ".join(words[:3]), done.returncode))
+    return done.stdout.decode()
+
+
+def copy_all(names, folder):
+    os.makedirs(folder, exist_ok=True)
+    for name in names:
+        shutil.copy(source(name), folder)
+
+
+def tracked(folder):
+    """The files of a folder that are in the repository, without what tools made there."""
+    for place, folders, names in os.walk(source(folder)):
+        folders[:] = sorted(name for name in folders if name not in ("target", "__pycache__", "node_modules", "tests", "out"))
+        for name in sorted(names):
+            if not name.endswith((".lock", ".tgz", ".wasm", ".pyc")):
+                yield os.path.relpath(os.path.join(place, name), source(folder))
+
+
+def copy_tracked(folder, to):
+    for name in tracked(folder):
+        os.makedirs(os.path.dirname(os.path.join(to, name)), exist_ok=True)
+        shutil.copy(source(folder, name), os.path.join(to, name))
+
+
+def shared_library(machine, path):
+    """Makes the shared library of a machine from its archive."""
+    words = [needed(MACHINES[machine]["compiler"]), *SHARED, "-Wl,-soname," + soname(), "-o", path]
+    run([*words, "-Wl,--whole-archive", archive(machine), "-Wl,--no-whole-archive"])
+    os.chmod(path, 0o644)
+
+
+# ---- Rust
+
+
+def crate(folder, place):
+    """The crate, with the archives of both machines in lib/."""
+    copy_tracked("bindings/rust", place)
+    copy_all(LICENSES, place)
+    for machine in MACHINES:
+        os.makedirs(os.path.join(place, "lib", machine))
+        shutil.copy(archive(machine), os.path.join(place, "lib", machine, "libwasm_c.a"))
+    run([needed("cargo"), "package", "--offline", "--allow-dirty", "--no-verify", "--target-dir", os.path.join(place, "target")], place)
+    for path in glob.glob(os.path.join(place, "target", "package", "*.crate")):
+        shutil.copy(path, folder)
+
+
+# ---- Python
+
+
+def python(word):
+    """The Python that has the packaging tools: the one that runs this, or Debian's."""
+    for path in (sys.executable, "/usr/bin/python3"):
+        if os.path.exists(path) and not subprocess.run([path, "-c", "import setuptools, wheel, build"], stderr=subprocess.DEVNULL).returncode:
+            return path
+    raise Missing(word)
+
+
+def wheels(folder, place):
+    """A wheel for each machine, with the shared library in it."""
+    tool = python("python3-build")
+    for machine in MACHINES:
+        at = os.path.join(place, machine)
+        copy_tracked("bindings/python", at)
+        copy_all(LICENSES, at)
+        shared_library(machine, os.path.join(at, "pulleynavy", soname()))
+        with open(os.path.join(at, "setup.py"), "w", encoding="ascii") as file:
+            file.write(SETUP % WHEEL_TAGS.format(machine))
+        run([tool, "-m", "build", "--wheel", "--no-isolation", "--outdir", at + "/made", at])
+        shutil.copy(glob.glob(at + "/made/*.whl")[0], folder)
+
+
+def sdist(folder, place):
+    """The sources of the Python package, which uses a library that the system has."""
+    copy_tracked("bindings/python", place)
+    copy_all(LICENSES, place)
+    run([python("python3-build"), "-m", "build", "--sdist", "--no-isolation", "--outdir", place + "/made", place])
+    with tarfile.open(glob.glob(place + "/made/*.tar.gz")[0]) as made:
+        files = [(member.name, made.extractfile(member).read(), 0o644) for member in made if member.isfile()]
+    write_tarball(os.path.join(folder, "pulleynavy-%s.tar.gz" % common.version()), files)
+
+
+# ---- JavaScript
+
+
+def npm(folder, place):
+    """The package for npm, with the module in it."""
+    copy_tracked("bindings/js", place)
+    copy_all(LICENSES, place)
+    shutil.copy(prebuilt("pulleynavy.wasm"), os.path.join(place, "pulleynavy.wasm"))
+    run([needed("npm"), "pack", "--offline", "--pack-destination", folder], place)
+
+
+# ---- tarballs
+
+
+def write_tarball(path, files, links=()):
+    """Writes a tarball of (name, bytes, mode) and of links (name, target)."""
+    buffer = io.BytesIO()
+    with tarfile.open(fileobj=buffer, mode="w", format=tarfile.PAX_FORMAT) as made:
+        for name, data, mode in sorted(files):
+            entry = tarfile.TarInfo(name)
+            entry.size, entry.mode, entry.mtime = len(data), mode, epoch()
+            made.addfile(entry, io.BytesIO(data))
+        for name, target in sorted(links):
+            entry = tarfile.TarInfo(name)
+            entry.type, entry.linkname, entry.mtime, entry.mode = tarfile.SYMTYPE, target, epoch(), 0o777
+            made.addfile(entry)
+    with open(path, "wb") as file, gzip.GzipFile(filename="", mode="wb", fileobj=file, mtime=epoch()) as packed:
+        packed.write(buffer.getvalue())
+
+
+def read(path):
+    with open(path, "rb") as file:
+        return file.read()
+
+
+def pkg_config(prefix, libdir="${prefix}/lib"):
+    """The text for pkg-config of a library that is installed there."""
+    text = read(source("crates", "wasm_c", "pulleynavy.pc.in")).decode()
+    text = text.replace("libdir=${prefix}/lib", "libdir=" + libdir)
+    return text.replace("@PREFIX@", prefix).replace("@VERSION@", common.version()).encode()
+
+
+def manuals():
+    """The manual pages, compressed as Debian has them."""
+    for path in sorted(glob.glob(source("docs", "man", "*.1"))):
+        yield os.path.basename(path), read(path)
+
+
+def programs(machine):
+    """The programs of a machine, for which they are prebuilt or not."""
+    return ["wasm_list", "wasm_dump"] if machine == "x86_64" else []
+
+
+def tarball(machine, folder, place):
+    """The library, the header, the programs and their manual pages, to be unpacked anywhere."""
+    top = "pulleynavy-%s-%s-linux" % (common.version(), machine)
+    shared_library(machine, os.path.join(place, "shared"))
+    full = "libpulleynavy.so." + common.version()
+    files = [("lib/libpulleynavy.a", read(archive(machine)), 0o644), ("lib/" + full, read(os.path.join(place, "shared")), 0o755)]
+    files += [("include/pulleynavy.h", read(prebuilt("pulleynavy.h")), 0o644)]
+    files += [("lib/pkgconfig/pulleynavy.pc", pkg_config("${pcfiledir}/../.."), 0o644)]
+    files += [("bin/" + name, read(prebuilt(name)), 0o755) for name in programs(machine)]
+    files += [("share/man/man1/" + name, text, 0o644) for name, text in manuals() if name.split(".")[0] in programs(machine)]
+    files += [("share/doc/pulleynavy/" + name, read(source(name)), 0o644) for name in (*LICENSES, "README.md", "CHANGELOG.md")]
+    links = [("lib/" + soname(), full), ("lib/libpulleynavy.so", soname())]
+    path = os.path.join(folder, top + ".tar.gz")
+    write_tarball(path, [("%s/%s" % (top, name), data, mode) for name, data, mode in files], [("%s/%s" % (top, name), to) for name, to in links])
+
+
+# ---- what comes with them
+
+
+def bill_of_materials():
+    """A bill of materials in the form of SPDX 2.3: the files of prebuilt/ and what they are made from."""
+    made = common.made_from()
+    files = []
+    for number, name in enumerate(sorted(os.listdir(common.PREBUILT))):
+        sums = [{"algorithm": "SHA256", "checksumValue": hashlib.sha256(read(prebuilt(name))).hexdigest()}]
+        sums += [{"algorithm": "SHA1", "checksumValue": hashlib.sha1(read(prebuilt(name))).hexdigest()}]
+        files.append({"SPDXID": "SPDXRef-File-%d" % number, "fileName": "./prebuilt/" + name, "checksums": sums})
+    package = {"SPDXID": "SPDXRef-Package", "name": "pulleynavy", "versionInfo": common.version(), "downloadLocation": "NOASSERTION"}
+    package |= {"licenseDeclared": "Apache-2.0 OR MIT", "licenseConcluded": "Apache-2.0 OR MIT", "filesAnalyzed": False}
+    package |= {"copyrightText": "NOASSERTION", "comment": "made from sources with the checksum %s by %s" % (made["sources"], made["toolchain"])}
+    created = subprocess.run(["date", "-u", "-d", "@%d" % epoch(), "+%Y-%m-%dT%H:%M:%SZ"], stdout=subprocess.PIPE, check=True).stdout.decode().strip()
+    document = {"spdxVersion": "SPDX-2.3", "dataLicense": "CC0-1.0", "SPDXID": "SPDXRef-DOCUMENT", "name": "pulleynavy-" + common.version()}
+    document |= {"documentNamespace": "https://spdx.org/spdxdocs/pulleynavy-%s-%s" % (common.version(), made["sources"][:32])}
+    document |= {"creationInfo": {"created": created, "creators": ["Organization: Pulleynavy"]}, "packages": [package], "files": files}
+    document |= {"relationships": [{"spdxElementId": "SPDXRef-DOCUMENT", "relationshipType": "DESCRIBES", "relatedSpdxElement": "SPDXRef-Package"}]}
+    contains = [{"spdxElementId": "SPDXRef-Package", "relationshipType": "CONTAINS", "relatedSpdxElement": one["SPDXID"]} for one in files]
+    document["relationships"] += contains
+    return json.dumps(document, indent=1, sort_keys=True).encode() + b"\n"
