@@ -7,7 +7,7 @@ use Rattle.wasm_lines.specs.Calls.{Device, from_to}
 use Rattle.wasm_cli.proofs.ForCallers.{appends_kept}
 use Rattle.wasm_cli.specs.Devices.{over, Follows, IsUntouched, Says}
 use Rattle.wasm_cli.specs.Endings.{RunsUsage, Flushes, FailsToFlush, LeavesAlone, Finishes, status_of}
-use Rattle.wasm_cli.specs.ListRuns.{RunsListingAs, Runs, EndsAs, ListsAll, RunsProgram, usage}
+use Rattle.wasm_cli.specs.ListRuns.{RunsListingAs, Runs, EndsAs, ListsAll, RunsThenFlushes, RunsProgram, usage}
 use Rattle.wasm_cli.specs.declared.list.command.Command.{Command}
 use Rattle.wasm_feed.specs.declared.listing.Ended.{Ended}
 use Rattle.wasm_feed.specs.declared.listing.Ended.TheVariants.{End, Fault}
@@ -118,6 +118,23 @@ refused_all input first second first_errors second_errors forwarded status resul
       says = said_before first_errors second_errors _ fe r.says alone.silent;
     }
 
+-- a run, and then its end
+flushed_after : (runs : (output errors : Device) (status : ℕ) → Type 0) (first second first_errors second_errors : Device)
+    (forwarded : Bool) (status result : ℕ) → Follows first second → Follows first_errors second_errors → runs first first_errors status
+    → Finishes status forwarded second second_errors result
+    → RunsThenFlushes runs forwarded (over first second) (over first_errors second_errors) result
+flushed_after runs first second first_errors second_errors forwarded status result f fe ran finish = record {
+  written = first;
+  passes_on = second;
+  said = first_errors;
+  said_last = second_errors;
+  first = status;
+  follows = (f, fe);
+  devices = (refl, refl);
+  runs = ran;
+  ends = finish;
+}
+
 pub program : (command : Command) (input first second first_errors second_errors : Device) (forwarded : Bool) (status result : ℕ)
     → Follows first second → Follows first_errors second_errors
     → Runs command input first first_errors status → Finishes status forwarded second second_errors result
@@ -125,17 +142,10 @@ pub program : (command : Command) (input first second first_errors second_errors
 program command input first second first_errors second_errors forwarded status result f fe runs finish = record {
   lists = λ c. let r = runs.lists (some_is c) in listed_all input first second first_errors second_errors forwarded status result f fe r.how
       r.runs finish;
-  strips = λ c. record {
-    written = first;
-    passes_on = second;
-    said = first_errors;
-    said_last = second_errors;
-    first = status;
-    follows = (f, fe);
-    devices = (refl, refl);
-    strips = runs.strips (some_is c);
-    ends = finish;
-  };
+  strips = λ c. flushed_after _ first second first_errors second_errors forwarded status result f fe (runs.strips (some_is c)) finish;
+  helps = λ c. flushed_after _ first second first_errors second_errors forwarded status result f fe (runs.helps (some_is c)) finish;
+  says_version = λ c.
+      flushed_after _ first second first_errors second_errors forwarded status result f fe (runs.says_version (some_is c)) finish;
   refuses = λ c. refused_all input first second first_errors second_errors forwarded status result f fe (runs.refuses (some_is c)) finish;
   without_arguments = λ none. absurd cc;
 }

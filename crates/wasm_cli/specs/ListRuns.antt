@@ -1,5 +1,6 @@
 -- What a run of the program does.
-use Rattle.std.specs.Prelude.{◌≡◌, ◌⊎◌, ℕ, Bool, List, drop, codes, Option, Some, None, Result, Ok, Err, if◌then◌else◌}
+use Rattle.std.specs.Prelude.{◌≡◌, ◌⊎◌, ℕ, Bool, List, ◌++◌, drop, codes, Option, Some, None, Result, Ok, Err}
+use Rattle.std.specs.Prelude.{if◌then◌else◌}
 use Rattle.std.specs.IoError.{error_kind}
 use Rattle.std.specs.declared.io.Error.{Error}
 use Rattle.wasm_lines.specs.Calls.{Device, bytes_of, input_failed, output_failed}
@@ -7,15 +8,31 @@ use Rattle.wasm_feed.specs.Lists.{Lists, ListsSource}
 use Rattle.wasm_feed.specs.declared.listing.Ended.{Ended}
 use Rattle.wasm_lines.specs.declared.devices.ListError.{ListError}
 use Rattle.wasm_cli.specs.Arguments.{is_no_text}
-use Rattle.wasm_cli.specs.Devices.{over, Follows, Says, complaint_of}
-use Rattle.wasm_cli.specs.Endings.{status_of, Reports, RunsUsage, CannotBegin, Flushes, FailsToFlush, Finishes}
+use Rattle.wasm_cli.specs.Devices.{over, Follows, IsUntouched, Says, complaint_of}
+use Rattle.wasm_cli.specs.Endings.{status_of, Reports, RunsUsage, CannotBegin, WritesAll, WritesSome, Flushes}
+use Rattle.wasm_cli.specs.Endings.{FailsToFlush, Finishes}
 use Rattle.wasm_cli.specs.ListCommands.{command_of}
 use Rattle.wasm_cli.specs.Strips.{RunsStripping}
 use Rattle.wasm_cli.specs.declared.list.command.Command.{Command}
-use Rattle.wasm_cli.specs.declared.list.command.Command.TheVariants.{Listing, Stripping, Unknown}
+use Rattle.wasm_cli.specs.declared.list.command.Command.TheVariants.{Listing, Stripping, Help, Version}
+use Rattle.wasm_cli.specs.declared.list.command.Command.TheVariants.{Unknown}
 
 abbrev pub usage : List ℕ
 usage = codes "usage: wasm_list [strip]\n"
+
+abbrev pub version_text : List ℕ
+version_text = codes "wasm_list 0.1.0 (follows wasmparser 0.263.0)\n"
+
+abbrev pub help_text : List ℕ
+help_text =
+    codes "usage: wasm_list [strip] < FILE\n" ++ (
+    codes "\n" ++ (
+    codes "Lists the parts of the WebAssembly module on standard input: the header, each\n" ++ (
+    codes "section and function body with its offsets, and the end or the first fault.\n" ++ (
+    codes "With strip, writes the module without its custom sections instead.\n" ++ (
+    codes "\n" ++ (
+    codes "The exit status is 0, 1 at a fault, 2 for wrong arguments, and 3 if the input\n" ++ (
+    codes "or the output failed or memory ran out.\n")))))))
 
 -- a run whose listing ended so
 pub record RunsListingAs (how : Result Ended ListError) (input output errors : Device) (status : ℕ) : Type 0 where
@@ -28,10 +45,21 @@ pub record RunsListing (input output errors : Device) (status : ℕ) : Type 0 wh
   pub how : Result Ended ListError
   pub runs : RunsListingAs how input output errors status
 
+-- This text was written, or a prefix of it before the output failed.
+abbrev pub WritesText : (text : List ℕ) (output errors : Device) (status : ℕ) → Type 0
+WritesText text output errors status = WritesAll text output errors status ⊎ WritesSome text output errors status
+
+-- A run that wrote this text, as far as the output took it, and left its input alone.
+pub record RunsText (text : List ℕ) (input output errors : Device) (status : ℕ) : Type 0 where
+  pub source : IsUntouched input
+  pub writes : WritesText text output errors status
+
 -- a run that was asked for this
 pub record Runs (command : Command) (input output errors : Device) (status : ℕ) : Type 0 where
   pub lists : command ≡ Listing → RunsListing input output errors status
   pub strips : command ≡ Stripping → RunsStripping input output errors status
+  pub helps : command ≡ Help → RunsText help_text input output errors status
+  pub says_version : command ≡ Version → RunsText version_text input output errors status
   pub refuses : command ≡ Unknown → RunsUsage usage input output errors status
 
 -- a listing that was given up, with its reason
@@ -53,8 +81,9 @@ pub record ListsAll (forwarded : Bool) (input output errors : Device) (status : 
   pub source : input.has_failed ≡ input_failed how input.had_failed
   pub ends : EndsAs how forwarded output errors status
 
--- the whole program, where it strips its input: what was written is handed on after a status of 0 or 1
-pub record StripsAll (forwarded : Bool) (input output errors : Device) (status : ℕ) : Type 0 where
+-- the whole program, where this is what it runs: what was written is flushed after a status of 0 or 1
+pub record RunsThenFlushes (runs : (output errors : Device) (status : ℕ) → Type 0) (forwarded : Bool)
+    (output errors : Device) (status : ℕ) : Type 0 where
   pub written : Device
   pub passes_on : Device
   pub said : Device
@@ -62,7 +91,7 @@ pub record StripsAll (forwarded : Bool) (input output errors : Device) (status :
   pub first : ℕ
   pub follows : Follows written passes_on × Follows said said_last
   pub devices : (output ≡ over written passes_on) × (errors ≡ over said said_last)
-  pub strips : RunsStripping input written said first
+  pub runs : runs written said first
   pub ends : Finishes first forwarded passes_on said_last status
 
 -- what is asked for, if the arguments could be had: the first one is the program's own name. One that is no text is
@@ -75,6 +104,9 @@ command_after_name words (Err e) = if is_no_text (error_kind e) then Some Unknow
 pub record RunsProgram (command : Option Command) (forwarded : Bool) (input output errors : Device) (status : ℕ) : Type
     0 where
   pub lists : command ≡ Some Listing → ListsAll forwarded input output errors status
-  pub strips : command ≡ Some Stripping → StripsAll forwarded input output errors status
+  pub strips : command ≡ Some Stripping → RunsThenFlushes (RunsStripping input) forwarded output errors status
+  pub helps : command ≡ Some Help → RunsThenFlushes (RunsText help_text input) forwarded output errors status
+  pub says_version : command ≡ Some Version
+      → RunsThenFlushes (RunsText version_text input) forwarded output errors status
   pub refuses : command ≡ Some Unknown → RunsUsage usage input output errors status
   pub without_arguments : command ≡ None → CannotBegin input output errors status

@@ -15,6 +15,10 @@ pub(super) enum Command {
     Listing,
     /// To strip it.
     Stripping,
+    /// To say how it is used.
+    Help,
+    /// To say its version.
+    Version,
     /// It doesn't know.
     Unknown,
 }
@@ -23,10 +27,11 @@ pub(super) enum Command {
 fn command_named(word: &str) -> Command
     ensures { result ≡ command_by_name word.now }
 {
-    if word == "strip" {
-        Command::Stripping
-    } else {
-        Command::Unknown
+    match word {
+        "strip" => Command::Stripping,
+        "--help" => Command::Help,
+        "--version" => Command::Version,
+        _ => Command::Unknown,
     }
 }
 

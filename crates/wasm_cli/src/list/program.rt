@@ -4,7 +4,8 @@ ghost use Rattle.std.specs.Process.{exit_status};
 ghost use Rattle.std.specs.Vec.Iter.{into_iter_items};
 ghost use Rattle.wasm_lines.specs.Calls.{device_of, writer_device};
 ghost use Rattle.wasm_cli.specs.ListCommands.{command_of as command_by};
-ghost use Rattle.wasm_cli.specs.ListRuns.{Runs, RunsListing, RunsProgram, command_after_name as command_if_any};
+ghost use Rattle.wasm_cli.specs.ListRuns.{Runs, RunsListing, RunsProgram, WritesText, command_after_name as command_if_any};
+ghost use Rattle.wasm_cli.specs.ListRuns.{help_text, version_text};
 
 use super::command::{Command, command_asked, command_of};
 use super::stripping::strip_input;
@@ -13,7 +14,35 @@ use std::alloc::Global;
 use std::env::{self, Args};
 use std::io::{self, Write};
 use std::process::ExitCode;
-use wasm_feed::{Ended, ListError, ReadSource, Sink, Source, WriteSink, list};
+use wasm_feed::{Ended, ListError, ReadSource, Sink, Source, WriteSink, list, write_all};
+
+/// What `--help` prints.
+const HELP: &[u8] = b"usage: wasm_list [strip] < FILE
+
+Lists the parts of the WebAssembly module on standard input: the header, each
+section and function body with its offsets, and the end or the first fault.
+With strip, writes the module without its custom sections instead.
+
+The exit status is 0, 1 at a fault, 2 for wrong arguments, and 3 if the input
+or the output failed or memory ran out.
+";
+
+/// What `--version` prints.
+const VERSION: &[u8] = b"wasm_list 0.1.0 (follows wasmparser 0.263.0)\n";
+
+// `HELP`, in the words of its clause.
+fn help() -> &'static [u8]
+    ensures { result.now ≡ help_text }
+{
+    HELP
+}
+
+// `VERSION`, in the words of its clause.
+fn version() -> &'static [u8]
+    ensures { result.now ≡ version_text }
+{
+    VERSION
+}
 
 /// The program over the standard streams.
 pub fn run_host(rt: HostRuntime) -> ExitCode {
@@ -90,10 +119,23 @@ fn run_command<R: Source, W: Sink, E: Sink>(
     match command {
         Command::Listing => list_input(alloc, input, output, errors),
         Command::Stripping => strip_input(alloc, input, output, errors),
+        Command::Help => write_text(help(), output, errors),
+        Command::Version => write_text(version(), output, errors),
         Command::Unknown => {
             complain(errors, b"usage: wasm_list [strip]\n");
             2
         }
+    }
+}
+
+// Writes a text and returns the status.
+fn write_text<W: Sink, E: Sink>(text: &[u8], output: &mut W, errors: &mut E) -> u8
+    ensures { WritesText text.now (device_of W.taken W.has_failed output.old output.new)
+        (device_of E.taken E.has_failed errors.old errors.new) result }
+{
+    match write_all(output, text) {
+        Ok(()) => 0,
+        Err(_) => give_up(errors, ListError::Output),
     }
 }
 

@@ -65,7 +65,22 @@ type Row = (
 
 const USAGE: &[u8] = b"usage: wasm_list [strip]\n";
 
-const ROWS: [Row; 12] = [
+const HELP: &[u8] = b"usage: wasm_list [strip] < FILE
+
+Lists the parts of the WebAssembly module on standard input: the header, each
+section and function body with its offsets, and the end or the first fault.
+With strip, writes the module without its custom sections instead.
+
+The exit status is 0, 1 at a fault, 2 for wrong arguments, and 3 if the input
+or the output failed or memory ran out.
+";
+
+const VERSION: &[u8] = b"wasm_list 0.1.0 (follows wasmparser 0.263.0)\n";
+
+const ROWS: [Row; 15] = [
+    (&["--help"], MODULE, 0, HELP, b""),
+    (&["--version"], MODULE, 0, VERSION, b""),
+    (&["strip", "--help"], MODULE, 2, b"", USAGE),
     (
         &[],
         MODULE,
@@ -132,7 +147,7 @@ const ROWS: [Row; 12] = [
 fn all_answer(rt: &impl Abort, alloc: Global, rows: &[Row]) -> Result<(), Fail> {
     for (arguments, stream, status, written, said) in rows {
         let input = &mut SliceSource::new(stream);
-        answers(rt, alloc, arguments, input, 200, (*status, written, said))?;
+        answers(rt, alloc, arguments, input, 500, (*status, written, said))?;
     }
     Ok(())
 }
@@ -198,6 +213,7 @@ fn says_which_device_failed(rt: HostRuntime) -> Result<(), Fail> {
     input_fails(&rt, rt.alloc(), &[], wanted)?;
     input_fails(&rt, rt.alloc(), &["strip"], wanted)?;
     output_fails(&rt, rt.alloc(), &[], b"version 0 8 1 module\ncus")?;
+    output_fails(&rt, rt.alloc(), &["--help"], b"usage: ")?;
     output_fails(&rt, rt.alloc(), &["strip"], b"\0asm\x01")
 }
 
