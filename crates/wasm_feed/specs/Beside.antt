@@ -106,12 +106,12 @@ pub record IsAlike (f g : Feed) : Type 0 where
   pub held : f.held ≡ g.held
   pub eof : f.eof ≡ g.eof
 
--- what a read gave of a source: a piece, which is empty only at its end
+-- what one read returned from a source: bytes, and none only at its end
 abbrev pub Fetches : (source rest : Option (List ℕ)) → (piece : List ℕ) → Result (Unit {0}) Failed → Type 0
 Fetches source rest piece (Ok done) = Consumes source rest piece × (piece ≡ [] → IsAtEnd rest)
 Fetches source rest piece (Err e) = Keeps source rest
 
--- The source was at its end, which a feeder was told; or it gave some bytes, which come next.
+-- The source was at its end, which the feeder records; or it returned some bytes, which come next.
 abbrev pub FillsAlike : (source rest : Option (List ℕ)) → (old new : Feed) → Type 0
 FillsAlike source rest old new =
     (Consumes source rest [] × IsAtEnd rest × IsAlike (finished old) new)

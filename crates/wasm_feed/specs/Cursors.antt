@@ -13,6 +13,6 @@ feed_of bytes c = record {
   wants_more = c.wants_more;
 }
 
--- a cursor after the end was told
+-- a cursor after the end of input
 abbrev pub finished_cursor : Cursor → Cursor
 finished_cursor c = record c { is_finished = true; wants_more = false }

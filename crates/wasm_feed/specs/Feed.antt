@@ -6,7 +6,7 @@ use Rattle.wasm_base.specs.declared.error.Error.{Error}
 use Rattle.wasm_base.specs.declared.fault.Fault.TheVariants.{OffsetRange}
 use Rattle.wasm_parser.specs.ParserState.{ParserState, initial_state}
 
--- where its parser is; the bytes that were pushed and not consumed; how many it stores; whether the end was told; and
+-- its parser's state; the bytes that were pushed and not consumed; how many it stores; whether the input has ended; and
 -- whether it wants more
 pub record Feed : Type 0 where
   pub state : ParserState
@@ -15,7 +15,7 @@ pub record Feed : Type 0 where
   pub eof : Bool
   pub wants_more : Bool
 
--- a feeder that was given nothing, whose parser is here
+-- a feeder without bytes, whose parser is here
 abbrev pub empty_feed : ParserState → Feed
 empty_feed p = record { state = p; held = []; stored = 0; eof = false; wants_more = true }
 
@@ -32,7 +32,7 @@ pushed f piece = record {
   wants_more = false;
 }
 
--- the feeder after the end was told
+-- the feeder after the end of input
 abbrev pub finished : Feed → Feed
 finished f = record { state = f.state; held = f.held; stored = f.stored; eof = true; wants_more = false }
 
@@ -50,7 +50,7 @@ abbrev pub RefusesOnlyAs : FaultAt → Result (Unit {0}) Error → Type 0
 RefusesOnlyAs f (Ok done) = Unit {0}
 RefusesOnlyAs f (Err e) = fault_at e ≡ f
 
--- A push is refused where the stream would pass the top of the offsets, and elsewhere only for want of memory.
+-- A push is refused if the stream would pass the largest offset, and otherwise only if an allocation fails.
 pub record RefusesPush (f : Feed) (piece : List ℕ) (result : Result (Unit {0}) Error) : Type 0 where
   pub past_the_top : 2 ^ 64 ≤ end_of f + length piece → RefusesAs (at_offset OffsetRange f.state.offset) result
   pub within : end_of f + length piece < 2 ^ 64 → RefusesOnlyAs out_of_memory result

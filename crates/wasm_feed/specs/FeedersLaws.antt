@@ -1,4 +1,4 @@
--- What holds of every feeder: where it is along a stream, and how long it waits.
+-- What holds of every feeder: its position in a stream, and how long it waits.
 use Rattle.std.specs.Prelude.{◌≡◌, ◌⊎◌, ℕ, ◌+◌, ◌<◌, ◌≤◌, ◌^◌, true, false, List, [], ◌++◌, length, take, drop}
 use Rattle.std.specs.Prelude.{Result, Ok}
 use Rattle.std.specs.Borrow.{Bor}
@@ -18,20 +18,20 @@ use Rattle.wasm_feed.specs.Step.{answer_of, Stepped, Steps}
 use Rattle.wasm_feed.specs.declared.feeder.Step.{Step}
 use Rattle.wasm_feed.specs.declared.feeder.Step.TheVariants.{NeedMoreData, Parsed}
 
--- The feeder was given these bytes of a stream: what its parser has passed of them is read as these events, and it
--- holds the others.
+-- The feeder received these bytes of a stream: those that its parser consumed are read as these events, and it holds
+-- the others.
 abbrev pub IsAlong : (start features : ℕ) (given : List ℕ) (f : Feed) (events : List Event) → Type 0
 IsAlong start features given f events = Along start features given f.state f.held events
 
--- What a step over a piece says of the stream: the step is the next event of every stream that begins with what was
--- given and the piece, and then the feeder was given what it took of the piece.
+-- What a step over a chunk says of the stream: it is the next event of every stream that begins with the bytes so far
+-- and the chunk, after which the feeder has received what it took of the chunk.
 pub record SteppedOver (start features : ℕ) (given : List ℕ) (f : Feed) (piece : List ℕ) (events : List Event)
     (result : Result Step Error) (taken : ℕ) (g : Feed) : Type 0 where
   pub steps : Stepped start features f.eof (given ++ piece) events result g.state (g.held ++ drop taken piece)
   pub takes : (later : List Event) → Along start features (given ++ piece) g.state (g.held ++ drop taken piece) later
       → IsAlong start features (given ++ take taken piece) g later
 
--- A feeder goes on as it was left, or was told of the end of input since.
+-- A feeder continues as it was left, or the end of input was recorded since.
 abbrev pub GoesOn : (left now : Feed) → Type 0
 GoesOn left now = (now ≡ left) ⊎ (now ≡ finished left)
 
@@ -61,7 +61,7 @@ pub record FeedersGoAlong : Type 0 where
   -- where the parser is after a step
   pub becomes : (f g : Feed) (result : Result Step Error) → Steps f result g → g.state
       ≡ state_after_answer f.state (answer_of result)
-  -- after the end or a fault the next step answers the same, whatever bytes come, and also after the end of input
+  -- after the end or a fault the next step returns the same, whatever bytes follow, and after the end of input too
   pub again : (f g h : Feed) (one two : Result Step Error) → is_last (answer_of one) ≡ true → Steps f one g
       → Steps g two h → SaysTheSame (answer_of one) (answer_of two)
   pub again_over : (f g k h : Feed) (piece more : List ℕ) (one two : Result Step Error) (taken later : ℕ)
@@ -75,9 +75,9 @@ pub record WaitsUndecided (f : Feed) : Type 0 where
   pub below : end_of f < 2 ^ 64
   pub undecided : f.wants_more ≡ true → (hint : ℕ) × IsUndecided f.state f.eof f.held hint
 
--- This holds of a new feeder and after each call, while the stream stays below the top of the offsets; past it, a step
--- is the fault of that. What is stored after bytes came is less than the bound of the undecided ones and the piece, and
--- where the bytes that are held decide, no more than before.
+-- This holds of a new feeder and after each call, while the stream stays below the largest offset; above it, a step is
+-- the fault `OffsetRange`. After bytes arrive, it stores less than the bound of the undecided ones and the chunk
+-- together; if the bytes that it holds decide, no more than before.
 pub record FeedersWait : Type 0 where
   pub begins : (offset features : ℕ) → offset < 2 ^ 64 → WaitsUndecided (new_feed offset features)
   pub pushes : (f : Feed) (piece : List ℕ) → end_of f + length piece < 2 ^ 64 → WaitsUndecided f

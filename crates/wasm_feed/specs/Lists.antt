@@ -55,14 +55,14 @@ pub record IsAllButLast (text_of : Report → List ℕ) (input output : Change) 
   pub listed : Appends output.before output.after (listing_by text_of events)
   pub reading : Reading given 0 all_features (events ++ last ∷ [])
 
--- a beginning of the listing of a stream
+-- a prefix of the listing of a stream
 pub record Begins (text_of : Report → List ℕ) (stream shown : List ℕ) : Type 0 where
   pub events : List Event
   pub reading : Reading stream 0 all_features events
   pub more : List ℕ
   pub parts : listing_by text_of events ≡ shown ++ more
 
--- Written is a beginning of the listing of what the source gave.
+-- A prefix of the listing of what the source returned was written.
 pub record IsHead (text_of : Report → List ℕ) (input output : Change) : Type 0 where
   pub given : List ℕ
   pub shown : List ℕ
@@ -81,7 +81,7 @@ ListsBy text_of input output (Err Memory) = IsHead text_of input output
 abbrev pub Lists : (input output : Change) → Result Ended ListError → Type 0
 Lists input output how = ListsBy line_of input output how
 
--- The source was at its end, which the feeder was told; or it gave some bytes, which were pushed.
+-- The source was at its end, which the feeder records; or it returned some bytes, which were pushed.
 abbrev pub Fills : (source rest : Option (List ℕ)) → (old new : Feed) → Type 0
 Fills source rest old new =
     (Consumes source rest [] × IsAtEnd rest × (new ≡ finished old))

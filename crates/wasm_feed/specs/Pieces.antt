@@ -1,4 +1,4 @@
--- The reading of a stream that is cut into pieces.
+-- The reading of a stream that arrives in chunks.
 use Rattle.std.specs.Borrow.{Bor}
 use Rattle.std.specs.Prelude.{◌≡◌, ℕ, ◌+◌, ◌<◌, ◌^◌, Bool, true, false, List, length, flat_map, Vec, Result, Ok, Err}
 use Rattle.wasm_base.specs.FaultAt.{fault_at}
@@ -11,7 +11,7 @@ use Rattle.wasm_feed.specs.Events.{AreEvents}
 use Rattle.wasm_feed.specs.Feed.{Feed}
 use Rattle.wasm_feed.specs.declared.events.Event.{Event}
 
--- the pieces joined
+-- the chunks joined
 abbrev pub joined : List (Bor (List ℕ)) → List ℕ
 joined pieces = flat_map (λ piece. piece.now) pieces
 
@@ -26,17 +26,17 @@ abbrev pub ReadsUnlessMemory : {A B : Type 0} → (stream : List ℕ) (start fea
 ReadsUnlessMemory stream start features (Ok values) = IsReading stream start features values.items
 ReadsUnlessMemory stream start features (Err e) = fault_at e ≡ out_of_memory
 
--- A feeder that was given these bytes has come so far, and the values are the events of that.
+-- A feeder that received these bytes has this state, and the values are the events so far.
 abbrev pub HasCome : {A : Type 0} → (start features : ℕ) (given : List ℕ) → Feed → List (Event A) → Type 0
 HasCome start features given feed values = (events : List reading.Event)
     × Along start features given feed.state feed.held events × AreEvents events values
 
--- The values are the events of each stream that the given bytes may be the first of, or all.
+-- The values are the events of each stream that begins with the bytes so far, or that they are.
 abbrev pub HasEnded : {A : Type 0} → (start features : ℕ) (eof : Bool) (given : List ℕ) → List (Event A) → Type 0
 HasEnded start features eof given values =
     (events : List reading.Event) × ReadsEach start features eof given events × AreEvents events values
 
--- A stream below the top of the offsets, of which a feeder was given these bytes, and has come so far.
+-- A stream below the largest offset, of which a feeder received these bytes, and its state.
 pub record GivenTo {A : Type 0} (feed : Feed) (values : List (Event A)) : Type 0 where
   pub start : ℕ
   pub features : ℕ

@@ -1,4 +1,4 @@
--- How far a listing has come that goes along a stream by a feeder, each event told by the text of what it reports.
+-- The progress of a listing that reads a stream by a feeder and writes a text for what each event reports.
 use Rattle.std.specs.Prelude.{◌≡◌, ℕ, ◌+◌, ◌-◌, ◌<◌, ◌^◌, true, List, ◌++◌, length, if◌then◌else◌}
 use Rattle.std.specs.Io.KnownBytes.{Consumes, Appends, IsAtEnd}
 use Rattle.wasm_parser.specs.Along.{Along}
@@ -9,7 +9,7 @@ use Rattle.wasm_feed.specs.Feed.{Feed}
 use Rattle.wasm_lines.specs.Listing.{listing_by}
 use Rattle.wasm_base.specs.Features.{all_features}
 
--- how much there may be left: bytes to consume, bytes to come, and the end to be told
+-- a bound on the remaining work: bytes to consume, bytes to read, and the end to report
 abbrev pub weight : Feed → ℕ
 weight f = (2 ^ 64 - f.state.offset) + ((2 ^ 64 - (f.state.offset + length f.held)) + (if f.eof then 0 else 1))
 
@@ -24,7 +24,7 @@ pub record Progress (text_of : Report → List ℕ) (input output : Change) (f :
   pub listed : Appends output.before output.after lines
   pub parts : listing_by text_of events ≡ lines ++ page
 
--- More may come, the parser is undecided on what is held, and what was given is below the top.
+-- More may come, the parser is undecided on the held bytes, and the bytes so far are below the largest offset.
 pub record Wants (text_of : Report → List ℕ) (input output : Change) (f : Feed) (page : List ℕ) : Type 0 where
   pub progress : Progress text_of input output f page
   pub hint : ℕ

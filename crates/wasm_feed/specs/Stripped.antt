@@ -28,7 +28,7 @@ name_stays keep (refused f place) = false
 abbrev pub frame_stays : (keep : Bool) → SectionFrame → Bool
 frame_stays keep f = not (nat_eq f.id custom_id) || name_stays keep (name (Some name_limit) f.sized.content)
 
--- what is left of a header and these sections: the header, and the sections that stay, each with all its bytes
+-- a header and these sections after stripping: the header, and the sections that stay, each with all its bytes
 abbrev pub stripped : (keep : Bool) → Encoding → List SectionFrame → List ℕ
 stripped keep encoding frames = header_bytes encoding ++ flat_map frame_bytes (filter (frame_stays keep) frames)
 
@@ -44,7 +44,7 @@ event_stays keep e = report_stays keep e.report
 abbrev pub kept_bytes : (keep : Bool) → List Event → List ℕ
 kept_bytes keep events = consumed_by (filter (event_stays keep) events)
 
--- the events that stay, each with the number of bytes that were dropped before it, so many of them before the first
+-- the events that stay, each with the number of bytes that were dropped before it, which is `dropped` before the first
 -- event
 abbrev pub staying : (keep : Bool) (dropped : ℕ) → List Event → List (ℕ × Event)
 staying keep dropped [] = []
@@ -61,8 +61,8 @@ IsMovedBack s e = s.1 ≡ shifted_event s.0 e
 abbrev pub AreKept : (keep : Bool) → List Event → List Event → Type 0
 AreKept keep events kept = AllZip IsMovedBack (staying keep 0 events) kept
 
--- The stream is accepted, and these bytes are what is left of it: they are accepted too, and are read as the stream is,
--- but for the events that were dropped.
+-- The stream is accepted, and these are its bytes after stripping: they are accepted too, and are read like the stream,
+-- except for the events that were dropped.
 pub record IsStripped (keep : Bool) (stream kept : List ℕ) : Type 0 where
   pub accepted : IsAccepted stream
   pub bytes : kept ≡ stripped keep accepted.encoding accepted.frames
@@ -91,13 +91,13 @@ pub record LeavesStream (stream : List ℕ) (e : Error) (after : List ℕ) : Typ
   pub fault : EndsWithFault stream e
   pub unchanged : after ≡ stream
 
--- The same in the stream's own bytes: what is left is the first of them, so many.
+-- Like `Strips`, in the stream's own bytes: the stripped bytes are the first ones, and their number is returned.
 abbrev pub StripsToFront : (keep : Bool) (stream : List ℕ) → Result ℕ Error → (after : List ℕ) → Type 0
 StripsToFront keep stream (Ok size) after = IsStripped keep stream (take size after) × (size ≤ length after)
     × (length after ≡ length stream)
 StripsToFront keep stream (Err e) after = LeavesStream stream e after
 
--- The same in the stream's own memory.
+-- Like `Strips`, in the stream's own memory.
 abbrev pub StripsInPlace : (keep : Bool) (stream : List ℕ) → Result (Unit {0}) Error → (after : List ℕ) → Type 0
 StripsInPlace keep stream (Ok done) after = IsStripped keep stream after
 StripsInPlace keep stream (Err e) after = LeavesStream stream e after

@@ -1,4 +1,4 @@
-// A piece of a source, beside what is stored of the stream before it.
+// A chunk of a source, and what is stored of the stream before it.
 ghost use Rattle.std.specs.Prelude.{◌≡◌, ◌+◌, ◌<◌, ◌≤◌, [], drop, length, vec_len, vec_capacity, is_ok, true, IfErr, OnErr, OnOk, if◌then◌else◌};
 ghost use Rattle.wasm_feed.specs.Beside.{beside, lending, Fetches, ReadsEnough, RefillsAlike};
 ghost use Rattle.wasm_feed.specs.Cursors.{feed_of};
@@ -12,8 +12,8 @@ use wasm_lines::{Failed, ListError, Source};
 
 /// The remaining bytes of the chunk that was read last, in the buffer that it was read into.
 ///
-/// With a cursor and the bytes that are stored before them, it is a feeder that reads from a source and parses each chunk where it is. A
-/// loop calls `make_ready`, then `parse_next` on what is `seen`, and then `pass_borrowed`, or `refill` where the step asked for more.
+/// With a cursor and the bytes that are stored before them, it is a feeder that reads from a source and parses each chunk in place. A
+/// loop calls `make_ready`, then `parse_next` on what is `seen`, and then `pass_borrowed`, or `refill` if the step requested more.
 #[derive(Drop)]
 pub struct Ahead<A: Allocator> {
     buffer: Vec<u8, A>,
@@ -52,7 +52,7 @@ impl<A: Allocator> Ahead<A> {
         &self.buffer[self.start..self.end]
     }
 
-    // Passes so many of them.
+    // Consumes this many of them.
     fn pass(&mut self, count: usize)
         requires { count ≤ length self.old }
         ensures { self.new ≡ drop count self.old }

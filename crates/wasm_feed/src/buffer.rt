@@ -3,7 +3,7 @@ ghost use Rattle.std.specs.Prelude.{◌≡◌, ◌+◌, ◌≤◌, ◌++◌, dro
 
 use std::alloc::{AllocError, Allocator};
 
-/// Puts a piece after the bytes that are left, and takes those before them out. A failed allocation changes nothing.
+/// Appends a chunk to the remaining bytes, and drops the consumed ones. A failed allocation changes nothing.
 pub(crate) fn append<A: Allocator>(
     bytes: &mut Vec<u8, A>,
     spent: usize,
@@ -18,9 +18,8 @@ pub(crate) fn append<A: Allocator>(
     Ok(())
 }
 
-/// Takes the first bytes out, and makes room for so many after those that are left. It allocates for these alone, before
-/// anything is moved: a failed allocation changes nothing. It grows by more than it must, so that many small pieces cost
-/// no more than a large one.
+/// Drops the first bytes, and makes room for `count` after the remaining ones. It allocates for these alone, before anything is moved:
+/// a failed allocation changes nothing. It grows by more than it must, so that many small chunks cost no more than a large one.
 pub(crate) fn make_room<A: Allocator>(
     bytes: &mut Vec<u8, A>,
     spent: usize,
@@ -36,7 +35,7 @@ pub(crate) fn make_room<A: Allocator>(
     Ok(())
 }
 
-/// Puts a piece after the bytes, for which there must be room.
+/// Appends a chunk, for which there must be room.
 pub(crate) fn put<A: Allocator>(bytes: &mut Vec<u8, A>, piece: &[u8])
     requires { vec_len bytes.old + length piece.now ≤ vec_capacity bytes.old }
     ensures items { bytes.new.items ≡ bytes.old.items ++ piece.now }
@@ -59,7 +58,7 @@ pub(crate) fn drop_front<A: Allocator>(bytes: &mut Vec<u8, A>, count: usize)
     }
 }
 
-/// The bytes after so many of them.
+/// The bytes after the first `mark`.
 pub(crate) fn after(bytes: &[u8], mark: usize) -> &[u8]
     ensures { result.now ≡ drop mark bytes.now }
 {

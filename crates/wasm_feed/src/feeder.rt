@@ -1,4 +1,4 @@
-// A feeder: it is given the bytes of a stream in pieces, and lends its payloads one by one.
+// A feeder: it takes the bytes of a stream in chunks, and its payloads borrow from it.
 ghost use Rattle.std.specs.Prelude.{◌≡◌, ◌+◌, ◌<◌, ◌≤◌, ◌++◌, true, [], drop, length, OnOk, OnErr, IfErr, IfOk};
 ghost use Rattle.wasm_base.specs.FaultAt.{fault_at};
 ghost use Rattle.wasm_base.specs.Features.{feature_bits};
@@ -22,10 +22,10 @@ use std::marker::Model;
 use wasm_lines::{ListError, Source};
 use wasm_parser::{Chunk, Error, Fault, Parser, Payload, Result, WasmFeatures, fits};
 
-/// What one step of a feeder gives.
+/// What one step of a feeder returns.
 #[derive(Drop)]
 pub enum Step<'a> {
-    /// More bytes are wanted: about so many.
+    /// More bytes are needed, about this many.
     NeedMoreData(usize),
     /// The next part of the stream.
     Parsed {
@@ -134,15 +134,15 @@ impl Feeder {
     ghost use Rattle.wasm_feed.specs.Opened.{LendsCursor};
     ghost use Rattle.wasm_feed.specs.Rows.{the_row};
 
-    /// A feeder of a stream that begins at this offset, whose windows have these features. It takes no memory yet.
+    /// A feeder of a stream that begins at this offset, whose windows have these features. It does not allocate yet.
     pub fn new(alloc: Global, offset: u64, features: WasmFeatures) -> Feeder
         ensures { result ≡ new_feed offset (feature_bits features) }
     {
         Feeder::new_in(alloc, offset, features)
     }
 
-    /// The next part of the stream, or a request for more bytes. A fault is answered again by every step after it, and so is
-    /// the end. A caller that goes on with the feeder afterwards calls `open().step()`, by which more is known, or `step_with`.
+    /// The next part of the stream, or a request for more bytes. Every later step returns a fault again, and the end too. To continue
+    /// with the feeder afterwards, call `open().step()`, of which more is known, or `step_with`.
     pub fn step(&mut self) -> Result<Step<'_>>
         ensures* after { sem 𝓛 (Rests the_row self.entry (Steps self.old result)) }
         ensures gives { GivesStep self.old.state self.old.eof self.old.held result }
@@ -165,7 +165,7 @@ impl Feeder {
 impl<A: Allocator> Feeder<A> {
     ghost use Rattle.wasm_feed.specs.Step.{Steps};
 
-    /// The same as `new`, with memory from any allocator.
+    /// Like `new`, with memory from any allocator.
     pub fn new_in(alloc: A, offset: u64, features: WasmFeatures) -> Feeder<A>
         ensures { result ≡ new_feed offset (feature_bits features) }
     {
@@ -230,11 +230,10 @@ impl<A: Allocator> Feeder<A> {
         refill(&mut self.cursor, &mut self.bytes, piece)
     }
 
-    /// Reads from this source once, into `buffer`, and takes what came as the next bytes of the stream; or where nothing came,
-    /// that it was the end. A stream that passes the offset 2^64 - 1 is a fault of the next step. The feeder must want more, as for
-    /// `push`, and `buffer` must have a byte.
+    /// Performs one read from this source into `buffer` and appends the result; a read of 0 bytes marks the end of input. A stream that
+    /// passes the offset 2^64 - 1 is a fault of the next step. The feeder must want more, as for `push`, and `buffer` must not be empty.
     ///
-    /// `Input` where the source failed; `Memory` when an allocation failed. Either leaves the feeder as it was.
+    /// `Input` if the source failed; `Memory` if an allocation failed. Either leaves the feeder as it was.
     pub fn read_from<R: Source>(
         &mut self,
         input: &mut R,
@@ -354,7 +353,7 @@ pub(crate) fn refill<A: Allocator>(
     Ok(())
 }
 
-/// Reads once, and stores what came, or that it was the end.
+/// Performs one read and buffers the result; a read of 0 bytes marks the end of input.
 pub(crate) fn read_more<A: Allocator, R: Source>(
     cursor: &mut Cursor,
     stored: &mut Vec<u8, A>,

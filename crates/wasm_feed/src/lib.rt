@@ -1,4 +1,4 @@
-//! Chunked input: a feeder, the listing of a stream, a stream without its custom sections, and the events of one that is cut into pieces.
+//! Chunked input: a feeder, the listing of a stream, stripping, and the events of a stream that arrives in chunks.
 #![tactic(auto)]
 
 mod ahead;

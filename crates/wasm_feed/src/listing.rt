@@ -30,7 +30,7 @@ pub enum Turn {
     End(Ended),
 }
 
-// Puts the line of an answer on the page, and says what is to be done next.
+// Puts the line of a result on the page, and returns what to do next.
 fn put_answer<A: Allocator, W: Sink>(
     page: &mut Page<A>,
     output: &mut W,
@@ -57,7 +57,7 @@ fn put_answer<A: Allocator, W: Sink>(
     }
 }
 
-/// The same as `list`, with memory from any allocator: `Memory` where it refuses a growth.
+/// Like `list`, with memory from any allocator: `Memory` if an allocation fails.
 pub fn list_in<A: Allocator + Copy, R: Source, W: Sink>(
     alloc: A,
     input: &mut R,
@@ -91,14 +91,13 @@ pub fn list_in<A: Allocator + Copy, R: Source, W: Sink>(
     }
 }
 
-/// Reads the input, at most `piece` bytes at once and at least one, and writes its listing: a line for each event of the
-/// reading of the stream, whose offsets count bytes from 0. The lines of all events that are decided are written before more
-/// is read. It keeps what the parser has not decided, the piece that came last, the buffer that it was read into, and a page of
-/// lines; no clause says how much that is.
+/// Reads the input, at most `piece` bytes at once and at least one, and writes its listing: a line for each event of the stream, whose
+/// offsets count bytes from 0. The lines of all events that are decided are written before more is read. It buffers the undecided
+/// bytes, the last chunk, and a page of lines; no clause bounds them.
 ///
-/// A stream that passes the offset 2^64 - 1 ends with the fault `OffsetRange`. An error leaves a prefix of the listing
-/// written: `Input` where the source failed, all lines but the last of what it gave; `Output` where the sink did; `Memory`
-/// when an allocation failed. A device that had failed before the call is still known to have failed.
+/// A stream that passes the offset 2^64 - 1 ends with the fault `OffsetRange`. An error leaves a prefix of the listing written:
+/// `Input` if the source failed, all lines except the last of what it returned; `Output` if the sink did; `Memory` if an allocation
+/// failed. A device that had failed before the call is still known to have failed.
 pub fn list<R: Source, W: Sink>(
     alloc: Global,
     input: &mut R,

@@ -1,4 +1,4 @@
-// The reading of a stream that is cut into pieces.
+// The reading of a stream that arrives in chunks.
 ghost use Rattle.std.specs.Prelude.{◌≡◌, ◌+◌, ◌<◌, ◌^◌, ◌↔◌, IsTrue, length};
 ghost use Rattle.wasm_feed.specs.Cursors.{feed_of};
 ghost use Rattle.wasm_feed.specs.Pieces.{joined, ReadsHeld, ReadsUnlessMemory};
@@ -9,7 +9,7 @@ use crate::feeder::{Cursor, parse_next, refill};
 use std::alloc::{Allocator, Global};
 use wasm_parser::{Parser, Result, fits};
 
-/// Whether pieces joined, at this offset, stay within the offsets of a stream: whether `read_pieces` may be called with them.
+/// Whether these chunks, joined at this offset, stay within the offsets of a stream: whether `read_pieces` may be called with them.
 pub fn fits_pieces(offset: u64, pieces: &[&[u8]]) -> bool
     ensures { IsTrue result ↔ (offset + length (joined pieces.now) < 2 ^ 64) }
 {
@@ -48,7 +48,7 @@ fn read_held<A: Allocator + Copy>(
     }
 }
 
-/// The same as `read_pieces`, with memory from any allocator: `OutOfMemory`, at offset 0, where it refuses a growth.
+/// Like `read_pieces`, with memory from any allocator: `OutOfMemory` at offset 0 if an allocation fails.
 pub fn read_pieces_in<A: Allocator + Copy>(
     alloc: A,
     offset: u64,
@@ -71,10 +71,10 @@ pub fn read_pieces_in<A: Allocator + Copy>(
     Ok(events)
 }
 
-/// The events of a stream that is cut into pieces and begins at this offset, read with all features: those of its reading
-/// as a whole, wherever it is cut. The last one is the end, or the first fault. `fits_pieces` says whether they may be read.
+/// The events of a stream that arrives in these chunks and begins at this offset, read with all features: those of the whole stream,
+/// however it is chunked. The last one is the end, or the first fault. `fits_pieces` says whether they may be read.
 ///
-/// `OutOfMemory`, at offset 0, when an allocation fails, and no other error: a fault of the stream is an event.
+/// `OutOfMemory` at offset 0 if an allocation fails, and no other error: a fault of the stream is an event.
 pub fn read_pieces(alloc: Global, offset: u64, pieces: &[&[u8]]) -> Result<Vec<Event>>
     requires { offset + length (joined pieces.now) < 2 ^ 64 }
     ensures { ReadsUnlessMemory (joined pieces.now) offset all_features result }

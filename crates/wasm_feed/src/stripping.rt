@@ -103,7 +103,7 @@ fn count_kept(bytes: &[u8], keep_names: bool) -> Result<usize>
     Ok(count)
 }
 
-// Puts what is left of a stream after these bytes.
+// Appends a stream without the dropped sections to these bytes.
 fn copy_kept<A: Allocator>(bytes: &[u8], keep_names: bool, kept: &mut Vec<u8, A>) -> Result<()>
     requires { length bytes.now < 2 ^ 64 }
     ensures { CopiesKept keep_names bytes.now kept.old.items result kept.new.items }
@@ -117,7 +117,7 @@ fn copy_kept<A: Allocator>(bytes: &[u8], keep_names: bool, kept: &mut Vec<u8, A>
     Ok(())
 }
 
-// Moves so many bytes down from their start to another place; those that are there already are not touched.
+// Moves `size` bytes from `start` down to another place, if they are not there already.
 fn move_down(bytes: &mut [u8], start: usize, size: usize, to: usize)
     requires order { to ≤ start }
     requires within { start + size ≤ length bytes.old }
@@ -129,7 +129,7 @@ fn move_down(bytes: &mut [u8], start: usize, size: usize, to: usize)
     }
 }
 
-// Moves what is left of a stream to the front of its bytes, and answers how many bytes that is.
+// Moves the stripped stream to the front of its bytes, and returns its length in bytes.
 fn move_kept(bytes: &mut [u8], keep_names: bool) -> Result<usize>
     requires { length bytes.old < 2 ^ 64 }
     ensures { MovesKept keep_names bytes.old result bytes.new }
@@ -144,9 +144,9 @@ fn move_kept(bytes: &mut [u8], keep_names: bool) -> Result<usize>
     Ok(kept)
 }
 
-/// Takes the custom sections out of a stream, as `strip` does, in its own bytes: what is left is then the first of them, and the
-/// answer is how many. What the bytes after these are then is not said. It takes no memory, and there is no other error than the
-/// fault of a stream that isn't accepted, which is left as it was.
+/// Strips a stream as `strip` does, in its own bytes: the stripped stream is then at the front, and its length in bytes is returned. The
+/// bytes after it are unspecified. It never allocates, and the only error is the fault of a stream that isn't accepted, which is left
+/// unchanged.
 pub fn strip_to_front(bytes: &mut [u8], keep_names: bool) -> Result<usize>
     ensures { StripsToFront keep_names bytes.old result bytes.new }
 {
@@ -156,7 +156,7 @@ pub fn strip_to_front(bytes: &mut [u8], keep_names: bool) -> Result<usize>
     move_kept(bytes, keep_names)
 }
 
-/// The same of the bytes of a vector, which is what is left and nothing else then.
+/// Like `strip_to_front`, for a vector, which is truncated to the stripped stream.
 pub fn strip_in_place<A: Allocator>(bytes: &mut Vec<u8, A>, keep_names: bool) -> Result<()>
     ensures { StripsInPlace keep_names bytes.old.items result bytes.new.items }
 {
@@ -165,8 +165,7 @@ pub fn strip_in_place<A: Allocator>(bytes: &mut Vec<u8, A>, keep_names: bool) ->
     Ok(())
 }
 
-/// The same as `strip`, with memory from any allocator: of an accepted stream `OutOfMemory`, at offset 0, where it refuses the
-/// one growth.
+/// Like `strip`, with memory from any allocator: `OutOfMemory` at offset 0 if its one allocation fails, for an accepted stream only.
 pub fn strip_in<A: Allocator>(alloc: A, bytes: &[u8], keep_names: bool) -> Result<Vec<u8, A>>
     ensures { Strips keep_names bytes.now result }
 {
@@ -180,16 +179,15 @@ pub fn strip_in<A: Allocator>(alloc: A, bytes: &[u8], keep_names: bool) -> Resul
     Ok(kept)
 }
 
-/// What is left of a stream without its custom sections (core specification, Binary format, Modules, Custom Section): its
-/// header and its other sections, each byte for byte and in their order. With `keep_names` the custom sections named `name`
-/// stay too.
+/// A copy of a stream without its custom sections (core specification, Binary format, Modules, Custom Section): its header and its
+/// other sections, byte for byte and in order. With `keep_names` the custom sections named `name` stay too. The stream begins at
+/// offset 0.
 ///
-/// What is left is accepted too, and is read as the stream is, but for the sections that were dropped; offsets are less by
-/// the bytes dropped before them. The stream begins at offset 0.
+/// The copy is accepted too, and is read like the stream, except for the dropped sections; offsets are less by the number of bytes
+/// dropped before them.
 ///
-/// The fault at which the reading of the stream ends, if it isn't accepted, with its offset in bytes from the start of the
-/// stream; and only otherwise `OutOfMemory`, at offset 0, when the allocation fails. It allocates once, for as many bytes
-/// as are left.
+/// If the stream isn't accepted, returns the fault at which its reading ends, with its offset in bytes from the start of the stream;
+/// otherwise `OutOfMemory` at offset 0 if the allocation fails. It allocates once, for as many bytes as the copy has.
 pub fn strip(alloc: Global, bytes: &[u8], keep_names: bool) -> Result<Vec<u8>>
     ensures { Strips keep_names bytes.now result }
 {

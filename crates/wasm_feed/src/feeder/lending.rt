@@ -1,4 +1,4 @@
-// How a piece is lent: parts that lie whole in it are parsed where they are, and only what is left of it is stored.
+// How a chunk is borrowed: parts that are complete in it are parsed in place, and only its undecided bytes are stored.
 ghost use Rattle.std.specs.Prelude.{◌≡◌, ◌+◌, ◌-◌, ◌<◌, ◌≤◌, ◌^◌, true, false, [], drop, length, vec_len, vec_capacity, IfOk, OnErr};
 ghost use Rattle.wasm_feed.specs.Beside.{beside, lending, seen, AreEnough, Gathers, MakesReady};
 ghost use Rattle.wasm_grammar.specs.Waiting.{enough, waiting};
@@ -11,20 +11,19 @@ use std::alloc::{AllocError, Allocator};
 use wasm_parser::laws::answers_last;
 use wasm_parser::{Chunk, Parser, fits};
 
-/// A piece of at most so many bytes is stored whole after bytes that are held: its copy costs less than asking the parser
-/// what they miss.
+/// A chunk of at most this many bytes is stored whole after bytes that are held: copying it costs less than asking the parser how many
+/// bytes are missing.
 const SMALL_PIECE: usize = 512;
 
-/// The bytes that a step reads: those that are stored, or the piece where there are none.
+/// The bytes that a step reads: the stored ones, or the chunk if there are none.
 pub fn seen<'a>(stored: &'a [u8], piece: &'a [u8]) -> &'a [u8]
     ensures { result.now ≡ seen stored.now piece.now }
 {
     if stored.is_empty() { piece } else { stored }
 }
 
-/// Stores as many bytes of the piece as the next step has to read after those that are held, and says how many: none where
-/// nothing is held, since the piece is read where it is then. There is room for the others too. A failed allocation changes
-/// nothing.
+/// Stores as many bytes of the chunk as the next step needs after the held ones, and returns their number: none if nothing is held,
+/// since the chunk is then read in place. There is room for the others too. A failed allocation changes nothing.
 pub(crate) fn make_ready<A: Allocator>(
     cursor: &mut Cursor,
     stored: &mut Vec<u8, A>,
@@ -58,8 +57,8 @@ pub(crate) fn make_ready<A: Allocator>(
     Ok(gather(&cursor.parser, stored, piece))
 }
 
-// Whether so many bytes are stored whole after so many that are held: few, where more was asked for; or where they pass the top of
-// the offsets, or the end was told before them.
+// Whether a chunk of `size` bytes is stored whole after `held` bytes: it is small and more was requested; or it passes the largest
+// offset, or the input had ended before.
 fn goes_whole(cursor: &Cursor, held: usize, size: usize) -> bool
     ensures finished { result ≡ false → cursor.now.is_finished ≡ false }
     ensures below { result ≡ false → cursor.now.parser.offset + (held + size) < 2 ^ 64 }
@@ -79,7 +78,7 @@ fn goes_whole(cursor: &Cursor, held: usize, size: usize) -> bool
     !fits(offset + held as u64, size)
 }
 
-// Puts bytes of the piece after those that are held until they are enough, and says how many.
+// Appends bytes of the chunk to the held ones until they are enough, and returns their number.
 fn gather<A: Allocator>(parser: &Parser, held: &mut Vec<u8, A>, piece: &[u8]) -> usize
     requires below { parser.now.offset + (vec_len held.old + length piece.now) < 2 ^ 64 }
     requires room { vec_len held.old + length piece.now ≤ vec_capacity held.old }
@@ -113,7 +112,7 @@ fn missing(parser: &Parser, bytes: &[u8]) -> usize
     }
 }
 
-/// Passes the bytes that a step consumed of a piece that it read where it is, and says how many.
+/// Consumes the bytes that a step read in place from a chunk, and returns their number.
 pub(crate) fn pass_borrowed(cursor: &mut Cursor, stored: &[u8], piece: &[u8]) -> usize
     ensures passes { beside (feed_of stored.now cursor.new) (drop result piece.now)
         ≡ lending stored.now piece.now cursor.old }
@@ -127,7 +126,7 @@ pub(crate) fn pass_borrowed(cursor: &mut Cursor, stored: &[u8], piece: &[u8]) ->
     count
 }
 
-/// Stores what a step left of the piece, for which there must be room.
+/// Stores the remaining bytes of the chunk after a step. There must be room for them.
 pub(crate) fn keep<A: Allocator>(cursor: &mut Cursor, stored: &mut Vec<u8, A>, piece: &[u8])
     requires { vec_len stored.old + length piece.now ≤ vec_capacity stored.old }
     ensures keeps { beside (feed_of stored.new.items cursor.new) []
@@ -143,8 +142,8 @@ pub(crate) fn keep<A: Allocator>(cursor: &mut Cursor, stored: &mut Vec<u8, A>, p
     put(stored, &piece[count..]);
 }
 
-/// Takes what a step consumed of the piece and returns how many bytes these are. Takes all of it where the step asked for
-/// more, and where it read the piece and consumed nothing: the bytes of a fault are held, so that the next step reports it too.
+/// Takes what a step consumed of the chunk and returns the number of bytes. Takes the whole chunk if the step requested more, and if
+/// it read the chunk and consumed nothing: the bytes of a fault are held, so that the next step reports it too.
 pub(super) fn take_left<A: Allocator>(
     cursor: &mut Cursor,
     stored: &mut Vec<u8, A>,
