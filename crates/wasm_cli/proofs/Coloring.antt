@@ -23,7 +23,7 @@ pub where_append : (at : Where) (xs ys : List ℕ) → where_after at (xs ++ ys)
 where_append at [] ys = refl
 where_append at (x ∷ xs) ys = where_append (where_after_byte at x) xs ys
 
--- bytes that give this text, wherever they come, are this text more
+-- bytes that stand for this text, wherever they are, add this text
 pub plain_gains : (a b : Option (List ℕ)) (bs text : List ℕ) → ((at : Where) → without_from at bs ≡ text) → Appends a b bs
     → Appends (plain a) (plain b) text
 plain_gains None b bs text gives p = tt
@@ -35,13 +35,13 @@ nil_first : (xs ys : List ℕ) → xs ++ ys ≡ [] → xs ≡ []
 nil_first [] ys e = refl
 nil_first (x ∷ xs) ys e = cc
 
--- a beginning of a sequence gives nothing
+-- a prefix of a sequence stands for nothing
 pub silent_head : (bs : List ℕ) (n : ℕ) → ((at : Where) → without_from at bs ≡ []) → (at : Where) → without_from at (take n bs) ≡ []
 silent_head bs n silent at =
     nil_first (without_from at (take n bs)) (without_from (where_after at (take n bs)) (drop n bs))
     (sym (without_append at (take n bs) (drop n bs)) ∙ ap (without_from at) (take-append-drop n bs) ∙ silent at)
 
--- nothing was taken but a beginning of a sequence
+-- only a prefix of a sequence was written
 pub plain_keeps : (a b : Option (List ℕ)) (bs : List ℕ) (n : ℕ) → ((at : Where) → without_from at bs ≡ []) → Appends a b (take n bs)
     → Keeps (plain a) (plain b)
 plain_keeps None b bs n silent p = tt
@@ -60,7 +60,7 @@ head_of xs ys zs n e =
 
 -- ---- putting together
 
--- The bytes are a first one and so many later ones with colours, and one more may come.
+-- The bytes are a first one and `j` later ones with colors, and one more may follow.
 pub record Gathers (first count : ℕ) (later bytes : List ℕ) : Type 0 where
   pub more : List ℕ
   pub begins : bytes ≡ first ∷ more
@@ -131,7 +131,7 @@ escape_written (Ok n) a b bound some ok err =
     (plain_gains a b (27 ∷ (92 ∷ [])) (27 ∷ []) (λ at. refl) all)
 escape_written (Err e) a b bound some ok err = plain_keeps a b (27 ∷ []) err.0 (λ at. refl) err.1
 
--- what a beginning of the bytes gives begins the text
+-- a prefix of the bytes stands for a prefix of the text
 colored_head : (first j : ℕ) (later bytes : List ℕ) → IsColored first later bytes
     → (without_colors (take j bytes) ≡ take (length (without_colors (take j bytes))) (first ∷ later))
     × (length (without_colors (take j bytes)) ≤ length (first ∷ later))

@@ -58,7 +58,7 @@ said_before first second message f s u =
 untouched_twice : (first second : Device) → Follows first second → IsUntouched first → IsUntouched second → IsUntouched (over first second)
 untouched_twice first second f u v = record { bytes = v.bytes ∙ (f.bytes ∙ u.bytes); failed = v.failed ∙ (f.failed ∙ u.failed) }
 
--- the listing ended, and the output then handed on what it had taken, or failed
+-- the listing ended, and the output was then flushed, or failed
 passes_on : (first second first_errors second_errors : Device) (how : Ended) (forwarded : Bool) (status result : ℕ) → Follows first second
     → Follows first_errors second_errors
     → first.has_failed ≡ first.had_failed → IsUntouched first_errors → status ≡ status_of (Ok how)

@@ -1,4 +1,4 @@
--- Reading all that a source gives.
+-- Reading a source to its end.
 use Rattle.std.proofs.Common.{◌≡◌, ℕ, List, ◌++◌, Option, Vec, Result, Err, sym, subst}
 use Rattle.std.specs.Io.KnownBytes.{Consumes}
 use Rattle.std.proofs.KnownBytes.{Consumes-kept, Consumes-trans}
@@ -12,7 +12,7 @@ refused A source mid rest given before after Input g r = (given, Consumes-kept s
 refused A source mid rest given before after Memory g (piece, r) = (given ++ piece, Consumes-trans source mid rest given piece g r)
 refused A source mid rest given before after Output g r = absurd r
 
--- a read after others was given up
+-- a read after others failed
 pub given_up : {A : Type 0} (source mid rest : Option (List ℕ)) (given before after : List ℕ) (why : ListError) → Consumes source mid given
     → ReadsPiece mid rest before (Err why) after
     → (r : Result (Vec ℕ A) ListError) → r ≡ Err why → ReadsAll source rest r

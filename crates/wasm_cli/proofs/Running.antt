@@ -1,4 +1,4 @@
--- A dump, after which the output hands on what it has taken.
+-- A dump, after which the output is flushed.
 use Rattle.std.proofs.Common.{◌≡◌, List, ℕ, length, take, take_all, le_refl, Bool, Option, Some, None, Result, Ok, Err, OnErr, ap, subst}
 use Rattle.std.proofs.Common.{sym}
 use Rattle.std.specs.Io.KnownBytes.{Appends, Keeps}

@@ -3,7 +3,7 @@ use Rattle.std.specs.Prelude.{Bool, true, false}
 use Rattle.std.specs.declared.io.ErrorKind.{ErrorKind}
 use Rattle.std.specs.declared.io.ErrorKind.TheVariants.{InvalidData}
 
--- whether one of the arguments is no text, which is why they could not be had
+-- whether one of the arguments is not valid UTF-8, so that there are none
 abbrev pub is_no_text : ErrorKind → Bool
 is_no_text InvalidData = true
 is_no_text _ = false

@@ -1,5 +1,5 @@
--- Texts in which sequences that set colours stand. Such a sequence is an ESC, which is 27, and what follows it up to an
--- `m` (ECMA-48, Select Graphic Rendition). An ESC of the text itself is followed by a `\`.
+-- Texts with sequences that set colors. Such a sequence is an ESC, which is 27, and the bytes after it up to an `m`
+-- (ECMA-48, Select Graphic Rendition). An ESC of the text itself is followed by a `\`.
 use Rattle.std.specs.Prelude.{◌≡◌, ℕ, Bool, true, false, List, [], ◌∷◌, ◌++◌, take, nat_eq, Option, option_map}
 use Rattle.std.specs.Prelude.{if◌then◌else◌}
 use Rattle.wasm_lines.specs.Calls.{Device}
@@ -20,11 +20,11 @@ given_by_other Outside b = b ∷ []
 given_by_other Escaped b = if nat_eq b 92 then 27 ∷ [] else []
 given_by_other Inside b = []
 
--- what a byte gives of the text
+-- the part of the text that a byte stands for
 abbrev pub given_by : Where → ℕ → List ℕ
 given_by at b = if nat_eq b 27 then [] else given_by_other at b
 
--- what bytes give of the text, of which the first is there
+-- the text that bytes stand for, of which the first is at this place
 abbrev pub without_from : Where → List ℕ → List ℕ
 without_from at [] = []
 without_from at (b ∷ bs) = given_by at b ++ without_from (where_after_byte at b) bs
@@ -42,7 +42,7 @@ abbrev pub where_after : Where → List ℕ → Where
 where_after at [] = at
 where_after at (b ∷ bs) = where_after (where_after_byte at b) bs
 
--- These bytes set a colour, wherever they stand: they give nothing of the text, and end what they are in.
+-- These bytes set a color, wherever they are: they are no part of the text, and end what they are in.
 abbrev pub IsSequence : List ℕ → Type 0
 IsSequence bytes = (at : Where) → (without_from at bytes ≡ []) × (where_after at bytes ≡ Outside)
 
@@ -53,7 +53,7 @@ pub record GainsByte (byte : ℕ) (old new : List ℕ) : Type 0 where
   pub gives : without_colors added ≡ byte ∷ []
   pub ends : where_after Outside added ≡ Outside
 
--- The bytes begin with this first byte of a text, and are it and a beginning of what comes after it, with colours.
+-- The bytes begin with this first byte of a text, and are it and a prefix of the rest, with colors.
 pub record IsColored (first : ℕ) (later bytes : List ℕ) : Type 0 where
   pub more : List ℕ
   pub begins : bytes ≡ first ∷ more

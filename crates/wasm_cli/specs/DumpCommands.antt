@@ -50,7 +50,7 @@ asked_of Unknown = unknown
 abbrev pub is_option : List ℕ → Bool
 is_option word = bytes_eq (take 2 word) (codes "--")
 
--- what one argument asks for that is no file
+-- what one argument asks for, unless it is a file
 abbrev pub asked_by_one : List ℕ → Asked
 asked_by_one word =
     if bytes_eq word (codes "--help") then help
@@ -86,13 +86,13 @@ asked_after options words rest = if contradict options then unknown else asked_w
 abbrev pub asked_by : List (List ℕ) → Asked
 asked_by arguments = asked_after (options_of arguments) (words_of arguments) (rest_of arguments)
 
--- the same, if they could be had: the first one is the program's own name. One that is no text is another argument.
+-- the same of the arguments after the program's own name, unless fetching them failed; one that is not UTF-8 is unknown
 abbrev pub asked_if_any : {A : Type 0} → (A → List (List ℕ)) → Result A Error → Option Asked
 asked_if_any words (Ok arguments) = Some (asked_by (drop 1 (words arguments)))
 asked_if_any words (Err e) = if is_no_text (error_kind e) then Some unknown else None
 
--- A want of memory may keep the program from knowing what is asked for: where arguments couldn't be had for it, or have
--- words to be kept.
+-- An allocation may fail before the program knows what is asked for: when the arguments are fetched, or their words are
+-- stored.
 abbrev pub WantsMemory : {A : Type 0} → (A → List (List ℕ)) → Result A Error → Type 0
 WantsMemory words (Ok arguments) = ¬ (words_of (drop 1 (words arguments)) ≡ [])
 WantsMemory words (Err e) = is_no_text (error_kind e) ≡ false

@@ -16,7 +16,7 @@ use Rattle.wasm_cli.specs.Options.{style_of}
 use Rattle.wasm_cli.specs.Words.{ChooseInTurn}
 use Rattle.wasm_cli.specs.declared.dump.options.Options.{Options}
 
--- What was written was handed on, or the output failed to; after a dump that was given up nothing is done.
+-- What was written was flushed, or the output failed; after a dump that failed nothing is done.
 abbrev pub Flushes : (how : Result Ended ListError) (had_failed has_failed forwarded : Bool) → Result Ended ListError
     → Type 0
 Flushes (Ok ended) had_failed has_failed forwarded result =
@@ -31,7 +31,7 @@ pub record DumpsAs (options : Options) (only : List Only) (input output : Device
   pub source : input.has_failed ≡ input_failed how input.had_failed
   pub sink : output.has_failed ≡ output_failed how output.had_failed
 
--- The input was dumped as these options say, and what was written handed on.
+-- The input was dumped as these options say, and the output flushed.
 pub record RunsDump (options : Options) (only : List Only) (input output : Device) (forwarded : Bool)
     (result : Result Ended ListError) : Type 0 where
   pub how : Result Ended ListError
@@ -71,7 +71,7 @@ help_text =
     codes "The status is 0, or 1 where a file has a fault at which reading stops, 2 for\n" ++ (
     codes "other arguments, and 3 where a file, the output or memory failed.\n"))))))))))))))))))
 
--- These sections of the input were shown, and how that ended is answered.
+-- These sections of the input were shown, with the status and message of how that ended.
 pub record Shows (options : Options) (only : List Only) (forwarded : Bool) (input output errors : Device) (status : ℕ) :
     Type 0 where
   pub how : Result Ended ListError
@@ -93,7 +93,7 @@ ShowsChosen words options forwarded input output errors status =
     ShowsThose options words forwarded input (seen_as options.is_colored output) errors status
     ⊎ CannotBegin input output errors status
 
--- a text was written and handed on, or the output failed
+-- a text was written and flushed, or the output failed
 abbrev pub Tells : (text : List ℕ) (forwarded : Bool) (output errors : Device) (status : ℕ) → Type 0
 Tells text forwarded output errors status =
     (WritesAll text output errors status × (forwarded ≡ true)) ⊎ WritesSome text output errors status
@@ -116,8 +116,8 @@ pub record Runs (asked : Asked) (forwarded : Bool) (input output errors : Device
   pub refuses : asked ≡ unknown → RunsUsage usage input output errors status
   pub refuses_files : (named : NamedFiles) → asked ≡ files named → RunsUsage usage input output errors status
 
--- The whole program, which was asked for this if the arguments could be had, or one was no text; unless memory was
--- refused before that was known, where it may have been.
+-- The whole program, which was asked for this if the arguments could be fetched, or one was not UTF-8; or an allocation
+-- failed before that was known.
 abbrev pub RunsProgram : Option Asked → (needs_memory : Type 0) (forwarded : Bool) (input output errors : Device)
     (status : ℕ) → Type 0
 RunsProgram (Some asked) needs_memory forwarded input output errors status =

@@ -14,7 +14,7 @@ status_of (Ok End) = 0
 status_of (Ok (Fault e)) = 1
 status_of (Err e) = 3
 
--- what such a run says: nothing, or why it was given up
+-- the message of such a run: none, or why it failed
 abbrev pub Reports : Result Ended ListError → Device → Type 0
 Reports (Ok how) errors = IsUntouched errors
 Reports (Err e) errors = Says errors (complaint_of e)
@@ -33,7 +33,7 @@ pub record CannotBegin (input output errors : Device) (status : ℕ) : Type 0 wh
   pub answers : status ≡ 3
   pub says : Says errors (complaint_of Memory)
 
--- The run was given up, and says why.
+-- The run failed, with its message.
 pub record GivesUpAs (why : ListError) (errors : Device) (status : ℕ) : Type 0 where
   pub answers : status ≡ 3
   pub says : Says errors (complaint_of why)
@@ -45,20 +45,20 @@ pub record WritesAll (bytes : List ℕ) (output errors : Device) (status : ℕ) 
   pub sink : output.has_failed ≡ output.had_failed
   pub silent : IsUntouched errors
 
--- A beginning of them was written, since the output failed.
+-- A prefix of them was written, since the output failed.
 pub record WritesSome (bytes : List ℕ) (output errors : Device) (status : ℕ) : Type 0 where
   pub written : (n : ℕ) × Appends output.before output.after (take n bytes)
   pub sink : output.has_failed ≡ true
   pub gives_up : GivesUpAs Output errors status
 
--- The output handed on all that it had taken, nothing was said, and the status stays.
+-- The output was flushed, there is no message, and the status stays.
 pub record Flushes (status : ℕ) (forwarded : Bool) (output errors : Device) (result : ℕ) : Type 0 where
   pub answers : result ≡ status
   pub all : forwarded ≡ true
   pub sink : output.has_failed ≡ output.had_failed
   pub silent : IsUntouched errors
 
--- The output failed to hand on what it had taken: this was said, and the status is 3.
+-- Flushing the output failed: there is a message, and the status is 3.
 pub record FailsToFlush (output errors : Device) (result : ℕ) : Type 0 where
   pub answers : result ≡ 3
   pub sink : output.has_failed ≡ true
@@ -70,7 +70,7 @@ pub record LeavesAlone (status : ℕ) (output errors : Device) (result : ℕ) : 
   pub sink : IsUntouched output
   pub silent : IsUntouched errors
 
--- The end of a run: after a status of 0 or 1 the output is to hand on all that it has taken.
+-- The end of a run: after a status of 0 or 1 the output is flushed.
 pub record Finishes (status : ℕ) (forwarded : Bool) (output errors : Device) (result : ℕ) : Type 0 where
   pub keeps : Keeps output.before output.after
   pub ended : status < 2 → Flushes status forwarded output errors result ⊎ FailsToFlush output errors result

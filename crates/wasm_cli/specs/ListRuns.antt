@@ -62,13 +62,13 @@ pub record Runs (command : Command) (input output errors : Device) (status : ℕ
   pub says_version : command ≡ Version → RunsText version_text input output errors status
   pub refuses : command ≡ Unknown → RunsUsage usage input output errors status
 
--- a listing that was given up, with its reason
+-- a listing that failed, with its reason
 pub record GivesUp (why : ListError) (output errors : Device) (status : ℕ) : Type 0 where
   pub answers : status ≡ 3
   pub sink : output.has_failed ≡ output_failed {A = Ended} (Err why) output.had_failed
   pub says : Says errors (complaint_of why)
 
--- How a listing that ended so is answered: what was listed is handed on before the status is 0 or 1.
+-- The end of a run whose listing ended so: the listing is flushed before the status is 0 or 1.
 abbrev pub EndsAs : Result Ended ListError → (forwarded : Bool) (output errors : Device) (status : ℕ) → Type 0
 EndsAs (Ok how) forwarded output errors status =
     Flushes (status_of (Ok how)) forwarded output errors status ⊎ FailsToFlush output errors status
@@ -94,13 +94,13 @@ pub record RunsThenFlushes (runs : (output errors : Device) (status : ℕ) → T
   pub runs : runs written said first
   pub ends : Finishes first forwarded passes_on said_last status
 
--- what is asked for, if the arguments could be had: the first one is the program's own name. One that is no text is
--- another argument.
+-- what the arguments after the program's own name ask for, unless fetching them failed; one that is not UTF-8 is
+-- unknown
 abbrev pub command_after_name : {A : Type 0} → (A → List (List ℕ)) → Result A Error → Option Command
 command_after_name words (Ok arguments) = Some (command_of (drop 1 (words arguments)))
 command_after_name words (Err e) = if is_no_text (error_kind e) then Some Unknown else None
 
--- The whole program, which was asked for this if the arguments could be had, or one was no text.
+-- The whole program, which was asked for this if the arguments could be fetched, or one was not UTF-8.
 pub record RunsProgram (command : Option Command) (forwarded : Bool) (input output errors : Device) (status : ℕ) : Type
     0 where
   pub lists : command ≡ Some Listing → ListsAll forwarded input output errors status

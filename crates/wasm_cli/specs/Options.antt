@@ -7,7 +7,7 @@ use Rattle.wasm_cli.specs.declared.dump.options.Mark.{Mark}
 use Rattle.wasm_cli.specs.declared.dump.options.Mark.TheVariants.{Color, Names, Json, Bytes}
 use Rattle.wasm_cli.specs.declared.dump.options.Options.{Options}
 
--- the option that a word is, if it is one that stands alone
+-- the option that a word is, if it is one without a value
 abbrev pub mark_named : List ℕ → Option Mark
 mark_named word =
     if bytes_eq word (codes "--color") then Some Color
@@ -29,7 +29,7 @@ abbrev pub with_marks : Options → List Mark → Options
 with_marks options [] = options
 with_marks options (mark ∷ marks) = with_marks (with_mark options mark) marks
 
--- JSON has neither colours nor rows of bytes
+-- JSON has no colors and no rows of bytes
 abbrev pub contradict : Options → Bool
 contradict options = options.is_json && (options.is_colored || options.has_bytes)
 

@@ -35,7 +35,7 @@ pub record TellsFault (f : FaultAt) (errors : Device) (status : ℕ) : Type 0 wh
   pub answers : status ≡ 1
   pub says : Says errors (error_text f ++ codes "\n")
 
--- A fault is answered by its text, for which memory may be wanting.
+-- The text of the fault is the message, unless an allocation failed.
 abbrev pub Refuses : Error → (errors : Device) (status : ℕ) → Type 0
 Refuses e errors status = TellsFault (fault_at e) errors status ⊎ GivesUpAs Memory errors status
 
@@ -46,7 +46,7 @@ pub record WritesNothing (stream : List ℕ) (e : Error) (output errors : Device
   pub sink : IsUntouched output
   pub answers : Refuses e errors status
 
--- What is left of the stream was written, as far as the output took it; or it was refused.
+-- The stripped stream was written, as far as the output took it; or the stream was refused.
 abbrev pub WritesStripped : (stream : List ℕ) (output errors : Device) (status : ℕ) → Type 0
 WritesStripped stream output errors status =
     ((kept : List ℕ) × IsStripped false stream kept × (WritesAll kept output errors status

@@ -17,7 +17,7 @@ use Rattle.wasm_cli.specs.declared.dump.command.Split.{Split}
 abbrev pub is_section : List ℕ → Bool
 is_section word = bytes_eq word (codes "--section")
 
--- Arguments begin with options: `--section` with a word after it, and those that stand alone, in any order. These are
+-- Arguments begin with options: `--section` with a word after it, and those without a value, in any order. These are
 -- the words.
 abbrev pub words_of : List (List ℕ) → List (List ℕ)
 words_of [] = []
@@ -27,7 +27,7 @@ words_of (first ∷ (second ∷ more)) =
     else if is_section first then second ∷ words_of more
     else []
 
--- those that stand alone
+-- those without a value
 abbrev pub marks_of : List (List ℕ) → List Mark
 marks_of [] = []
 marks_of (first ∷ []) = option_to_list (mark_named first)
@@ -82,7 +82,7 @@ pub record IsSplit (split : Split) (arguments : List (List ℕ)) : Type 0 where
   pub options : split.options ≡ options_of arguments
   pub rest : rest_given split.rest ≡ rest_of arguments
 
--- whether a word is the number of an id: decimal digits, before which a plus may stand, of less than 256
+-- whether a word is the number of an id: decimal digits, with an optional plus before them, of less than 256
 abbrev pub IsNumber : List ℕ → Type 0
 IsNumber word = IsNumeral 10 (without_leading_plus word) × (digits_value 10 (without_leading_plus word) < 2 ^ 8)
 

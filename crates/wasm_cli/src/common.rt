@@ -1,4 +1,4 @@
-// What the programs have in common: what they read at once, what they say where they are given up, and how they end.
+// What the programs share: the size of a read, the messages of failures, and how a run ends.
 ghost use Rattle.std.specs.Prelude.{◌≡◌, IfOk, vec_len};
 ghost use Rattle.std.specs.IoError.{error_kind};
 ghost use Rattle.wasm_cli.specs.Arguments.{is_no_text as is_no_text_of};
@@ -30,7 +30,7 @@ pub fn is_no_text(error: &Error) -> bool
     }
 }
 
-/// Says why the program gives up, and answers the status of that.
+/// Prints the reason and returns the exit status of a failure.
 pub fn give_up<E: Sink>(errors: &mut E, why: ListError) -> u8
     ensures status { result ≡ 3 }
     ensures says { Says (device_of E.taken E.has_failed errors.old errors.new) (complaint_of why) }
@@ -46,7 +46,7 @@ pub fn complain<E: Sink>(errors: &mut E, message: &[u8])
     let _ = write_all(errors, message);
 }
 
-// What is said of a run that was given up.
+// The message of a failure.
 fn message(error: ListError) -> &'static [u8]
     ensures { result.now ≡ complaint_of error }
 {
@@ -57,7 +57,7 @@ fn message(error: ListError) -> &'static [u8]
     }
 }
 
-/// Hands on all that was written, after a status of 0 or 1, and answers the status that then holds.
+/// Flushes the output after a status of 0 or 1, and returns the exit status.
 pub fn finish<W: Write, E: Sink>(status: u8, output: &mut WriteSink<W>, errors: &mut E) -> u8
     ensures { Finishes status output.new.forwarded
         (writer_device W.contents output.old output.new)

@@ -64,7 +64,7 @@ fn write_escape<W: Sink>(output: &mut W) -> Result<usize, Failed>
     write_after(output, &[ESC], b"\\")
 }
 
-// Writes a beginning of a text with its colours.
+// Writes a prefix of a text with its colors.
 fn write_colors<W: Sink>(
     output: &mut W,
     spot: Spot,

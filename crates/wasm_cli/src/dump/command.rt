@@ -32,7 +32,7 @@ struct Split {
 enum Head {
     // A word that chooses sections.
     Word(String),
-    // An option that stands alone.
+    // An option without a value.
     Marked(Mark),
     // Another argument.
     Other(String),
@@ -135,7 +135,7 @@ fn is_an_option(word: &str) -> bool
     }
 }
 
-// What one argument asks for that is no file.
+// What one argument asks for, unless it is a file.
 fn command_of_one(word: &str) -> Command
     ensures { asked_of result ≡ asked_by_one word.now }
 {
@@ -146,7 +146,7 @@ fn command_of_one(word: &str) -> Command
     }
 }
 
-// What an argument asks for that is no file, after options and words, and before more arguments.
+// What an argument asks for, unless it is a file, after options and words and before more arguments.
 fn command_alone(words: Vec<String>, options: Options, rest: Rest) -> Command
     ensures { asked_of result
         ≡ asked_alone options (map string_bytes words.items) (string_bytes rest.first)
@@ -195,7 +195,7 @@ fn command_with(words: Vec<String>, options: Options, rest: Option<Rest>) -> Com
     }
 }
 
-// The same, unless no dump can be all that the options ask for.
+// The same, unless no dump can follow all options.
 fn command_of(split: Split) -> Command
     ensures { asked_of result
         ≡ asked_after split.options (map string_bytes split.words.items)

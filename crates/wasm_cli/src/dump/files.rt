@@ -70,7 +70,7 @@ fn complain_of<R: AllocGlobal, E: Sink>(rt: &R, name: &str, error: &Error, error
     }
 }
 
-// The status of the dump of a file that ended so. A message says why it was given up, and names the file where that can't be read.
+// The exit status of a file's dump. A message says why it failed, and names the file if it can't be read.
 fn answer_for<E: Sink>(name: &str, how: Result<Ended, ListError>, errors: &mut E) -> u8
     ensures { result ≡ status_of how }
 {
@@ -145,7 +145,7 @@ fn dump_with_names<W: Write, E: Sink>(
     }
 }
 
-// Dumps a file, or standard input where its name is `-`, and answers the status.
+// Dumps a file, or standard input if its name is `-`, and returns the status.
 fn dump_file<W: Write, E: Sink>(
     rt: &HostRuntime,
     plan: Plan<'_>,
@@ -162,7 +162,7 @@ fn dump_file<W: Write, E: Sink>(
     dump_opened(rt, plan, None, name, output, errors)
 }
 
-// The same after its name.
+// Dumps a file after its name.
 fn dump_under_name<W: Write, E: Sink>(
     rt: &HostRuntime,
     plan: Plan<'_>,
@@ -177,7 +177,7 @@ fn dump_under_name<W: Write, E: Sink>(
     }
 }
 
-// Dumps files, each under its name, and answers the greatest of their statuses.
+// Dumps files, each under its name, and returns the greatest of their statuses.
 fn dump_files<W: Write + Drop, E: Sink>(
     rt: &HostRuntime,
     plan: Plan<'_>,
@@ -196,7 +196,7 @@ fn dump_files<W: Write + Drop, E: Sink>(
     status
 }
 
-// Dumps the files, each under its name where there are several, and answers the greatest of their statuses.
+// Dumps the files, each under its name if there are several, and returns the greatest of their statuses.
 fn dump_named<W: Write + Drop, E: Sink>(
     rt: &HostRuntime,
     plan: Plan<'_>,

@@ -23,8 +23,7 @@ fn put_byte(gathered: &mut Gathered, last: Ink, ink: Ink, byte: u8)
     gathered.put(&[byte]);
 }
 
-/// Puts the first byte of a text together with a beginning of what comes after it, and with their colours but that of the first
-/// byte. It ends before an ESC.
+/// Gathers the first byte of a text and a prefix of the rest, with the colors of all but the first byte. It ends before an ESC.
 pub(super) fn gather(spot: Spot, first: u8, later: &[u8]) -> Gathered
     requires { first ≢ 27 }
     ensures { IsColored first later.now result }

@@ -6,7 +6,7 @@ ghost use Rattle.wasm_cli.specs.Colors.{IsSequence};
 /// green, and what a fault says is red.
 #[derive(Clone, Copy)]
 pub(super) enum Spot {
-    /// At the beginning of a line.
+    /// At the start of a line.
     Start,
     /// Among the blanks that a line under another begins with.
     Indent,

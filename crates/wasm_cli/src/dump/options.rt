@@ -18,7 +18,7 @@ pub struct Options {
     pub has_bytes: bool,
 }
 
-/// An option that stands alone.
+/// An option without a value.
 #[derive(Clone, Copy)]
 pub(super) enum Mark {
     /// Colours are asked for.
@@ -31,7 +31,7 @@ pub(super) enum Mark {
     Bytes,
 }
 
-/// The option that a word is, if it is one that stands alone.
+/// The option that a word is, if it is one without a value.
 pub(super) fn mark_of(word: &str) -> Option<Mark>
     ensures { result ≡ mark_named word.now }
 {
@@ -81,7 +81,7 @@ impl Options {
         }
     }
 
-    /// Whether no dump can be all of this: JSON has neither colours nor rows of bytes.
+    /// Whether no dump can be all of this: JSON has no colors and no rows of bytes.
     pub(super) fn contradict(self) -> bool
         ensures { result ≡ contradict self }
     {

@@ -5,7 +5,7 @@ ghost use Rattle.wasm_cli.specs.Colors.{given_by, where_after_byte, without_colo
 /// With this byte a sequence that sets a colour begins.
 pub(super) const ESC: u8 = 0x1b;
 
-/// Where a byte of a text with colours stands.
+/// Where in a text with colors a byte is.
 #[derive(Clone, Copy)]
 pub(super) enum Where {
     /// Among the text's own bytes.
@@ -42,7 +42,7 @@ fn after(at: Where, byte: u8) -> Where
     }
 }
 
-// How many bytes of the text this one gives.
+// How many bytes of the text this one stands for.
 fn gives(at: Where, byte: u8) -> usize
     ensures count { result ≡ length (given_by at byte) }
     ensures one { result ≤ 1 }

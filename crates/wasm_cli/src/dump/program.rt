@@ -48,7 +48,7 @@ other arguments, and 3 where a file, the output or memory failed.
 /// What `--version` says.
 const VERSION: &[u8] = b"wasm_dump 0.1.0 (follows wasmparser 0.263.0)\n";
 
-// The same, in the words of its clause.
+// `HELP`, in the words of its clause.
 fn help() -> &'static [u8]
     ensures { result.now ≡ help_text }
 {
@@ -77,11 +77,11 @@ pub fn run_host(rt: HostRuntime) -> ExitCode {
     ExitCode::from(status)
 }
 
-/// The whole program: it looks at the arguments after the program's own name, shows the input, hands on what the output has kept,
-/// and answers the exit status, and the output.
+/// The whole program: reads the arguments after the program's own name, shows the input, flushes the output, and returns the
+/// exit status and the output.
 ///
-/// An argument that is not valid UTF-8 is another argument; where the arguments cannot be read otherwise, it is out of memory.
-/// Arguments that name files are refused here, since `run_host` opens them.
+/// An argument that is not valid UTF-8 is another argument; if the arguments can't be fetched, memory ran out. Arguments that name
+/// files are refused here, since `run_host` opens them.
 pub fn run_program<R: Source, W: Write, E: Sink>(
     alloc: Global,
     arguments: io::Result<Args>,
@@ -102,8 +102,8 @@ pub fn run_program<R: Source, W: Write, E: Sink>(
     (ExitCode::from(status), output)
 }
 
-// Does what is asked for, and answers the status. It is 0 at the end of the stream and where help was asked for, and 1 at a
-// fault of the stream. It is 2 where it isn't known what to do, and 3 where the input, the output or memory failed.
+// Does what is asked for, and returns the status: 0 at the end of the stream and after `--help`, 1 at a fault of the stream, 2 for
+// wrong arguments, and 3 if the input, the output or an allocation failed.
 fn run_command<R: Source, W: Write, E: Sink>(
     alloc: Global,
     command: Command,
@@ -136,7 +136,7 @@ fn run_command<R: Source, W: Write, E: Sink>(
     }
 }
 
-/// Says that names are for files alone, and answers the status.
+/// Prints that names need files, and returns the status.
 pub(super) fn refuse_names<E: Sink>(errors: &mut E) -> u8
     ensures status { result ≡ 2 }
     ensures says { Says (device_of E.taken E.has_failed errors.old errors.new) names_usage }
@@ -161,7 +161,7 @@ fn write_text<W: Write>(text: &[u8], output: &mut WriteSink<W>) -> Result<(), Fa
     output.flush()
 }
 
-// Writes a text, and answers the status.
+// Writes a text, and returns the status.
 fn show_text<W: Write, E: Sink>(
     text: &[u8],
     mut output: WriteSink<W>,
@@ -177,7 +177,7 @@ fn show_text<W: Write, E: Sink>(
     }
 }
 
-// Shows the sections of the input that these words choose, and answers the status.
+// Shows the sections of the input that these words choose, and returns the status.
 fn show_chosen<R: Source, W: Write, E: Sink>(
     alloc: Global,
     words: &[String],
@@ -197,7 +197,7 @@ fn show_chosen<R: Source, W: Write, E: Sink>(
     }
 }
 
-/// Shows these sections of the input, and answers the status. A message goes to `errors` where a device or memory failed.
+/// Shows these sections of the input, and returns the status. A message goes to `errors` if a device or an allocation failed.
 pub(super) fn show_input<R: Source, W: Write, E: Sink>(
     alloc: Global,
     only: &[Only<'_>],
@@ -215,7 +215,7 @@ pub(super) fn show_input<R: Source, W: Write, E: Sink>(
     (answer(how, errors), output)
 }
 
-/// The status of a dump that ended so, of which a message says why it was given up.
+/// The exit status of a dump; prints a message if it failed.
 pub(super) fn answer<E: Sink>(how: Result<Ended, ListError>, errors: &mut E) -> u8
     ensures status { result ≡ status_of how }
     ensures reports { Reports how (device_of E.taken E.has_failed errors.old errors.new) }
@@ -227,7 +227,7 @@ pub(super) fn answer<E: Sink>(how: Result<Ended, ListError>, errors: &mut E) -> 
     }
 }
 
-// Hands on all that was written, after a dump that was not given up.
+// Flushes the output, after a dump that did not fail.
 fn forward_all<W: Write>(
     how: Result<Ended, ListError>,
     output: &mut WriteSink<W>,
@@ -271,7 +271,7 @@ fn dump_over<R: Source, S: Sink>(
     }
 }
 
-// The same, and hands on all that was written.
+// Dumps, and flushes the output.
 fn dump_plain<R: Source, W: Write>(
     alloc: Global,
     only: &[Only<'_>],
@@ -288,7 +288,7 @@ fn dump_plain<R: Source, W: Write>(
     (result, output)
 }
 
-// The same with colours.
+// Dumps with colors, and flushes the output.
 fn dump_colored<R: Source, W: Write>(
     alloc: Global,
     only: &[Only<'_>],
@@ -307,9 +307,8 @@ fn dump_colored<R: Source, W: Write>(
     (result, output)
 }
 
-/// Shows these sections of the input, as the options say, with these names, if there are any, and hands on all that was written.
-/// Answers how it ended, and the output. With colours, what the output takes is the dump with sequences that set them between
-/// its bytes.
+/// Shows these sections of the input, as the options say, with these names, if there are any, and flushes the output. Returns how it
+/// ended, and the output. With colors, the output is the dump with sequences that set them between its bytes.
 pub fn dump_as<R: Source, W: Write>(
     alloc: Global,
     only: &[Only<'_>],

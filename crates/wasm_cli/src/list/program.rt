@@ -58,10 +58,9 @@ pub fn run_host(rt: HostRuntime) -> ExitCode {
     )
 }
 
-/// The whole program: it looks at the arguments after the program's own name, runs, hands on what the output has kept, and
-/// answers the exit status.
+/// The whole program: reads the arguments after the program's own name, runs, flushes the output, and returns the exit status.
 ///
-/// An argument that is not valid UTF-8 is another argument; where the arguments cannot be read otherwise, it is out of memory.
+/// An argument that is not valid UTF-8 is another argument; if the arguments can't be fetched, memory ran out.
 pub fn run_program<R: Source, W: Write, E: Sink>(
     alloc: Global,
     arguments: io::Result<Args>,
@@ -103,7 +102,7 @@ pub fn run<R: Source, W: Sink, E: Sink>(
     run_command(alloc, command_of(args), input, output, errors)
 }
 
-// The same as `run` for this command.
+// `run` for this command.
 fn run_command<R: Source, W: Sink, E: Sink>(
     alloc: Global,
     command: Command,

@@ -8,7 +8,7 @@ use std::alloc::Global;
 use wasm_feed::{ListError, Sink, Source, strip_in_place, write_all};
 use wasm_parser::Error;
 
-// Reads once, and puts what came after these bytes. Answers whether anything came.
+// Performs one read, and appends the result to these bytes. Returns whether there were any.
 fn read_piece<R: Source>(
     input: &mut R,
     buffer: &mut [u8],
@@ -29,7 +29,7 @@ fn read_piece<R: Source>(
     }
 }
 
-// All bytes that the source gives.
+// Reads the source to its end.
 fn read_all<R: Source>(alloc: Global, input: &mut R) -> Result<Vec<u8>, ListError>
     ensures reads { ReadsAll (R.remaining input.old) (R.remaining input.new) result }
     ensures failed { R.has_failed input.new ≡ input_failed result (R.has_failed input.old) }
@@ -43,7 +43,7 @@ fn read_all<R: Source>(alloc: Global, input: &mut R) -> Result<Vec<u8>, ListErro
     }
 }
 
-// Says what the fault of the stream is, and answers the status of that.
+// Prints the fault of the stream, and returns the status.
 fn tell_fault<E: Sink>(alloc: Global, errors: &mut E, error: Error) -> u8
     ensures { Refuses error (device_of E.taken E.has_failed errors.old errors.new) result }
 {
@@ -56,7 +56,7 @@ fn tell_fault<E: Sink>(alloc: Global, errors: &mut E, error: Error) -> u8
     }
 }
 
-// Writes what is left of a stream, or says why nothing is.
+// Writes the stripped stream, or prints why there is none.
 fn write_stripped<W: Sink, E: Sink>(
     alloc: Global,
     mut bytes: Vec<u8>,
@@ -76,10 +76,10 @@ fn write_stripped<W: Sink, E: Sink>(
     }
 }
 
-/// Strips the input: reads all of it, and writes what is left without its custom sections. Answers the exit status: 0, 1 at a
-/// fault of the stream, and 3 where the input, the output or memory failed.
+/// Strips the input: reads all of it, and writes it without its custom sections. Returns the exit status: 0, 1 at a fault of the
+/// stream, and 3 if the input, the output or an allocation failed.
 ///
-/// A message goes to `errors` for the last two, and nothing to the output. Whether it could be written changes no status.
+/// For the last two a message goes to `errors`, and nothing to the output. A message that can't be written changes no status.
 pub(super) fn strip_input<R: Source, W: Sink, E: Sink>(
     alloc: Global,
     input: &mut R,
