@@ -8,7 +8,7 @@ use wasm_base::{Error, Result, WasmFeatures};
 use wasm_feed::{Feeder, Step};
 use wasm_parser::{Chunk, Parser, Payload};
 
-/// Pieces of at most so many bytes are pushed.
+/// Pieces of at most this many bytes are pushed.
 const SMALL_PIECE: usize = 512;
 
 /// Reads a whole stream part by part.
@@ -41,7 +41,7 @@ pub(crate) fn parse_all(bytes: &[u8]) -> Result<Tally> {
     Ok(tally)
 }
 
-/// Reads a stream that comes in pieces of this size: small ones are pushed to a feeder, and the others lent to it.
+/// Reads a stream that comes in chunks of this size: small ones are pushed to a feeder, and the others lent to it.
 #[inline(never)]
 pub(crate) fn feed(alloc: Global, bytes: &[u8], size: usize) -> Result<Tally> {
     if size <= SMALL_PIECE {

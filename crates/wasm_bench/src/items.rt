@@ -10,7 +10,7 @@ use wasm_items::{
 };
 use wasm_parser::{Parser, Payload};
 
-/// Walks over the items of each section. Lists in segments are passed over, or are walked too where `lists` says so, in
+/// Walks over the items of each section. Lists in segments are skipped, or are walked too where `lists` says so, in
 /// place of the segments.
 #[inline(never)]
 pub(crate) fn walk_items(alloc: Global, bytes: &[u8], lists: bool) -> Result<Tally> {

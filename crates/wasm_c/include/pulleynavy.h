@@ -531,8 +531,8 @@ uint32_t pulleynavy_skip_section(pulleynavy_parser *parser);
 size_t pulleynavy_format_fault(
     const pulleynavy_parser *parser, const uint8_t *bytes, size_t bytes_size, bool is_all, uint8_t *out, size_t out_size);
 
-/* Stores the next events of a stream in `out`, as so many calls of `pulleynavy_parse` return them, and returns how many: as many as
-   there is room for, or up to a request for more bytes, a fault or the end. `at` of each counts from the first of `bytes`. Call it
+/* Stores the next events of a stream in `out`, as calls of `pulleynavy_parse` return them one by one, and returns how many: as many
+   as there is room for, or up to a request for more bytes, a fault or the end. `at` of each counts from the first of `bytes`. Call it
    next with the bytes after all that these events consumed. */
 size_t pulleynavy_next_events(
     pulleynavy_parser *parser, const uint8_t *bytes, size_t bytes_size, bool is_all, pulleynavy_event *out, size_t out_count);
@@ -714,7 +714,7 @@ pulleynavy_field pulleynavy_read_field_type(
 size_t pulleynavy_next_field_types(
     pulleynavy_items *items, const uint8_t *bytes, size_t bytes_size, pulleynavy_field *out, size_t out_count);
 
-/* The beginning of a group of types, or its fault. */
+/* The head of a group of types, or its fault. */
 typedef struct pulleynavy_type_group {
     /* The fault, whose kind is 0 where there is none. */
     pulleynavy_fault fault;
@@ -726,7 +726,7 @@ typedef struct pulleynavy_type_group {
     uint32_t count;
 } pulleynavy_type_group;
 
-/* The beginning of a subtype, or its fault. */
+/* The head of a subtype, or its fault. */
 typedef struct pulleynavy_subtype {
     /* The fault, whose kind is 0 where there is none. */
     pulleynavy_fault fault;
@@ -1175,7 +1175,7 @@ typedef struct pulleynavy_indirect_naming {
     pulleynavy_span names;
 } pulleynavy_indirect_naming;
 
-/* Reads the subsection at the start of `bytes`: an id below 128, a size and so many bytes (core specification, Appendix, Custom
+/* Reads the subsection at the start of `bytes`: an id below 128, a size and this many bytes (core specification, Appendix, Custom
    Sections, Name Section, Subsections; tool conventions, Linking). The bytes are the remaining bytes of its section, at `offset` of
    the stream. After a fault all other fields are 0. */
 pulleynavy_subsection pulleynavy_read_subsection(
@@ -1558,7 +1558,7 @@ typedef struct pulleynavy_core_module {
     pulleynavy_span name;
 } pulleynavy_core_module;
 
-/* The beginning of an instance of a core dump, or its fault. */
+/* The head of an instance of a core dump, or its fault. */
 typedef struct pulleynavy_core_instance {
     /* The fault, whose kind is 0 where there is none. */
     pulleynavy_fault fault;
@@ -1578,7 +1578,7 @@ typedef struct pulleynavy_core_thread {
     pulleynavy_span name;
 } pulleynavy_core_thread;
 
-/* The beginning of a frame of a core dump, or its fault. */
+/* The head of a frame of a core dump, or its fault. */
 typedef struct pulleynavy_core_frame {
     /* The fault, whose kind is 0 where there is none. */
     pulleynavy_fault fault;

@@ -5,7 +5,7 @@ use Rattle.std.proofs.Math.ListN.{set}
 use Rattle.std.proofs.lemmas.List.{append-nil, drop-set-lt, length-set, length-take-le, take-append-drop, take_more_set}
 use Rattle.wasm_c.specs.Cursors.{StoresItems, first_then, items_by}
 
--- So many items were stored, and so many calls more may store one each.
+-- So many items were stored, and this many calls more may store one each.
 pub record Stored {C T : Type 0} (next : C → Option T × C) (old : C) (before : List T)
     (count left : ℕ) (c : C) (out : List T) : Type 0 where
   pub is_left : count + left ≡ length out

@@ -1,4 +1,4 @@
--- The beginnings of what core dumps hold, before its lists. Tool conventions, Coredump.
+-- The heads of what core dumps hold, before its lists. Tool conventions, Coredump.
 use Rattle.std.specs.Prelude.{ℕ, ℤ, pos, List, None, Ok}
 use Rattle.wasm_base.specs.Name.{text_at}
 use Rattle.wasm_base.specs.Number.{unsigned_at}

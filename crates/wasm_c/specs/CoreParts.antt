@@ -1,4 +1,4 @@
--- The beginning of a frame of a core dump, as the code has it.
+-- The head of a frame of a core dump, as the code has it.
 use Rattle.wasm_c.specs.CoreHeads as Heads
 use Rattle.wasm_c.specs.declared.coredumps.FrameHead.{FrameHead}
 

@@ -39,7 +39,7 @@ plain_core_module from p (Err f) = record {
   name = no_span;
 }
 
--- the beginning of an instance of a core dump
+-- the head of an instance of a core dump
 abbrev pub plain_core_instance : (from : ℕ) → Place → Outcome ℕ → PlainCoreInstance
 plain_core_instance from p (Ok x) = record {
   fault = no_fault;
@@ -65,7 +65,7 @@ plain_core_thread from p (Err f) = record {
   name = no_span;
 }
 
--- the beginning of a frame of a core dump
+-- the head of a frame of a core dump
 abbrev pub plain_core_frame : (from : ℕ) → Place → Outcome FrameHead → PlainCoreFrame
 plain_core_frame from p (Ok x) = record {
   fault = no_fault;

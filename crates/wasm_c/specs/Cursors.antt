@@ -18,7 +18,7 @@ use Rattle.wasm_c.specs.declared.names.PlainNaming.{PlainNaming}
 use Rattle.wasm_c.specs.declared.names.PlainSubsection.{PlainSubsection}
 use Rattle.wasm_custom.specs.Names.{indirect_naming_at, naming_at}
 
--- a cursor at the first of so many items, which is at this offset of the stream
+-- a cursor at the first of this many items, which is at this offset of the stream
 abbrev pub starting : (offset position count features : ℕ) → StoredItems
 starting offset position count features = record {
   offset = offset;
@@ -157,13 +157,13 @@ abbrev pub first_then : {C T : Type 0} → (others : C → List T × C) → Opti
 first_then others (None, d) = ([], d)
 first_then others (Some item, d) = (item ∷ (others d).0, (others d).1)
 
--- all items that so many calls return, and the cursor after them
+-- all items that this many calls return, and the cursor after them
 abbrev pub items_by : {C T : Type 0} → (next : C → Option T × C) → ℕ → C
     → List T × C
 items_by next zero c = ([], c)
 items_by next (suc n) c = first_then (λ d. items_by next n d) (next c)
 
--- One call stored as many items as so many calls for one return, and returned how many.
+-- One call stored as many items as this many calls for one return, and returned how many.
 pub record StoresItems {C T : Type 0} (next : C → Option T × C) (old : C) (before : List T)
     (count : ℕ) (new : C) (after : List T) : Type 0 where
   pub items : after ≡ (items_by next (length before) old).0 ++ drop count before

@@ -63,7 +63,7 @@ of_section bundled c (None, d) = (None, record c { items = d })
 of_section bundled c (Some one, d) = if nat_eq one.kind 0 then (Some one, record c { items = d }) else
     bundled (entered one (record c { items = d }))
 
--- what one call returns, if it passes no more than so many bundles without imports
+-- what one call returns, if it passes no more than this many bundles without imports
 abbrev pub flat_by : ℕ → List ℕ → StoredImports → Option PlainImport × StoredImports
 flat_by zero bytes c = (None, c)
 flat_by (suc n) bytes c = if is_within c then within bytes c else

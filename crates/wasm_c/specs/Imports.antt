@@ -47,7 +47,7 @@ no_import = record {
   count = 0;
 }
 
--- an import, or the beginning of a bundle, that takes so many bytes from a place on
+-- an import, or the head of a bundle, that takes this many bytes from a place on
 abbrev pub import_from : (from : ℕ) → Place → (consumed : ℕ) → Bundle → PlainImport
 import_from from p consumed (single offset one) = record no_import {
   consumed = consumed;

@@ -21,7 +21,7 @@ use Rattle.wasm_c.specs.Values.{heap_code, heap_index}
 use Rattle.wasm_c.specs.declared.instructions.PlainInstruction.{PlainInstruction}
 use Rattle.wasm_c.specs.declared.spans.PlainSpan.{PlainSpan}
 
--- an instruction of so many bytes without operands; an opcode of two parts is 256 times the first and the second
+-- an instruction of this many bytes without operands; an opcode of two parts is 256 times the first and the second
 abbrev pub opcode : (consumed : ℕ) → (opcode : ℕ) → PlainInstruction
 opcode consumed code = record {
   fault = no_fault;
@@ -55,11 +55,11 @@ with_vector consumed bytes = record (opcode consumed 0xFD0C) { bytes = bytes }
 abbrev pub with_heap : (consumed : ℕ) → HeapType → PlainInstruction
 with_heap consumed heap = record (indexed consumed 0xD0 (heap_index heap)) { heap = heap_code heap }
 
--- an array of so many elements
+-- an array of this many elements
 abbrev pub with_count : (consumed index count : ℕ) → PlainInstruction
 with_count consumed index count = record (indexed consumed 0xFB08 index) { count = count }
 
--- an instruction of so many bytes, of which these are the last 16. Core specification, Binary format, Instructions.
+-- an instruction of this many bytes, of which these are the last 16. Core specification, Binary format, Instructions.
 abbrev pub instruction_from : (consumed : ℕ) → (last : PlainSpan) → ConstOperator → PlainInstruction
 instruction_from consumed last End = opcode consumed 0x0B
 instruction_from consumed last I32Add = opcode consumed 0x6A

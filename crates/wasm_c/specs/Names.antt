@@ -13,7 +13,7 @@ use Rattle.wasm_c.specs.declared.names.PlainSubsection.{PlainSubsection}
 use Rattle.wasm_c.specs.declared.names.PlainIndirectNaming.{PlainIndirectNaming}
 use Rattle.wasm_c.specs.declared.names.PlainNaming.{PlainNaming}
 
--- a subsection of so many bytes
+-- a subsection of this many bytes
 abbrev pub subsection_from : (from consumed id : ℕ) → Window → PlainSubsection
 subsection_from from consumed id window = record {
   fault = no_fault;

@@ -55,7 +55,7 @@ abbrev pub elements_section : ElementItems → Section
 elements_section (Functions indices) = indices
 elements_section (Expressions ty expressions) = expressions
 
--- an element segment that takes so many bytes from an offset on
+-- an element segment that takes this many bytes from an offset on
 abbrev pub element_from : (from consumed : ℕ) → Element → PlainElement
 element_from from consumed e = record {
   fault = no_fault;

@@ -46,7 +46,7 @@ abbrev pub after_size : (from : ℕ) → Outcome ℕ → ℕ
 after_size from (Ok size) = size.1.offset - from
 after_size from (Err f) = 0
 
--- where a text of so many bytes is that begins at a place, with its size
+-- where a text of this many bytes is that begins at a place, with its size
 abbrev pub text_span : (from : ℕ) → Place → (size : ℕ) → PlainSpan
 text_span from p size = record { at = after_size from (unsigned_at VarU32 p); size = size }
 

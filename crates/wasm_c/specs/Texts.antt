@@ -13,7 +13,7 @@ use Rattle.wasm_c.specs.Faults.{fault_code}
 abbrev pub written_over : (text old : List ℕ) → List ℕ
 written_over text old = take (length old) text ++ drop (length text) old
 
--- This text was written, of so many bytes.
+-- This text was written, of this many bytes.
 abbrev pub SaysText : (text old : List ℕ) (size : ℕ) (new : List ℕ) → Type 0
 SaysText text old size new = (size ≡ length text) × (new ≡ written_over text old)
 

@@ -1,4 +1,4 @@
--- The beginnings of groups of types and of subtypes, whose lists come after them. Core specification, Binary format,
+-- The heads of groups of types and of subtypes, whose lists come after them. Core specification, Binary format,
 -- Types, Recursive Types and Composite Types.
 use Rattle.std.specs.Prelude.{ℕ, ◌-◌, ◌==◌, Bool, true, false, Option, None, Ok, Err, if◌then◌else◌}
 use Rattle.wasm_base.specs.Leading.{leading_byte}
@@ -14,7 +14,7 @@ use Rattle.wasm_c.specs.Spans.{flag}
 use Rattle.wasm_c.specs.declared.types.PlainSubtype.{PlainSubtype}
 use Rattle.wasm_c.specs.declared.types.PlainTypeGroup.{PlainTypeGroup}
 
--- a group: whether it is written as one, and how many subtypes come after its beginning
+-- a group: whether it is written as one, and how many subtypes come after its head
 pub record GroupHead : Type 0 where
   pub explicit : Bool
   pub count : ℕ
@@ -24,7 +24,7 @@ counted_group_at p = do
   count ← unsigned_at VarU32 p
   Ok (record { explicit = true; count = count.0 }, count.1)
 
--- the beginning of an item of a type section: 0x4E and a count, or nothing before a single subtype
+-- the head of an item of a type section: 0x4E and a count, or nothing before a single subtype
 unfoldable pub group_head_at : Place → Outcome GroupHead
 group_head_at p = do
   first ← peeked_byte_at p
@@ -41,7 +41,7 @@ counted_composite_at kind p = do
   count ← unsigned_at VarU32 p
   Ok (record { kind = kind; count = count.0 }, count.1)
 
--- the beginning of a composite type: a byte, and a count but for arrays, which have one field
+-- the head of a composite type: a byte, and a count but for arrays, which have one field
 unfoldable pub composite_head_at : Place → Outcome CompositeHead
 composite_head_at p = do
   first ← byte_at p
@@ -67,7 +67,7 @@ plain_head_at p = do
   composite ← composite_head_at p
   Ok (record { final = true; supertype = None; composite = composite.0 }, composite.1)
 
--- the beginning of a subtype
+-- the head of a subtype
 unfoldable pub subtype_head_at : Place → Outcome SubtypeHead
 subtype_head_at p = do
   first ← peeked_byte_at p
@@ -75,7 +75,7 @@ subtype_head_at p = do
       else if first.0 == 0x4F then extending_head_at true (advanced 1 p)
       else plain_head_at p
 
--- the beginning of a group
+-- the head of a group
 abbrev pub plain_type_group : (from : ℕ) → Place → Outcome GroupHead → PlainTypeGroup
 plain_type_group from p (Ok x) = record {
   fault = no_fault;
@@ -85,7 +85,7 @@ plain_type_group from p (Ok x) = record {
 }
 plain_type_group from p (Err f) = record { fault = plain_fault f; consumed = 0; is_explicit = 0; count = 0 }
 
--- the beginning of a subtype
+-- the head of a subtype
 abbrev pub plain_subtype : (from : ℕ) → Place → Outcome SubtypeHead → PlainSubtype
 plain_subtype from p (Ok x) = record {
   fault = no_fault;

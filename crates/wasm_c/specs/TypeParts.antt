@@ -1,4 +1,4 @@
--- The beginnings of groups and subtypes, as the code has them.
+-- The heads of groups and subtypes, as the code has them.
 use Rattle.wasm_c.specs.TypeHeads.{CompositeHead, GroupHead, SubtypeHead}
 use Rattle.wasm_c.specs.declared.types.CompositeParts.{CompositeParts}
 use Rattle.wasm_c.specs.declared.types.GroupParts.{GroupParts}

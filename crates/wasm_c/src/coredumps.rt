@@ -40,7 +40,7 @@ pub struct PlainCoreModule {
     pub name: PlainSpan,
 }
 
-/// The beginning of an instance of a core dump, or its fault.
+/// The head of an instance of a core dump, or its fault.
 #[repr(C)]
 #[derive(Clone, Copy, Debug, PartialEq, Eq)]
 pub struct PlainCoreInstance {
@@ -64,7 +64,7 @@ pub struct PlainCoreThread {
     pub name: PlainSpan,
 }
 
-/// The beginning of a frame of a core dump, or its fault.
+/// The head of a frame of a core dump, or its fault.
 #[repr(C)]
 #[derive(Clone, Copy, Debug, PartialEq, Eq)]
 pub struct PlainCoreFrame {
@@ -135,7 +135,7 @@ fn read_module<'a>(data_offset: u64, reader: &mut BinaryReader<'a>) -> Result<&'
     reader.read_unlimited_string()
 }
 
-// The beginning of an instance: the index of its module.
+// The head of an instance: the index of its module.
 #[tactic(auto, unfolding(crate::specs::CoreHeads::instance_head_at))]
 fn read_instance(reader: &mut BinaryReader<'_>) -> Result<u32>
     ensures gives { GivesBy (λ index. index) result reader.old reader.new instance_head_at }
@@ -145,7 +145,7 @@ fn read_instance(reader: &mut BinaryReader<'_>) -> Result<u32>
     reader.read_var_u32()
 }
 
-// The beginning of a frame.
+// The head of a frame.
 #[tactic(auto, unfolding(crate::specs::CoreHeads::frame_head_at))]
 fn read_frame(reader: &mut BinaryReader<'_>) -> Result<FrameHead>
     ensures gives { GivesBy frame_parts result reader.old reader.new frame_head_at }

@@ -38,7 +38,7 @@ fn store_events(parser: &mut Parser, bytes: &[u8], is_all: bool, out: &mut [Plai
     count
 }
 
-/// Stores the next events of a stream in `out`, as so many calls of `pulleynavy_parse` return them, and returns how many: as many
+/// Stores the next events of a stream in `out`, as calls of `pulleynavy_parse` return them one by one, and returns how many: as many
 /// as there is room for, or up to a request for more bytes, a fault or the end. `at` of each counts from the first of `bytes`. Call
 /// it next with the bytes after all that these events consumed.
 #[unsafe(no_mangle)]

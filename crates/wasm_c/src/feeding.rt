@@ -101,7 +101,7 @@ fn put(storage: &mut [u8], end: usize, piece: &[u8])
     storage[end..end + piece.len()].copy_from_slice(piece);
 }
 
-// Moves so many bytes from the mark to the front, and puts a piece after them. It is seldom called, and stays out of the way.
+// Moves this many bytes from the mark to the front, and puts a piece after them. It is seldom called, and stays out of the way.
 #[inline(never)]
 fn gather(storage: &mut [u8], mark: usize, held: usize, piece: &[u8])
     requires within { held ≤ length (drop mark storage.old) }
@@ -114,7 +114,7 @@ fn gather(storage: &mut [u8], mark: usize, held: usize, piece: &[u8])
     put(storage, held, piece);
 }
 
-// Moves so many bytes from the mark to the front. Where they don't overlap their new place, they are copied at once.
+// Moves this many bytes from the mark to the front. Where they don't overlap their new place, they are copied at once.
 fn move_front(storage: &mut [u8], mark: usize, held: usize)
     requires within { held ≤ length (drop mark storage.old) }
     ensures len { length storage.new ≡ length storage.old }

@@ -141,7 +141,7 @@ fn plain_import_type(ty: TypeRef) -> PlainImportType
     }
 }
 
-// An import, or the beginning of a bundle, that takes so many bytes from where the reader is.
+// An import, or the head of a bundle, that takes this many bytes from where the reader is.
 fn whole_import(
     from: u64,
     before: BinaryReader<'_>,

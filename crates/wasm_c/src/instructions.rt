@@ -104,7 +104,7 @@ fn null(consumed: usize, heap: HeapType) -> PlainInstruction
     }
 }
 
-// An array of so many elements.
+// An array of this many elements.
 fn array(consumed: usize, index: u32, count: u32) -> PlainInstruction
     ensures { result ≡ with_count consumed index count }
 {
@@ -114,7 +114,7 @@ fn array(consumed: usize, index: u32, count: u32) -> PlainInstruction
     }
 }
 
-// An instruction of so many bytes, of which these are the last 16.
+// An instruction of this many bytes, of which these are the last 16.
 fn whole_instruction(consumed: usize, last: PlainSpan, operator: ConstOperator) -> PlainInstruction
     ensures { result ≡ instruction_from consumed last operator }
 {

@@ -131,7 +131,7 @@ pub struct PlainGlobal {
     pub init: PlainSpan,
 }
 
-/// The type that stands where there is no table.
+/// The type if there is no table.
 pub(crate) const NO_TABLE_TYPE: PlainTableType = PlainTableType {
     element: SIMPLE,
     table64: 0,
@@ -141,7 +141,7 @@ pub(crate) const NO_TABLE_TYPE: PlainTableType = PlainTableType {
     maximum: 0,
 };
 
-/// The type that stands where there is no memory.
+/// The type if there is no memory.
 pub(crate) const NO_MEMORY_TYPE: PlainMemoryType = PlainMemoryType {
     memory64: 0,
     shared: 0,
@@ -152,7 +152,7 @@ pub(crate) const NO_MEMORY_TYPE: PlainMemoryType = PlainMemoryType {
     maximum: 0,
 };
 
-/// The type that stands where there is no global.
+/// The type if there is no global.
 pub(crate) const NO_GLOBAL_TYPE: PlainGlobalType = PlainGlobalType {
     content: SIMPLE,
     is_mutable: 0,

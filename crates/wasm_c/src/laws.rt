@@ -7,7 +7,7 @@ pub fn each_fault_has_its_number()
     ensures { EachHasItsNumber }
 {}
 
-/// A group of types is its beginning and so many subtypes, and a subtype its beginning and what its kind has (core specification, Binary
+/// A group of types is its head and this many subtypes, and a subtype its head and what its kind has (core specification, Binary
 /// format, Types, Recursive Types and Composite Types). So what the calls for them answer one after the other is what the definitions of
 /// both say.
 #[tactic(auto, using(crate::proofs::TypeHeads::groups, crate::proofs::TypeHeads::subtypes))]

@@ -69,7 +69,7 @@ pub struct PlainIndirectNaming {
     pub names: PlainSpan,
 }
 
-// A subsection of so many bytes.
+// A subsection of this many bytes.
 fn whole_subsection(
     from: u64,
     consumed: usize,
@@ -122,7 +122,7 @@ impl Readable for AnySubsections {
     }
 }
 
-/// Reads the subsection at the start of `bytes`: an id below 128, a size and so many bytes (core specification, Appendix, Custom
+/// Reads the subsection at the start of `bytes`: an id below 128, a size and this many bytes (core specification, Appendix, Custom
 /// Sections, Name Section, Subsections; tool conventions, Linking). The bytes are the remaining bytes of its section, at `offset`
 /// of the stream. After a fault all other fields are 0.
 #[unsafe(no_mangle)]
@@ -195,7 +195,7 @@ pub extern "C" fn pulleynavy_next_namings(
     store_items(Ascending(Namings), items, bytes, out)
 }
 
-// An index and its names, which take so many bytes from this offset on.
+// An index and its names, which take this many bytes from this offset on.
 fn whole_indirect(
     from: u64,
     consumed: usize,

@@ -200,7 +200,7 @@ fn elements_count(items: &ElementItems) -> u32
     }
 }
 
-// A segment, which takes so many bytes from this offset on.
+// A segment, which takes this many bytes from this offset on.
 fn whole_element(from: u64, consumed: usize, element: &Element) -> PlainElement
     ensures { result ≡ element_from from consumed element.now }
 {

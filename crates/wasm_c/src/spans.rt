@@ -53,7 +53,7 @@ pub(crate) fn flag(holds: bool) -> u32
     if holds { 1 } else { 0 }
 }
 
-/// Where a text of so many bytes is, from this offset on: after its size, with which the reader begins.
+/// Where a text of this many bytes is, from this offset on: after its size, with which the reader begins.
 pub(crate) fn text_span(from: u64, mut reader: BinaryReader<'_>, size: usize) -> PlainSpan
     ensures { result ≡ text_span from (place reader.entry) size }
 {
@@ -64,7 +64,7 @@ pub(crate) fn text_span(from: u64, mut reader: BinaryReader<'_>, size: usize) ->
     PlainSpan { at, size }
 }
 
-/// The same of the text after a size and so many bytes, with which the reader begins.
+/// The same of the text after a size and this many bytes, with which the reader begins.
 pub(crate) fn text_after_sized(from: u64, mut reader: BinaryReader<'_>, size: usize) -> PlainSpan
     ensures { result ≡ text_after from size (window_at (place reader.entry)) }
 {

@@ -1,4 +1,4 @@
-// The beginnings of groups of types and of subtypes.
+// The heads of groups of types and of subtypes.
 ghost use Rattle.std.specs.Prelude.{◌≡◌};
 ghost use Rattle.wasm_base.specs.Outcome.{GivesBy};
 ghost use Rattle.wasm_base.specs.Window.{KeepsWindow};
@@ -14,7 +14,7 @@ use crate::spans::{distance, flag};
 use wasm_base::leading_byte_error;
 use wasm_parser::{BinaryReader, Error, Fault, Lead, Result};
 
-/// The beginning of a group of types, or its fault.
+/// The head of a group of types, or its fault.
 #[repr(C)]
 #[derive(Clone, Copy, Debug, PartialEq, Eq)]
 pub struct PlainTypeGroup {
@@ -28,7 +28,7 @@ pub struct PlainTypeGroup {
     pub count: u32,
 }
 
-/// The beginning of a subtype, or its fault.
+/// The head of a subtype, or its fault.
 #[repr(C)]
 #[derive(Clone, Copy, Debug, PartialEq, Eq)]
 pub struct PlainSubtype {
@@ -67,7 +67,7 @@ struct SubtypeParts {
     composite: CompositeParts,
 }
 
-// The beginning of a group.
+// The head of a group.
 #[tactic(auto, unfolding(crate::specs::TypeHeads::group_head_at))]
 fn read_group(reader: &mut BinaryReader<'_>) -> Result<GroupParts>
     ensures gives { GivesBy group_parts result reader.old reader.new group_head_at }
@@ -86,7 +86,7 @@ fn read_group(reader: &mut BinaryReader<'_>) -> Result<GroupParts>
     })
 }
 
-// The beginning of a composite type.
+// The head of a composite type.
 #[tactic(auto, unfolding(crate::specs::TypeHeads::composite_head_at))]
 fn read_composite(reader: &mut BinaryReader<'_>) -> Result<CompositeParts>
     ensures gives { GivesBy composite_parts result reader.old reader.new composite_head_at }
@@ -121,7 +121,7 @@ fn read_supertype(reader: &mut BinaryReader<'_>) -> Result<Option<u32>>
     }
 }
 
-// The beginning of a subtype after its first byte.
+// The head of a subtype after its first byte.
 #[tactic(auto, unfolding(crate::specs::TypeHeads::extending_head_at))]
 fn read_extending(is_final: bool, reader: &mut BinaryReader<'_>) -> Result<SubtypeParts>
     ensures gives { GivesBy subtype_parts result reader.old reader.new (extending_head_at is_final) }
@@ -136,7 +136,7 @@ fn read_extending(is_final: bool, reader: &mut BinaryReader<'_>) -> Result<Subty
     })
 }
 
-// The beginning of a subtype.
+// The head of a subtype.
 #[tactic(auto, unfolding(crate::specs::TypeHeads::subtype_head_at))]
 fn read_subtype(reader: &mut BinaryReader<'_>) -> Result<SubtypeParts>
     ensures gives { GivesBy subtype_parts result reader.old reader.new subtype_head_at }

@@ -82,7 +82,7 @@ pub(crate) fn heap_parts(heap: HeapType) -> (u32, u32)
     }
 }
 
-/// The type that stands where there is none.
+/// The type if there is none.
 pub(crate) const SIMPLE: PlainType = PlainType {
     kind: 0,
     nullable: 0,

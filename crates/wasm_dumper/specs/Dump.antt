@@ -55,7 +55,7 @@ pub record WritesWhole (style : Style) (taken written : Option (List ℕ)) (outl
   pub shaped : IsShaped style text outline numbers bytes
   pub wrote : Appends taken written text
 
--- A beginning of one was written.
+-- A prefix of one was written.
 pub record WritesSome (style : Style) (taken written : Option (List ℕ)) (outline : List ℕ) (numbers : List Number)
     (bytes : List ℕ) : Type 0 where
   pub text : List ℕ

@@ -29,7 +29,7 @@ fn after_names(is_whole: bool) -> Next {
     if is_whole { Next::Step } else { Next::End }
 }
 
-// Adds the names of a map, up to its first fault. Answers whether there is none.
+// Adds the names of a map, up to its first fault. Returns whether there is none.
 fn add_map(
     alloc: Global,
     names: &mut ItemNames,
@@ -72,7 +72,7 @@ fn add_subsection(
     }
 }
 
-// Adds the names of a name section, up to its first fault. Answers whether there is none.
+// Adds the names of a name section, up to its first fault. Returns whether there is none.
 fn add_subsections(
     alloc: Global,
     names: &mut ItemNames,
@@ -152,7 +152,7 @@ fn add_step(alloc: Global, names: &mut ItemNames, feeder: &mut Feeder) -> Result
     add_answer(alloc, names, &answer)
 }
 
-// Reads the source once. Answers whether it could be read.
+// Reads the source once. Returns whether it could be read.
 fn read_more<R: Source>(
     feeder: &mut Feeder,
     input: &mut R,
@@ -198,7 +198,7 @@ fn collect_into<R: Source>(
     Ok(())
 }
 
-/// Reads the input, and answers the names of items that its custom sections `name` have: those before the first fault of the
+/// Reads the input, and returns the names of items that its custom sections `name` have: those before the first fault of the
 /// stream, of a name section or of the source. Of two names of one item it is the first.
 ///
 /// `Memory` when an allocation failed, and no other error.

@@ -23,7 +23,7 @@ fn begin_item<O: Tree>(offset: u64, space: Space, index: u64, out: &mut O)
     out.item_number(space, index);
 }
 
-// Writes an item with its number, or the fault in its place, and answers the number of what comes next.
+// Writes an item with its number, or the fault in its place, and returns the number of what comes next.
 fn show_one<T: Show, O: Tree>(space: Space, index: u64, item: &Result<(u64, T)>, out: &mut O) -> u64
     ensures shows { AddsThese (number_found space index item.now)
         (O.writing out.old) (O.writing out.new) }
@@ -105,7 +105,7 @@ fn show_type<O: Tree>(index: u64, ty: &SubType, out: &mut O)
     ty.text(out);
 }
 
-// Writes the types of a group, each with its number, and answers the number of what comes next.
+// Writes the types of a group, each with its number, and returns the number of what comes next.
 fn show_types<O: Tree>(first: u64, types: &[SubType], out: &mut O) -> u64
     ensures { AddsUpTo Types first result (O.writing out.old) (O.writing out.new) }
 {
@@ -131,7 +131,7 @@ fn show_group<O: Tree>(first: u64, offset: u64, group: &RecGroup, out: &mut O) -
     show_types(first, &group.types, out)
 }
 
-// Writes a group or the fault in its place, and answers the number of the type that comes next.
+// Writes a group or the fault in its place, and returns the number of the type that comes next.
 fn show_found<O: Tree>(index: u64, offset: u64, group: &Result<RecGroup>, out: &mut O) -> u64
     ensures { AddsUpTo Types index result (O.writing out.old) (O.writing out.new) }
 {

@@ -139,7 +139,7 @@ fn make_ready<O: Tree>(
     }
 }
 
-// The same as `dump`, by a tree over the output that has written nothing yet, and with a buffer to read into.
+// Like `dump`, by a tree over the output that has written nothing yet, and with a buffer to read into.
 fn dump_into<R: Source, O: Tree>(
     alloc: Global,
     shown: Shown<'_>,
@@ -188,7 +188,7 @@ fn dump_into<R: Source, O: Tree>(
 /// It keeps what the parser has not decided, the piece that came last, the buffer that it was read into, and the lines that wait,
 /// of which the tree's invariant bounds the bytes; where bytes are shown, a copy of the part at hand and where its items begin.
 ///
-/// A fault of the stream ends it; a fault of an item is a line at its place. An error leaves a beginning of the dump written:
+/// A fault of the stream ends it; a fault of an item is a line at its place. An error leaves a prefix of the dump written:
 /// `Input` where the source failed, all of what it gave but the last event; `Output` where the sink did; `Memory` where a growth was
 /// refused. A device that had failed before the call is still known to have failed.
 pub fn dump<R: Source, O: Tree>(

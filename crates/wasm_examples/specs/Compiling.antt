@@ -1,4 +1,4 @@
--- A compiler that is handed the bodies of a stream that comes in pieces.
+-- A compiler that is handed the bodies of a stream that comes in chunks.
 use Rattle.std.specs.Borrow.{Bor}
 use Rattle.std.specs.Prelude.{◌≡◌, ◌⊎◌, ℕ, List, [], ◌∷◌, ◌++◌, flat_map, Result, Ok, Err}
 use Rattle.wasm_base.specs.FaultAt.{fault_at}

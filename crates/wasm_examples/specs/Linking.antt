@@ -85,7 +85,7 @@ fixup_of m section entry = record {
 
 -- ---- one part more
 
--- what so many items from a place on add, one after the other, and nothing after them; or the first fault
+-- what this many items from a place on add, one after the other, and nothing after them; or the first fault
 abbrev pub each_from : {S T : Type 0} → (S → T → S) → (Place → Outcome T) → S → (left : ℕ) → Place → Result S FaultAt
 each_from add read s zero p = if nat_lt 0 (length p.rest) then Err (at_offset SizeMismatch p.offset) else Ok s
 each_from add read s (suc left) p = read p >>= (λ x. each_from add read (add s x.0) left x.1)

@@ -1,4 +1,4 @@
--- A visit of the parts of a stream that comes in pieces.
+-- A visit of the parts of a stream that comes in chunks.
 use Rattle.std.specs.Borrow.{Bor}
 use Rattle.std.specs.Prelude.{◌≡◌, ◌⊎◌, ℕ, ◌+◌, ◌<◌, ◌^◌, Bool, true, false, List, [], ◌∷◌, ◌++◌, length, Result, Ok}
 use Rattle.std.specs.Prelude.{Err}

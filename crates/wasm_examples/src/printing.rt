@@ -124,7 +124,7 @@ impl<'a> Names<'a> {
 /// Of each function of a module its name, if its name sections give one to it: first of those that it imports, then of its own.
 ///
 /// A section gives names to functions that come before it; of two names for one function the later one holds. A name that is out of
-/// order or can't be read is passed over. The fault at which the stream stops, or that of an import; or `OutOfMemory`.
+/// order or can't be read is skipped. The fault at which the stream stops, or that of an import; or `OutOfMemory`.
 pub fn function_names<'a>(alloc: Global, bytes: &'a [u8]) -> Result<Vec<Option<&'a str>>>
     ensures { AreNames bytes.now result }
 {

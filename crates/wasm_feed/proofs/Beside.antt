@@ -144,7 +144,7 @@ decided p new bytes x a e = grind (arith, undecided)
 last_is_no_request : (x : Result Step Error) → is_last (answer_of x) ≡ true → is_request x ≡ false
 last_is_no_request x l = grind arith
 
--- What is known of a step over a piece: `old` is the cursor once so many bytes of the piece are stored, and `new` the same after the step.
+-- A step over a chunk: `old` is the cursor once this many bytes of the chunk are stored, and `new` the cursor after the step.
 module _ (f : Feed) (piece rest stored items bytes : List ℕ) (count : ℕ) (old new : Cursor) (x : Result Step Error)
     (r : MakesReady f piece count stored old) (left : rest ≡ drop count piece) (read : bytes ≡ seen items rest) (items_are : items ≡ stored)
     (parses : ParseAnswer old.parser old.is_finished (drop old.mark bytes) (answer_of x) new.parser)
@@ -163,7 +163,7 @@ module _ (f : Feed) (piece rest stored items bytes : List ℕ) (count : ℕ) (ol
   eof : old.is_finished ≡ f.eof
   eof = ap (λ (g : Feed). g.eof) r.same
 
-  -- so many bytes of the rest were taken, and this is stored then
+  -- this many bytes of the rest were taken, and this is stored then
   pub over : (taken : ℕ) (kept : List ℕ) (last : Cursor) → beside (feed_of kept last) (drop taken rest) ≡ lending stored rest new
       → taken ≤ length rest → (new.wants_more ≡ true → taken ≡ length rest) → length kept ≤ length stored + length rest
       → (new.wants_more ≡ false → (stored ≡ [] → new.mark ≡ 0) → drop last.mark kept ≡ drop new.mark (seen stored rest))

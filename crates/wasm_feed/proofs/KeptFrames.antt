@@ -96,7 +96,7 @@ kept_more keep xs ys = search (filter-append, flat_map-append)
 abbrev pub bytes_of_frames : (keep : Bool) → List SectionFrame → List ℕ
 bytes_of_frames keep frames = flat_map frame_bytes (filter (frame_stays keep) frames)
 
--- What is left of the events of sections, of which the first begins at this offset after so many bytes were dropped, and of
+-- What is left of the events of sections, of which the first begins at this offset after this many bytes were dropped, and of
 -- events after them.
 pub record KeptOf (keep : Bool) (features : ℕ) (encoding : Encoding) (at dropped : ℕ) (frames : List SectionFrame)
     (inner rest kept : List Event) : Type 0 where

@@ -88,7 +88,7 @@ module _ (text_of : Report → List ℕ) where
   one_more : (es : List Event) (e : Event) → listing_by text_of (es ++ e ∷ []) ≡ listing_by text_of es ++ text_of e.report
   one_more es e = listing-append es (e ∷ []) ∙ ap (λ (l : List ℕ). listing_by text_of es ++ l) (append-nil (text_of e.report))
 
-  -- a beginning of the listing, of a stream whose reading begins with these events
+  -- a prefix of the listing, of a stream whose reading begins with these events
   begins_listing : (stream : List ℕ) (events : List Event) (lines more : List ℕ) → ReadingBegins 0 all_features stream events
       → listing_by text_of events ≡ lines ++ more → Begins text_of stream lines
   begins_listing stream events lines more r e = record {
@@ -143,7 +143,7 @@ module _ (text_of : Report → List ℕ) where
       parts = p.parts ∙ sym (append-nil (p.lines ++ page));
     }
 
-    -- a beginning of those that waited is written
+    -- a prefix of those that waited is written
     cut_head : (written' : Option (List ℕ)) → WritesHead written written' page
         → IsHead text_of (from_to source rest) (from_to taken written')
     cut_head written' w = record {

@@ -90,7 +90,7 @@ pub record MakesReady (old : Feed) (piece : List ℕ) (count : ℕ) (stored : Li
   pub bounded : Bounds old piece (length stored + (length piece - count))
   pub idle : HasDecided old piece → StaysIdle old count stored c
 
--- A step along what a feeder holds and then a piece, of which it took so many bytes: all where more is asked for, and
+-- A step along what a feeder holds and then a piece, of which it took this many bytes: all where more is asked for, and
 -- none where the bytes that it holds decide. After the end or a fault it holds the bytes that decided that.
 pub record StepsOver (old : Feed) (piece : List ℕ) (result : Result Step Error) (taken : ℕ) (new : Feed) : Type 0 where
   pub steps : Steps (beside old piece) result (beside new (drop taken piece))

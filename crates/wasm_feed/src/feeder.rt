@@ -88,7 +88,7 @@ impl Cursor {
     }
 }
 
-/// Reads a stream that comes in pieces (core specification, Binary format, Modules).
+/// Reads a stream that comes in chunks (core specification, Binary format, Modules).
 ///
 /// A feeder stores the bytes that were pushed and not consumed yet, and no others after a push; `step` lends the payloads
 /// that borrow them. A download is read so:

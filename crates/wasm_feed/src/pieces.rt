@@ -23,7 +23,7 @@ pub fn fits_pieces(offset: u64, pieces: &[&[u8]]) -> bool
     true
 }
 
-// Reads what is held, up to a request or to the last event, and adds its events. Answers whether the last is among them.
+// Reads what is held, up to a request or to the last event, and adds its events. Returns whether the last is among them.
 fn read_held<A: Allocator + Copy>(
     alloc: A,
     cursor: &mut Cursor,

@@ -1,4 +1,4 @@
-// Streams in pieces: the events that are read, and each step of a feeder.
+// Streams in chunks: the events that are read, and each step of a feeder.
 use crate::rows::Failed;
 use bitflags::Flags;
 use std::alloc::{AllocError, Global};
@@ -56,7 +56,7 @@ fn write_line<W: Sink>(mut text: String, out: &mut Lines<W>) -> Result<(), Faile
     Ok(())
 }
 
-/// What is shown of a stream in pieces.
+/// What is shown of a stream in chunks.
 #[derive(Drop)]
 pub(crate) enum Shown {
     /// The events that are read.
@@ -66,7 +66,7 @@ pub(crate) enum Shown {
     Steps,
 }
 
-/// Writes a line of a stream in pieces that begins at this offset.
+/// Writes a line of a stream in chunks that begins at this offset.
 pub(crate) fn show_pieces<W: Sink>(
     alloc: Global,
     shown: Shown,

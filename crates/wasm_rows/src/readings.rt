@@ -29,11 +29,11 @@ impl<'a> Stream<'a> {
 /// What the parser or a feeder returned.
 #[derive(Drop)]
 pub(crate) enum Next {
-    /// An event, of which so many bytes were consumed.
+    /// An event, of which this many bytes were consumed.
     Event(usize),
     /// The end, or a fault.
     Last,
-    /// It asked for so many bytes.
+    /// It asked for this many bytes.
     More(usize),
 }
 
@@ -115,7 +115,7 @@ pub(crate) fn add_next(
     }
 }
 
-// Adds the text of an event, of which so many bytes were consumed.
+// Adds the text of an event, of which this many bytes were consumed.
 fn add_payload(
     payload: &Payload<'_>,
     consumed: usize,
@@ -128,7 +128,7 @@ fn add_payload(
     })
 }
 
-/// Adds the lines of a stream that a feeder is given in chunks of so many bytes.
+/// Adds the lines of a stream that a feeder is given in chunks of this many bytes.
 pub(crate) fn add_fed(
     alloc: Global,
     stream: &Stream<'_>,
@@ -188,7 +188,7 @@ fn add_step(step: wasm_base::Result<Step<'_>>, lines: &mut Vec<u8>) -> Result<Ne
     }
 }
 
-/// Adds the lines of the listing of a stream that is read in chunks of so many bytes.
+/// Adds the lines of the listing of a stream that is read in chunks of this many bytes.
 pub(crate) fn add_listed(
     alloc: Global,
     stream: &Stream<'_>,

@@ -75,7 +75,7 @@ fn polled<I: Iterator>(items: &mut I) -> Option<I::Item>
     items.next()
 }
 
-// An iterator says that it gives at most so many items, and then gives this one.
+// An iterator says that it gives at most this many items, and then gives this one.
 fn is_next<I: Iterator>(rt: &impl Abort, items: &mut I, most: usize, wanted: Option<I::Item>)
 where
     I::Item: PartialEq + Debug + Drop,

@@ -131,7 +131,7 @@ abbrev pub import_numbers : Counts → List Found → List Number
 import_numbers c [] = []
 import_numbers c (x ∷ later) = import_number c x ++ import_numbers (with_import c x) later
 
--- so many numbers of an index space, from this one on
+-- this many numbers of an index space, from this one on
 abbrev pub numbers_from : Space → (first count : ℕ) → List Number
 numbers_from space first zero = []
 numbers_from space first (suc n) = numbers_from space first n ++ record { space = space; index = more first n } ∷ []

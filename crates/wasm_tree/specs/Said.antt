@@ -7,7 +7,7 @@ use Rattle.wasm_tree.specs.Fields.{Field, with_fields}
 use Rattle.wasm_tree.specs.Tree.{Writing, IsPushed}
 use Rattle.wasm_tree.specs.declared.tree.Style.TheVariants.{Lines}
 
--- The writer stopped on the way: a beginning of what waited and of this text was written, and no more could be.
+-- The writer stopped on the way: a prefix of what waited and of this text was written, and no more could be.
 pub record StopsIn (text : List ℕ) (why : ListError) (since now : Writing) : Type 0 where
   pub cut : IsCut since.taken now.taken (since.waiting ++ text) why
   pub begun : now.is_begun ≡ since.is_begun

@@ -225,7 +225,7 @@ abbrev pub IsGoingIn : Style → Origin → Writing → Type 0
 IsGoingIn Lines o w = IsGoing o w
 IsGoingIn Objects o w = IsGoingInObjects o w
 
--- A beginning of such a text was written, and no more could be.
+-- A prefix of such a text was written, and no more could be.
 pub record IsCutShort (o : Origin) (why : ListError) (w : Writing) : Type 0 where
   pub written : List ℕ
   pub unwritten : List ℕ
@@ -311,7 +311,7 @@ pub record IsPushed (bytes : List ℕ) (old new : Writing) : Type 0 where
   pub spot : new.spot ≡ old.spot
   pub unshown : new.unshown ≡ old.unshown
 
--- A beginning of those that waited was written, and no more could be.
+-- A prefix of those that waited was written, and no more could be.
 pub record IsStuck (why : ListError) (old new : Writing) : Type 0 where
   pub cut : IsCut old.taken new.taken old.waiting why
   pub begun : new.is_begun ≡ old.is_begun

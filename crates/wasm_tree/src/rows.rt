@@ -126,7 +126,7 @@ impl Rows {
         })
     }
 
-    /// Passes a cut, and answers the offset of the next one, if there is one.
+    /// Passes a cut, and returns the offset of the next one, if there is one.
     pub(crate) fn next_cut(&mut self) -> Option<u64>
         ensures { self.new ≡ self.old }
     {

@@ -82,7 +82,7 @@ pub fn run_program<R: Source, W: Write, E: Sink>(
     ExitCode::from(finish(status, output, errors))
 }
 
-/// Lists the input, or with the one argument `strip` writes it without its custom sections. Answers the exit status: 0 at
+/// Lists the input, or with the one argument `strip` writes it without its custom sections. Returns the exit status: 0 at
 /// the end of the stream, 1 at a fault of it, 2 for other arguments, 3 where the input, the output or memory failed.
 ///
 /// A message goes to `errors` for the last two, and for a fault of a stream that isn't stripped. Whether it could be written

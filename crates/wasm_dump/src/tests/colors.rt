@@ -4,7 +4,7 @@ use std::test::Fail;
 use wasm_cli::dump::Colored;
 use wasm_feed::{BoundedSink, Sink, write_all};
 
-// What a sink with room for so many bytes has after this text was written through colours, and whether all was.
+// What a sink with room for this many bytes has after this text was written through colours, and whether all was.
 fn written(alloc: Global, room: usize, text: &[u8]) -> Result<(BoundedSink, bool), Fail> {
     let mut colored = Colored::new(BoundedSink::new(alloc, room)?);
     let whole = write_all(&mut colored, text).is_ok();
@@ -38,7 +38,7 @@ fn colors_the_parts_of_lines(rt: HostRuntime) -> Result<(), Fail> {
     Ok(())
 }
 
-// A sink that is full takes a beginning of the text with its colours.
+// A sink that is full takes a prefix of the text with its colours.
 #[test]
 fn stops_where_the_other_sink_does(rt: HostRuntime) -> Result<(), Fail> {
     let wanted = b"\x1b[0;1mend\x1b[0m 8\n".as_slice();

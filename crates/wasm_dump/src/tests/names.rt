@@ -151,7 +151,7 @@ fn long_dump(alloc: Global) -> Result<Vec<u8>, Fail> {
     Ok(text)
 }
 
-// How the dump of a stream's code ends, with the names that it has, in a sink with room for so many bytes.
+// How the dump of a stream's code ends, with the names that it has, in a sink with room for this many bytes.
 fn dumped_into(
     alloc: Global,
     stream: &[u8],
@@ -178,7 +178,7 @@ fn shows_a_long_name(rt: HostRuntime) -> Result<(), Fail> {
     Ok(())
 }
 
-// A sink that is full in the middle of the body's line has a beginning of the dump.
+// A sink that is full in the middle of the body's line has a prefix of the dump.
 #[test]
 fn stops_in_a_long_name(rt: HostRuntime) -> Result<(), Fail> {
     let stream = named_at_length(rt.alloc())?;

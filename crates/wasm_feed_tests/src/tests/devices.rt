@@ -20,7 +20,7 @@ pub(crate) struct Failing<'a> {
 }
 
 impl<'a> Failing<'a> {
-    /// Gives `step` bytes a call, and fails after so many calls.
+    /// Gives `step` bytes a call, and fails after this many calls.
     pub(crate) fn after(bytes: &'a [u8], step: usize, calls: usize) -> Self
         ensures { result.failed ≡ false }
     {
@@ -159,7 +159,7 @@ fn a_source_that_goes_short_changes_nothing(rt: HostRuntime) {
     }
 }
 
-// The listing of a stream to a sink that takes so many bytes, one a call, ends so, with these lines. The sink fails where the
+// The listing of a stream to a sink that takes this many bytes, one a call, ends so, with these lines. The sink fails where the
 // listing does. Returns how many more bytes the sink takes.
 fn lists_slowly(
     rt: &impl Abort,

@@ -1,4 +1,4 @@
-// Feeders of streams that come in pieces.
+// Feeders of streams that come in chunks.
 use super::same;
 use bitflags::Flags;
 use std::alloc::{AllocError, Allocator, Global};
@@ -230,7 +230,7 @@ fn note_steps(
     Ok(())
 }
 
-// Notes the steps of the module in pieces of these sizes. Returns whether a push was refused.
+// Notes the steps of the module in chunks of these sizes. Returns whether a push was refused.
 fn note_pieces(
     rt: &impl Abort,
     feeder: &mut SparingFeeder<'_>,

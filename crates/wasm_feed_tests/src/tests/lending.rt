@@ -54,7 +54,7 @@ fn stays(rt: &impl Abort, feeder: &mut Feeder, reported_as: ReportedAs) {
     }
 }
 
-// The steps over a piece are these, after each of which so many bytes are held and stored.
+// The steps over a piece are these, after each of which this many bytes are held and stored.
 fn says_which<A: Allocator>(
     rt: &impl Abort,
     feeder: &mut Feeder<A>,

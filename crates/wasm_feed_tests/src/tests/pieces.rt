@@ -24,7 +24,7 @@ const AMPLE: u64 = 60;
 // An event: what it is, its offsets, and the bytes that it consumed.
 type Wanted<'a> = (EventKind, Range<u64>, &'a [u8]);
 
-// The bytes in pieces of so many, with empty ones between them or without.
+// The bytes in chunks of so many, with empty ones between them or without.
 fn cut(alloc: Global, bytes: &[u8], size: usize, spaced: bool) -> Result<Vec<&[u8]>, AllocError> {
     let mut pieces = Vec::new(alloc);
     let mut rest = bytes;

@@ -33,7 +33,7 @@ fn run_over<R: Source>(
     run(alloc, arguments, input, output, errors)
 }
 
-// A run with these arguments over this source, whose output has room for so many bytes, answers, writes and says this.
+// A run with these arguments over this source, whose output has room for this many bytes, answers, writes and says this.
 fn answers<R: Source>(
     rt: &impl Abort,
     alloc: Global,
@@ -217,7 +217,7 @@ fn says_which_device_failed(rt: HostRuntime) -> Result<(), Fail> {
     output_fails(&rt, rt.alloc(), &["strip"], b"\0asm\x01")
 }
 
-// A run with these arguments reads in pieces of 65,536 bytes.
+// A run with these arguments reads in chunks of 65,536 bytes.
 fn reads_in_pieces(rt: &impl Abort, alloc: Global, arguments: &[&str]) -> Result<(), Fail> {
     let arguments = words(alloc, arguments)?;
     let mut input = Measuring::new(MODULE);

@@ -31,7 +31,7 @@ fn fault_of(alloc: Global, stream: &[u8]) -> Option<Error> {
 
 #[test]
 fn faults_stop_the_text(rt: HostRuntime) {
-    // The section is not all there; the second import of two is missing; the header is bad.
+    // The section is not complete; the second import of two is missing; the header is bad.
     let cut = Error::new(Fault::UnexpectedEof, 16);
     same(&rt, fault_of(rt.alloc(), &IMPORTS[..42]), Some(cut));
     let missing = Error::new(Fault::UnexpectedEof, 18);

@@ -1,4 +1,4 @@
-// Visits of streams that come in pieces.
+// Visits of streams that come in chunks.
 use crate::tests::same;
 use bitflags::Flags;
 use std::alloc::{AllocError, Global};
@@ -29,7 +29,7 @@ impl Compiler for Places {
     }
 }
 
-// The bytes in pieces of so many.
+// The bytes in chunks of so many.
 fn cut<'a>(
     alloc: Global,
     bytes: &'a [u8],

@@ -41,7 +41,7 @@ fn fault_of<T: Drop>(read: Result<T>) -> Option<(Fault, Option<usize>)> {
     }
 }
 
-// Truncated input that lacks so many bytes.
+// Truncated input that lacks this many bytes.
 fn missing(count: usize) -> Option<(Fault, Option<usize>)> {
     Some((Fault::UnexpectedEof, Some(count)))
 }

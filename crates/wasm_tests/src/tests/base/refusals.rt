@@ -68,7 +68,7 @@ fn refusal<'a, T: FromReader<'a> + Drop>(alloc: Global, bytes: &'a [u8]) -> Opti
     read_list::<T, _>(&none, &mut window(bytes, 0)).err()
 }
 
-// A count takes no memory, nor does an item that is a fault, or a count that is one.
+// A count never allocates, nor does an item that is a fault, or a count that is one.
 #[test]
 fn a_count_asks_for_no_memory(rt: HostRuntime) {
     let many = refusal::<u32>(rt.alloc(), b"\xff\xff\xff\xff\x0f");

@@ -128,7 +128,7 @@ fn list_runs_out(rt: &impl Abort, alloc: Global, id: u8, bytes: &[u8; 13], least
     assert!(rt; refused >= least, "{refused}");
 }
 
-// A list of so many items, each of zeros.
+// A list of this many items, each of zeros.
 fn zeros(count: u8) -> [u8; 13] {
     [count, 0, 0, 0, 0, 0, 0, 0, 0, 0, 0, 0, 0]
 }
