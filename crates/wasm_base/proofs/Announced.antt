@@ -136,7 +136,7 @@ module _ {T B : Type 0} (pass : Place → Outcome (Unit {0})) (own : Own pass) (
   announced p q s e given run = unmapped s.count given (inner_read p q s (map item_or_fault given) e
       ((runs_give_items (ReadsAs view reading) (all_items s)).items refl given run))
 
--- What was passed over by its own reading can be read.
+-- What was skipped by its own reading can be read.
 pub after_follows : {A : Type 0} (reading : Place → Outcome A) → Follows (after_reading reading) reading
 after_follows {A} reading = record {
   reads = λ p q e. let s = in_steps (reading p) (λ r. let o : Outcome (Unit {0}) = Ok (tt, r.1) in o)

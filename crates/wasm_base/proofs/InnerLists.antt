@@ -1,4 +1,4 @@
--- Counted items that are passed over, and the section that they are.
+-- Counted items that are skipped, and the section that they form.
 use Rattle.std.proofs.Common.{◌≡◌, ℕ, suc, ◌+◌, ◌-◌, ◌<◌, ◌≤◌, List, take, Result, Ok, Err, IfOk, refl, sym, ap, arith, ◌∙◌}
 use Rattle.wasm_base.proofs.OwnBytes.{cut_number}
 use Rattle.wasm_base.specs.FaultAt.{FaultAt, fault_at}

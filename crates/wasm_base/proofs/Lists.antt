@@ -41,7 +41,7 @@ map_all : {A : Type 0} (xs : List A) → map (λ x. x) xs ≡ xs
 map_all [] = refl
 map_all (x ∷ xs) = ap (λ rest. x ∷ rest) (map_all xs)
 
--- The same where all of an item counts.
+-- Like `gives_list`, where all of an item counts.
 pub gives_whole_list : {A V : Type 0} (reading : Place → Outcome A) (items : V → List A) (result : Result V Error) (p q : Place)
     → MeansAs items (UnlessMemory (ListOf (ReadsAs (λ x. x) reading))) p result q → GivesUnlessMemory items result q (list_at reading p)
 gives_whole_list reading items (Ok list) p q h = list_is (λ x. x) reading p (Ok (items list, q)) h

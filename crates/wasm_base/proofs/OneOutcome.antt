@@ -127,7 +127,7 @@ module _ {T : Type 0} (meaning : Place → Outcome T → Type 0) where
       (run_with_offsets (NextItem (AtItsOffset meaning)) s)
   offsets_give_equal det = offsets_agree (λ xs ys. xs ≡ ys) refl (equal_items det)
 
--- Of items that own lists the same holds, up to a want of memory.
+-- The same laws hold for items that own lists, up to an out-of-memory fault.
 module _ {T : Type 0} (meaning : Place → Outcome T → Type 0) where
   end_again : (b : Bool) (f : FaultAt) → SameUnlessMemory meaning (cond b (Err f ∷ []) []) (cond b (Err f ∷ []) [])
   end_again true f = inl refl

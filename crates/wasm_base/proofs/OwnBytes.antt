@@ -22,14 +22,14 @@ use Rattle.wasm_base.specs.declared.fault.NumberKind.{NumberKind}
 abbrev pub cut : ℕ → Place → Place
 cut n p = record { features = p.features; offset = p.offset; rest = take n p.rest }
 
--- A reading took so many bytes that were there, and would take them of every window that ends after them.
+-- A reading consumed `used` bytes that were there, and would consume them in every window that ends after them.
 pub record OwnAt {A : Type 0} (reading : Place → Outcome A) (p : Place) (x : A) (q : Place) : Type 0 where
   pub used : ℕ
   pub there : used ≤ length p.rest
   pub after : q ≡ advanced used p
   pub alone : (n m : ℕ) → n ≡ used + m → reading (cut n p) ≡ Ok (x, cut m q)
 
--- A reading depends on no byte after those that it takes.
+-- A reading depends on no byte after those that it consumes.
 pub record Own {A : Type 0} (reading : Place → Outcome A) : Type 0 where
   pub at : (p : Place) (x : A) (q : Place) → reading p ≡ Ok (x, q) → OwnAt reading p x q
 

@@ -75,7 +75,7 @@ page_size_positive size h =
     let power = (page_size_says size h).0 in
     omega (arith, power.1, pow_pos power.0)
 
--- a number with one bit is a page's size where it is small enough
+-- a number with one bit is a page size if it is small enough
 pub page_size_of_one_bit : (size : ℕ) → size < 2 ^ 64 → is_power_of_two size ≡ true → nat_le size 65536 ≡ is_page_size size
 page_size_of_one_bit size below one = elim (leb_tells size 65536) [
   | inl small ↦ small.0 ∙ sym (page_size_holds size (power_from_ones 64 size below (eqb-true (count_ones size) 1 one)) small.1)
@@ -83,7 +83,7 @@ page_size_of_one_bit size below one = elim (leb_tells size 65536) [
       large.0 ∙ sym (false_from_ne_true (is_page_size size) (λ h. omega (arith, large.1, (page_size_says size h).1)))
 ]
 
--- a number with more bits, or none, is no page's size
+-- a number with more bits, or none, is not a page size
 pub page_size_of_more_bits : (size : ℕ) → is_power_of_two size ≡ false → is_page_size size ≡ false
 page_size_of_more_bits size more = false_from_ne_true (is_page_size size) (λ h.
     let power = (page_size_says size h).0 in

@@ -1,4 +1,4 @@
--- Numbers that are passed over, many at once.
+-- Numbers that are skipped, many at once.
 use Rattle.std.proofs.Common.{◌≡◌, ℕ, zero, suc, ◌+◌, ◌-◌, ◌<◌, ◌≤◌, List, [], ◌∷◌, length, take, drop, Ok, Err, refl, sym, ap, subst}
 use Rattle.std.proofs.Common.{arith}
 use Rattle.std.specs.Prelude.{All}
@@ -40,7 +40,7 @@ items_after pass (suc n) m (suc k) p q z e =
 small_number : (b : ℕ) (bs : List ℕ) → b < 128 → number VarU32 (b ∷ bs) ≡ read b 1
 small_number b bs l = sym (one_byte VarU32 (b ∷ bs) (omega arith) l)
 
--- so many bytes below 128 are so many numbers
+-- n bytes below 128 are n numbers
 small_numbers : (n f o : ℕ) (bytes : List ℕ) → n ≤ length bytes → All (λ b. b < 128) (take n bytes)
     → numbers_passed_at n (record { features = f; offset = o; rest = bytes })
     ≡ Ok (tt, record { features = f; offset = o + n; rest = drop n bytes })
@@ -56,7 +56,7 @@ small_numbers (suc n) f o (b ∷ bs) l h =
     rw (small_number b bs small) (subst (λ (j : ℕ). numbers_passed_at n (record { features = f; offset = o + 1; rest = bs })
     ≡ Ok (tt, record { features = f; offset = j; rest = drop n bs })) e ih)
 
--- The steps of a loop over so many numbers.
+-- The steps of a loop that skips numbers.
 
 pub pass_small : (left n : ℕ) (rest : List ℕ) (p q : Place) → n ≤ left → rest ≡ p.rest → n ≤ length rest → All (λ b. b < 128) (take n rest)
     → q ≡ advanced n p → numbers_passed_at (left - n) q ≡ numbers_passed_at left p

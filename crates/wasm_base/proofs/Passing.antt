@@ -1,4 +1,4 @@
--- Passing over a name takes the bytes that reading it takes.
+-- Skipping a name consumes the same bytes as reading it.
 use Rattle.std.proofs.Common.{◌≡◌, ℕ, ◌-◌, ◌≤◌, Bool, true, false, cond, List, length, take, Option, Some, None, Ok, Err, nat_lt, refl, sym}
 use Rattle.std.proofs.Common.{ap, ◌∙◌, arith, le-ltb, ltb-false}
 use Rattle.std.proofs.lemmas.List.{length-take-le}
@@ -14,17 +14,17 @@ use Rattle.wasm_base.specs.Window.{Place, advanced}
 use Rattle.wasm_base.specs.declared.fault.Fault.TheVariants.{StringSize, UnexpectedEof, MalformedUtf8}
 use Rattle.wasm_base.specs.declared.fault.NumberKind.TheVariants.{VarU32}
 
--- the value and the place of an outcome, or others where it is a fault
+-- the value and the place of an outcome, or a default if it is a fault
 abbrev pub value_or : {A : Type 0} → A × Place → Outcome A → A × Place
 value_or other (Ok x) = x
 value_or other (Err e) = other
 
--- a size, and then its bytes, which are passed over
+-- a size, and then its bytes, which are skipped
 abbrev after_skip : ℕ × Place → Outcome (Unit {0})
 after_skip size = cond (is_above (Some name_limit) size.0) (Err (at_offset StringSize (size.1.offset - 1))) (passed_at size.0 size.1)
 
 module _ (text : List ℕ) (q : Place) where
-  -- The bytes of a text that was read are there, and are passed.
+  -- The bytes of a text that was read are there, and are skipped.
   bytes_taken : (b c : Bool) (n : ℕ) (p : Place) → nat_lt (length p.rest) n ≡ b → is_utf8 (take n p.rest) ≡ c → text_of n p ≡ Ok (text, q)
       → (take n p.rest ≡ text) × (passed_at n p ≡ Ok (tt, q)) × (nat_lt (length p.rest) n ≡ false)
   unfolding text_of
@@ -69,7 +69,7 @@ short_enough size rest text le t there =
     let m : length text ≡ size = rw t at n in
     le-ltb name_limit size (omega arith)
 
--- a text of at most so many bytes
+-- a text of at most 100,000 bytes
 pub text_passed : (p q : Place) (text : List ℕ) → length text ≤ name_limit → text_at None p ≡ Ok (text, q) → skipped_name_at p ≡ Ok (tt, q)
 unfolding skipped_name_at
 text_passed p q text le h = outcome_step None text q (unsigned_at VarU32 p)

@@ -1,4 +1,4 @@
--- What calls of `next` give, one after the other.
+-- The results of calls of `next`, one after the other.
 use Rattle.std.proofs.Common.{◌≡◌, ℕ, zero, suc, ◌+◌, ◌<◌, ◌≤◌, Bool, true, false, cond, List, [], ◌∷◌, length, Option, Some, None, Result}
 use Rattle.std.proofs.Common.{Ok, Err, refl, sym, subst, arith}
 use Rattle.std.specs.Prelude.{nat_lt, map}
@@ -18,12 +18,12 @@ record Steps {T : Type 0} (meaning : Place → Outcome T → Type 0) (s : Items)
 
 module _ {T : Type 0} (meaning : Place → Outcome T → Type 0) (next : Items → Option (Result T Error) → Items → Type 0)
     (steps : (s t : Items) (given : Option (Result T Error)) → next s given t → Steps meaning s given t) where
-  -- An iterator that is over gives nothing.
+  -- An iterator that is over yields nothing.
   over_gives_nothing : (s t : Items) (given : List (Result T Error)) → s.ended ≡ true → Yields next s given t → given ≡ []
   over_gives_nothing s t [] ended run = refl
   over_gives_nothing s t (x ∷ given) ended run = absurd (let e = ((steps _ _ _ run.1).over ended).0 in cc)
 
-  -- The items, by how many are left.
+  -- The items, by how many remain.
   run_is_items : (left : ℕ) (s t u : Items) (given : List (Result T Error)) → s.ended ≡ false → s.left ≡ left → Yields next s given t
       → next t None u
       → ItemsOf meaning left (place s.reader) (map item_or_fault given)

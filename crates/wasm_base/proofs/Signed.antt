@@ -59,7 +59,7 @@ seven_bits (suc n) =
     ) in
     ap (λ k. 2 ^ k) e ∙ h ∙ ap (λ k. 128 * k) (seven_bits n) ∙ sym (pow-succ' 128 n)
 
--- a sum below a span is a value of so many bits: below the half where its top bit is not set, and above it less the span
+-- a sum below a span has a value within half the span: itself if its top bit is not set, and otherwise itself less the span
 value_fits : (sum span half : ℕ) (t : Bool) → nat_lt (2 * sum) span ≡ t → (2 * sum < span → sum < half)
     → (span ≤ 2 * sum → span ≤ sum + half) → sum < span
     → ((pos 0 -ℤ pos half) ≤ℤ cond t (pos sum) (pos sum -ℤ pos span)) × (cond t (pos sum) (pos sum -ℤ pos span) <ℤ pos half)
@@ -179,7 +179,7 @@ widened VarS33 n f = (omega (arith, ints, f.0), omega (arith, ints, f.1))
 widened VarU64 n f = f
 widened VarI64 n f = f
 
--- what is known of a signed number that is read, from one offset to another: it has at most ten bytes, and the bits of its kind
+-- what holds of a signed number that is read from one offset to another: it has at most ten bytes, and the bits of its kind
 pub record SignedRead (kind : NumberKind) (sum used : ℕ) : Type 0 where
   pub few : used ≤ 10
   pub fits : FitsBits (bits_of kind) (signed_value sum used)

@@ -1,4 +1,4 @@
--- What is passed over lies in the window.
+-- Skipped bytes lie in the window.
 use Rattle.std.proofs.Common.{◌≡◌, ℕ, ◌-◌, ◌≤◌, length, drop, ap, arith, length-drop}
 use Rattle.wasm_base.specs.Window.{Window, KeepsWindow}
 

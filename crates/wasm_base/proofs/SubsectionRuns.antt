@@ -1,4 +1,4 @@
--- What calls of `next` over subsections give, one after the other.
+-- The results of calls of `next` over subsections, one after the other.
 use Rattle.std.proofs.Common.{◌≡◌, ℕ, ◌-◌, ◌<◌, ◌≤◌, Bool, List, [], ◌∷◌, length, drop, Option, Some, None, Result, Ok, Err, refl, sym}
 use Rattle.std.proofs.Common.{subst, arith, length-drop}
 use Rattle.std.specs.Prelude.{map}

@@ -1,4 +1,4 @@
--- What an error says: the fault, where it is in the whole stream, and the number that belongs to it.
+-- What an error says: the fault, its offset in the whole stream, and the number that belongs to it.
 use Rattle.std.specs.Prelude.{ℕ, Option, Some, None, if◌then◌else◌}
 use Rattle.wasm_base.specs.declared.error.Error.{Error}
 use Rattle.wasm_base.specs.declared.fault.Fault.{Fault}
@@ -20,6 +20,6 @@ fault_at e = record { fault = e.fault; offset = e.offset; number = number_of e }
 abbrev pub at_offset : Fault → ℕ → FaultAt
 at_offset fault offset = record { fault = fault; offset = offset; number = None }
 
--- how many more bytes an error says are wanted
+-- how many more bytes are needed, if an error says so
 abbrev pub hint_of : Error → Option ℕ
 hint_of e = if e.has_hint then Some e.hint else None

@@ -18,7 +18,7 @@ number_of Short = short
 abbrev pub IsOfNumber : NumberKind → Fault → Type 0
 IsOfNumber kind fault = (fault ≡ NumberTooLong kind) ⊎ (fault ≡ NumberTooLarge kind)
 
--- It lies within so many bytes; its sum is as large as its kind allows, or its fault is one of numbers.
+-- It lies within the first n bytes; its sum is as large as its kind allows, or its fault is one of numbers.
 abbrev pub IsWithin : NumberKind → Found → ℕ → Type 0
 IsWithin kind (Read sum used) n = (0 < used) × (used ≤ n) × (sum < sum_bound kind)
 IsWithin kind (Bad fault place) n = (place < n) × IsOfNumber kind fault

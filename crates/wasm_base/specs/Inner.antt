@@ -1,4 +1,4 @@
--- Counted items inside an item, which are passed over when it is read. Core specification, Binary format, Conventions,
+-- Counted items inside an item, which are skipped when it is read. Core specification, Binary format, Conventions,
 -- Lists.
 use Rattle.std.specs.Prelude.{◌≡◌, ℕ, zero, suc, ◌-◌, Ok}
 use Rattle.wasm_base.specs.Number.{unsigned_at}
@@ -7,39 +7,39 @@ use Rattle.wasm_base.specs.Section.{Section}
 use Rattle.wasm_base.specs.Window.{Place, window_between}
 use Rattle.wasm_base.specs.declared.fault.NumberKind.TheVariants.{VarU32}
 
--- the place after what a reading takes, whatever its value is
+-- the place after the bytes that a reading consumes, whatever its value is
 abbrev pub after_reading : {A : Type 0} → (Place → Outcome A) → Place → Outcome (Unit {0})
 after_reading reading p = do
   item ← reading p
   Ok (tt, item.1)
 
--- the place after so many, one after the other
+-- the place after this many items, one after the other
 abbrev pub all_passed_at : (Place → Outcome (Unit {0})) → (count : ℕ) → Place → Outcome (Unit {0})
 all_passed_at pass zero p = Ok (tt, p)
 all_passed_at pass (suc count) p = do
   one ← pass p
   all_passed_at pass count one.1
 
--- The section of a count and so many items, which are passed over: its window begins at the count, where p is, and its
--- reader is after the count.
+-- The section of a count and that many skipped items: its window begins at the count, at p, and its reader is after the
+-- count.
 abbrev pub section_between : (p : Place) → ℕ × Place → Place → Section
 section_between p count q = record {
   reader = record (window_between p q) { position = count.1.offset - p.offset };
   count = count.0;
 }
 
--- a count and so many items that are passed over
+-- a count and that many items, which are skipped
 unfoldable pub inner_section_at : (Place → Outcome (Unit {0})) → Place → Outcome Section
 inner_section_at pass p = do
   count ← unsigned_at VarU32 p
   end ← all_passed_at pass count.0 count.1
   Ok (section_between p count end.1, end.1)
 
--- Wherever an item is read that is such a one, passing over it takes the bytes that reading it takes.
+-- Wherever such an item is read, skipping it consumes the same bytes as reading it.
 abbrev pub PassesIfSuch : {T : Type 0} → (T → Type 0) → (Place → Outcome T → Type 0) → (Place → Outcome (Unit {0}))
     → Type 0
 PassesIfSuch {T} Such meaning pass = (p q : Place) (x : T) → Such x → meaning p (Ok (x, q)) → pass p ≡ Ok (tt, q)
 
--- Wherever an item is read, passing over it takes the bytes that reading it takes.
+-- Wherever an item is read, skipping it consumes the same bytes as reading it.
 abbrev pub PassesAsRead : {T : Type 0} → (Place → Outcome T → Type 0) → (Place → Outcome (Unit {0})) → Type 0
 PassesAsRead meaning pass = PassesIfSuch (λ x. Unit {0}) meaning pass

@@ -17,7 +17,7 @@ abbrev pub outcome_map : {X Y : Type 0} → (X → Y) → Outcome X → Outcome 
 outcome_map view (Ok x) = Ok (view x.0, x.1)
 outcome_map view (Err e) = Err e
 
--- the one outcome that a reading gives, where view is what counts of a value
+-- the one outcome of a reading, where view is what counts of a value
 abbrev pub ReadsAs : {X Y : Type 0} → (X → Y) → (Place → Outcome Y) → Place → Outcome X → Type 0
 ReadsAs view reading before outcome = reading before ≡ outcome_map view outcome
 

@@ -17,7 +17,7 @@ abbrev pub lookup : {A : Type 0} → List (ℕ × A) → ℕ → Option A
 lookup [] byte = None
 lookup (row ∷ rows) byte = if byte == row.0 then Some row.1 else lookup rows byte
 
--- the same, or what stands for each other byte
+-- like `lookup`, with a default for every other byte
 abbrev pub lookup_or : {A : Type 0} → A → List (ℕ × A) → ℕ → A
 lookup_or other [] byte = other
 lookup_or other (row ∷ rows) byte = if byte == row.0 then row.1 else lookup_or other rows byte

@@ -10,7 +10,7 @@ use Rattle.wasm_base.specs.declared.fault.Fault.{Fault}
 use Rattle.wasm_base.specs.declared.fault.Fault.TheVariants.{UnexpectedEof, StringSize, MalformedUtf8, InvalidU7}
 use Rattle.wasm_base.specs.declared.fault.NumberKind.TheVariants.{VarU32}
 
--- so many raw bytes; where they aren't all there, they are missed where they begin
+-- n raw bytes; if some are missing, the fault is at their start
 abbrev pub bytes_at : ℕ → Place → Outcome (List ℕ)
 bytes_at n p = if nat_lt (length p.rest) n then Err (at_offset UnexpectedEof p.offset) else
     Ok (take n p.rest, advanced n p)
@@ -29,7 +29,7 @@ u7_at p = do
   byte ← byte_at p
   if nat_lt byte.0 128 then Ok byte else Err (at_offset InvalidU7 (byte.1.offset - 1))
 
--- so many bytes, that are looked at and not passed
+-- the next n bytes, which are not consumed
 abbrev pub peeked_at : ℕ → Place → Outcome (List ℕ)
 peeked_at n p = if nat_lt (length p.rest) n then Err (at_offset UnexpectedEof p.offset) else Ok (take n p.rest, p)
 
@@ -37,7 +37,7 @@ abbrev pub first_peeked : Place → List ℕ → Outcome ℕ
 first_peeked p [] = Err (at_offset UnexpectedEof p.offset)
 first_peeked p (b ∷ bs) = Ok (b, p)
 
--- a byte that is looked at and not passed
+-- the next byte, which is not consumed
 abbrev pub peeked_byte_at : Place → Outcome ℕ
 peeked_byte_at p = first_peeked p p.rest
 
@@ -58,7 +58,7 @@ name_limit = 100000
 
 -- what bytes say of the name or text that begins with them
 pub data Name : Type 0 where
-  -- it is this text, and takes this many bytes with its size
+  -- it is this text, and consumes this many bytes with its size
   named : (text : List ℕ) (used : ℕ) → Name
   -- this is wrong, at the byte of this place
   refused : (fault : Fault) (place : ℕ) → Name
@@ -68,7 +68,7 @@ abbrev pub is_above : Option ℕ → ℕ → Bool
 is_above None size = false
 is_above (Some limit) size = nat_lt limit size
 
--- so many bytes of text, after a size field of so many bytes
+-- `size` bytes of text, after a size field of `used` bytes
 abbrev pub text_after : (bytes : List ℕ) (size used : ℕ) → Name
 text_after bytes size used =
     if nat_lt (length (drop used bytes)) size then refused UnexpectedEof used else
@@ -82,8 +82,8 @@ after_size limit bytes (read size used) =
     if is_above limit size then refused StringSize (used - 1) else
     text_after bytes size used
 
--- what bytes say of the name that begins with them, where no bytes follow: a size of at most the limit, and so
--- many bytes of UTF-8
+-- what bytes say of the name that begins with them, where no bytes follow: a size of at most the limit, and that many
+-- bytes of UTF-8
 unfoldable pub name : Option ℕ → List ℕ → Name
 name limit bytes = after_size limit bytes (number VarU32 bytes)
 
@@ -91,11 +91,11 @@ abbrev pub name_in_window : Place → Name → Outcome (List ℕ)
 name_in_window p (named text used) = Ok (text, advanced used p)
 name_in_window p (refused fault i) = Err (at_offset fault (p.offset + i))
 
--- reading a name of at most so many bytes, or a text
+-- reading a name of at most `limit` bytes, or a text
 unfoldable pub text_at : Option ℕ → Place → Outcome (List ℕ)
 text_at limit p = name_in_window p (name limit p.rest)
 
--- reading a size and a window of so many bytes
+-- reading a size and a window of that many bytes
 unfoldable pub window_at : Place → Outcome Window
 window_at p = do
   size ← unsigned_at VarU32 p

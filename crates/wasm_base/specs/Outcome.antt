@@ -19,8 +19,8 @@ abbrev pub Gives : {X Y : Type 0} → (X → Y) → Result X Error → Place →
 Gives view (Ok x) after outcome = outcome ≡ Ok (view x, after)
 Gives view (Err e) after outcome = outcome ≡ Err (fault_at e)
 
--- What a call of a reader returned, from one window to another, is what this reading gives; view is what counts of the
--- value.
+-- What a call of a reader returned, from one window to another, is the outcome of this reading; view is what counts of
+-- the value.
 abbrev pub GivesBy : {X Y : Type 0} → (X → Y) → Result X Error → (old new : Window) → (Place → Outcome Y) → Type 0
 GivesBy view result old new reading = Gives view result (place new) (reading (place old))
 

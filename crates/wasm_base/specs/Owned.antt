@@ -8,11 +8,11 @@ use Rattle.wasm_base.specs.declared.error.Error.{Error}
 use Rattle.wasm_base.specs.declared.fault.Fault.TheVariants.{OutOfMemory}
 use Rattle.wasm_base.specs.declared.fault.NumberKind.TheVariants.{VarU32}
 
--- what an error says where memory was refused
+-- what an error says when an allocation fails
 abbrev pub out_of_memory : FaultAt
 out_of_memory = at_offset OutOfMemory 0
 
--- what a meaning allows, or in place of any outcome a want of memory
+-- what a meaning allows, or out of memory in place of any outcome
 abbrev pub UnlessMemory : {A : Type 0} → (Place → Outcome A → Type 0) → Place → Outcome A → Type 0
 UnlessMemory meaning before (Ok x) = meaning before (Ok x)
 UnlessMemory meaning before (Err e) = (e ≡ out_of_memory) ⊎ meaning before (Err e)
@@ -23,18 +23,18 @@ abbrev pub MeansAs : {X Y : Type 0} → (X → Y) → (Place → Outcome Y → T
 MeansAs view meaning before (Ok x) after = meaning before (Ok (view x, after))
 MeansAs view meaning before (Err e) after = meaning before (Err (fault_at e))
 
--- What a call returned, and the place that it left, is this outcome, or memory was refused; view is what counts of the
--- value.
+-- What a call returned, and the place that it left, is this outcome, or an allocation failed; view is what counts of
+-- the value.
 abbrev pub GivesUnlessMemory : {X Y : Type 0} → (X → Y) → Result X Error → Place → Outcome Y → Type 0
 GivesUnlessMemory view (Ok x) after outcome = outcome ≡ Ok (view x, after)
 GivesUnlessMemory view (Err e) after outcome = (fault_at e ≡ out_of_memory) ⊎ (outcome ≡ Err (fault_at e))
 
--- What a call returned is this value or fault, or memory was refused; view is what counts of the value.
+-- What a call returned is this value or fault, or an allocation failed; view is what counts of the value.
 abbrev pub GivesResultUnlessMemory : {X Y : Type 0} → (X → Y) → Result X Error → Result Y FaultAt → Type 0
 GivesResultUnlessMemory view (Ok x) outcome = outcome ≡ Ok (view x)
 GivesResultUnlessMemory view (Err e) outcome = (fault_at e ≡ out_of_memory) ⊎ (outcome ≡ Err (fault_at e))
 
--- so many items, one after the other, up to the first fault
+-- this many items, one after the other, up to the first fault
 abbrev pub InTurn : {A : Type 0} → (Place → Outcome A → Type 0) → ℕ → Place → Outcome (List A) → Type 0
 InTurn meaning zero p (Ok (items, q)) = (items ≡ []) × (q ≡ p)
 InTurn meaning zero p (Err e) = ⊥
@@ -44,16 +44,16 @@ InTurn {A} meaning (suc count) p (Ok (x ∷ items, q)) = (between : Place) × me
 InTurn {A} meaning (suc count) p (Err e) = meaning p (Err e)
     ⊎ ((x : A) × (between : Place) × meaning p (Ok (x, between)) × InTurn meaning count between (Err e))
 
--- after a count, so many items; or the count's fault
+-- after a count, that many items; or the count's fault
 abbrev pub AfterCount : {A : Type 0} → (Place → Outcome A → Type 0) → Outcome ℕ → Outcome (List A) → Type 0
 AfterCount meaning (Ok count) outcome = InTurn meaning count.0 count.1 outcome
 AfterCount meaning (Err e) outcome = outcome ≡ Err e
 
--- a list: a count, a u32, and so many items
+-- a list: a count, a u32, and that many items
 abbrev pub ListOf : {A : Type 0} → (Place → Outcome A → Type 0) → Place → Outcome (List A) → Type 0
 ListOf meaning p outcome = AfterCount meaning (unsigned_at VarU32 p) outcome
 
--- so many items, each read by a function of its place
+-- this many items, each read by a function of its place
 abbrev pub in_turn : {A : Type 0} → (Place → Outcome A) → ℕ → Place → Outcome (List A)
 in_turn reading zero p = Ok ([], p)
 in_turn reading (suc count) p = do
@@ -61,7 +61,7 @@ in_turn reading (suc count) p = do
   others ← in_turn reading count first.1
   Ok (first.0 ∷ others.0, others.1)
 
--- a list: a count, a u32, and so many items, each read by a function of its place
+-- a list: a count, a u32, and that many items, each read by a function of its place
 abbrev pub list_at : {A : Type 0} → (Place → Outcome A) → Place → Outcome (List A)
 list_at reading p = do
   count ← unsigned_at VarU32 p

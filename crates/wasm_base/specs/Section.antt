@@ -13,7 +13,7 @@ use Rattle.wasm_base.specs.declared.error.Error.{Error}
 use Rattle.wasm_base.specs.declared.fault.Fault.TheVariants.{SizeMismatch}
 use Rattle.wasm_base.specs.declared.fault.NumberKind.TheVariants.{VarU32}
 
--- a window after whose count so many items are announced
+-- a window whose reader is after its count, and the number of items that this count announces
 pub record Section : Type 0 where
   pub reader : Window
   pub count : ℕ
@@ -29,7 +29,7 @@ section_in w = do
   count ← unsigned_at VarU32 (place w)
   Ok (record { reader = record w { position = w.position + (count.1.offset - (place w).offset) }; count = count.0 })
 
--- where an iterator over items is: so many were announced, so many are left of these, and whether it is over
+-- the state of an iterator over items: how many were announced, how many of these remain, and whether it is over
 pub record Items : Type 0 where
   pub reader : Window
   pub count : ℕ
@@ -40,7 +40,7 @@ pub record Items : Type 0 where
 abbrev pub all_items : Section → Items
 all_items s = record { reader = s.reader; count = s.count; left = s.count; ended = false }
 
--- An item is left, and is read by its meaning: the iterator goes on, or ends at its fault.
+-- An item remains, and is read by its meaning: the iterator goes on, or ends at its fault.
 abbrev pub ReadsItem : {T : Type 0} → (Place → Outcome T → Type 0) → Items → Option (Result T Error) → Items → Type 0
 ReadsItem meaning s None t = ⊥
 ReadsItem meaning s (Some (Ok x)) t = meaning (place s.reader) (Ok (x, place t.reader)) × (t.left + 1 ≡ s.left)
@@ -48,7 +48,7 @@ ReadsItem meaning s (Some (Ok x)) t = meaning (place s.reader) (Ok (x, place t.r
 ReadsItem meaning s (Some (Err e)) t = meaning (place s.reader) (Err (fault_at e)) × (t.left + 1 ≡ s.left)
     × (t.ended ≡ true)
 
--- No item is left: nothing comes, or one fault where the window has bytes left. Either way it is over.
+-- No item remains: the result is nothing, or one fault if the window has bytes left. Either way the iterator is over.
 abbrev pub ReadsEnd : {T : Type 0} → Items → Option (Result T Error) → Items → Type 0
 ReadsEnd s None t = (length (place s.reader).rest ≡ 0) × (t ≡ record s { ended = true })
 ReadsEnd s (Some (Ok x)) t = ⊥
@@ -71,7 +71,7 @@ abbrev pub EndsAtFault : {T : Type 0} → Result T Error → Items → Type 0
 EndsAtFault (Ok x) t = t.ended ≡ false
 EndsAtFault (Err e) t = t.ended ≡ true
 
--- one call of `next` over items that own lists, for which memory may be refused
+-- one call of `next` over items that own lists, for which an allocation may fail
 pub record NextItemIn {T : Type 0} (meaning : Place → Outcome T → Type 0) (s : Items) (given : Option (Result T Error))
     (t : Items) : Type 0 where
   pub over : s.ended ≡ true → (given ≡ None) × (t ≡ s)
@@ -82,7 +82,7 @@ pub record NextItemIn {T : Type 0} (meaning : Place → Outcome T → Type 0) (s
   pub memory : s.left ≡ 0 → IfSome given TakesNoMemory
   pub no_hint : s.left ≡ 0 → IfSome given HintsNothing
 
--- how many items may still come: one more than are left, for a fault at the end
+-- the most results that may still come: one more than the remaining items, for a fault at the end
 abbrev pub most_items : Items → ℕ
 most_items s = if s.ended then 0 else s.left + 1
 
@@ -91,7 +91,7 @@ abbrev pub AtItsOffset : {T : Type 0} → (Place → Outcome T → Type 0) → P
 AtItsOffset meaning before (Ok x) = (x.0.0 ≡ before.offset) × meaning before (Ok (x.0.1, x.1))
 AtItsOffset meaning before (Err e) = meaning before (Err e)
 
--- after the last item: nothing, or one fault where the window has bytes left
+-- after the last item: nothing, or one fault if the window has bytes left
 abbrev pub at_the_end : {T : Type 0} → Place → List (Result T FaultAt)
 at_the_end p = if nat_lt 0 (length p.rest) then Err (at_offset SizeMismatch p.offset) ∷ [] else []
 
@@ -113,8 +113,8 @@ abbrev pub item_alone : {T : Type 0} → Result (ℕ × T) Error → Result T Fa
 item_alone (Ok x) = Ok x.1
 item_alone (Err e) = Err (fault_at e)
 
--- What calls of `next` give from here up to the first `None`, by a relation that each call meets: the items of the
--- window where the iterator is not over, and nothing where it is. After that `None` nothing comes any more.
+-- What calls of `next` return from here up to the first `None`, by a relation that each call meets: the items of the
+-- window if the iterator is not over, and nothing if it is. After that `None`, every call returns `None`.
 pub record GivesItems {T : Type 0} (next : Items → Option (Result T Error) → Items → Type 0)
     (meaning : Place → Outcome T → Type 0) (s : Items) : Type 0 where
   pub items : s.ended ≡ false → (given : List (Result T Error)) → Drains next s given
@@ -138,7 +138,7 @@ SameItems meaning (Ok x ∷ xs) (Err f ∷ ys) = ⊥
 SameItems meaning (Err e ∷ xs) (Ok y ∷ ys) = ⊥
 SameItems meaning (Err e ∷ xs) (Err f ∷ ys) = (e ≡ f) × SameItems meaning xs ys
 
--- a run over items: what each call of `next` meets, what counts of what it gives, and where it begins
+-- a run over items: what each call of `next` meets, what counts of its result, and where the run begins
 pub record Run (T A : Type 0) : Type 1 where
   pub next : Items → Option A → Items → Type 0
   pub view : A → Result T FaultAt
@@ -151,21 +151,21 @@ abbrev pub run_with_offsets : {T : Type 0} → (Items → Option (Result (ℕ ×
     → Run T (Result (ℕ × T) Error)
 run_with_offsets next s = record { next = next; view = item_alone; from = s }
 
--- What two runs give, each up to the first `None`, agrees in this way.
+-- The results of two runs, each up to the first `None`, agree in this way.
 abbrev pub RunsAgree : {T A B : Type 0} → (List (Result T FaultAt) → List (Result T FaultAt) → Type 0) → Run T A
     → Run T B → Type 0
 RunsAgree {T} {A} {B} agree one other = (given : List A) (others : List B) → Drains one.next one.from given
     → Drains other.next other.from others → agree (map one.view given) (map other.view others)
 
--- They give the same items and the same fault.
+-- Two runs return the same items and the same fault.
 abbrev pub GivesTheSame : {T A B : Type 0} → (Place → Outcome T → Type 0) → Run T A → Run T B → Type 0
 GivesTheSame meaning one other = RunsAgree (SameItems meaning) one other
 
--- They give lists that are equal.
+-- Two runs return equal lists.
 abbrev pub GivesEqual : {T A B : Type 0} → Run T A → Run T B → Type 0
 GivesEqual one other = RunsAgree (λ xs ys. xs ≡ ys) one other
 
--- the same of runs by the same relation, from two places
+-- like `GivesTheSame`, for runs by one relation, from two states of an iterator
 abbrev pub SameRuns : {T : Type 0} → (Place → Outcome T → Type 0) → (Items → Option (Result T Error) → Items → Type 0)
     → (s t : Items) → Type 0
 SameRuns meaning next s t = GivesTheSame meaning (run_over next s) (run_over next t)
@@ -179,7 +179,7 @@ abbrev pub OfCopies : (is_copy : Section → Section → Type 0) (begins : Secti
 OfCopies is_copy begins agree = (section copy : Section) → is_copy section copy → (s t : Items) → begins section s
     → begins copy t → agree s t
 
--- item by item the same, and the same faults, up to a want of memory in either of them
+-- item by item the same, and the same faults, up to an out-of-memory fault in either of them
 abbrev pub SameUnlessMemory : {T : Type 0} → (Place → Outcome T → Type 0) → List (Result T FaultAt)
     → List (Result T FaultAt) → Type 0
 SameUnlessMemory meaning [] [] = Unit {0}
@@ -190,7 +190,7 @@ SameUnlessMemory meaning (Ok x ∷ xs) (Err f ∷ ys) = f ≡ out_of_memory
 SameUnlessMemory meaning (Err e ∷ xs) (Ok y ∷ ys) = e ≡ out_of_memory
 SameUnlessMemory meaning (Err e ∷ xs) (Err f ∷ ys) = (e ≡ f) ⊎ (e ≡ out_of_memory) ⊎ (f ≡ out_of_memory)
 
--- Two runs over items that own lists give the same items and the same fault, up to a want of memory.
+-- Two runs over items that own lists return the same items and the same fault, up to an out-of-memory fault.
 abbrev pub GivesTheSameUnlessMemory : {T : Type 0} → (Place → Outcome T → Type 0)
     → (Items → Option (Result T Error) → Items → Type 0) → (s t : Items) → Type 0
 GivesTheSameUnlessMemory meaning next s t = RunsAgree (SameUnlessMemory meaning) (run_over next s) (run_over next t)
@@ -208,6 +208,6 @@ fault_of (Err e) = Err (fault_at e) ∷ []
 abbrev pub WalksTo : {T : Type 0} → (Place → Outcome T → Type 0) → ℕ → Place → List (Result T FaultAt) → Type 0
 WalksTo {T} meaning count p end = (items : List T) × ItemsOf meaning count p (map as_read items ++ end)
 
--- The announced items can all be read, and nothing is left after them; or this is the first fault.
+-- The announced items can all be read, and nothing remains after them; or this is the first fault.
 abbrev pub Walks : {T X : Type 0} → (Place → Outcome T → Type 0) → ℕ → Place → Result X Error → Type 0
 Walks meaning count p result = WalksTo meaning count p (fault_of result)

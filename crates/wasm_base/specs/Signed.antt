@@ -5,7 +5,7 @@ use Rattle.wasm_base.specs.Outcome.{Outcome, ◌>>=◌}
 use Rattle.wasm_base.specs.Window.{Place}
 use Rattle.wasm_base.specs.declared.fault.NumberKind.{NumberKind}
 
--- the signed number whose septets, in so many bytes, have this sum: the highest bit of its last septet is its sign
+-- the signed number whose `used` septets have this sum: the highest bit of its last septet is its sign
 abbrev pub signed_value : (sum used : ℕ) → ℤ
 signed_value sum used = if nat_lt (2 * sum) (2 ^ (7 * used)) then pos sum else pos sum -ℤ pos (2 ^ (7 * used))
 
@@ -15,6 +15,6 @@ signed_at kind p = do
   sum ← unsigned_at kind p
   Ok (signed_value sum.0 (sum.1.offset - p.offset), sum.1)
 
--- A signed number has a value of so many bits.
+-- A signed number fits in this many bits.
 abbrev pub FitsBits : ℕ → ℤ → Type 0
 FitsBits bits n = ((pos 0 -ℤ pos (2 ^ (bits - 1))) ≤ℤ n) × (n <ℤ pos (2 ^ (bits - 1)))

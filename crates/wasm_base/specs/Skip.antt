@@ -1,4 +1,4 @@
--- Bytes that are passed over.
+-- Bytes that are skipped.
 use Rattle.std.specs.Prelude.{◌≡◌, ℕ, ◌-◌, take, Some, Result, Ok, Err, if◌then◌else◌}
 use Rattle.wasm_base.specs.FaultAt.{at_offset}
 use Rattle.wasm_base.specs.Inner.{after_reading, all_passed_at}
@@ -10,19 +10,19 @@ use Rattle.wasm_base.specs.declared.error.Error.{Error}
 use Rattle.wasm_base.specs.declared.fault.Fault.TheVariants.{StringSize}
 use Rattle.wasm_base.specs.declared.fault.NumberKind.TheVariants.{VarU32}
 
--- so many bytes, whatever they are
+-- n bytes, whatever they are
 abbrev pub passed_at : ℕ → Place → Outcome (Unit {0})
 passed_at n p = do
   bytes ← bytes_at n p
   Ok (tt, bytes.1)
 
--- a size of at most a name's limit, and so many bytes, which may be no UTF-8
+-- a size of at most a name's limit, and that many bytes, which need not be UTF-8
 unfoldable pub skipped_name_at : Place → Outcome (Unit {0})
 skipped_name_at p = do
   size ← unsigned_at VarU32 p
   if is_above (Some name_limit) size.0 then Err (at_offset StringSize (size.1.offset - 1)) else passed_at size.0 size.1
 
--- so many u32 numbers, one after the other, whatever their values are
+-- `count` u32 numbers, one after the other, whatever their values are
 abbrev pub numbers_passed_at : (count : ℕ) → Place → Outcome (Unit {0})
 numbers_passed_at count = all_passed_at (after_reading (unsigned_at VarU32)) count
 
@@ -34,7 +34,7 @@ window_of n p = record { features = p.features; start = p.offset; bytes = take n
 abbrev pub NeverGoesBack : (Window → Result (Unit {0}) Error → Window → Type 0) → Type 0
 NeverGoesBack calls = (old new : Window) (given : Result (Unit {0}) Error) → calls old given new → KeepsWindow old new
 
--- The call passed over these bytes of the window, and they are the window that is returned; or it answered this error.
+-- The call skipped these bytes of the window, which are the window that is returned; or it returned this error.
 abbrev pub PassesOver : (Window → Result (Unit {0}) Error → Window → Type 0) → Window → Result Window Error → Window
     → Type 0
 PassesOver calls old (Ok window) new = calls old (Ok tt) new

@@ -14,7 +14,7 @@ use Rattle.wasm_base.specs.Window.{Window, Place, place, advanced, KeepsWindow}
 use Rattle.wasm_base.specs.declared.error.Error.{Error}
 use Rattle.wasm_base.specs.declared.fault.NumberKind.TheVariants.{VarU32}
 
--- the id of a subsection and its window: a byte below 128, a size, and so many bytes
+-- the id of a subsection and its window: a byte below 128, a size, and that many bytes
 unfoldable pub subsection_at : Place → Outcome (ℕ × Window)
 subsection_at p = do
   id ← u7_at p
@@ -30,7 +30,7 @@ after_id p (Err fault) = advanced 1 p
 unfoldable pub after_refused : Place → Place
 after_refused p = after_id p (u7_at p)
 
--- What is said of a subsection is what its id and its window mean, or a want of memory where it takes memory.
+-- The result of a subsection is what its id and its window mean, or out of memory if it may allocate.
 abbrev pub UnlessTaken : {T : Type 0} → (ℕ → Window → Result T FaultAt → Type 0) → Bool → ℕ → Window → Result T FaultAt
     → Type 0
 UnlessTaken meaning takes id window (Ok x) = meaning id window (Ok x)
@@ -49,8 +49,8 @@ ReadsSubsection meaning takes p (Ok head) given after = MeansSubsection meaning 
     × (after ≡ head.1)
 ReadsSubsection meaning takes p (Err fault) given after = (item_or_fault given ≡ Err fault) × (after ≡ after_refused p)
 
--- one call of `next`: a subsection for as long as bytes are left, and each takes one of them at least; no want of
--- memory where no subsection takes any
+-- one call of `next`: a subsection as long as bytes remain, and each consumes at least one of them; never out of memory
+-- if no subsection allocates
 abbrev pub NextSubsection : {T : Type 0} → (ℕ → Window → Result T FaultAt → Type 0) → Bool → Window
     → Option (Result T Error) → Window → Type 0
 NextSubsection meaning takes s None t = (length (place s).rest ≡ 0) × (t ≡ s)
@@ -72,8 +72,8 @@ SubsectionsOf meaning p [] = length p.rest ≡ 0
 SubsectionsOf meaning p (x ∷ given) = (0 < length p.rest)
     × FirstSubsection meaning p (subsection_at p) x (λ q. SubsectionsOf meaning q given)
 
--- What calls of `next` give from here up to the first `None`, by a relation that each call meets: the subsections of
--- the window, at most as many as bytes are left. After that `None` nothing comes any more.
+-- What calls of `next` return from here up to the first `None`, by a relation that each call meets: the subsections of
+-- the window, at most as many as bytes remain. After that `None`, every call returns `None`.
 pub record GivesSubsections {T : Type 0} (next : Window → Option (Result T Error) → Window → Type 0)
     (meaning : ℕ → Window → Result T FaultAt → Type 0) (s : Window) : Type 0 where
   pub subsections : (given : List (Result T Error)) → Drains next s given

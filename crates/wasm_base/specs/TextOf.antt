@@ -7,7 +7,7 @@ use Rattle.wasm_base.specs.Outcome.{Outcome, ◌>>=◌}
 use Rattle.wasm_base.specs.Window.{Place}
 use Rattle.wasm_base.specs.declared.fault.Fault.TheVariants.{MalformedUtf8}
 
--- so many bytes, which are UTF-8
+-- n bytes, which are UTF-8
 unfoldable pub text_of : ℕ → Place → Outcome (List ℕ)
 text_of n p = do
   bytes ← bytes_at n p

@@ -10,7 +10,7 @@ pub record Window : Type 0 where
   pub bytes : List ℕ
   pub position : ℕ
 
--- what a reader has before it: the offset where it is, and the bytes from there to the end of its window
+-- what a reader has before it: its offset, and the bytes from there to the end of its window
 pub record Place : Type 0 where
   pub features : ℕ
   pub offset : ℕ

@@ -7,10 +7,10 @@ use crate::fault::{Fault, Lead};
 use std::alloc::AllocFailed;
 use std::fmt;
 
-/// What a read answers: a value, or the error at which it ended.
+/// The result of a read: a value, or the error at which it ended.
 pub type Result<T, E = Error> = std::result::Result<T, E>;
 
-/// A fault, the offset in the whole stream at which it is, and the number that belongs to it.
+/// An error: a fault, its offset in the whole stream, and the number that belongs to it.
 ///
 /// Two errors are equal if these are: the hint is not compared.
 // Its small fields lie together, where an `Ok` beside it has a tag: so an error takes no word of a payload apart.
@@ -45,7 +45,7 @@ impl Error {
         }
     }
 
-    /// The same with a number.
+    /// Returns the error with this number.
     pub fn with_number(self, number: u64) -> Self
         ensures report { fault_at result ≡ record (fault_at self) { number = Some number } }
         ensures hint { hint_of result ≡ hint_of self }
@@ -57,7 +57,7 @@ impl Error {
         }
     }
 
-    /// The same with a hint.
+    /// Returns the error with this hint.
     pub(crate) fn with_hint(self, hint: usize) -> Self
         ensures report { fault_at result ≡ fault_at self }
         ensures hint { hint_of result ≡ Some hint }
@@ -69,7 +69,7 @@ impl Error {
         }
     }
 
-    /// The same with no hint.
+    /// Returns the error without its hint.
     pub fn without_needed_hint(self) -> Self
         ensures report { fault_at result ≡ fault_at self }
         ensures hint { hint_of result ≡ None }
@@ -113,7 +113,7 @@ impl Error {
         }
     }
 
-    /// How many more bytes a read wanted, where it says so.
+    /// How many more bytes the read needed, if the error says so.
     pub fn needed_hint(&self) -> Option<usize>
         ensures { result ≡ hint_of self.now }
     {
@@ -151,7 +151,7 @@ impl fmt::Debug for Error {
     }
 }
 
-/// The error that nothing of this kind begins with this byte, which is at this offset.
+/// Returns the error that nothing of this kind begins with this byte, which is at this offset.
 pub fn leading_byte_error(lead: Lead, byte: u8, offset: u64) -> Error
     ensures report { fault_at result ≡ leading_byte lead byte offset }
     ensures hint { hint_of result ≡ None }

@@ -1,4 +1,4 @@
-// Lists inside an item, which are not owned: they are passed over, and are then sections of their own.
+// Lists inside an item that are not owned: they are skipped, and become sections of their own.
 ghost use Rattle.std.specs.Prelude.{◌≡◌};
 ghost use Rattle.wasm_base.specs.Hints.{TakesNoMemory};
 ghost use Rattle.wasm_base.specs.Inner.{all_passed_at, inner_section_at, after_reading};
@@ -13,14 +13,14 @@ use crate::item::FromReader;
 use crate::reader::BinaryReader;
 use crate::section::SectionLimited;
 
-/// What a list inside an item can hold: it can be passed over, and read later.
+/// An element of a list inside an item: it can be skipped, and read later.
 pub trait SkipItem<'a>: FromReader<'a> {
-    /// The place after what is passed over, or its fault.
+    /// The place after the skipped bytes, or the fault.
     ghost passed_at: { Place → Outcome (Unit {0}) };
 
-    /// Passes over an item.
+    /// Skips an item.
     ///
-    /// After a fault the reader is in its window, and not before where it was. A fault is never `OutOfMemory`.
+    /// After an error the reader is in its window, at or after its previous position. The error is never `OutOfMemory`.
     fn skip_item(reader: &mut BinaryReader<'a>) -> Result<()>
         ensures gives { GivesBy (λ nothing. nothing) result reader.old reader.new passed_at }
         ensures keeps { KeepsWindow reader.old reader.new }
@@ -36,7 +36,7 @@ impl<'a> SkipItem<'a> for &'a str {
     }
 }
 
-/// The bytes that a reader has passed over since it was another one, as a window with its features.
+/// Returns the bytes consumed between two states of a reader, as a window with its features.
 pub fn passed_since<'a>(before: &BinaryReader<'a>, after: &BinaryReader<'a>) -> BinaryReader<'a>
     requires { KeepsWindow before.now after.now }
     ensures { result ≡ window_between (place before.now) (place after.now) }
@@ -46,7 +46,7 @@ pub fn passed_since<'a>(before: &BinaryReader<'a>, after: &BinaryReader<'a>) -> 
     BinaryReader::new_features(bytes, before.original_position(), before.features())
 }
 
-// Passes over so many items, one after the other.
+// Skips `count` items, one after the other.
 fn pass_items<'a, T: SkipItem<'a>>(count: u32, reader: &mut BinaryReader<'a>) -> Result<()>
     ensures gives { GivesBy (λ nothing. nothing) result reader.old reader.new
         (all_passed_at T.passed_at count) }
@@ -59,9 +59,9 @@ fn pass_items<'a, T: SkipItem<'a>>(count: u32, reader: &mut BinaryReader<'a>) ->
     Ok(())
 }
 
-/// Passes over a list, a count and so many items, and makes a section of it, whose window begins at the count.
+/// Skips a list, a count and that many items, and returns it as a section whose window begins at the count.
 ///
-/// The faults are those of the count, a u32, and of passing over the items.
+/// The errors are those of the count, a u32, and of skipping the items.
 #[tactic(auto, unfolding(crate::specs::Inner::inner_section_at))]
 pub fn read_inner<'a, T: SkipItem<'a>>(
     reader: &mut BinaryReader<'a>,
@@ -77,7 +77,7 @@ pub fn read_inner<'a, T: SkipItem<'a>>(
     SectionLimited::new(passed_since(&before, reader))
 }
 
-/// The same for a list of u32 numbers in LEB128, which are passed over many at once (`skip_var_u32s`).
+/// Like `read_inner`, for a list of LEB128 `u32`s, which `skip_var_u32s` skips 32 bytes at a time.
 #[tactic(auto, unfolding(crate::specs::Inner::inner_section_at))]
 pub fn read_inner_u32s<'a>(reader: &mut BinaryReader<'a>) -> Result<SectionLimited<'a, u32>>
     ensures gives { GivesBy (λ section. section) result reader.old reader.new

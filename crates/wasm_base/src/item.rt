@@ -9,17 +9,17 @@ use crate::error::{Error, Result};
 use crate::fault::Fault;
 use crate::reader::BinaryReader;
 
-/// What can be read from a reader, and takes no memory.
+/// A type that can be read from a reader without allocating.
 ///
-/// An item type has a meaning, and its `from_reader` keeps to it: that is all that sections ask of it. A meaning may
-/// allow several outcomes, and an item may take no bytes.
+/// Sections require only that `from_reader` keeps to the meaning of the type. A meaning may allow several outcomes, and
+/// an item may consume no bytes.
 pub trait FromReader<'a>: Sized + Drop {
-    /// What reading from a place may come to: a value and the place after it, or a fault.
+    /// What reading at a place may result in: a value and the place after it, or a fault.
     ghost meaning: { Place → Outcome Self → Type 0 };
 
     /// Reads an item.
     ///
-    /// After a fault the reader is in its window, and not before where it was. A fault is never `OutOfMemory`.
+    /// After an error the reader is in its window, at or after its previous position. The error is never `OutOfMemory`.
     fn from_reader(reader: &mut BinaryReader<'a>) -> Result<Self>
         ensures means { Means meaning (place reader.old) result (place reader.new) }
         ensures keeps { KeepsWindow reader.old reader.new }

@@ -39,11 +39,11 @@ use crate::section::{
 use crate::subsections::{Subsection, Subsections};
 use std::hash::Hash;
 
-/// Calls of `next` up to the first `None` give the items of the window, and nothing comes after that `None`. The
-/// second iterator gives each item with the offset at which its bytes begin.
+/// Calls of `next` return the items of the window up to the first `None`, and nothing after it. The second iterator
+/// yields each item with the offset at which its bytes begin.
 ///
-/// The items of a window are those that are announced, and then nothing, or one `SizeMismatch` where bytes are left;
-/// after an item's fault, nothing.
+/// The items of a window are the announced ones, and then nothing, or one `SizeMismatch` if bytes remain; after an
+/// item's error, nothing.
 pub fn items_of_a_window<'a, T: FromReader<'a>>()
     ensures items { (s : Items) →
         GivesItems ⟦<SectionLimitedIntoIter<'a, T> as Iterator>⟧.next_gives T.meaning s }
@@ -53,24 +53,24 @@ pub fn items_of_a_window<'a, T: FromReader<'a>>()
         (AtItsOffset T.meaning) s }
 {}
 
-/// Of items that own lists, calls of `next` up to the first `None` give the items of the window too, as `items_of_a_window`
-/// says, or in place of one of them `OutOfMemory`, which is the last.
+/// For items that own lists, calls of `next` also return the items of the window, as in `items_of_a_window`, or
+/// `OutOfMemory` in place of one of them, which is then the last.
 pub fn owned_items_of_a_window<'a, T: FromReaderIn<'a>>()
     ensures { (s : Items) →
         GivesItems ⟦<SectionLimitedIntoIterIn<'a, T> as Iterator>⟧.next_gives (UnlessMemory T.meaning) s }
 {}
 
-/// Calls of `next` up to the first `None` give the subsections of the window, and nothing comes after that `None`. Each is
-/// what its id and its window mean, or its fault, and the others follow it, to the window's end; where an id or a size has a
-/// fault, the others are those of a later place.
+/// Calls of `next` return the subsections of the window up to the first `None`, and nothing after it. Each is what its
+/// id and its window mean, or its error, and the others follow it, to the end of the window; if an id or a size is
+/// malformed, the others are those of a later place.
 pub fn subsections_of_a_window<'a, T: Subsection<'a>>()
     ensures { (s : Window) →
         GivesSubsections ⟦<Subsections<'a, T> as Iterator>⟧.next_gives
         (UnlessTaken T.meaning T.Allocation.ALLOCATES) s }
 {}
 
-/// Both iterators give the same items and the same fault, where the meaning of an item allows one outcome: equal
-/// ones, where it determines the value and all.
+/// Both iterators yield the same items and the same error, if the meaning of an item allows one outcome: equal ones, if
+/// it determines the value completely.
 pub fn both_iterators_give_the_same_items<'a, T: FromReader<'a>>()
     ensures same { AllowsOne T.meaning → (s : Items) → GivesTheSame T.meaning
         (run_over ⟦<SectionLimitedIntoIter<'a, T> as Iterator>⟧.next_gives s)
@@ -80,7 +80,7 @@ pub fn both_iterators_give_the_same_items<'a, T: FromReader<'a>>()
         (run_with_offsets ⟦<SectionLimitedIntoIterWithOffsets<'a, T> as Iterator>⟧.next_gives s) }
 {}
 
-/// A clone of a section gives the same items and the same fault, where the meaning of an item allows one outcome.
+/// A clone of a section yields the same items and the same error, if the meaning of an item allows one outcome.
 pub fn a_clone_gives_the_same_items<'a, T: FromReader<'a>>()
     ensures same { AllowsOne T.meaning → OfCopies
         ⟦<SectionLimited<'a, T> as Clone>⟧.is_clone
@@ -92,7 +92,7 @@ pub fn a_clone_gives_the_same_items<'a, T: FromReader<'a>>()
         (EqualRuns ⟦<SectionLimitedIntoIter<'a, T> as Iterator>⟧.next_gives) }
 {}
 
-/// A clone of a section gives the same items that own lists and the same fault, up to an `OutOfMemory`, where the meaning
+/// A clone of a section yields the same items that own lists and the same error, up to an `OutOfMemory`, if the meaning
 /// of an item allows one outcome.
 pub fn a_clone_gives_the_same_owned_items<'a, T: FromReaderIn<'a>>()
     ensures { AllowsOne T.meaning → (section copy : Section) →
@@ -102,7 +102,7 @@ pub fn a_clone_gives_the_same_owned_items<'a, T: FromReaderIn<'a>>()
         (all_items section) (all_items copy) }
 {}
 
-/// A clone of an iterator gives the same items and the same fault, where the meaning of an item allows one outcome.
+/// A clone of an iterator yields the same items and the same error, if the meaning of an item allows one outcome.
 pub fn a_cloned_iterator_gives_the_same_items<'a, T: FromReader<'a> + Clone>()
     ensures same { AllowsOne T.meaning → (s t : Items) →
         ⟦<SectionLimitedIntoIter<'a, T> as Clone>⟧.is_clone s t →
@@ -126,7 +126,7 @@ pub fn these_allow_one_outcome<'a, T: FromReader<'a>, U: FromReader<'a>>()
         ⟦<(T, U) as FromReader<'a>>⟧.meaning }
 {}
 
-/// Wherever a name is read, passing over it as an item of an inner list takes the bytes that reading it takes.
+/// Wherever a name is read, skipping it as an item of an inner list consumes the same bytes as reading it.
 pub fn passing_over_a_name_takes_its_bytes<'a>()
     ensures { PassesAsRead ⟦<&'a str as FromReader<'a>>⟧.meaning ⟦<&'a str as SkipItem<'a>>⟧.passed_at }
 {}
@@ -173,8 +173,8 @@ pub fn equal_errors_are_the_same()
     ensures { DecidesWhether (λ one other. fault_at one ≡ fault_at other) ⟦<Error as PartialEq>⟧.eq }
 {}
 
-/// A copy is the same, and can always be made: it takes no memory. This is so of a fault, an error with its hint, a set of
-/// features, a float, a reader, a section, an iterator over its items, and subsections.
+/// A copy is the same as the original, and copying never fails: it does not allocate. This holds for a fault, an error
+/// with its hint, a set of features, a float, a reader, a section, an iterator over its items, and subsections.
 pub fn copies_are_the_same<'a, T, U: Clone>()
     ensures error { IsCopy ⟦<Error as Clone>⟧.is_clone ⟦<Error as Clone>⟧.is_infallible }
     ensures fault { IsCopy ⟦<Fault as Clone>⟧.is_clone ⟦<Fault as Clone>⟧.is_infallible }

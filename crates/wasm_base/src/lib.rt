@@ -1,5 +1,5 @@
-//! The reader of WebAssembly bytes: faults with their places in the stream, and a reader of numbers, names and
-//! windows that knows where it is.
+//! A reader of WebAssembly bytes: errors with their offsets in the stream, and a reader of numbers, names and windows
+//! that tracks its offset.
 #![tactic(auto)]
 
 mod error;

@@ -85,7 +85,7 @@ pub const MAX_WASM_MODULES_AND_COMPONENTS: usize = 1_000;
 /// The bytes of a memory's page, where its type says nothing else.
 pub const DEFAULT_WASM_PAGE_SIZE: u64 = 65_536;
 
-/// Whether a memory's pages may have so many bytes: a power of two of at most 65,536.
+/// Whether a memory's pages may have this size in bytes: a power of two of at most 65,536.
 pub fn is_page_size(page_size: u64) -> bool
     ensures says { result ≡ is_page_size page_size }
     ensures power { IsTrue result ↔ (IsPowerOfTwo page_size × (page_size ≤ 65536)) }
@@ -93,8 +93,8 @@ pub fn is_page_size(page_size: u64) -> bool
     page_size.is_power_of_two() && page_size <= DEFAULT_WASM_PAGE_SIZE
 }
 
-/// The most pages of so many bytes that a memory with 32-bit addresses may have: all of them lie below 2^32, and their
-/// number has 32 bits. `is_page_size` says whether pages may have so many bytes.
+/// The most pages of `page_size` bytes that a memory with 32-bit addresses may have: all of them lie below 2^32, and
+/// their number has 32 bits. `is_page_size` says whether a page size is valid.
 #[tactic(auto, using(crate::proofs::Pages::page_size_positive))]
 pub fn max_wasm_memory32_pages(page_size: u64) -> u64
     requires { IsTrue (is_page_size page_size) }
@@ -103,8 +103,8 @@ pub fn max_wasm_memory32_pages(page_size: u64) -> u64
     ((1 << 32) / page_size).min(u64::from(u32::MAX))
 }
 
-/// The most pages of so many bytes that a memory with 64-bit addresses may have: all of them lie below 2^64, and their
-/// number has 64 bits. `is_page_size` says whether pages may have so many bytes.
+/// The most pages of `page_size` bytes that a memory with 64-bit addresses may have: all of them lie below 2^64, and
+/// their number has 64 bits. `is_page_size` says whether a page size is valid.
 #[tactic(auto, using(crate::proofs::Pages::page_size_positive))]
 pub fn max_wasm_memory64_pages(page_size: u64) -> u64
     requires { IsTrue (is_page_size page_size) }

@@ -37,7 +37,7 @@ fn unused_bits_are_right(kind: NumberKind, byte: u8) -> bool
     }
 }
 
-// Where the first byte below 128 is, among so many bytes.
+// The index of the first byte below 128 among the first `limit` bytes.
 fn last_of(bytes: &[u8], limit: usize) -> Option<usize>
     ensures { result ≡ position is_last (take limit bytes.now) }
 {
@@ -103,7 +103,7 @@ fn long_number_in(kind: NumberKind, bytes: &[u8]) -> Found
     }
 }
 
-/// The signed number whose septets, in so many bytes, have this sum.
+/// Returns the signed number whose `used` septets have this sum.
 pub(crate) fn signed_of(sum: u128, used: u64) -> i64
     requires used { used ≤ 10 }
     requires sum { sum < 2 ^ 70 }

@@ -12,25 +12,25 @@ use crate::item::FromReader;
 use crate::reader::BinaryReader;
 use std::alloc::{Allocator, Global};
 
-/// What can be read from a reader, and owns lists.
+/// A type that can be read from a reader and owns lists.
 ///
-/// As `FromReader`, but that a growth of a list may be refused, which ends the read with `OutOfMemory`, at offset 0.
+/// Like `FromReader`, but a read ends with `OutOfMemory`, at offset 0, when an allocation fails.
 pub trait FromReaderIn<'a>: Sized + Drop {
-    /// What reading from a place may come to, memory aside: a value and the place after it, or a fault.
+    /// What reading at a place may result in, memory aside: a value and the place after it, or a fault.
     ghost meaning: { Place → Outcome Self → Type 0 };
 
-    /// Reads an item, whose lists grow by this allocator.
+    /// Reads an item, and allocates its lists with this allocator.
     ///
-    /// After a fault the reader is in its window, and not before where it was.
+    /// After an error the reader is in its window, at or after its previous position.
     fn from_reader(alloc: Global, reader: &mut BinaryReader<'a>) -> Result<Self>
         ensures means { Means (UnlessMemory meaning) (place reader.old) result (place reader.new) }
         ensures keeps { KeepsWindow reader.old reader.new };
 }
 
-// A list has room for so many items once it has one, if so many are announced.
+// The first allocation of a list is for this many items, or for its count if that is less.
 const FIRST_ROOM: usize = 4;
 
-// Puts an item after the others of a list that is to have so many.
+// Appends an item to a list that is to have `count` items.
 #[inline(always)]
 fn put<T: Drop, A: Allocator>(items: &mut Vec<T, A>, item: T, count: u32) -> Result<()>
     ensures ok { OnOk result (items.new.items ≡ items.old.items ++ item ∷ []) }
@@ -43,7 +43,7 @@ fn put<T: Drop, A: Allocator>(items: &mut Vec<T, A>, item: T, count: u32) -> Res
     Ok(())
 }
 
-// Reads so many items, one after the other. The list grows as they are read.
+// Reads `count` items, one after the other. The list grows as they are read.
 fn read_items<'a, T: FromReader<'a>, A: Allocator>(
     alloc: A,
     reader: &mut BinaryReader<'a>,
@@ -61,7 +61,7 @@ fn read_items<'a, T: FromReader<'a>, A: Allocator>(
     Ok(items)
 }
 
-// Reads so many items that own lists, one after the other. The list grows as they are read.
+// Reads `count` items that own lists, one after the other. The list grows as they are read.
 fn read_items_in<'a, T: FromReaderIn<'a>>(
     alloc: Global,
     reader: &mut BinaryReader<'a>,
@@ -79,10 +79,10 @@ fn read_items_in<'a, T: FromReaderIn<'a>>(
     Ok(items)
 }
 
-/// Reads a list: a count, a u32, and so many items (core specification, Binary format, Conventions, Lists).
+/// Reads a list: a count, a u32, and that many items (core specification, Binary format, Conventions, Lists).
 ///
-/// The count asks for no memory: the list grows as its items are read. `OutOfMemory`, at offset 0, where a growth is
-/// refused; otherwise the faults of the count and of the items.
+/// The count alone allocates nothing: the list grows as its items are read. Returns `OutOfMemory`, at offset 0, when an
+/// allocation fails, and otherwise the errors of the count and of the items.
 pub fn read_list<'a, T: FromReader<'a>, A: Allocator>(
     alloc: A,
     reader: &mut BinaryReader<'a>,
@@ -95,7 +95,7 @@ pub fn read_list<'a, T: FromReader<'a>, A: Allocator>(
     read_items(alloc, reader, count)
 }
 
-/// Reads a list of items that own lists, as `read_list`.
+/// Like `read_list`, for items that own lists.
 pub fn read_list_in<'a, T: FromReaderIn<'a>>(
     alloc: Global,
     reader: &mut BinaryReader<'a>,

@@ -81,7 +81,7 @@ impl<'a> Clone for BinaryReader<'a> {
     }
 }
 
-/// Whether so many bytes at this offset stay within the offsets of a stream: whether a reader over them can be made.
+/// Whether `len` bytes at this offset stay within the offsets of a stream, so that a reader over them can be made.
 pub fn fits(offset: u64, len: usize) -> bool
     ensures { IsTrue result ↔ (offset + len < 2 ^ 64) }
 {
@@ -197,7 +197,7 @@ impl<'a> BinaryReader<'a> {
         self.position += len;
     }
 
-    // The error of a read that wants so many bytes more than are left.
+    // The error of a read for which `wanted` bytes are missing.
     fn missing(&self, wanted: usize) -> Error
         ensures report { fault_at result ≡ at_offset UnexpectedEof (place self.now).offset }
         ensures hint { hint_of result ≡ Some wanted }
@@ -213,7 +213,7 @@ impl<'a> BinaryReader<'a> {
         self.original_position() - 1
     }
 
-    /// The next byte, which stays unread. `UnexpectedEof` here, where none is left.
+    /// Returns the next byte without consuming it, or `UnexpectedEof` at the current offset if none remains.
     pub fn peek(&self) -> Result<u8>
         ensures gives { Gives (λ b. b) result (place self.now) (peeked_byte_at (place self.now)) }
         ensures hints { Hints 1 result }
@@ -225,7 +225,8 @@ impl<'a> BinaryReader<'a> {
         }
     }
 
-    /// The next `len` bytes, which stay unread. `UnexpectedEof` here, where they aren't all there.
+    /// Returns the next `len` bytes without consuming them, or `UnexpectedEof` at the current offset if some are
+    /// missing.
     pub fn peek_bytes(&self, len: usize) -> Result<&'a [u8]>
         ensures gives { Gives (λ bytes. bytes.now) result (place self.now) (peeked_at len (place self.now)) }
         ensures hints { Hints (missing_at len (place self.now)) result }
@@ -238,7 +239,7 @@ impl<'a> BinaryReader<'a> {
         Ok(&rest[..len])
     }
 
-    /// Reads `len` bytes. `UnexpectedEof` where they begin, if they aren't all there.
+    /// Reads `len` bytes. Returns `UnexpectedEof` at their start if some are missing.
     #[inline(always)]
     pub fn read_bytes(&mut self, len: usize) -> Result<&'a [u8]>
         ensures gives { GivesBy (λ bytes. bytes.now) result self.old self.new (bytes_at len) }
@@ -252,7 +253,7 @@ impl<'a> BinaryReader<'a> {
         Ok(bytes)
     }
 
-    /// Reads a byte. `UnexpectedEof` here, where none is left.
+    /// Reads a byte. Returns `UnexpectedEof` at the current offset if none remains.
     #[inline(always)]
     pub fn read_u8(&mut self) -> Result<u8>
         ensures gives { GivesBy (λ b. b) result self.old self.new byte_at }
@@ -266,7 +267,8 @@ impl<'a> BinaryReader<'a> {
         Ok(byte)
     }
 
-    /// Reads a byte below 128. `UnexpectedEof` here, where none is left; `InvalidU7` at another byte, which is passed.
+    /// Reads a byte below 128. Returns `UnexpectedEof` at the current offset if none remains, and `InvalidU7` at any
+    /// other byte, which is consumed.
     #[tactic(auto, unfolding(crate::specs::Name::u7_at))]
     pub fn read_u7(&mut self) -> Result<u8>
         ensures gives { GivesBy (λ b. b) result self.old self.new u7_at }
@@ -283,7 +285,7 @@ impl<'a> BinaryReader<'a> {
         Ok(byte)
     }
 
-    /// Reads a number of four bytes, the lowest first. `UnexpectedEof` where they begin, if they aren't all there.
+    /// Reads four bytes as a little-endian number. Returns `UnexpectedEof` at their start if some are missing.
     #[tactic(auto, unfolding(crate::specs::Name::u32_at))]
     pub fn read_u32(&mut self) -> Result<u32>
         ensures gives { GivesBy (λ n. n) result self.old self.new u32_at }
@@ -295,8 +297,8 @@ impl<'a> BinaryReader<'a> {
         Ok(of_four(self.read_bytes(4)?))
     }
 
-    /// Reads a float of 32 bits, in four bytes, the lowest first (core specification, Binary format, Values,
-    /// Floating-Point). `UnexpectedEof` where they begin, if they aren't all there.
+    /// Reads a 32-bit float, four bytes in little-endian order (core specification, Binary format, Values,
+    /// Floating-Point). Returns `UnexpectedEof` at their start if some are missing.
     pub fn read_f32(&mut self) -> Result<Ieee32>
         ensures gives { GivesBy (λ float. bits_of_32 float) result self.old self.new u32_at }
         ensures keeps { KeepsWindow self.old self.new }
@@ -307,8 +309,8 @@ impl<'a> BinaryReader<'a> {
         Ok(Ieee32(self.read_u32()?))
     }
 
-    /// Reads a float of 64 bits, in eight bytes, the lowest first (core specification, Binary format, Values,
-    /// Floating-Point). `UnexpectedEof` where they begin, if they aren't all there.
+    /// Reads a 64-bit float, eight bytes in little-endian order (core specification, Binary format, Values,
+    /// Floating-Point). Returns `UnexpectedEof` at their start if some are missing.
     #[tactic(auto, unfolding(crate::specs::Float::u64_at))]
     pub fn read_f64(&mut self) -> Result<Ieee64>
         ensures gives { GivesBy (λ float. bits_of_64 float) result self.old self.new u64_at }
@@ -423,8 +425,8 @@ impl<'a> BinaryReader<'a> {
         left
     }
 
-    /// Passes over `count` numbers, each a u32 in LEB128, as reading them one after the other does: its fault is that
-    /// of the first that has one, as `read_var_u32` answers it, and the reader is then in its window.
+    /// Skips `count` LEB128 `u32`s, as reading them one after the other does: the error is that of the first malformed
+    /// number, as `read_var_u32` returns it, and the reader is then in its window.
     #[tactic(auto, using(crate::proofs::PassedNumbers::passing))]
     pub fn skip_var_u32s(&mut self, count: u32) -> Result<()>
         ensures gives { GivesBy (λ nothing. nothing) result self.old self.new
@@ -514,7 +516,7 @@ impl<'a> BinaryReader<'a> {
         self.read_signed(NumberKind::VarS33)
     }
 
-    // Reads so many bytes of text, after their size.
+    // Reads `len` bytes of text, after their size.
     #[tactic(auto, unfolding(crate::specs::TextOf::text_of), using(crate::proofs::Texts::text_test))]
     fn read_text(&mut self, len: usize) -> Result<&'a str>
         requires { 0 < (place self.old).offset }
@@ -530,10 +532,10 @@ impl<'a> BinaryReader<'a> {
         }
     }
 
-    /// Reads a text: a size and so many bytes of UTF-8 (core specification, Binary format, Names).
+    /// Reads a text: a size and that many bytes of UTF-8 (core specification, Binary format, Names).
     ///
-    /// After the faults of the size: `UnexpectedEof` after it, if the bytes aren't all there; `MalformedUtf8` at
-    /// the text's last byte.
+    /// After the errors of the size: `UnexpectedEof` after it, if bytes are missing; `MalformedUtf8` at the text's last
+    /// byte.
     #[tactic(auto, using(crate::proofs::Texts::text_steps))]
     #[inline(always)]
     pub fn read_unlimited_string(&mut self) -> Result<&'a str>
@@ -563,10 +565,10 @@ impl<'a> BinaryReader<'a> {
         self.read_text(size)
     }
 
-    /// Passes over a name: a size of at most 100,000 and so many bytes, which may be no UTF-8.
+    /// Skips a name: a size of at most 100,000 and that many bytes, which need not be UTF-8.
     ///
-    /// After the faults of the size: `StringSize` at the size's last byte, for a larger one; `UnexpectedEof` after it, if
-    /// the bytes aren't all there.
+    /// After the errors of the size: `StringSize` at the size's last byte, for a larger one; `UnexpectedEof` after it,
+    /// if bytes are missing.
     #[tactic(auto, unfolding(crate::specs::Skip::skipped_name_at))]
     pub fn skip_string(&mut self) -> Result<()>
         ensures gives { GivesBy (λ nothing. nothing) result self.old self.new skipped_name_at }
@@ -595,9 +597,9 @@ impl<'a> BinaryReader<'a> {
         }
     }
 
-    /// The window of the bytes that a closure passes over, or the closure's error.
+    /// Returns the window of the bytes that a closure consumes, or the closure's error.
     ///
-    /// The closure keeps the reader's window, and never goes back: every read of a reader does.
+    /// The closure must keep the reader's window and never move back, as every read of a reader does.
     pub fn skip<F: FnOnce(&mut BinaryReader<'a>) -> Result<()>>(
         &mut self,
         f: F,
@@ -613,8 +615,8 @@ impl<'a> BinaryReader<'a> {
         Ok(before.window_of(self.position - before.position))
     }
 
-    /// Reads a size, a u32, and a window of so many bytes, with the same features. `UnexpectedEof` after the size,
-    /// if the bytes aren't all there.
+    /// Reads a size, a u32, and a window of that many bytes, with the same features. Returns `UnexpectedEof` after the
+    /// size if bytes are missing.
     #[tactic(auto, unfolding(crate::specs::Name::window_at))]
     pub fn read_reader(&mut self) -> Result<BinaryReader<'a>>
         ensures gives { GivesBy (λ window. window) result self.old self.new window_at }

@@ -168,8 +168,8 @@ impl<'a, T: FromReader<'a>> IntoIterator for SectionLimited<'a, T> {
 impl<'a, T> From<SectionLimitedIntoIter<'a, T>> for SectionLimited<'a, T> {
     ghost from_gives = { λ items section. section ≡ record { reader = items.reader; count = items.count } };
 
-    /// The section again: the count is the one that was announced, and the items are read from where the iterator was. If it
-    /// has given some, the count is above the number of those that are left.
+    /// Returns the section, with the announced count; its items are read from the iterator's position. If the iterator
+    /// has yielded items, the count is above the number of the remaining ones.
     fn from(items: SectionLimitedIntoIter<'a, T>) -> Self {
         items.into_section()
     }
@@ -177,8 +177,8 @@ impl<'a, T> From<SectionLimitedIntoIter<'a, T>> for SectionLimited<'a, T> {
 
 /// The items of a section.
 ///
-/// The announced items come, up to the first fault. Where all were read and bytes are left, one `SizeMismatch`
-/// follows, at the first of them. After that, and after an item's fault, nothing comes.
+/// Yields the announced items, up to the first error. If bytes remain after the last item, it yields one `SizeMismatch`
+/// at the first of them. After that, and after an item's error, it yields nothing.
 #[derive(Debug)]
 pub struct SectionLimitedIntoIter<'a, T> {
     section: SectionLimited<'a, T>,

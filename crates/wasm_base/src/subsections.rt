@@ -17,7 +17,7 @@ use std::fmt;
 use std::marker::{Model, PhantomData};
 use std::ops::Range;
 
-/// Whether reading may ask for memory. Where it doesn't, no call answers `OutOfMemory`.
+/// Whether reading may allocate. If not, no call returns `OutOfMemory`.
 pub trait Allocation {
     ghost ALLOCATES: { Bool };
 
@@ -25,7 +25,7 @@ pub trait Allocation {
     const ALLOCATES: bool;
 }
 
-/// Reading asks for no memory.
+/// Reading never allocates.
 pub struct NeverAllocates;
 
 impl Allocation for NeverAllocates {
@@ -36,7 +36,7 @@ impl Allocation for NeverAllocates {
     const ALLOCATES: bool = false;
 }
 
-/// Reading may ask for memory.
+/// Reading may allocate.
 pub struct MayAllocate;
 
 impl Allocation for MayAllocate {
@@ -49,29 +49,29 @@ impl Allocation for MayAllocate {
 
 /// What the subsections of a window can be read as.
 ///
-/// A type has a meaning, and its `from_reader` keeps to it: that is all that `Subsections` asks of it.
+/// `Subsections` requires only that `from_reader` keeps to the meaning of the type.
 pub trait Subsection<'a>: Sized + Drop {
-    /// What a subsection with this id and this window may come to: a value, or a fault.
+    /// What a subsection with this id and this window may result in: a value, or a fault.
     ghost meaning: { ℕ → Window → Result Self FaultAt → Type 0 };
 
-    /// Whether reading may ask for memory: `NeverAllocates` or `MayAllocate`.
+    /// Whether reading may allocate: `NeverAllocates` or `MayAllocate`.
     type Allocation: Allocation;
 
     /// Reads the subsection with this id, which is the reader's window.
     ///
-    /// `OutOfMemory`, at offset 0, when an allocation fails.
+    /// Returns `OutOfMemory`, at offset 0, when an allocation fails.
     fn from_reader(alloc: Global, id: u8, reader: BinaryReader<'a>) -> Result<Self>
         ensures means { MeansSubsection meaning Self.Allocation.ALLOCATES id reader.entry result }
         ensures memory { Self.Allocation.ALLOCATES ≡ false → TakesNoMemory result };
 }
 
-/// The subsections of a window: each is an id, a byte below 128, a size, a u32, and so many bytes.
+/// The subsections of a window: each is an id, a byte below 128, a size, a u32, and that many bytes.
 ///
-/// They come one after the other, each read as a `T`, up to the window's end. After a subsection's own fault, `OutOfMemory`
-/// among them, the next one comes. An id can have a fault too, `InvalidU7`, and a size those of `read_reader`. After the first
-/// the next subsection begins after the id, and after the others behind the bytes that reading the size takes, up to a wrong
-/// one or to the end. So each call takes at least one byte, and the subsections always end. Offsets count bytes from the start
-/// of the whole stream.
+/// Yields the subsections in order, each read as a `T`, up to the end of the window. Iteration continues after a
+/// subsection's own error, including `OutOfMemory`. An id can be malformed too, `InvalidU7`, and a size can have the
+/// errors of `read_reader`. After `InvalidU7` the next subsection begins after the id; after the other errors it begins
+/// after the bytes that reading the size consumes, up to a wrong one or to the end. So each call consumes at least one
+/// byte, and the iteration always ends. Offsets count bytes from the start of the whole stream.
 pub struct Subsections<'a, T> {
     alloc: Global,
     reader: BinaryReader<'a>,
@@ -86,7 +86,7 @@ impl<'a, T> Model for Subsections<'a, T> {
     ghost view = { λ s. s.reader };
 }
 
-// By hand, so that nothing is asked of `T`.
+// By hand, so that `T` needs no bound.
 impl<'a, T> Drop for Subsections<'a, T> {
     fn drop(self) {
         let Subsections {
@@ -120,7 +120,7 @@ impl<'a, T> Clone for Subsections<'a, T> {
 }
 
 impl<'a, T> Subsections<'a, T> {
-    /// The subsections of what is left of a reader's window. Those that take memory have it from this allocator.
+    /// Returns the subsections in the remaining bytes of a reader. Those that allocate use this allocator.
     pub fn new(alloc: Global, reader: BinaryReader<'a>) -> Self
         ensures { result ≡ reader.entry }
     {
@@ -146,7 +146,8 @@ impl<'a, T> Subsections<'a, T> {
     }
 }
 
-// Reads a size and a window of so many bytes. After a fault the reader is after the size, or what there is of it.
+// Reads a size and a window of that many bytes. After an error the reader is after the size, or after the bytes of it
+// that are there.
 #[tactic(auto, unfolding(crate::specs::Name::window_at))]
 fn read_window<'a>(reader: &mut BinaryReader<'a>) -> Result<BinaryReader<'a>>
     ensures gives { GivesBy (λ window. window) result reader.old reader.new window_at }

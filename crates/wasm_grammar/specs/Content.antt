@@ -15,7 +15,7 @@ use Rattle.wasm_grammar.specs.Ids.{code_id, place_of}
 pub data Form : Type 0 where
   -- a name, then any bytes
   custom : Form
-  -- a count, then so many items
+  -- a count, then that many items
   items : Form
   -- one index
   index : Form
@@ -24,7 +24,7 @@ pub data Form : Type 0 where
   -- any bytes
   unknown : Form
 
--- a section is read whole, or is a code section: a count, then so many bodies, which are read one by one
+-- a section is read whole, or is a code section: a count, then that many bodies, which are read one by one
 pub data Kind : Type 0 where
   whole : Form → Kind
   code : Kind
@@ -65,14 +65,14 @@ wrong_number offset bytes (read value used) = None
 wrong_number offset bytes (bad f place) = Some (at_offset f (offset + place))
 wrong_number offset bytes short = Some (at_offset UnexpectedEof (offset + length bytes))
 
--- the same for content that is one number, and this if bytes are left
+-- like `wrong_number`, for content that is one number, with this fault if bytes remain
 abbrev pub wrong_single : Fault → (offset : ℕ) (bytes : List ℕ) → Number → Option FaultAt
 wrong_single trailing offset bytes (read value used) = when (nat_lt used (length bytes))
     (at_offset trailing (offset + used))
 wrong_single trailing offset bytes (bad f place) = Some (at_offset f (offset + place))
 wrong_single trailing offset bytes short = Some (at_offset UnexpectedEof (offset + length bytes))
 
--- the same for a name
+-- what is wrong with a name that begins at this offset
 abbrev pub wrong_name : (offset : ℕ) → Name → Option FaultAt
 wrong_name offset (named text used) = None
 wrong_name offset (refused f place) = Some (at_offset f (offset + place))

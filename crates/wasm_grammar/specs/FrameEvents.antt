@@ -1,4 +1,4 @@
--- The events of a stream that is told by its sections. Core specification, Binary format, Modules, Sections and Code
+-- The events of a stream, as its sections determine them. Core specification, Binary format, Modules, Sections and Code
 -- Section.
 use Rattle.std.specs.Prelude.{◌≡◌, ℕ, ◌+◌, List, [], ◌∷◌, ◌++◌, length, flat_map, filter, Bool, nat_lt}
 use Rattle.wasm_base.specs.Window.{window_over}
@@ -60,7 +60,7 @@ abbrev pub KindEvents : (features at : ℕ) → Kind → SectionFrame → List E
 KindEvents features at (whole form) f events = events ≡ section_event features at form f ∷ []
 KindEvents features at code f events = (d : CodeDivision f.sized.content) × (events ≡ code_events features at f d)
 
--- the same of a section in a stream of this encoding
+-- like `KindEvents`, for a section in a stream of this encoding
 abbrev pub FrameEvents : (features : ℕ) → Encoding → (at : ℕ) → SectionFrame → List Event → Type 0
 FrameEvents features encoding at f events = KindEvents features at (kind_of encoding f.id) f events
 

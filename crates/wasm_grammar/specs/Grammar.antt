@@ -47,7 +47,7 @@ pub data Grammar : Type 0 where
   check : Option FaultAt → Grammar → Grammar
   -- a u32 at this offset; then what its value and its length in bytes say
   u32_field : (offset : ℕ) → (ℕ → ℕ → Grammar) → Grammar
-  -- so many bytes, which are missed at this offset; then what they say
+  -- this many bytes, which are reported missing at this offset; then what they say
   bytes : (count offset : ℕ) → (List ℕ → Grammar) → Grammar
   -- the stream may end here, in this way, and a header may not follow; then what the id says
   section_start : (offset : ℕ) → Ending → (ℕ → Grammar) → Grammar
@@ -61,7 +61,7 @@ infixl 20 ◌>>=◌
 abbrev pub ◌>>=◌ : {A : Type 0} → ((A → Grammar) → Grammar) → (A → Grammar) → Grammar
 first >>= next = first next
 
--- the same as a field: a u32 with its length in bytes
+-- like `u32_field`, with the value and its length in bytes as a pair
 abbrev pub sized_u32 : (offset : ℕ) → (ℕ × ℕ → Grammar) → Grammar
 sized_u32 offset next = u32_field offset (λ value width. next (value, width))
 
@@ -126,7 +126,7 @@ header_grammar offset = do
   four ← bytes 4 (offset + 4)
   version_of offset (of_four four)
 
--- how a stream ends at the start of a section: a count above 0 wants its other section
+-- how a stream ends at the start of a section: a count above 0 requires its other section
 abbrev pub end_at_section : SectionContext → (offset : ℕ) → Ending
 end_at_section context offset =
     if list_any (nat_lt 0) context.functions && nat_eq (length context.codes) 0 then
@@ -191,14 +191,14 @@ after_id context offset id = do
 unfoldable pub section_grammar : SectionContext → (offset : ℕ) → Grammar
 section_grammar context offset = section_start offset (end_at_section context offset) (after_id context offset)
 
--- a body, in a code section of which so many bytes are left. Its size says by itself whether it passes the section
+-- a body, in a code section of which this many bytes remain. Its size alone says whether it overruns the section
 abbrev pub body_of : (offset code_bytes size width : ℕ) → Grammar
 body_of offset code_bytes size width = do
   check (when (nat_lt code_bytes (width + size)) (at_offset UnexpectedEof offset))
   content ← bytes size (offset + width)
   accept (code_entry content)
 
--- what may come in a code section of which so many bodies and bytes are left
+-- what may come in a code section of which this many bodies and bytes remain
 unfoldable pub body_grammar : (bodies code_bytes offset : ℕ) → Grammar
 body_grammar zero code_bytes offset = reject (at_offset TrailingCode offset)
 body_grammar (suc bodies) code_bytes offset = do

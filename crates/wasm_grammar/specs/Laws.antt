@@ -41,7 +41,7 @@ abbrev pub FaultLiesWithin : Type 0
 FaultLiesWithin = (stream : List ℕ) (start : ℕ) (tiles : List Tile) (f : FaultAt) → Reads stream start tiles (fault f)
     → (start + length (bytes_of tiles) ≤ f.offset) × (f.offset ≤ start + length stream)
 
--- the tiles of a reading are the longest faultless tiling of its stream: every other is a beginning of it
+-- the tiles of a reading are the longest faultless tiling of its stream: every other is a prefix of it
 abbrev pub LongestTiling : Type 0
 LongestTiling = (stream : List ℕ) (start : ℕ) (tiles others : List Tile) (end : Ending) (rest : List ℕ)
     → Reads stream start tiles end → Faultless start others → stream ≡ bytes_of others ++ rest
@@ -55,8 +55,8 @@ EventsLieEndToEnd = (stream : List ℕ) (start features : ℕ) (tiles : List Til
     → EndToEnd stream start features start (events_of start features tiles ++ last_event end ∷ [])
     × (consumed_by (events_of start features tiles ++ last_event end ∷ []) ≡ bytes_of tiles)
 
--- the start offset only moves offsets: the reading of a stream that starts so much later has the same events with
--- every offset moved, unless a section passes the top of the offsets there
+-- the start offset only moves offsets: the reading of a stream that starts later has the same events with every offset
+-- moved, unless a section overruns the largest offset there
 abbrev pub StartOnlyMoves : Type 0
 StartOnlyMoves = (stream : List ℕ) (start by features : ℕ) (xs ys : List Event) (x : Reading stream start features xs)
     (y : Reading stream (start + by) features ys) → ¬ PassesTheTop y.end

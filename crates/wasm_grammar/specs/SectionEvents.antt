@@ -15,7 +15,7 @@ use Rattle.wasm_grammar.specs.Sections.{section_of}
 abbrev pub BeginsWithNumber : List ℕ → ℕ → Type 0
 BeginsWithNumber content n = (used : ℕ) × (number VarU32 content ≡ read n used)
 
--- The content begins with this name, and so many bytes after its start come the data.
+-- The content begins with this name, and the data begins this many bytes after its start.
 abbrev pub BeginsWithName : List ℕ → (text : List ℕ) → ℕ → Type 0
 BeginsWithName content text used = name (Some name_limit) content ≡ named text used
 
@@ -49,7 +49,7 @@ pub record IsSectionEvent (features at id : ℕ) (range : Range ℕ) (e : Event)
   pub end : range.end ≡ range.start + length content + bytes_of_bodies e.report
   pub says : SaysContent features range.start content e.report
 
--- The event at this offset consumed the bytes of a body: a size field, and so many bytes, which are its window.
+-- The event at this offset consumed the bytes of a body: a size field, and that many bytes, which are its window.
 pub record IsBodyEvent (features at : ℕ) (window : Window) (e : Event) : Type 0 where
   pub field : List ℕ
   pub content : List ℕ

@@ -104,7 +104,7 @@ ReportsBody e = (window : Window) × (e.report ≡ code_entry window)
 abbrev pub ReportsFault : Event → Type 0
 ReportsFault e = (f : FaultAt) × (e.report ≡ stream_end (fault f))
 
--- These events follow the start of a code section of so many bodies: all its bodies, and then another event; or fewer,
+-- These events follow the start of a code section of `count` bodies: all its bodies, and then another event; or fewer,
 -- and then a fault, which is reported last.
 pub record BodiesFollow (count : ℕ) (after : List Event) : Type 0 where
   pub bodies : List Event

@@ -10,9 +10,8 @@ use Rattle.wasm_grammar.specs.Reading.{Event, Reading, Stream}
 use Rattle.wasm_grammar.specs.Tiling.{bytes_of, grammar, Faultless}
 use Rattle.wasm_grammar.specs.Waiting.{enough, wants, waiting}
 
--- Bytes that decide what is here, where those that came don't. They are 00 for each byte that is missing, and five
--- bytes 80 after a number that isn't at its end and where a section may start. After the first bytes of the magic they
--- are its others.
+-- A suffix that decides what is here, where the bytes so far don't: 00 for each missing byte, and five bytes 80 after
+-- an unfinished number and where a section may start. After the first bytes of the magic, it is the others.
 abbrev pub ending_of_number : Number → (ℕ → ℕ → List ℕ) → List ℕ
 ending_of_number (read value used) next = next value used
 ending_of_number (bad fault place) next = []
@@ -32,7 +31,7 @@ deciding_ending (section_start offset e next) [] = replicate 5 0x80
 deciding_ending (section_start offset e next) (id ∷ prefix) =
     if agree (id ∷ prefix) magic then drop (length (id ∷ prefix)) magic else deciding_ending (next id) prefix
 
--- In the stream that is this front and this rest, this event comes next after the front.
+-- In the stream that consists of this front and this rest, this event comes next after the front.
 pub record ComesNext (start features : ℕ) (front rest : List ℕ) (event : Event) : Type 0 where
   pub events : List Event
   pub reading : Reading (front ++ rest) start features events
@@ -65,14 +64,14 @@ abbrev pub OneComesNext : (start : ℕ) (front : List ℕ) → Type 0
 OneComesNext start front = (tiles : List Tile) → IsTiledBy start front tiles → (features : ℕ) (rest : List ℕ)
     → HasOneNext start features front rest
 
--- Where bytes after such a front suffice, the same event comes next in all streams that begin with both.
+-- If the bytes after such a front suffice, the same event comes next in all streams that begin with both.
 abbrev pub EnoughIsDecided : (start : ℕ) (front came : List ℕ) → Type 0
 EnoughIsDecided start front came = (tiles : List Tile) → IsTiledBy start front tiles
     → waiting (grammar start tiles) came ≡ enough
     → (one other : List ℕ) → SameNext start front (came ++ one) (came ++ other)
 
--- Where they don't, another event comes next in the stream that ends after them than in the one that goes on by the
--- ending that decides. That is a stream too, if the offsets go on for 2^33 bytes more.
+-- If they don't, the next event in the stream that ends after them differs from that in the one that continues with the
+-- suffix that decides. The latter is a stream too, if there are offsets for 2^33 bytes more.
 abbrev pub ShortIsUndecided : (start : ℕ) (front came : List ℕ) → Type 0
 ShortIsUndecided start front came = (tiles : List Tile) → IsTiledBy start front tiles → (need hint : ℕ)
     → waiting (grammar start tiles) came ≡ wants need hint

@@ -1,4 +1,4 @@
--- Where bytes that have come don't decide yet what is there.
+-- Where the bytes so far don't decide yet what is there.
 use Rattle.std.specs.Prelude.{ℕ, ◌+◌, ◌-◌, Bool, ◌&&◌, List, [], ◌∷◌, length, take, drop, Option, Some, None, nat_le}
 use Rattle.std.specs.Prelude.{nat_lt, if◌then◌else◌}
 use Rattle.wasm_base.specs.Header.{magic, agree}
@@ -9,20 +9,20 @@ use Rattle.wasm_base.specs.declared.fault.NumberKind.TheVariants.{VarU32}
 -- whether the bytes suffice
 pub data Waiting : Type 0 where
   enough : Waiting
-  -- they don't: a bound above them, and how many more are known to be wanted
+  -- they don't: a bound above them, and how many more are known to be needed
   wants : (need hint : ℕ) → Waiting
 
--- how many more bytes are asked for
+-- how many more bytes are requested
 abbrev pub asked : Waiting → Option ℕ
 asked enough = None
 asked (wants need hint) = Some hint
 
--- the same after so many bytes
+-- a waiting after this many bytes
 abbrev pub later : ℕ → Waiting → Waiting
 later used enough = enough
 later used (wants need hint) = wants (used + need) hint
 
--- the same after a number
+-- a waiting after a number
 abbrev pub later_number : Number → (ℕ → ℕ → Waiting) → Waiting
 later_number (read value used) next = later used (next value used)
 later_number (bad f place) next = enough
@@ -49,7 +49,7 @@ waiting (section_start offset e next) (id ∷ prefix) =
 abbrev pub is_magic_begun : List ℕ → Bool
 is_magic_begun prefix = agree prefix magic && nat_lt (length prefix) 4
 
--- how many more bytes are asked for where a section may start, before its id is looked at
+-- how many more bytes are requested where a section may start, before its id is looked at
 abbrev pub asked_at_section : List ℕ → Option ℕ
 asked_at_section [] = Some 1
 asked_at_section (id ∷ prefix) = if is_magic_begun (id ∷ prefix) then Some (4 - length (id ∷ prefix)) else None

@@ -1,4 +1,4 @@
--- Worked beginnings of streams, what is waited for after them, and the endings that decide.
+-- Worked prefixes of streams, what is waited for after them, and the suffixes that decide.
 use Rattle.std.specs.Prelude.{◌≡◌, ℕ, List, [], ◌∷◌, ◌++◌}
 use Rattle.wasm_base.specs.Header.{magic}
 use Rattle.wasm_grammar.specs.Grammar.{Tile}
@@ -7,8 +7,8 @@ use Rattle.wasm_grammar.specs.Undecided.{deciding_ending, IsTiledBy}
 use Rattle.wasm_grammar.specs.Waiting.{wants, waiting}
 use Rattle.wasm_grammar.specs.Worked.{m}
 
--- After this front of a stream that starts at offset 0, the bytes that came are fewer than the bound, so many more are
--- asked for, and this ending decides.
+-- After this front of a stream that starts at offset 0, the bytes so far are fewer than the bound, `hint` more are
+-- requested, and this suffix decides.
 abbrev pub WaitsSo : (front came : List ℕ) (bound hint : ℕ) (ending : List ℕ) → Type 0
 WaitsSo front came bound hint ending = (tiles : List Tile) × IsTiledBy 0 front tiles
     × (waiting (grammar 0 tiles) came ≡ wants bound hint) × (deciding_ending (grammar 0 tiles) came ≡ ending)

@@ -36,7 +36,7 @@ pub fn fault_lies_within()
     ensures { FaultLiesWithin }
 {}
 
-/// The tiles of a reading are the longest faultless tiling of its stream: every other is a beginning of it.
+/// The tiles of a reading are the longest faultless tiling of its stream: every other is a prefix of it.
 pub fn longest_tiling()
     ensures { LongestTiling }
 {}
@@ -48,7 +48,7 @@ pub fn events_lie_end_to_end()
 {}
 
 /// The start offset only moves offsets: the reading of a stream that starts later has the same events with every offset
-/// moved, unless a section passes the top of the offsets there.
+/// moved, unless a section overruns the largest offset there.
 pub fn start_only_moves()
     ensures { StartOnlyMoves }
 {}
@@ -64,8 +64,8 @@ pub fn worked_streams()
     ensures { WorkedStreams }
 {}
 
-/// After worked beginnings of streams, one for each kind of waiting, so many bytes are asked for, and so the stream goes on
-/// where that decides, by hand.
+/// For worked prefixes of streams, one for each kind of waiting, the number of requested bytes and the suffix that
+/// decides are those computed by hand.
 pub fn worked_endings()
     ensures { WorkedEndings }
 {}
@@ -98,7 +98,7 @@ pub fn frames_read_the_same()
     ensures { FramesReadTheSame }
 {}
 
-/// What is left of an accepted stream without some of the sections that have no rank, as custom sections, is accepted.
+/// An accepted stream without some of its sections that have no rank, such as custom sections, is accepted.
 pub fn rankless_may_go()
     ensures { RanklessMayGo }
 {}

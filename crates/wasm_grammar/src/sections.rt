@@ -56,13 +56,13 @@ pub const TAG_SECTION: u8 = 13;
 pub enum SectionKind {
     /// A name, then any bytes.
     Custom,
-    /// A count, then so many items.
+    /// A count, then that many items.
     Items,
     /// One index.
     Index,
     /// One count.
     DataCount,
-    /// A count, then so many bodies, which are read one by one.
+    /// A count, then that many bodies, which are read one by one.
     Code,
     /// Any bytes.
     Unknown,

@@ -105,12 +105,12 @@ no_counts encoding n [] = refl
 no_counts encoding n (f ∷ fs) = none_step (is_section encoding n f) (frame_count f) (counts_of encoding n fs)
     (list_any (is_section encoding n) fs) (no_counts encoding n fs)
 
--- a test that holds where it is asked for
+-- a test that holds if it is required
 passes_to : (b t : Bool) → (b ≡ true → t ≡ true) → (not b || t) ≡ true
 passes_to true t h = h refl
 passes_to false t h = refl
 
--- what such a test says where it is asked for
+-- what such a test says if it is required
 passes_of : (b t : Bool) → (not b || t) ≡ true → b ≡ true → t ≡ true
 passes_of b t e f = cc
 

@@ -67,11 +67,11 @@ matched_from encoding n other fs e =
       | inr b ↦ matched_some encoding n other fs (some_from encoding other fs b)
     ]
 
--- where neither fault holds a stream may end
+-- if neither fault holds, a stream may end
 ends_to : (a b : Bool) (e f : FaultAt) (o : ℕ) → a ≡ false → b ≡ false → cond a (fault e) (cond b (fault f) (ended o)) ≡ ended o
 ends_to a b e f o p q = rw (p, q) refl
 
--- where a stream may end neither fault holds
+-- if a stream may end, neither fault holds
 ends_from : (a b : Bool) (e f : FaultAt) (o p : ℕ) → cond a (fault e) (cond b (fault f) (ended o)) ≡ ended p → (a ≡ false) × (b ≡ false)
 ends_from false false e f o p h = (refl, refl)
 ends_from _ _ e f o p h = cc

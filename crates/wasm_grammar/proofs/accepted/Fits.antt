@@ -48,7 +48,7 @@ some_from encoding n fs e =
     any_of (is_section encoding n) (IsSection encoding n) (λ g. section_yes encoding n g) fs
     (grind (arith, no_counts))
 
--- what a code section with this count wants of the frames before it
+-- what a code section with this count requires of the frames before it
 pub record CodeFits (encoding : Encoding) (fs : List SectionFrame) (c : ℕ) : Type 0 where
   pub bodies : HasCount encoding function_id c fs
   pub functions : Any (IsSection encoding function_id) fs ⊎ (c ≡ 0)
@@ -63,11 +63,11 @@ pub code_from : (encoding : Encoding) (fs : List SectionFrame) (p : SectionConte
     ≡ None → CodeFits encoding fs c
 code_from encoding fs p k o c h = grind (arith, same_of, some_from)
 
--- nothing is wrong with a count that isn't asked for, or agrees
+-- nothing is wrong with a count that isn't required, or agrees
 data_right : (b all : Bool) (e : FaultAt) → (b ≡ true → all ≡ true) → when (b && not all) e ≡ None
 data_right b all e h = grind arith
 
--- a count with which nothing is wrong agrees where it is asked for
+-- a count with which nothing is wrong agrees if it is required
 right_data : (b all : Bool) (e : FaultAt) → when (b && not all) e ≡ None → b ≡ true → all ≡ true
 right_data b all e h z = grind arith
 

@@ -30,7 +30,7 @@ header_settled start t a h =
     } in
     rw p.is r
 
--- whole sections, and a beginning of a code section, go on
+-- whole sections, and a prefix of a code section, go on
 accepted_goes : (start : ℕ) → Goes start Settled Pending
 accepted_goes start = record {
   header = λ t a h. header_settled start t a h;

@@ -49,7 +49,7 @@ number_parts o next xs t h =
       is = n.is;
     }
 
--- a tile that begins with so many bytes
+-- a tile that begins with n bytes
 pub record BytesParts (n : ℕ) (next : List ℕ → Grammar) (t : Tile) : Type 0 where
   pub prefix : List ℕ
   pub size : length prefix ≡ n
@@ -58,12 +58,12 @@ pub record BytesParts (n : ℕ) (next : List ℕ → Grammar) (t : Tile) : Type 
   pub goes_on : verdict (next prefix) others ≡ tile rest
   pub is : t ≡ made rest.shape (prefix ++ rest.bytes)
 
--- what a tile after so many bytes consists of, if they are there
+-- what a tile after n bytes consists of, if they are there
 bytes_at : (b : Bool) (n : ℕ) (next : List ℕ → Grammar) (xs : List ℕ) (e : Ending) (t : Tile) → nat_le n (length xs) ≡ b
     → cond b (after (take n xs) (verdict (next (take n xs)) (drop n xs))) (final e) ≡ tile t → BytesParts n next t
 bytes_at b n next xs e t l h = grind (arith, length-take-le)
 
--- what a tile after so many bytes consists of
+-- what a tile after n bytes consists of
 pub bytes_parts : (n o : ℕ) (next : List ℕ → Grammar) (xs : List ℕ) (t : Tile) → verdict (bytes n o next) xs ≡ tile t → BytesParts n next t
 unfolding verdict
 bytes_parts n o next xs t h = bytes_at (nat_le n (length xs)) n next xs _ t refl h
@@ -178,7 +178,7 @@ head_parts p o size xs t h =
       is = search (ends_there, takes_parts);
     }
 
--- a body, in a code section of which so many bodies and bytes are left
+-- a body, in a code section of which m bodies and l bytes remain
 pub record BodyParts (m l : ℕ) (t : Tile) : Type 0 where
   pub others : ℕ
   pub missing : m ≡ suc others

@@ -63,7 +63,7 @@ pub record Settled (ts : List Tile) : Type 0 where
   pub sections : InOrder (encoding_of ts) frames
   pub closed : nat_eq (bodies_left ts + bytes_left ts) 0 ≡ true
 
--- The tiles are a header, whole sections, and a beginning of a code section.
+-- The tiles are a header, whole sections, and a prefix of a code section.
 pub record Pending (ts : List Tile) : Type 0 where
   pub of_module : encoding_of ts ≡ Module
   pub frames : List SectionFrame

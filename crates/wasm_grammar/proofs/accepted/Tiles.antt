@@ -35,7 +35,7 @@ number_tile : (o : ℕ) (next : ℕ → ℕ → Grammar) (field rest : List ℕ)
 unfolding verdict
 number_tile o next field rest v s b e h = grind (arith, number_on, take_at, drop_at)
 
--- so many bytes, and then a tile
+-- n bytes, and then a tile
 bytes_tile : (n o : ℕ) (next : List ℕ → Grammar) (prefix rest : List ℕ) (s : Shape) (b : List ℕ) → length prefix ≡ n
     → verdict (next prefix) rest ≡ tile (made s b) → verdict (bytes n o next) (prefix ++ rest) ≡ tile (made s (prefix ++ b))
 unfolding verdict

@@ -1,4 +1,4 @@
--- Where bytes don't suffice, something else is there after their ending than where the stream ends.
+-- If bytes don't suffice, something else is there after the suffix that decides than where the stream ends.
 use Rattle.std.proofs.Common.{◌≡◌, ◌≢◌, ℕ, ◌+◌, ◌-◌, ◌<◌, ◌≤◌, Bool, true, false, cond, ◌&&◌, List, [], ◌∷◌, ◌++◌, length, take, drop}
 use Rattle.std.proofs.Common.{replicate, Option, Some, None, nat_lt, nat_le, nat_eq, refl, ◌∙◌, arith, length-append, leb-true, le-leb}
 use Rattle.std.specs.List.{list_any}
@@ -31,11 +31,11 @@ use Rattle.wasm_grammar.proofs.endings.Waiting.{later-wants}
 
 -- ---- every grammar
 
--- what is there after the same bytes tells what is there
+-- two verdicts that are equal after the same bytes are equal
 after_same : (f : List ℕ) (a b : Verdict) → after f a ≡ after f b → a ≡ b
 after_same f a b h = grind (arith, append_cancel_left)
 
--- Bytes that are missing and then come lead to something else, and so do the bytes that come where a section may start.
+-- Supplying missing bytes leads to something else, and so does supplying bytes where a section may start.
 abbrev pub Differs : Grammar → Type 0
 Differs (check e next) = Differs next
 Differs (u32_field o next) = (v k : ℕ) → 0 < k → Differs (next v k)
@@ -108,7 +108,7 @@ start_differs o e next id xs n h s ih true true p q w z = cc
 start_differs o e next id xs n h s ih true false p q w z = s.2 id xs p (leb-false 4 (length (id ∷ xs)) q) z
 start_differs o e next id xs n h s ih false l p q w z = grind (arith, unmagic)
 
--- where bytes don't suffice, something else is there after their ending
+-- if bytes don't suffice, something else is there after the suffix that decides
 pub differs : (g : Grammar) → Differs g → (xs : List ℕ) (n h : ℕ) → waiting g xs ≡ wants n h
     → verdict g xs ≢ verdict g (xs ++ deciding_ending g xs)
 unfolding verdict waiting deciding_ending

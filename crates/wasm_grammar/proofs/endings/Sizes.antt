@@ -1,4 +1,4 @@
--- An ending that decides is bytes, and not more than 2^32 of them.
+-- A suffix that decides consists of bytes, at most 2^32 of them.
 use Rattle.std.proofs.Common.{◌≡◌, ℕ, suc, ◌+◌, ◌-◌, ◌^◌, ◌<◌, ◌≤◌, ◌⊎◌, Bool, true, false, cond, All, List, [], ◌∷◌, length, take, drop}
 use Rattle.std.proofs.Common.{replicate, slice_index, Option, Some, None, nat_lt, nat_le, refl, arith, add-one, lit≤}
 use Rattle.std.proofs.lemmas.List.{length-replicate, length-drop}
@@ -49,7 +49,7 @@ Bounded (bytes n o next) = (n ≤ 2 ^ 32) × ((b : List ℕ) → Bounded (next b
 Bounded (section_start o e next) = (id : ℕ) → Bounded (next id)
 Bounded _ = Unit {0}
 
--- what is said of an ending
+-- what holds of a suffix that decides
 pub record IsSmall (ending : List ℕ) : Type 0 where
   pub each : All (λ b. b < 256) ending
   pub bound : length ending ≤ 2 ^ 32

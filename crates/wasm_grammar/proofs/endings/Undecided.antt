@@ -76,7 +76,7 @@ other_comes start features tiles front came need hint t w x y a b z =
     ∙ what_comes start features tiles front (came ++ deciding_ending (grammar start tiles) came) y t b) in
     search (events_differ, no_tile, tile_least, differs, Differs-grammar)
 
--- with room for it, the ending makes another stream
+-- if the offsets suffice, the suffix makes another stream
 goes_on : (start : ℕ) (front came more : List ℕ) → IsSmall more → Stream (front ++ came) start
     → start + length (front ++ came) + 2 ^ 33 < 2 ^ 64 → Stream (front ++ (came ++ more)) start
 goes_on start front came more s t l =

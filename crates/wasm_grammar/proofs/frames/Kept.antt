@@ -16,10 +16,10 @@ use Rattle.wasm_grammar.proofs.accepted.Counts.{is_section, section_yes, yes_sec
 use Rattle.wasm_grammar.proofs.PlainLists.{any_of, any_to, all_prefix, Spares, filter_twice}
 use Rattle.wasm_grammar.specs.Ids.{data_count_id, function_id}
 
--- ---- what is left of lists
+-- ---- the remaining elements of lists
 
 module _ {X : Type 0} where
-  -- what passes is left
+  -- what passes remains
   any_step : (p q : X → Bool) (x : X) (xs : List X) → Spares p q x → list_any p (filter q xs) ≡ list_any p xs → (b c : Bool) → p x ≡ b → q x
       ≡ c
       → list_any p (cond c (x ∷ filter q xs) (filter q xs)) ≡ (b || list_any p xs)
@@ -33,7 +33,7 @@ module _ {X : Type 0} where
   any_left p q (x ∷ xs) a = any_step p q x xs (All-head (Spares p q) x xs a) (any_left p q xs (All-tail (Spares p q) x xs a)) (p x) (q x)
       refl refl
 
-  -- an element that is left was in the list, after all those that are left before it
+  -- a remaining element was in the list, after all the remaining ones before it
   record LeftAfter (q : X → Bool) (xs : List X) (earlier : List X) (x : X) : Type 0 where
     before : List X
     after : List X

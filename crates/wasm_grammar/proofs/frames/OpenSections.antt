@@ -1,4 +1,4 @@
--- Tiles one after the other are whole sections, or whole sections and a beginning of a code section.
+-- Tiles one after the other are whole sections, or whole sections and a prefix of a code section.
 use Rattle.std.proofs.Common.{◌≡◌, ℕ, ◌+◌, ◌<◌, ◌⊎◌, inl, inr, Bool, true, false, cond, List, [], ◌∷◌, length, nat_eq, refl}
 use Rattle.std.specs.List.{All}
 use Rattle.wasm_grammar.specs.Content.{code, kind_of}

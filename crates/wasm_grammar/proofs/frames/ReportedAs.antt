@@ -1,4 +1,4 @@
--- The reading of an accepted stream is told by its sections, which it is divided into in one way.
+-- The sections of an accepted stream determine its reading, and there is one division into sections.
 use Rattle.std.proofs.Common.{◌≡◌, ℕ, ◌+◌, List, [], ◌∷◌, ◌++◌, length, refl, sym, ◌∙◌, arith}
 use Rattle.std.specs.List.{All, flat_map}
 use Rattle.std.proofs.lemmas.List.Elements.{All-head, All-tail}
@@ -61,7 +61,7 @@ frames_events_same features encoding at (f ∷ frames) xs ys (a, b, w, h, t) (c,
     let q : b ≡ d = frames_events_same features encoding (at + length (frame_bytes f)) frames b d t u in
     w ∙ ((λ j. p j ++ q j) ∙ sym v)
 
--- ---- told by sections
+-- ---- determined by sections
 
 pub frames_give_events : FramesGiveEvents
 frames_give_events stream start features events s a =

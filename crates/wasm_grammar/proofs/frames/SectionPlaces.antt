@@ -81,7 +81,7 @@ record Closed (start features : ℕ) (ts : List Tile) : Type 0 where
   places : sections_of (events_of start features ts) ≡ places_of (start + length (header_bytes encoding)) frames
   whole : bodies_left ts + bytes_left ts ≡ 0
 
--- The tiles are a header, these sections, and a beginning of a code section, which is reported with all its length.
+-- The tiles are a header, these sections, and a prefix of a code section, which is reported with all its length.
 record Open (start features : ℕ) (ts : List Tile) : Type 0 where
   encoding : Encoding
   frames : List SectionFrame
@@ -102,7 +102,7 @@ record Open (start features : ℕ) (ts : List Tile) : Type 0 where
         },
       ) ∷ []
 
--- one more section that is reported where it is
+-- one more section, which is reported with its range
 push_places : (start : ℕ) (encoding : Encoding) (fs : List SectionFrame) (f : SectionFrame) (low high : ℕ) → low
     ≡ start + length (stream_of encoding fs) + 1 + length f.sized.field → high ≡ low + length f.sized.content
     → places_of (start + length (header_bytes encoding)) fs ++ (f.id, record { start = low; end = high }) ∷ []
@@ -242,7 +242,7 @@ open_body start features u ts t h q c =
       places = p ∙ q.places;
     }
 
--- whole sections, and a beginning of a code section, go on
+-- whole sections, and a prefix of a code section, go on
 places_go : (start features : ℕ) → Goes start (Closed start features) (Open start features)
 places_go start features = record {
   header = header_closed start features;

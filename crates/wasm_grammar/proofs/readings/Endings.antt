@@ -31,7 +31,7 @@ end_number : (o : ℕ) (xs : List ℕ) (n : Number) (next : ℕ → ℕ → Verd
 end_number o xs (read v k) next p h e = h v k (after_final _ (next v k) (ended p) e)
 end_number o xs _ next p h e = cc
 
--- no end after so many bytes, if there is none in what follows
+-- no end after bytes, if there is none in what follows
 end_test : (b : Bool) (f : List ℕ) (v : Verdict) (x : FaultAt) (p : ℕ) → (v ≡ final (ended p) → ⊥) → cond b (after f v) (final (fault x))
     ≡ final (ended p) → ⊥
 end_test true f v x p h e = h (after_final f v (ended p) e)

@@ -1,4 +1,4 @@
--- Worked endings, by computation.
+-- Worked suffixes that decide, by computation.
 use Rattle.std.proofs.Common.{List, [], ◌∷◌, refl}
 use Rattle.wasm_base.specs.Number.{number}
 use Rattle.wasm_grammar.specs.Content.{items, wrong_content}

@@ -14,7 +14,7 @@ use Rattle.wasm_grammar.proofs.worked.Streams.{head, component_head, small_tile,
 abbrev framed_tile : Form → ℕ → (field content : List ℕ) → Tile
 framed_tile kind id field content = record { shape = section kind id content; bytes = id ∷ (field ++ content) }
 
--- the head of a code section with these fields, and so many bytes of bodies
+-- the head of a code section with these fields, and `size` bytes of bodies
 abbrev head_tile : (field : List ℕ) (count : ℕ) (counted : List ℕ) (size : ℕ) → Tile
 head_tile field count counted size = record { shape = code_start count (length counted) size; bytes = 10 ∷ (field ++ counted) }
 
