@@ -27,6 +27,10 @@ INDIRECT = ("local", "label", "field", "parameter", "tag_parameter")
 
 # ---- lines
 
+# The fields that a line leaves out, with the values that they then have.
+DEFAULTS = dict.fromkeys(["explicit", "memory64", "shared", "table64", "taken"], "false")
+DEFAULTS |= dict.fromkeys(["name", "maximum", "page_size_log2", "table_index"], "none")
+
 
 class Node:
     """A line, and the lines under it."""
@@ -45,7 +49,7 @@ class Node:
             end = value_end(self.text, start)
             value = self.text[start:end]
             if found:
-                assert found[1] not in self.fields, self.text
+                assert found[1] not in self.fields and DEFAULTS.get(found[1]) != value, self.text
                 self.fields[found[1]] = as_hex(value) if value.startswith('"') else value
             elif place == 0 and value.isdigit():
                 self.offset = value
@@ -55,11 +59,11 @@ class Node:
             place = end + 1
 
     def __getitem__(self, name):
-        return self.fields[name]
+        return self.fields[name] if name in self.fields or name not in DEFAULTS else DEFAULTS[name]
 
     def any(self, name):
         """A number that may be missing."""
-        value = self.fields[name]
+        value = self[name]
         return "-" if value == "none" else value
 
 
@@ -258,9 +262,11 @@ def composite(part):
 
 def sub_type(text):
     part = expression_of(text)
+    if part[0] != "sub":
+        return "sub(true - %s )" % composite(part)
     is_final = part[1] == "final"
     rest = part[2:] if is_final else part[1:]
-    assert part[0] == "sub" and len(rest) <= 2
+    assert len(rest) == 2 or len(rest) == 1 and not is_final, text
     return "sub(%s %s %s )" % ("true" if is_final else "false", rest[0] if len(rest) == 2 else "-", composite(rest[-1]))
 
 

@@ -18,7 +18,7 @@ impl Value for () {
 
 impl Value for bool {
     fn write<W: Sink>(&self, out: &mut Lines<W>) {
-        out.flag("bool", *self);
+        out.word_field("bool", if *self { "true" } else { "false" });
     }
 }
 

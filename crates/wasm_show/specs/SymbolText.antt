@@ -5,11 +5,11 @@ use Rattle.wasm_custom.specs.Linking.{text_if_any}
 use Rattle.wasm_custom.specs.declared.linking.DefinedDataSymbol.{DefinedDataSymbol}
 use Rattle.wasm_custom.specs.declared.linking.SymbolInfo.{SymbolInfo}
 use Rattle.wasm_custom.specs.declared.linking.SymbolInfo.TheVariants as symbols
-use Rattle.wasm_tree.specs.Fields.{Field, named, alone, number, quoted, word, Value}
+use Rattle.wasm_tree.specs.Fields.{Field, named, alone, nothing, number, quoted, Value}
 
 abbrev pub quoted_if_any : Option (List ℕ) → Value
 quoted_if_any (Some text) = quoted text
-quoted_if_any None = word (codes "none")
+quoted_if_any None = nothing
 
 -- a symbol that has an index and perhaps a name
 abbrev pub indexed_fields : (kind : List ℕ) → (flags index : ℕ) → (name : Option (List ℕ)) → List Field

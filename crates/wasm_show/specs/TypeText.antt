@@ -1,5 +1,5 @@
 -- The text of types, in the words of the text format. Core specification, Text format, Types.
-use Rattle.std.specs.Prelude.{ℕ, Bool, true, false, List, [], ◌∷◌, ◌++◌, codes, decimal, Option, Some, None}
+use Rattle.std.specs.Prelude.{ℕ, Bool, true, false, List, [], ◌∷◌, ◌++◌, codes, decimal, Option, Some, None, if◌then◌else◌}
 use Rattle.std.specs.List.{flat_map}
 use Rattle.wasm_items.specs.declared.types.CompositeType.{CompositeType}
 use Rattle.wasm_items.specs.declared.types.CompositeType.TheVariants as composites
@@ -100,5 +100,11 @@ abbrev pub supertype_text : Option ℕ → List ℕ
 supertype_text (Some index) = decimal index ++ codes " "
 supertype_text None = []
 
+-- whether a type is final and extends none, so that the text format has its composite type alone
+abbrev pub is_plain : (is_final : Bool) → Option ℕ → Bool
+is_plain true None = true
+is_plain is_final supertype = false
+
 abbrev pub sub_text : SubType → List ℕ
-sub_text s = sub_start s.is_final ++ (supertype_text s.supertype ++ (composite_text s.composite ++ codes ")"))
+sub_text s = if is_plain s.is_final s.supertype then composite_text s.composite
+    else sub_start s.is_final ++ (supertype_text s.supertype ++ (composite_text s.composite ++ codes ")"))

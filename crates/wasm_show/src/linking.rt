@@ -74,7 +74,7 @@ fn show_indexed<O: Tree>(kind: &str, flags: u32, index: u32, name: &Option<&str>
     out.number("index", u64::from(index));
     match name {
         Some(name) => out.quoted("name", name),
-        None => out.word_field("name", "none"),
+        None => out.nothing("name"),
     }
 }
 

@@ -5,7 +5,7 @@ ghost use Rattle.wasm_show.specs.ItemText.{global_type_fields, memory_fields, ta
 ghost use Rattle.wasm_tree.specs.Said.{Says, SaysFields};
 ghost use Rattle.wasm_tree.specs.Tree.{Adds, has_line_feed};
 ghost use Rattle.wasm_show.specs.TypeText.{array_text, heap_word as word_of_heap, mutable_text, ref_start as start_of_ref, struct_text};
-ghost use Rattle.wasm_show.specs.TypeText.{sub_start as start_of_sub, supertype_text, types_text, val_text};
+ghost use Rattle.wasm_show.specs.TypeText.{is_plain as is_plain_type, sub_start as start_of_sub, supertype_text, types_text, val_text};
 
 use crate::lists::{under, write_lines, write_words};
 use crate::show::{Show, Text};
@@ -199,6 +199,13 @@ fn sub_start(is_final: bool) -> &'static str
     if is_final { "(sub final " } else { "(sub " }
 }
 
+// Whether the text format has the composite type alone.
+fn is_plain(is_final: bool, supertype: Option<u32>) -> bool
+    ensures { result ≡ is_plain_type is_final supertype }
+{
+    is_final && supertype.is_none()
+}
+
 // Writes the index of the type that is extended, if there is one.
 fn write_supertype<O: Tree>(supertype: Option<u32>, out: &mut O)
     ensures adds { Adds (O.writing out.old) (O.writing out.new) }
@@ -216,6 +223,10 @@ impl Text for SubType {
     ghost words = { sub_text };
 
     fn text<O: Tree>(&self, out: &mut O) {
+        if is_plain(self.is_final, self.supertype) {
+            self.composite.text(out);
+            return;
+        }
         out.text(sub_start(self.is_final));
         write_supertype(self.supertype, out);
         self.composite.text(out);

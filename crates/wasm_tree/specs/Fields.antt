@@ -1,5 +1,5 @@
 -- The text of an item's line, field by field.
-use Rattle.std.specs.Prelude.{ℕ, ◌/◌, ◌%◌, Bool, true, false, List, [], ◌∷◌, ◌++◌, codes, decimal, length, take}
+use Rattle.std.specs.Prelude.{ℕ, ◌/◌, ◌%◌, Bool, true, false, not, List, [], ◌∷◌, ◌++◌, codes, decimal, length, take}
 use Rattle.std.specs.Prelude.{slice_index, ◌||◌, nat_lt, nat_eq, if◌then◌else◌, Option, Some, None, ℤ}
 use Rattle.std.specs.Fmt.{signed_decimal}
 use Rattle.std.specs.List.{flat_map}
@@ -11,8 +11,11 @@ pub data Value : Type 0 where
   signed : ℤ → Value
   -- a text in quotes
   quoted : List ℕ → Value
-  -- what stands as it is: `true`, the word of a kind, a type
+  -- the word of a kind, or a type, as it is
   word : List ℕ → Value
+  flag : Bool → Value
+  -- no value
+  nothing : Value
   -- from one offset to another
   range : (start end : ℕ) → Value
   -- bytes that are no text
@@ -41,6 +44,9 @@ value_text (number n) = decimal n
 value_text (signed z) = signed_decimal z
 value_text (quoted text) = codes "\"" ++ (flat_map quoted_byte text ++ codes "\"")
 value_text (word text) = text
+value_text (flag true) = codes "true"
+value_text (flag false) = codes "false"
+value_text nothing = codes "none"
 value_text (range start end) = decimal start ++ (codes ".." ++ decimal end)
 value_text (raw bytes) = decimal (length bytes) ++ (codes ":" ++ flat_map hexadecimal (take 16 bytes))
 
@@ -48,8 +54,15 @@ value_text (raw bytes) = decimal (length bytes) ++ (codes ":" ++ flat_map hexade
 abbrev pub field_start : (name : List ℕ) → List ℕ
 field_start name = codes " " ++ (name ++ codes "=")
 
+-- whether a value is the one that a field has if it is left out: `false` and no value
+abbrev pub is_default : Value → Bool
+is_default (flag b) = not b
+is_default nothing = true
+is_default other = false
+
 abbrev pub field_text : Field → List ℕ
-field_text (named name value) = codes " " ++ (name ++ (codes "=" ++ value_text value))
+field_text (named name value) =
+    if is_default value then [] else codes " " ++ (name ++ (codes "=" ++ value_text value))
 field_text (alone text) = codes " " ++ text
 
 -- a text with these fields after it
@@ -59,10 +72,6 @@ with_fields before (f ∷ later) = with_fields (before ++ field_text f) later
 
 -- ---- values
 
-abbrev pub flag : Bool → Value
-flag true = word (codes "true")
-flag false = word (codes "false")
-
 abbrev pub number_if_any : Option ℕ → Value
 number_if_any (Some n) = number n
-number_if_any None = word (codes "none")
+number_if_any None = nothing

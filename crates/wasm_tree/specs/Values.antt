@@ -1,6 +1,6 @@
 -- What calls of a tree are given.
 use Rattle.std.specs.Prelude.{Bool, false, codes, List, ℕ}
-use Rattle.wasm_tree.specs.Fields.{Value, flag, number, quoted, range, signed, word}
+use Rattle.wasm_tree.specs.Fields.{Value, flag, nothing, number, quoted, range, signed, word}
 use Rattle.wasm_tree.specs.Tree.{has_line_feed}
 use Rattle.wasm_tree.specs.declared.tree.Value.{Value as Given}
 use Rattle.wasm_tree.specs.declared.tree.Value.TheVariants as given
@@ -15,7 +15,7 @@ value_of (given.Flag b) = flag b
 value_of (given.Word text) = word text.now
 value_of (given.Quoted text) = quoted text.now
 value_of (given.Range from to) = range from to
-value_of given.Nothing = word (codes "none")
+value_of given.Nothing = nothing
 
 -- whether there is a line feed in a word that is a value
 abbrev pub breaks_line : Given → Bool

@@ -14,7 +14,7 @@ use crate::numbers::{ItemNumber, Space};
 use crate::output::Output;
 use crate::rows::Rows;
 use crate::short::{flag_word, signed_of};
-use crate::tree::{Start, Style, Tree, Value};
+use crate::tree::{Start, Style, Tree, Value, is_default};
 use std::alloc::Global;
 use wasm_lines::{ListError, ShortText, Sink};
 
@@ -349,6 +349,9 @@ impl<W: Sink> Tree for Lines<W> {
         ensures says { Says (field_text (named name.now (value_of value.entry)))
             (lines self.old) (lines self.new) }
     {
+        if is_default(value) {
+            return;
+        }
         self.begin_field(name);
         self.value(value);
     }

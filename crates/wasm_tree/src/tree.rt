@@ -3,7 +3,7 @@ ghost use Rattle.std.specs.Prelude.{◌≡◌, ◌++◌, None, codes, decimal, f
 ghost use Rattle.std.specs.List.{flat_map};
 ghost use Rattle.std.specs.Option.{is_some};
 ghost use Rattle.wasm_tree.specs.Fields.{alone, field_start, field_text, named, number as number_value, word as word_value, quoted, raw};
-ghost use Rattle.wasm_tree.specs.Fields.{range, signed as signed_value, flag as flag_value, number_if_any as optional, hexadecimal};
+ghost use Rattle.wasm_tree.specs.Fields.{range, signed as signed_value, flag as flag_value, number_if_any as optional, hexadecimal, is_default as is_default_value};
 ghost use Rattle.wasm_tree.specs.Said.{Says, SaysSome};
 ghost use Rattle.wasm_tree.specs.Tree.{Adds, AddsBytes, AddsFirst, AddsNumber, IsOut, Writing, has_line_feed};
 ghost use Rattle.wasm_tree.specs.declared.objects.Spot.TheVariants.{Outside};
@@ -59,7 +59,7 @@ pub enum Value<'a> {
     Number(u64),
     /// A number with a sign.
     Signed(i64),
-    /// `true` or `false`.
+    /// `true` or `false`. Lines leave out a field that is `false`.
     Flag(bool),
     /// A word, which has no line feed.
     Word(&'a str),
@@ -67,8 +67,19 @@ pub enum Value<'a> {
     Quoted(&'a str),
     /// From one offset in the whole stream to another: `start..end` in lines.
     Range(u64, u64),
-    /// No value: `none` in lines.
+    /// No value. Lines leave out such a field.
     Nothing,
+}
+
+/// Whether lines leave out a field with this value: `false`, or no value.
+pub(crate) fn is_default(value: Value<'_>) -> bool
+    ensures { result ≡ is_default_value (value_of value) }
+{
+    match value {
+        Value::Flag(flag) => !flag,
+        Value::Nothing => true,
+        _ => false,
+    }
 }
 
 /// Lines, each one under another, that are put together from fields.

@@ -18,9 +18,9 @@ const MODULE: &[u8] =
 /// Its dump.
 const DUMP: &[u8] = b"version 0 8 1 module
 section 1 10 15 1 type
-  11 type[0] explicit=false type=(sub final (func (param i32)))
+  11 type[0] type=(func (param i32))
 section 2 17 27 1 import
-  18 memory[0] module=\"env\" name=\"m\" ty=memory memory64=false shared=false initial=1 maximum=none page_size_log2=none
+  18 memory[0] module=\"env\" name=\"m\" ty=memory initial=1
 section 3 29 31 1 function
   30 func[0] index=0
 section 7 33 38 1 export
@@ -191,7 +191,7 @@ fn shows_what_came_before_the_source_failed(rt: HostRuntime) -> Result<(), Fail>
     assert!(rt; ended == Err(ListError::Input));
     assert!(rt; input.failed());
     let text =
-        b"version 0 8 1 module\nsection 1 10 15 1 type\n  11 type[0] explicit=false type=(sub final (func (param i32)))\nsection 2 17 27 1 import\n  18 memory[0] module=\"env\" name=\"m\" ty=memory memory64=false shared=false initial=1 maximum=none page_size_log2=none\n";
+        b"version 0 8 1 module\nsection 1 10 15 1 type\n  11 type[0] type=(func (param i32))\nsection 2 17 27 1 import\n  18 memory[0] module=\"env\" name=\"m\" ty=memory initial=1\n";
     assert_eq!(rt; output.written(), text.as_slice());
     Ok(())
 }

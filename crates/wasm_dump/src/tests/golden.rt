@@ -24,9 +24,9 @@ const MODULE_2: &[u8] =
 /// Its dump.
 const DUMP_2: &[u8] = b"version 0 8 1 module
 section 1 10 23 3 type
-  11 type[0] explicit=false type=(sub final (struct (field i32) (field (mut i64))))
-  17 type[1] explicit=false type=(sub final (array (mut i32)))
-  20 type[2] explicit=false type=(sub final (func))
+  11 type[0] type=(struct (field i32) (field (mut i64)))
+  17 type[1] type=(array (mut i32))
+  20 type[2] type=(func)
 section 3 25 27 1 function
   26 func[0] index=2
 code 29 33 1 3
@@ -48,13 +48,13 @@ A\0\x0b\x03abc\0A\x04\x0b\0\x01\x07passive\0A\xe4\0\x0b\x02xy";
 /// Its dump.
 const DUMP_3: &[u8] = b"version 0 8 1 module
 section 1 14 18 1 type
-  15 type[0] explicit=false type=(sub final (func))
+  15 type[0] type=(func)
 section 3 24 26 1 function
   25 func[0] index=0
 section 5 32 36 1 memory
-  33 memory[0] memory64=false shared=false initial=1 maximum=4 page_size_log2=none
+  33 memory[0] initial=1 maximum=4
 section 6 42 48 1 global
-  43 global[0] content_type=i32 shared=false init_expr=(i32.const 8)
+  43 global[0] content_type=i32 init_expr=(i32.const 8)
 datacount 54 55 4
 code 61 82 1 20
 body 67 82 func[0]
@@ -79,23 +79,23 @@ const MODULE_4: &[u8] =
 /// Its dump.
 const DUMP_4: &[u8] = b"version 0 8 1 module
 section 1 10 22 2 type
-  11 type[0] explicit=false type=(sub final (func))
-  14 type[1] explicit=false type=(sub final (func (param i32 i64 f32 f64) (result f64)))
+  11 type[0] type=(func)
+  14 type[1] type=(func (param i32 i64 f32 f64) (result f64))
 section 2 24 77 6 import
   25 func[0] module=\"env\" name=\"f\" ty=func index=1
-  33 table[0] module=\"env\" name=\"t\" ty=table element_type=(ref null func) table64=false initial=1 maximum=10 shared=false
-  44 memory[0] module=\"env\" name=\"m\" ty=memory memory64=false shared=false initial=1 maximum=100 page_size_log2=none
-  54 global[0] module=\"env\" name=\"g\" ty=global content_type=i32 shared=false
-  63 global[1] module=\"env\" name=\"mg\" ty=global content_type=(mut i64) shared=false
+  33 table[0] module=\"env\" name=\"t\" ty=table element_type=(ref null func) initial=1 maximum=10
+  44 memory[0] module=\"env\" name=\"m\" ty=memory initial=1 maximum=100
+  54 global[0] module=\"env\" name=\"g\" ty=global content_type=i32
+  63 global[1] module=\"env\" name=\"mg\" ty=global content_type=(mut i64)
   73 func[1] module=\"\" name=\"\" ty=func index=0
 section 3 79 82 2 function
   80 func[2] index=0
   81 func[3] index=1
 section 6 84 124 4 global
-  85 global[2] content_type=i32 shared=false init_expr=(i32.const 5)
-  90 global[3] content_type=(mut f64) shared=false init_expr=(f64.const bits=4609434218613702656)
-  102 global[4] content_type=f32 shared=false init_expr=(f32.const bits=2147483648)
-  110 global[5] content_type=i64 shared=false init_expr=(i64.const -9223372036854775808)
+  85 global[2] content_type=i32 init_expr=(i32.const 5)
+  90 global[3] content_type=(mut f64) init_expr=(f64.const bits=4609434218613702656)
+  102 global[4] content_type=f32 init_expr=(f32.const bits=2147483648)
+  110 global[5] content_type=i64 init_expr=(i64.const -9223372036854775808)
 section 7 126 148 5 export
   127 name=\"two\" kind=func index=3
   133 name=\"m\" kind=memory index=0
@@ -104,7 +104,7 @@ section 7 126 148 5 export
   145 name=\"\" kind=func index=0
 start 150 151 2
 section 9 153 161 1 element
-  154 elem[0] kind=active table_index=none offset_expr=(i32.const 0) functions=158..161 count=2 range=154..161
+  154 elem[0] kind=active offset_expr=(i32.const 0) functions=158..161 count=2 range=154..161
     159 index=2
     160 index=3
 code 163 172 2 8
@@ -115,13 +115,13 @@ section 11 174 187 1 data
 custom 189 252 197
   section name=\"linking\" version=2 range=197..252 subsections=198
     198 symbol_table=200..252 count=11
-      201 func flags=48 index=0 name=none
-      204 func flags=16 index=1 name=none
+      201 func flags=48 index=0
+      204 func flags=16 index=1
       207 func flags=0 index=2 name=\"start\"
       216 func flags=164 index=3 name=\"two\"
-      224 table flags=48 index=0 name=none
-      227 global flags=16 index=0 name=none
-      230 global flags=16 index=1 name=none
+      224 table flags=48 index=0
+      227 global flags=16 index=0
+      230 global flags=16 index=1
       233 global flags=164 index=2 name=\"c\"
       239 global flags=0 index=3 name=\"d\"
       244 global flags=6 index=4 name=\"\"
@@ -139,16 +139,16 @@ const MODULE_5: &[u8] =
 /// Its dump.
 const DUMP_5: &[u8] = b"version 0 8 1 module
 section 1 10 18 2 type
-  11 type[0] explicit=false type=(sub final (func))
-  14 type[1] explicit=false type=(sub final (func (param i32)))
+  11 type[0] type=(func)
+  14 type[1] type=(func (param i32))
 section 3 20 22 1 function
   21 func[0] index=1
 section 4 24 28 1 table
-  25 table[0] element_type=(ref null func) table64=false initial=1 maximum=none shared=false init=null
+  25 table[0] element_type=(ref null func) initial=1 init=null
 section 5 30 33 1 memory
-  31 memory[0] memory64=false shared=false initial=1 maximum=none page_size_log2=none
+  31 memory[0] initial=1
 section 6 35 41 1 global
-  36 global[0] content_type=i32 shared=false init_expr=(i32.const 0)
+  36 global[0] content_type=i32 init_expr=(i32.const 0)
 section 9 43 48 1 element
   44 elem[0] kind=passive functions=46..48 count=1 range=44..48
     47 index=0
@@ -190,10 +190,10 @@ const MODULE_6: &[u8] =
 /// Its dump.
 const DUMP_6: &[u8] = b"version 0 8 1 module
 section 1 10 27 4 type
-  11 type[0] explicit=false type=(sub final (func (param i32 i64)))
-  16 type[1] explicit=false type=(sub final (func (param i32)))
-  20 type[2] explicit=false type=(sub final (func (param f32)))
-  24 type[3] explicit=false type=(sub final (func))
+  11 type[0] type=(func (param i32 i64))
+  16 type[1] type=(func (param i32))
+  20 type[2] type=(func (param f32))
+  24 type[3] type=(func)
 section 2 29 39 1 import
   30 tag[0] module=\"m\" name=\"tag\" ty=tag kind=exception func_type_idx=1
 section 3 41 43 1 function

@@ -12,9 +12,9 @@ const LINKED: &[u8] =
 
 const NAMED: &[u8] = b"version 0 8 1 module
 section 1 10 24 3 type
-  11 type[0] explicit=false type=(sub final (func (result i32)))
-  15 type[1] explicit=false type=(sub final (func (param i32)))
-  19 type[2] explicit=false type=(sub final (func (param i32) (result i32)))
+  11 type[0] type=(func (result i32))
+  15 type[1] type=(func (param i32))
+  19 type[2] type=(func (param i32) (result i32))
 section 2 26 44 1 import
   27 func[0] \"log_number\" module=\"env\" name=\"log_number\" ty=func index=1
 section 3 46 50 3 function
@@ -22,17 +22,17 @@ section 3 46 50 3 function
   48 func[2] \"name_of\" index=2
   49 func[3] \"run\" index=2
 section 4 52 57 1 table
-  53 table[0] element_type=(ref null func) table64=false initial=2 maximum=2 shared=false init=null
+  53 table[0] element_type=(ref null func) initial=2 maximum=2 init=null
 section 5 59 62 1 memory
-  60 memory[0] memory64=false shared=false initial=2 maximum=none page_size_log2=none
+  60 memory[0] initial=2
 section 6 64 72 1 global
-  65 global[0] \"__stack_pointer\" content_type=(mut i32) shared=false init_expr=(i32.const 66592)
+  65 global[0] \"__stack_pointer\" content_type=(mut i32) init_expr=(i32.const 66592)
 section 7 74 100 3 export
   75 name=\"memory\" kind=memory index=0
   84 name=\"name_of\" kind=func index=2
   94 name=\"run\" kind=func index=3
 section 9 102 109 1 element
-  103 elem[0] kind=active table_index=none offset_expr=(i32.const 1) functions=107..109 count=1 range=103..109
+  103 elem[0] kind=active offset_expr=(i32.const 1) functions=107..109 count=1 range=103..109
     108 index=1
 code 111 201 3 89
 body 113 142 func[1] \"next\"
@@ -102,7 +102,7 @@ fn shows_the_first_name(rt: HostRuntime) -> Result<(), Fail> {
         b"\0asm\x01\0\0\0\x01\x04\x01`\0\0\x03\x03\x02\0\0\0\x0d\x04name\x01\x06\x01\x01\x03b\x0a\"\0\x14\x04name\x01\x07\x02\0\x01a\x01\x01c\x04\x04\x01\0\x01t";
     let wanted = b"version 0 8 1 module
 section 1 10 14 1 type
-  11 type[0] \"t\" explicit=false type=(sub final (func))
+  11 type[0] \"t\" type=(func)
 section 3 16 19 2 function
   17 func[0] \"a\" index=0
   18 func[1] \"b\\0a\\22\" index=0
@@ -119,7 +119,7 @@ fn ends_at_a_fault_of_names(rt: HostRuntime) -> Result<(), Fail> {
         b"\0asm\x01\0\0\0\x01\x04\x01`\0\0\x03\x03\x02\0\0\0\x14\x04name\x01\x07\x02\x01\x01b\0\x01a\x04\x04\x01\0\x01t\0\x0b\x04name\x04\x04\x01\0\x01u";
     let wanted = b"version 0 8 1 module
 section 1 10 14 1 type
-  11 type[0] explicit=false type=(sub final (func))
+  11 type[0] type=(func)
 section 3 16 19 2 function
   17 func[0] index=0
   18 func[1] \"b\" index=0

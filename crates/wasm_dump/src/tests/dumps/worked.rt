@@ -29,43 +29,43 @@ section 1 10 71 3 type
     type[0] type=(sub final 5 (func (param i32 i64 f32) (result f64 v128)))
     type[1] type=(sub (array (mut i8)))
     type[2] type=(sub 132 (array i16))
-    type[3] type=(sub final (struct (field i8) (field (mut i16)) (field (mut (ref null 7))) (field (ref extern)) (field i64)))
-  52 type[4] explicit=false type=(sub final (func (param (ref null func) (ref null extern) (ref null any) (ref null eq) (ref null i31) (ref null struct) (ref null array) (ref null exn) (ref null none) (ref null noextern) (ref null nofunc) (ref null noexn)) (result (ref 200))))
+    type[3] type=(struct (field i8) (field (mut i16)) (field (mut (ref null 7))) (field (ref extern)) (field i64))
+  52 type[4] type=(func (param (ref null func) (ref null extern) (ref null any) (ref null eq) (ref null i31) (ref null struct) (ref null array) (ref null exn) (ref null none) (ref null noextern) (ref null nofunc) (ref null noexn)) (result (ref 200)))
   fault 70 invalid leading byte for composite type: 64
 section 2 73 186 12 import
   74 func[0] module=\"a\" name=\"b\" ty=func index=300
-  81 table[0] module=\"c\" name=\"\" ty=table element_type=(ref null extern) table64=true initial=3 maximum=9 shared=false
-  89 table[1] module=\"\" name=\"d\" ty=table element_type=(ref 4) table64=false initial=130 maximum=131 shared=true
-  100 memory[0] module=\"e\" name=\"f\" ty=memory memory64=true shared=false initial=5 maximum=6 page_size_log2=7
-  109 memory[1] module=\"g\" name=\"h\" ty=memory memory64=false shared=true initial=8 maximum=10 page_size_log2=none
-  117 global[0] module=\"i\" name=\"j\" ty=global content_type=(mut i32) shared=false
+  81 table[0] module=\"c\" name=\"\" ty=table element_type=(ref null extern) table64=true initial=3 maximum=9
+  89 table[1] module=\"\" name=\"d\" ty=table element_type=(ref 4) initial=130 maximum=131 shared=true
+  100 memory[0] module=\"e\" name=\"f\" ty=memory memory64=true initial=5 maximum=6 page_size_log2=7
+  109 memory[1] module=\"g\" name=\"h\" ty=memory shared=true initial=8 maximum=10
+  117 global[0] module=\"i\" name=\"j\" ty=global content_type=(mut i32)
   124 global[1] module=\"k\" name=\"l\" ty=global content_type=(ref null any) shared=true
   131 tag[0] module=\"m\" name=\"n\" ty=tag kind=exception func_type_idx=11
   138 func[1] module=\"o\" name=\"p\" ty=func_exact index=12
   149 func[2] module=\"q\" name=\"r\" ty=func index=13
   153 tag[1] module=\"q\" name=\"s\" ty=tag kind=exception func_type_idx=14
   fault 159 malformed UTF-8 encoding
-  171 memory[2] module=\"t\" name=\"u\" ty=memory memory64=false shared=false initial=15 maximum=none page_size_log2=16
-  173 memory[3] module=\"t\" name=\"v\" ty=memory memory64=false shared=false initial=15 maximum=none page_size_log2=16
+  171 memory[2] module=\"t\" name=\"u\" ty=memory initial=15 page_size_log2=16
+  173 memory[3] module=\"t\" name=\"v\" ty=memory initial=15 page_size_log2=16
   175 func[3] module=\"w\\22\\5c\\0a\" name=\"x\\c3\\a9\" ty=func index=17
 section 3 188 193 3 function
   189 func[4] index=1
   190 func[5] index=200
   192 func[6] index=7
 section 4 195 209 2 table
-  196 table[2] element_type=(ref null func) table64=true initial=21 maximum=22 shared=false init=null
-  200 table[3] element_type=(ref null 24) table64=false initial=23 maximum=none shared=true init=(ref.null func)
+  196 table[2] element_type=(ref null func) table64=true initial=21 maximum=22 init=null
+  200 table[3] element_type=(ref null 24) initial=23 shared=true init=(ref.null func)
 section 5 211 219 2 memory
-  212 memory[4] memory64=true shared=false initial=25 maximum=26 page_size_log2=27
-  216 memory[5] memory64=false shared=true initial=28 maximum=none page_size_log2=none
+  212 memory[4] memory64=true initial=25 maximum=26 page_size_log2=27
+  216 memory[5] shared=true initial=28
   fault 218 section size mismatch: unexpected data at the end of the section
 section 13 221 227 2 tag
   222 tag[2] kind=exception func_type_idx=29
   224 tag[3] kind=exception func_type_idx=300
 section 6 229 264 3 global
-  230 global[2] content_type=(mut i64) shared=false init_expr=(i64.const 30)
+  230 global[2] content_type=(mut i64) init_expr=(i64.const 30)
   235 global[3] content_type=f32 shared=true init_expr=(f32.const bits=0)
-  243 global[4] content_type=v128 shared=false init_expr=(v128.const 00000000000000000000000000000000)
+  243 global[4] content_type=v128 init_expr=(v128.const 00000000000000000000000000000000)
 section 7 266 290 6 export
   267 name=\"f\" kind=func index=31
   271 name=\"t\" kind=table index=32
@@ -75,7 +75,7 @@ section 7 266 290 6 export
   fault 290 Exact type is not allowed in the exports
 start 292 293 36
 section 9 295 361 9 element
-  296 elem[0] kind=active table_index=none offset_expr=(i32.const 1) functions=300..303 count=2 range=296..303
+  296 elem[0] kind=active offset_expr=(i32.const 1) functions=300..303 count=2 range=296..303
     301 index=37
     302 index=38
   303 elem[1] kind=passive functions=305..307 count=1 range=303..307
@@ -85,7 +85,7 @@ section 9 295 361 9 element
     315 index=300
     317 index=42
   318 elem[3] kind=declared functions=320..321 count=0 range=318..321
-  321 elem[4] kind=active table_index=none offset_expr=(i32.const 3) expressions=325..332 count=2 type=(ref null func) range=321..332
+  321 elem[4] kind=active offset_expr=(i32.const 3) expressions=325..332 count=2 type=(ref null func) range=321..332
     326 expr=(ref.null func)
     329 expr=(ref.func 43)
   332 elem[5] kind=passive expressions=334..338 count=1 type=(ref null extern) range=332..338
@@ -171,7 +171,7 @@ custom 164 204 190
   section name=\"metadata.code.branch_hint\" functions=190..204 count=2
     191 func=26 hints=192..199 count=2
       193 func_offset=27 taken=true
-      196 func_offset=28 taken=false
+      196 func_offset=28
     199 func=29 hints=200..204 count=1
       201 func_offset=30 taken=true
 custom 206 266 216
@@ -242,7 +242,7 @@ custom 85 200 93
     fault 139 unexpected end-of-file
     139 symbol_table=141..188 count=10
       142 func flags=1 index=2 name=\"h\"
-      147 func flags=16 index=3 name=none
+      147 func flags=16 index=3
       150 func flags=80 index=4 name=\"i\"
       155 data flags=128 name=\"j\" index=5 offset=6 size=7
       163 data flags=16 name=\"k\" undefined
