@@ -1,5 +1,6 @@
 -- The text of types, in the words of the text format. Core specification, Text format, Types.
-use Rattle.std.specs.Prelude.{ℕ, Bool, true, false, List, [], ◌∷◌, ◌++◌, codes, decimal, Option, Some, None, if◌then◌else◌}
+use Rattle.std.specs.Prelude.{ℕ, Bool, true, false, List, [], ◌∷◌, ◌++◌, codes, decimal, Option, Some, None}
+use Rattle.std.specs.Prelude.{if◌then◌else◌}
 use Rattle.std.specs.List.{flat_map}
 use Rattle.wasm_items.specs.declared.types.CompositeType.{CompositeType}
 use Rattle.wasm_items.specs.declared.types.CompositeType.TheVariants as composites
