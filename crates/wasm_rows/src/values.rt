@@ -114,7 +114,7 @@ pub(crate) fn show_value<W: Sink>(
     true
 }
 
-// Like `show_number`, for what is longer than a number.
+// Like `show_value`, for what is longer than a number.
 fn show_text<W: Sink>(name: &str, reader: &mut BinaryReader<'_>, out: &mut Lines<W>) -> bool {
     match name {
         "bool" => show_call(reader.read::<bool>(), reader, out),
