@@ -37,8 +37,8 @@ Tells takes before bytes payload (Ok Read) after = ⊥
 Tells takes before bytes payload (Ok (End how)) after = (is_end (report_of payload) ≡ true) × (after ≡ before)
 Tells takes before bytes payload (Err e) after = fault_at e ≡ out_of_memory
 
--- What the feeder has passed of the given bytes was reported to a visitor that began as the first one, and is now the
--- second one.
+-- A visitor began as the first one, and is now the second one, after what the feeder has passed of the given bytes was
+-- reported to it.
 pub record HasVisited {V : Type 0} (takes : V → Event → V → Type 0) (features : ℕ) (given : List ℕ) (begun : V)
     (feed : Feed) (now : V) : Type 0 where
   pub events : List Event
