@@ -370,30 +370,31 @@ export declare const EventLayout: {
 };
 
 export declare const ParserLayout: {
-    readonly SIZE: 40;
+    readonly SIZE: 48;
     readonly offset: 0;
-    readonly functions: 8;
-    readonly codes: 12;
-    readonly datas: 16;
-    readonly dataCounts: 20;
-    readonly bodies: 24;
-    readonly codeBytes: 28;
-    readonly isBegun: 32;
-    readonly isComponent: 33;
-    readonly rank: 34;
-    readonly hasFunctions: 35;
-    readonly hasCodes: 36;
-    readonly hasDatas: 37;
-    readonly hasDataCounts: 38;
-    readonly inCode: 39;
+    readonly features: 8;
+    readonly functions: 12;
+    readonly codes: 16;
+    readonly datas: 20;
+    readonly dataCounts: 24;
+    readonly bodies: 28;
+    readonly codeBytes: 32;
+    readonly isBegun: 36;
+    readonly isComponent: 37;
+    readonly rank: 38;
+    readonly hasFunctions: 39;
+    readonly hasCodes: 40;
+    readonly hasDatas: 41;
+    readonly hasDataCounts: 42;
+    readonly inCode: 43;
 };
 
 export declare const FeedLayout: {
-    readonly SIZE: 64;
+    readonly SIZE: 72;
     readonly parser: 0;
-    readonly mark: 40;
-    readonly end: 48;
-    readonly isFinished: 56;
+    readonly mark: 48;
+    readonly end: 56;
+    readonly isFinished: 64;
 };
 
 export declare const ItemsLayout: {

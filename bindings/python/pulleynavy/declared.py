@@ -404,6 +404,7 @@ class Event(ctypes.Structure):
 class Parser(ctypes.Structure):
     _fields_ = [
         ("offset", ctypes.c_uint64),
+        ("features", ctypes.c_uint32),
         ("functions", ctypes.c_uint32),
         ("codes", ctypes.c_uint32),
         ("datas", ctypes.c_uint32),

@@ -30,6 +30,7 @@ pub struct Event {
 #[derive(Clone, Copy, Debug)]
 pub struct Parser {
     pub offset: u64,
+    pub features: u32,
     pub functions: u32,
     pub codes: u32,
     pub datas: u32,

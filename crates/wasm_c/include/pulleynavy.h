@@ -481,6 +481,8 @@ typedef struct pulleynavy_event {
 typedef struct pulleynavy_parser {
     /* The stream offset of what comes next. */
     uint64_t offset;
+    /* The features of the windows of later payloads, as bits. */
+    uint32_t features;
     /* The count of the function section, if `has_functions` isn't 0. */
     uint32_t functions;
     /* The count of the code section, if `has_codes` isn't 0. */
@@ -1677,8 +1679,8 @@ pulleynavy_stripped pulleynavy_strip(uint8_t *bytes, size_t bytes_size, bool kee
 #if defined(__cplusplus) || __STDC_VERSION__ >= 201112L
 PULLEYNAVY_ASSERT(sizeof(pulleynavy_fault) == 24 && offsetof(pulleynavy_fault, offset) == 16, "layout");
 PULLEYNAVY_ASSERT(sizeof(pulleynavy_event) == 96 && offsetof(pulleynavy_event, fault) == 72, "layout");
-PULLEYNAVY_ASSERT(sizeof(pulleynavy_parser) == 40 && offsetof(pulleynavy_parser, in_code) == 39, "layout");
-PULLEYNAVY_ASSERT(sizeof(pulleynavy_feed) == 64 && offsetof(pulleynavy_feed, is_finished) == 56, "layout");
+PULLEYNAVY_ASSERT(sizeof(pulleynavy_parser) == 48 && offsetof(pulleynavy_parser, in_code) == 43, "layout");
+PULLEYNAVY_ASSERT(sizeof(pulleynavy_feed) == 72 && offsetof(pulleynavy_feed, is_finished) == 64, "layout");
 PULLEYNAVY_ASSERT(sizeof(pulleynavy_items) == 32 && offsetof(pulleynavy_items, is_ended) == 29, "layout");
 PULLEYNAVY_ASSERT(sizeof(pulleynavy_span) == 16 && offsetof(pulleynavy_span, size) == 8, "layout");
 PULLEYNAVY_ASSERT(sizeof(pulleynavy_number) == 40 && offsetof(pulleynavy_number, value) == 32, "layout");
