@@ -1,0 +1,207 @@
+"""What the sources say of the libraries: the items that each crate gives its callers, with their signatures, docs and clauses."""
+import collections
+import os
+import re
+
+import common
+
+LIBRARIES = ("wasm_base", "wasm_grammar", "wasm_items", "wasm_custom", "wasm_parser", "wasm_lines", "wasm_feed", "wasm_tree", "wasm_show",
+             "wasm_dumper")
+CLAUSE = re.compile(r"^\s+(requires|ensures|within|decreases)\b")
+ITEM = re.compile(r"^pub (struct|enum|trait|fn|const fn|const|type|unsafe fn) (\w+)")
+
+# What a source declares, and the line that it begins at. `owner` is the type or the trait of a member.
+Item = collections.namedtuple("Item", "kind name signature doc specs parts at")
+Member = collections.namedtuple("Member", "owner signature doc specs at")
+Impl = collections.namedtuple("Impl", "header trait type at")
+
+
+def read(*parts):
+    with open(os.path.join(common.TOP, *parts), encoding="utf-8") as file:
+        return file.read()
+
+
+# ---- what a crate gives
+
+
+def given_names(text):
+    """The names that a crate gives of each of its modules, its public modules, and the names of each library that it gives again."""
+    names, libraries = {}, {}
+    for path, many, one in re.findall(r"^pub use ([\w:]+?)::(?:\{([^}]*)\}|(\w+));", text, re.M):
+        found = [word.strip() for word in (many or one).split(",") if word.strip()]
+        target = libraries if path.split("::")[0] in common.crates() else names
+        target.setdefault(path.split("::")[0], []).extend(found)
+    return names, re.findall(r"^pub mod (\w+);", text, re.M), libraries
+
+
+# ---- a source
+
+
+class Source:
+    """The items of a source, the members of each type and trait, and what each type implements."""
+
+    def __init__(self, text):
+        self.lines = text.split("\n")
+        self.specs = set()
+        for names in re.findall(r"ghost use Rattle\.wasm_\w+\.specs\.[\w.]+?\.\{([^}]*)\}", text):
+            self.specs.update(name.split(" as ")[-1].strip() for name in names.split(","))
+        self.items, self.members, self.traits, self.impls = [], {}, {}, []
+        self.scan()
+
+    def doc_lines(self, at):
+        """The lines of the doc comment over a line."""
+        at -= 1
+        while at >= 0 and re.match(r"\s*(#\[|\)\]|[\w, ]+\)\]$)", self.lines[at]):
+            at -= 1
+        doc = []
+        while at >= 0 and self.lines[at].strip().startswith("///"):
+            doc.insert(0, self.lines[at].strip()[3:].rstrip())
+            at -= 1
+        return [line[1:] if line.startswith(" ") else line for line in doc]
+
+    def doc_before(self, at):
+        """The first sentence of the doc comment over a line."""
+        doc = [line.strip() for line in self.doc_lines(at)]
+        text = " ".join(doc[: doc.index("")] if "" in doc else doc)
+        found = re.match(r"(.*?[.:])(?= [A-Z`]|$)", text)
+        return (found[1] if found else text).rstrip(":")
+
+    def derives_before(self, at):
+        found = []
+        while at > 0 and re.match(r"#\[|///", self.lines[at - 1]):
+            at -= 1
+            derive = re.match(r"#\[derive\((.*)\)\]", self.lines[at])
+            found += derive[1].split(", ") if derive else []
+        return found
+
+    def signature(self, at):
+        """A signature from this line on, and the line after it."""
+        words = []
+        while at < len(self.lines):
+            line = self.lines[at]
+            if CLAUSE.match(line) or line.strip() in ("{", "where {"):
+                break
+            text = line.strip()
+            if re.search(r" \{.*\}$", text):
+                words.append(text.split(" {")[0])
+                at += 1
+                break
+            if text.endswith("{"):
+                words.append(text[:-1].strip())
+                at += 1
+                break
+            words.append(text)
+            at += 1
+            if text.endswith(";"):
+                break
+        joined = " ".join(words).rstrip(";").replace("( ", "(").replace(", )", ")").replace(",)", ")")
+        return re.sub(r"\s+", " ", joined), at
+
+    def definitions(self, at):
+        """The definitions of specs/ that the clauses from this line on name."""
+        found = []
+        while at < len(self.lines) and self.lines[at].strip() and not re.match(r"\s*\{$|\s*(pub |final )?fn |\}", self.lines[at]):
+            text = self.lines[at]
+            for word in re.findall(r"[\w◌+≡<≤^]+", text):
+                if word in self.specs and word not in found and re.match(r"[A-Za-z]", word):
+                    found.append(word)
+            at += 1
+            if text.rstrip().endswith(";"):
+                break
+        return found
+
+    def call(self, at):
+        signature, after = self.signature(at)
+        has_clauses = after < len(self.lines) and CLAUSE.match(self.lines[after])
+        return signature, self.doc_before(at), self.definitions(after) if has_clauses else []
+
+    def parts_of(self, at):
+        """The variants of an enum, or the public fields of a struct, in a few words."""
+        found, fields = [], None
+        for line in self.lines[at + 1 :]:
+            if line == "}":
+                break
+            variant = re.match(r"    ([A-Z]\w*)(\(.*\))?( \{)?( = .*)?,?$", line)
+            field = re.match(r"    pub (\w+: .*),$", line)
+            named = re.match(r"        (\w+): ", line)
+            if variant:
+                fields = [] if variant[3] else None
+                found.append([variant[1] + (variant[2] or ""), fields])
+            elif field:
+                found.append([field[1], None])
+            elif named and fields is not None:
+                fields.append(named[1])
+        return [name if fields is None else "%s { %s }" % (name, ", ".join(fields)) for name, fields in found]
+
+    def scan(self):
+        at = 0
+        while at < len(self.lines):
+            line = self.lines[at]
+            item = ITEM.match(line)
+            if item:
+                kind, name = item[1], item[2]
+                signature, doc, specs = self.call(at) if "fn" in kind else (self.signature(at)[0], self.doc_before(at), [])
+                if kind == "const":
+                    signature = signature.split(" = ")[0] if len(signature) > 100 or "{" in signature else signature
+                if kind == "struct" and signature.endswith(")") and not re.search(r"pub [^(]", signature.split("(", 1)[1]):
+                    signature = signature.split("(", 1)[0] + "(..)"
+                parts = self.parts_of(at) if kind in ("struct", "enum") and line.endswith("{") else []
+                self.items.append(Item(kind, name, signature, doc, specs, parts, at))
+                self.traits.setdefault(name, []).extend(self.derives_before(at))
+                if kind == "trait":
+                    self.scan_members(at, name, "    (final fn|fn|type|const) ")
+            elif line.startswith("impl"):
+                header = self.signature(at)[0]
+                found = re.match(r"impl(?:<.*?>)?\s+(?:(.+?) for )?&?(?:'\w+ )?(?:mut )?([\w:]+)(<.*)?", re.sub(r"^impl<[^<>]*(<[^<>]*(<[^<>]*>)?[^<>]*>)?[^<>]*>", "impl", header))
+                self.impls.append(Impl(header, found and found[1], found and found[2], at))
+                if found and found[1]:
+                    self.traits.setdefault(found[2], []).append(re.sub(r"<.*", "", found[1]))
+                elif found:
+                    self.scan_members(at, found[2], "    pub (fn|const|const fn) ")
+            at += 1
+
+    def scan_members(self, at, owner, pattern):
+        for place in range(at + 1, len(self.lines)):
+            if self.lines[place] == "}":
+                break
+            if re.match(pattern, self.lines[place]):
+                signature, doc, specs = self.call(place)
+                signature = re.sub(r"^(pub|final) ", "", signature)
+                if not signature.startswith("fn") and " = " in signature:
+                    signature = signature.split(" = ")[0]
+                self.members.setdefault(owner, []).append(Member(owner, signature, doc, specs, place))
+
+
+# ---- what a crate gives, with its sources
+
+Module = collections.namedtuple("Module", "crate path source items")
+
+
+def given_items(crate, module, names):
+    """A module of a crate with the items of it that the crate gives, and the modules under it; all public ones where `names` is None."""
+    text = read("crates", crate, "src", module + ".rt")
+    source, under = Source(text), []
+    for child, given in sorted(given_names(text)[0].items()):
+        if names is not None and os.path.exists(os.path.join(common.TOP, "crates", crate, "src", module, child + ".rt")):
+            chosen = [name for name in given if name in names]
+            names = [name for name in names if name not in chosen]
+            under.append(("%s/%s" % (module, child), chosen))
+    items = [item for item in source.items if names is None or item.name in names]
+    missing = set(names or ()) - {item.name for item in items}
+    if missing:
+        common.stop(common.WRONG_USE, "%s/src/%s.rt has no %s in a form that this tool reads" % (crate, module, ", ".join(sorted(missing))))
+    yield Module(crate, module, source, items)
+    for path, chosen in under:
+        yield from given_items(crate, path, chosen)
+
+
+def about(crate):
+    """What a crate says of itself."""
+    return " ".join(line[3:].strip() for line in read("crates", crate, "src", "lib.rt").split("\n") if line.startswith("//!"))
+
+
+def modules(crate):
+    """The modules of a crate whose items it gives."""
+    names, public, _ = given_names(read("crates", crate, "src", "lib.rt"))
+    for module in sorted(set(names) | set(public)):
+        yield from given_items(crate, module, None if module in public else names[module])
