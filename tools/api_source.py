@@ -1,5 +1,6 @@
 """What the sources say of the libraries: the items that each crate gives its callers, with their signatures, docs and clauses."""
 import collections
+import functools
 import os
 import re
 
@@ -177,11 +178,22 @@ class Source:
 Module = collections.namedtuple("Module", "crate path source items")
 
 
+@functools.lru_cache(maxsize=None)
+def source_of(crate, module):
+    return Source(read("crates", crate, "src", module + ".rt"))
+
+
+def source_names(crate):
+    """The names of all sources of a crate."""
+    top = os.path.join(common.TOP, "crates", crate, "src")
+    found = (os.path.relpath(path, top) for path in common.files_of(crate) if path.startswith(top) and path.endswith(".rt"))
+    return sorted(os.path.splitext(path)[0] for path in found)
+
+
 def given_items(crate, module, names):
     """A module of a crate with the items of it that the crate gives, and the modules under it; all public ones where `names` is None."""
-    text = read("crates", crate, "src", module + ".rt")
-    source, under = Source(text), []
-    for child, given in sorted(given_names(text)[0].items()):
+    source, under = source_of(crate, module), []
+    for child, given in sorted(given_names(read("crates", crate, "src", module + ".rt"))[0].items()):
         if names is not None and os.path.exists(os.path.join(common.TOP, "crates", crate, "src", module, child + ".rt")):
             chosen = [name for name in given if name in names]
             names = [name for name in names if name not in chosen]
@@ -205,3 +217,118 @@ def modules(crate):
     names, public, _ = given_names(read("crates", crate, "src", "lib.rt"))
     for module in sorted(set(names) | set(public)):
         yield from given_items(crate, module, None if module in public else names[module])
+
+
+# ---- what stands under an item
+
+
+def depth_of(line):
+    """How many braces a line opens and leaves open, without those in its strings and comments."""
+    code = re.sub(r'"(?:[^"\\]|\\.)*"|\'[{}]\'|//.*', "", line)
+    return code.count("{") - code.count("}")
+
+
+def dedented(lines):
+    least = min((len(line) - len(line.lstrip()) for line in lines if line.strip()), default=0)
+    return "\n".join(line[least:].rstrip() for line in lines)
+
+
+def block_at(lines, at):
+    """The lines from one on, up to the one that closes its braces, and the line after them."""
+    start, depth = at, 0
+    while at < len(lines):
+        depth += depth_of(lines[at])
+        at += 1
+        if depth <= 0:
+            break
+    return lines[start:at], at
+
+
+def clauses(source, at):
+    """The clauses of the function that is declared from this line on, each as its lines."""
+    found, at = [], source.signature(at)[1]
+    while at < len(source.lines) and CLAUSE.match(source.lines[at]):
+        lines, at = block_at(source.lines, at)
+        found.append(dedented(lines).rstrip(";"))
+    return found
+
+
+def declared(source, at):
+    """What is declared from this line on, as it is written, without its clauses and its body."""
+    lines = source.lines[at : source.signature(at)[1]]
+    lines[-1] = re.sub(r"\s*(\{\s*|\{.*\}|;)$", "", lines[-1])
+    return dedented([line for line in lines if line.strip()])
+
+
+def end_of(source, at):
+    """The line that ends an item that begins with this one."""
+    return next((place for place in range(at, len(source.lines)) if source.lines[place] == "}"), at)
+
+
+def ghosts(source, at):
+    """The ghost members of a trait or of an implementation: of each its name, its text, and the line that it begins at."""
+    place, end = at + 1, end_of(source, at)
+    while place < end:
+        found = re.match(r"    ghost (\w+)(?:: | = |\()", source.lines[place])
+        if found:
+            lines, after = block_at(source.lines, place)
+            yield found[1], dedented(lines).rstrip(";"), place
+            place = after
+        else:
+            place += 1
+
+
+def functions(source, at):
+    """The functions of an implementation, each as the line that it begins at."""
+    return [place for place in range(at + 1, end_of(source, at)) if re.match(r"    (?:pub )?(?:const |unsafe )?fn \w", source.lines[place])]
+
+
+def comment_before(source, at):
+    """The doc comment over a line, or the comment that stands there instead."""
+    found = source.doc_lines(at)
+    while not source.doc_lines(at) and at > 0 and re.match(r"\s*// ", source.lines[at - 1]):
+        at -= 1
+        found.insert(0, source.lines[at].strip()[3:])
+    return found
+
+
+# ---- what a type has
+
+
+Part = collections.namedtuple("Part", "name text at parts")
+
+
+def fields(source, at, end, indent):
+    """The public fields of a struct, or the fields of a variant, from a line to another."""
+    pattern = r" {%d}%s(\w+): (.*?),?$" % (indent, "pub " if indent == 4 else "")
+    found = []
+    for place in range(at + 1, end):
+        field = re.match(pattern, source.lines[place])
+        if field:
+            found.append(Part(field[1], "%s: %s" % (field[1], field[2]), place, []))
+    return found
+
+
+def variants(source, at):
+    """The variants of an enum."""
+    found, end = [], end_of(source, at)
+    for place in range(at + 1, end):
+        variant = re.match(r"    ([A-Z]\w*)(.*?)( \{)?,?$", source.lines[place])
+        if variant and variant[3]:
+            last = next(line for line in range(place, end + 1) if source.lines[line].startswith("    }"))
+            found.append(Part(variant[1], variant[1], place, fields(source, place, last, 8)))
+        elif variant:
+            lines = block_of_parentheses(source.lines, place)
+            found.append(Part(variant[1], re.sub(r"\s+", " ", " ".join(lines)).rstrip(","), place, []))
+    return found
+
+
+def block_of_parentheses(lines, at):
+    found, depth = [], 0
+    while at < len(lines):
+        found.append(lines[at].strip())
+        depth += lines[at].count("(") - lines[at].count(")")
+        at += 1
+        if depth <= 0:
+            return found
+    return found

@@ -1,0 +1,109 @@
+"""Checks the pages of an HTML reference: links, ids, elements, and that each item has its entry."""
+import html.parser
+import os
+import re
+import urllib.parse
+
+import api_source
+
+VOID = frozenset("meta link input br wbr hr img".split())
+# What a paragraph may not have in it.
+FLOW = frozenset("p ul ol dl div section pre details h1 h2 h3 h4 h5 h6 main nav header".split())
+
+
+class Page(html.parser.HTMLParser):
+    """The ids and the links of a page, and what is wrong with its elements."""
+
+    def __init__(self, name, text):
+        super().__init__()
+        self.name, self.ids, self.links, self.faults, self.open = name, set(), set(), [], []
+        self.feed(text)
+        self.close()
+        for tag in self.open:
+            self.faults.append("%s: <%s> is not closed" % (name, tag))
+
+    def handle_starttag(self, tag, attrs):
+        given = dict(attrs)
+        place = "%s:%d" % (self.name, self.getpos()[0])
+        if len(given) != len(attrs):
+            self.faults.append("%s: <%s> has an attribute twice" % (place, tag))
+        if "id" in given:
+            if given["id"] in self.ids:
+                self.faults.append("%s: the id %s is there twice" % (place, given["id"]))
+            self.ids.add(given["id"])
+        for name in ("href", "src"):
+            if name in given:
+                self.links.add((given[name], self.getpos()[0]))
+        if tag in FLOW and "p" in self.open or tag == "a" and "a" in self.open or tag in FLOW and {"code", "span"} & set(self.open):
+            self.faults.append("%s: <%s> in <%s>" % (place, tag, self.open[-1]))
+        if tag == "li" and self.open[-1:] not in (["ul"], ["ol"]) or tag in ("dt", "dd") and self.open[-1:] != ["dl"]:
+            self.faults.append("%s: <%s> outside of a list" % (place, tag))
+        if tag not in VOID:
+            self.open.append(tag)
+
+    def handle_endtag(self, tag):
+        if self.open[-1:] == [tag]:
+            self.open.pop()
+        else:
+            self.faults.append("%s:%d: </%s> closes %s" % (self.name, self.getpos()[0], tag, self.open[-1:] or "nothing"))
+
+
+def read_pages(folder):
+    found = {}
+    for name in sorted(os.listdir(folder)):
+        if name.endswith(".html"):
+            with open(os.path.join(folder, name), encoding="utf-8") as file:
+                found[name] = Page(name, file.read())
+    return found
+
+
+def wrong_links(folder, pages):
+    for page in pages.values():
+        for href, line in sorted(page.links):
+            file, _, anchor = href.partition("#")
+            file = file or page.name
+            if re.match(r"\w+:", href) or not os.path.exists(os.path.join(folder, file)):
+                yield "%s:%d: no file %s" % (page.name, line, href)
+            elif anchor and not {anchor, urllib.parse.unquote(anchor)} & pages[file].ids:
+                yield "%s:%d: no place %s" % (page.name, line, href)
+
+
+def listed_items():
+    """The items of docs/API.md: of each its crate, its owner if it is a member, and its name."""
+    crate = owner = ""
+    for line in api_source.read("docs", "API.md").split("\n"):
+        if line.startswith("## "):
+            crate = line[3:]
+        found = re.match(r"( *)- `(?:unsafe |const )?(struct|enum|trait|fn|type|const)? ?(?:fn )?(\w+)", line)
+        if found and found[2]:
+            owner = owner if found[1] else found[3]
+            yield crate, owner if found[1] else "", found[3]
+        elif line.startswith("  - variants: ") or line.startswith("  - fields: "):
+            for part in re.findall(r"`(\w+)[^`]*`", line):
+                yield crate, owner, part
+
+
+def without_entry(pages):
+    """The items of docs/API.md that have no entry on the page of their crate."""
+    ends = {name: {".".join(one.split(".")[1:]) for one in page.ids if "." in one} for name, page in pages.items()}
+    for crate, owner, name in listed_items():
+        wanted = "%s.%s" % (owner, name) if owner else name
+        if wanted not in ends.get(crate + ".html", ()):
+            yield "%s.html: no entry of %s" % (crate, wanted)
+
+
+def faults(folder, site):
+    pages = read_pages(folder)
+    for page in pages.values():
+        yield from page.faults
+    yield from wrong_links(folder, pages)
+    yield from without_entry(pages)
+    yield from sorted(set(site.missing))
+
+
+def counts(files, site, found):
+    """What the check counted, in a line."""
+    items = len(list(listed_items()))
+    said = {0: "no faults", 1: "one fault"}.get(len(found), "%d faults" % len(found))
+    pages = sum(name.endswith(".html") for name in files)
+    return "%s: %d pages, %d items of docs/API.md, %d cited definitions, %d items without a doc comment" % (said, pages, items, len(site.cited_by), len(site.without_doc))
