@@ -2,6 +2,7 @@
 // The search of the reference. tools/api_html puts INDEX before this: of each item its name, its kind, its address and its summary.
 "use strict";
 const MOST = 40;
+const KINDS = { fn: "function", type: "type alias", const: "constant" };
 const box = document.getElementById("search"), words = document.getElementById("words"), found = document.getElementById("found");
 let chosen = -1;
 
@@ -34,7 +35,9 @@ function option([name, kind, href, summary], number) {
   row.setAttribute("role", "option");
   link.href = href;
   link.tabIndex = -1;
-  link.append(element("b", name), element("i", kind + (kind === "definition" ? "" : ", " + href.split(".html")[0])), element("small", summary));
+  const [page, place] = href.split("#");
+  const where = kind === "definition" ? place.split(".").slice(0, 2).join(".") : page.slice(0, -".html".length);
+  link.append(element("b", name), element("i", (KINDS[kind] || kind) + ", " + where), element("small", summary));
   row.append(link);
   return row;
 }

@@ -4,6 +4,7 @@ import os
 import re
 import urllib.parse
 
+import api_names
 import api_source
 
 VOID = frozenset("meta link input br wbr hr img".split())
@@ -34,7 +35,7 @@ class Page(html.parser.HTMLParser):
         for name in ("href", "src"):
             if name in given:
                 self.links.add((given[name], self.getpos()[0]))
-        if tag in FLOW and "p" in self.open or tag == "a" and "a" in self.open or tag in FLOW and {"code", "span"} & set(self.open):
+        if tag in FLOW and {"p", "code", "span", "a"} & set(self.open) or tag == "a" and "a" in self.open:
             self.faults.append("%s: <%s> in <%s>" % (place, tag, self.open[-1]))
         if tag == "li" and self.open[-1:] not in (["ul"], ["ol"]) or tag in ("dt", "dd") and self.open[-1:] != ["dl"]:
             self.faults.append("%s: <%s> outside of a list" % (place, tag))
@@ -92,18 +93,33 @@ def without_entry(pages):
             yield "%s.html: no entry of %s" % (crate, wanted)
 
 
+def wrong_uses():
+    """The names that definitions and sources bring in of a file of definitions that has none of this name."""
+    for crate in api_source.LIBRARIES:
+        places = [("%s, %s" % (crate, name), specs.names) for name, specs in api_names.all_specs(crate).items()]
+        for name in api_source.source_names(crate):
+            text = "\n".join(api_source.source_of(crate, name).lines)
+            places += [("%s, %s" % (crate, name), api_names.uses_of(text, indent)[0]) for indent in (0, 4)]
+        for place, names in places:
+            for target in names.values():
+                if target.kind == "definition" and not api_names.definition(target.crate, *target.path):
+                    yield "%s: no definition %s of %s" % (place, ".".join(target.path), target.crate)
+
+
 def faults(folder, site):
     pages = read_pages(folder)
     for page in pages.values():
         yield from page.faults
     yield from wrong_links(folder, pages)
     yield from without_entry(pages)
-    yield from sorted(set(site.missing))
+    yield from sorted({*site.missing, *wrong_uses()})
+    yield from sorted("%s: nothing is known of %s in a clause" % pair for pair in site.unknown)
 
 
 def counts(files, site, found):
     """What the check counted, in a line."""
     items = len(list(listed_items()))
-    said = {0: "no faults", 1: "one fault"}.get(len(found), "%d faults" % len(found))
     pages = sum(name.endswith(".html") for name in files)
-    return "%s: %d pages, %d items of docs/API.md, %d cited definitions, %d items without a doc comment" % (said, pages, items, len(site.cited_by), len(site.without_doc))
+    said = {0: "no faults", 1: "one fault"}.get(len(found), "%d faults" % len(found))
+    rest = "%d items of docs/API.md, %d cited definitions, %d items without a doc comment" % (items, len(site.cited_by), len(site.without_doc))
+    return "%s: %d pages, %s" % (said, pages, rest)

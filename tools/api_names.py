@@ -16,7 +16,7 @@ Target = collections.namedtuple("Target", "kind crate path")
 USE = re.compile(r"^(\s*)(?:ghost )?use Rattle\.(\w+)\.specs\.([^\s{};]+?)(?:\.\{([^}]*)\}| as (\w+))?;?$", re.M)
 HEAD = re.compile(r"(?:(?:abbrev|unfoldable)(?: pub)?|pub(?: record| data)?) ([^\s:]+)")
 # Words of a definition or a clause. A name is one word with its qualifiers; an operator is one too.
-WORD = re.compile(r'"(?:[^"\\]|\\.)*"|--.*|[^\W\d][\w-]*(?:\.[^\W]\w*)*|\.?\d\w*|[^\s\w(){}\[\],;"⟦⟧]+|.', re.S)
+WORD = re.compile(r'"(?:[^"\\]|\\.)*"|--.*|[^\W\d][\w-]*(?:\.\w+)*|\.?\d\w*|\.[^\W\d]\w*|[^\s\w(){}\[\],;"⟦⟧]+|.', re.S)
 
 
 # ---- definitions
@@ -123,6 +123,8 @@ class Scope:
         first, _, rest = word.partition(".")
         if first in self.bound:
             return None
+        if word in self.names:
+            return self.names[word]
         if rest and first in self.aliases and first not in self.names:
             crate, path = self.aliases[first]
             return target_of(crate, path, rest.split(".")[0])

@@ -7,25 +7,38 @@ import api_names
 import api_source
 import api_text
 import common
+from api_source import doc_of
 from api_text import anchor, document, escaped, formula, inline, link, rust, span, summary
 
+# The groups of the items of a crate, with the names of one and of several.
 GROUPS = {
-    "struct": "Structs",
-    "enum": "Enums",
-    "trait": "Traits",
-    "fn": "Functions",
-    "type": "Type aliases",
-    "const": "Constants",
-    "law": "Laws",
+    "struct": ("struct", "structs"),
+    "enum": ("enum", "enums"),
+    "trait": ("trait", "traits"),
+    "fn": ("function", "functions"),
+    "type": ("type alias", "type aliases"),
+    "const": ("constant", "constants"),
+    "law": ("law", "laws"),
 }
 DEFINITIONS = "definitions.html"
-ABOUT_LAWS = "What holds of whole runs, of several calls, or of values of a type. A law is a function without a body: its clauses are what is proved."
+ABOUT_LAWS = "What holds of whole runs, of several calls, or of the values of a type. You don't call a law: its clauses are what is proved."
+# Words of clauses that are of the language.
+KNOWN = ("self", "result", "Self", "Type", "Unit", "_", "sem", "𝓛", "refl", "tt")
 # Traits of the standard library whose implementations say nothing that a reader looks for.
 PLAIN = ("Debug", "fmt::Debug", "Drop")
 
 
 def name_of(signature):
     return re.search(r"(?:fn|type|const) (\w+)", signature)[1]
+
+
+def title(kind):
+    return GROUPS[kind][1].capitalize()
+
+
+def breakable(name):
+    """A name that may be broken where its words begin."""
+    return re.sub(r"(_+|::|(?<=[a-z0-9])(?=[A-Z]))(?=.)", r"\1<wbr>", escaped(name))
 
 
 def kind_of(module, item):
@@ -42,25 +55,28 @@ class Site:
     def __init__(self):
         self.modules = {crate: list(api_source.modules(crate)) for crate in api_source.LIBRARIES}
         self.places, self.index, self.missing, self.without_doc, self.cited_by = {}, [], [], [], {}
-        self.of_types, self.of_traits = {}, {}
+        self.of_types, self.of_traits, self.variants, self.ghosts, self.unknown = {}, {}, {}, {}, set()
         for crate, modules in self.modules.items():
+            self.index.append((crate, "crate", crate + ".html", plain(summary([api_source.about(crate)]))))
             for module in modules:
                 for item in module.items:
                     self.place_item(crate, module, item)
 
     def place_item(self, crate, module, item):
         kind = kind_of(module, item)
-        self.add((crate, item.name), kind, item.name, module.source.doc_lines(item.at))
+        self.add((crate, item.name), kind, item.name, doc_of(module.source, item.at))
         for part in parts_of(module.source, item):
             word = "variant" if item.kind == "enum" else "field"
-            self.add((crate, item.name, part.name), word, "%s::%s" % (item.name, part.name), module.source.doc_lines(part.at), word != "field")
+            self.variants.setdefault((crate, part.name), []).append((crate, item.name, part.name))
+            self.add((crate, item.name, part.name), word, "%s::%s" % (item.name, part.name), doc_of(module.source, part.at), word != "field")
         if item.kind == "trait":
             for name, _, at in api_source.ghosts(module.source, item.at):
-                self.add((crate, item.name, name), "ghost", "%s::%s" % (item.name, name), module.source.doc_lines(at), False)
+                self.ghosts.setdefault((crate, item.name), []).append(name)
+                self.add((crate, item.name, name), "ghost", "%s::%s" % (item.name, name), doc_of(module.source, at), False)
         for member in module.source.members.get(item.name, []):
             found = member_kind(member)
             name = name_of(member.signature)
-            self.add((crate, item.name, name), found, "%s::%s" % (item.name, name), module.source.doc_lines(member.at))
+            self.add((crate, item.name, name), found, "%s::%s" % (item.name, name), doc_of(module.source, member.at))
 
     def add(self, key, kind, name, doc, is_searched=True):
         """Notes where an item is, and what a search says of it."""
@@ -79,6 +95,12 @@ class Site:
             key = (target.crate, *target.path)
             return self.places.get((*key, *rest)) or self.places.get(key)
         return None
+
+
+    def only_variant(self, crate, name):
+        """Where the variant with this name is, if there is one in the crate."""
+        found = self.variants.get((crate, name), []) if name[:1].isupper() else []
+        return self.places[found[0]] if len(found) == 1 else None
 
 
 def plain(text):
@@ -114,7 +136,8 @@ def member_kind(member):
 def definition_html(site, one):
     """The text of a definition, with links to those that it uses."""
     specs = api_names.all_specs(one.crate)[one.module]
-    names = {name: target for name, target in specs.names.items() if target.kind != "definition" or target.path[1] != one.name or target.crate != one.crate}
+    itself = api_names.Target("definition", one.crate, (one.module, one.name))
+    names = {name: target for name, target in specs.names.items() if target != itself}
     scope = api_names.Scope(names, specs.aliases, {}, api_names.bound_in(one.text))
     return "<pre><code>%s</code></pre>" % formula(one.text, scope, site.link_of)
 
@@ -128,7 +151,7 @@ def folded_definitions(site, targets):
     found = list(dict.fromkeys(api_names.definition(target.crate, *target.path) for target in targets))
     if not found:
         return ""
-    out = ["<details class=\"cited\"><summary>%s</summary>" % ", ".join("<code>%s</code>" % escaped(one.name) for one in found)]
+    out = ["<details class=\"cited\"><summary>Definitions: %s</summary>" % ", ".join("<code>%s</code>" % escaped(one.name) for one in found)]
     for one in found:
         name = link(definition_link(one), "<code>%s</code>" % escaped(one.name))
         out.append('<div class="def"><p class="head">%s %s</p>' % (name, span("where", "%s, %s" % (one.crate, one.module))))
@@ -159,45 +182,74 @@ class Writer:
             if not re.fullmatch(r"\w+", first) or text == owner:
                 return None
             target = self.code.get(first) or api_names.Target("item", crate, (first,))
-            return places.get((crate, owner, *([first] + rest))) or self.site.link_of(target, rest) or places.get(("wasm_base", "Fault", first))
+            known = places.get((crate, owner, first, *rest)) or self.site.link_of(target, rest) or places.get(("wasm_base", "Fault", first))
+            return known or self.site.only_variant(crate, first)
 
         return find
 
     def doc(self, at, level, owner):
-        return '<div class="doc">%s</div>' % document(self.source.doc_lines(at), level, self.code_link(owner)) if self.source.doc_lines(at) else ""
+        return '<div class="doc">%s</div>' % document(doc_of(self.source, at), level, self.code_link(owner)) if doc_of(self.source, at) else ""
 
-    def scope(self, text, outer):
-        """What names stand for in a clause of an item that begins at a line, and in an implementation or a trait that begins at `outer`."""
-        names, aliases = dict(self.names), dict(self.aliases)
+    def ghost_names(self, at, outer):
+        """The ghost members that clauses may name here: those of the trait around, and of the traits that bound a type."""
+        found = {}
+        for line in (at, outer):
+            text = self.source.signature(line)[0] if line is not None else ""
+            for name, bounds in re.findall(r"\b([A-Z]\w*): ([^,>{(]+)", text):
+                for trait in filter(None, map(self.code.get, re.findall(r"[A-Z]\w*", bounds))):
+                    found.update(("%s.%s" % (name, ghost), self.ghost(trait, ghost)) for ghost in self.site.ghosts.get((trait.crate, *trait.path), ()))
+            head = re.match(r"(?:pub trait|impl(?:<.*?>)?) (\w+)", text)
+            trait = self.code.get(head[1]) if head else None
+            if trait:
+                found.update((ghost, self.ghost(trait, ghost)) for ghost in self.site.ghosts.get((trait.crate, *trait.path), ()))
+        return found
+
+    def ghost(self, trait, name):
+        return trait._replace(path=(*trait.path, name))
+
+    def scope(self, at, outer, text):
+        """What names stand for in a clause of what is declared at a line, in an implementation or a trait that begins at `outer`."""
+        names, aliases = {**self.ghost_names(at, outer), **self.names}, dict(self.aliases)
         if outer is not None:
             inner = "\n".join(self.source.lines[outer : api_source.end_of(self.source, outer)])
             more, others = api_names.uses_of(inner, 4)
             names.update(more)
             aliases.update(others)
-        code = {name: target for name, target in self.code.items() if name[:1].isupper()}
+        code = {name: target for name, target in self.code.items() if name.lstrip("_")[:1].isupper()}
         return api_names.Scope(names, aliases, code, api_names.bound_in(text))
 
-    def clause(self, text, outer, owner):
-        """A clause, and under it the definitions that it cites."""
-        scope = self.scope(text, outer)
-        targets = api_text.cited(text, scope)
+    def unknown_words(self, at, outer, text, scope):
+        """The words of a clause that stand for nothing that is known: no definition, item, parameter or binder."""
+        around = " ".join(self.source.signature(place)[0] for place in (at, outer) if place is not None)
+        known = {*re.findall(r"(\w+):", around), *re.findall(r"[A-Z]\w*", around), *scope.names, *scope.bound, *KNOWN}
+        plain_text = re.sub(r"⟦.*?⟧|«\w+»", "", api_text.unlabeled(text), flags=re.S)
+        for word in api_names.WORD.findall(plain_text):
+            first = word.split(".")[0]
+            if re.match(r"[^\W\d]", word) and word not in api_text.KEYWORDS and first not in known and not scope.target(word):
+                yield first
+
+    def clause(self, text, at, outer, owner):
+        """A clause of what is declared at a line, and under it the definitions that it cites."""
+        scope = self.scope(at, outer, text)
+        targets = api_text.cited(api_text.unlabeled(text), scope)
+        self.site.unknown.update(("%s, %s" % (self.module.crate, owner), word) for word in self.unknown_words(at, outer, text, scope))
         for target in targets:
             if not api_names.definition(target.crate, *target.path):
                 self.site.missing.append("%s, %s: no definition %s" % (self.module.crate, owner, ".".join(target.path)))
             self.site.cited_by.setdefault(target, {})[(self.module.crate, *owner.split("::"))] = None
         known = [target for target in targets if api_names.definition(target.crate, *target.path)]
-        return '<div class="clause"><pre><code>%s</code></pre>%s</div>' % (formula(text, scope, self.site.link_of), folded_definitions(self.site, known))
+        shown = api_text.clause(text, scope, self.site.link_of)
+        return '<div class="clause"><pre><code>%s</code></pre>%s</div>' % (shown, folded_definitions(self.site, known))
 
     def clauses(self, at, outer, owner):
         found = api_source.clauses(self.source, at)
-        return '<div class="clauses">%s</div>' % "".join(self.clause(text, outer, owner) for text in found) if found else ""
+        return '<div class="clauses">%s</div>' % "".join(self.clause(text, at, outer, owner) for text in found) if found else ""
 
     def heading(self, level, kind, names, at):
         """The heading of an item, which links to itself."""
         name = anchor(kind, *names)
         where = span("where", "%s.rt:%d" % (self.module.path, at + 1))
-        shown = '<h%d id="%s"><a href="#%s">%s</a>%s</h%d>' % (level, name, name, "<wbr>::".join(escaped(word) for word in names), where, level)
-        return shown
+        return '<h%d id="%s"><a href="#%s">%s</a>%s</h%d>' % (level, name, name, breakable("::".join(names)), where, level)
 
     def function(self, at, kind, names, level, outer=None):
         """A function, a method or a law."""
@@ -206,19 +258,20 @@ class Writer:
         signature = '<pre class="sig"><code>%s</code></pre>' % self.rust(text)
         return "<section>%s%s%s%s</section>" % (head, signature, self.doc(at, level + 1, names[0]), self.clauses(at, outer, "::".join(names)))
 
-    def plain_member(self, member, name, outer):
+    def plain_member(self, member, name):
         """A constant or a type of a type or of a trait."""
         head = self.heading(4, member_kind(member), (member.owner, name), member.at)
-        return '<section>%s<pre class="sig"><code>%s</code></pre>%s</section>' % (head, self.rust(member.signature), self.doc(member.at, 5, member.owner))
+        signature = '<pre class="sig"><code>%s</code></pre>' % self.rust(member.signature)
+        return "<section>%s%s%s</section>" % (head, signature, self.doc(member.at, 5, member.owner))
 
     def members(self, item):
         out = []
         for member in self.source.members.get(item.name, []):
-            name, outer = name_of(member.signature), self.outer_of(member.at)
+            name = name_of(member.signature)
             if member_kind(member) == "method":
-                out.append(self.function(member.at, "method", (item.name, name), 4, outer))
+                out.append(self.function(member.at, "method", (item.name, name), 4, self.outer_of(member.at)))
             else:
-                out.append(self.plain_member(member, name, outer))
+                out.append(self.plain_member(member, name))
         return "".join(out)
 
     def outer_of(self, at):
@@ -228,7 +281,8 @@ class Writer:
     def ghost_members(self, item):
         out = []
         for name, text, at in api_source.ghosts(self.source, item.at):
-            out.append("<section>%s%s%s</section>" % (self.heading(4, "ghost", (item.name, name), at), self.doc(at, 5, item.name), self.clause(text, item.at, item.name)))
+            head = self.heading(4, "ghost", (item.name, name), at)
+            out.append("<section>%s%s%s</section>" % (head, self.doc(at, 5, item.name), self.clause(text, at, item.at, item.name)))
         return "".join(out)
 
     def parts(self, item):
@@ -236,11 +290,10 @@ class Writer:
         kind, out = "variant" if item.kind == "enum" else "field", []
         for part in parts_of(self.source, item):
             name = anchor(kind, item.name, part.name)
-            out.append('<dt id="%s"><a href="#%s">§</a><code>%s</code></dt><dd>%s' % (name, name, self.rust(part.text), self.doc(part.at, 5, item.name)))
-            if part.parts:
-                inner = "".join("<dt><code>%s</code></dt><dd>%s</dd>" % (self.rust(one.text), self.doc(one.at, 5, item.name)) for one in part.parts)
-                out.append("<dl>%s</dl>" % inner)
-            out.append("</dd>")
+            out.append('<dt id="%s"><a href="#%s" aria-label="Link">§</a><code>%s</code></dt><dd>' % (name, name, self.rust(part.text)))
+            out.append(self.doc(part.at, 5, item.name))
+            inner = ["<dt><code>%s</code></dt><dd>%s</dd>" % (self.rust(one.text), self.doc(one.at, 5, item.name)) for one in part.parts]
+            out.append("<dl>%s</dl></dd>" % "".join(inner) if inner else "</dd>")
         title = "Variants" if kind == "variant" else "Fields"
         return '<h4 class="plain">%s</h4><dl class="parts">%s</dl>' % (title, "".join(out)) if out else ""
 
@@ -278,7 +331,7 @@ def place_implementations(site):
                 if not one.trait:
                     continue
                 module = api_source.Module(crate, name, source, [])
-                of_type, of_trait = (code.get((word or "").split("::")[0]) for word in (one.type, one.trait))
+                of_type, of_trait = (code.get(re.split("<|::", word or "")[0]) for word in (one.type, one.trait))
                 is_here = bool(of_type) and of_type.crate == crate and (crate, *of_type.path) in site.places
                 if is_here:
                     site.of_types.setdefault((crate, *of_type.path), []).append((module, one))
@@ -290,14 +343,15 @@ def implementation(site, module, one):
     """An implementation of a trait: what it says of the trait's ghost members, and its functions that say something."""
     writer = Writer(site, module)
     out = [writer.doc(one.at, 5, one.type)]
-    types = [line.strip() for line in module.source.lines[one.at : api_source.end_of(module.source, one.at)] if re.match(r"    (type|const) \w", line)]
+    lines = module.source.lines[one.at : api_source.end_of(module.source, one.at)]
+    types = [line.strip() for line in lines if re.match(r"    (type|const) \w", line)]
     if types:
         out.append('<pre class="sig"><code>%s</code></pre>' % writer.rust("\n".join(types)))
     for name, text, at in api_source.ghosts(module.source, one.at):
         said = api_source.comment_before(module.source, at)
-        out.append(document(said, 5, writer.code_link(one.type)) + writer.clause(text, one.at, "%s::%s" % (one.type, name)))
+        out.append(document(said, 5, writer.code_link(one.type)) + writer.clause(text, at, one.at, "%s::%s" % (one.type, name)))
     for at in api_source.functions(module.source, one.at):
-        if module.source.doc_lines(at) or api_source.clauses(module.source, at):
+        if doc_of(module.source, at) or api_source.clauses(module.source, at):
             text = '<pre class="sig"><code>%s</code></pre>' % writer.rust(api_source.declared(module.source, at))
             out.append(text + writer.doc(at, 5, one.type) + writer.clauses(at, one.at, one.type))
     head = "<code>%s</code>" % writer.rust(one.header)
@@ -350,7 +404,8 @@ PAGE = """<!DOCTYPE html>
 <a class="home" href="index.html">Pulleynavy <span>%(version)s</span></a>
 <nav aria-label="Pages">%(links)s</nav>
 <div id="search" role="search" hidden>
-<input type="search" id="words" placeholder="Search (press /)" autocomplete="off" spellcheck="false" role="combobox" aria-label="Search items and definitions" aria-expanded="false" aria-controls="found" aria-autocomplete="list">
+<input type="text" id="words" placeholder="Search (press /)" autocomplete="off" autocapitalize="off" spellcheck="false" enterkeyhint="go"
+ role="combobox" aria-label="Search items and definitions" aria-expanded="false" aria-controls="found" aria-autocomplete="list">
 <ul id="found" role="listbox" aria-label="Results" hidden></ul>
 </div>
 </header>
@@ -382,8 +437,8 @@ def contents(kind, pairs):
     rows = []
     for module, item in pairs:
         href = "#" + anchor(kind, item.name)
-        said = inline(summary(module.source.doc_lines(item.at)), lambda name: None)
-        rows.append("<li>%s<span>%s</span></li>" % (link(href, escaped(item.name)), said))
+        said = inline(summary(doc_of(module.source, item.at)), lambda name: None)
+        rows.append("<li>%s<span>%s</span></li>" % (link(href, breakable(item.name)), said))
     return '<ul class="contents">%s</ul>' % "".join(rows)
 
 
@@ -395,7 +450,8 @@ def again_html(site, crate):
         found.setdefault(target.crate, []).append(link(href, "<code>%s</code>" % name) if href else "<code>%s</code>" % name)
     out = []
     for other, names in found.items():
-        out.append("<details><summary>Re-exports %d names of <code>%s</code></summary><p>%s</p></details>" % (len(names), other, ", ".join(sorted(names))))
+        head = "Re-exports %d name%s of <code>%s</code>" % (len(names), "" if len(names) == 1 else "s", other)
+        out.append("<details><summary>%s</summary><p>%s</p></details>" % (head, ", ".join(sorted(names))))
     return "".join(out)
 
 
@@ -403,12 +459,12 @@ def crate_page(site, crate):
     groups = grouped(site.modules[crate])
     side = ["<p>%s</p>" % escaped(crate)]
     out = ["<h1>Crate <span>%s</span></h1>" % escaped(crate), "<p>%s</p>" % inline(api_source.about(crate), lambda name: None)]
-    out.append('<p class="jump">%s</p>' % "".join('<a href="#%s">%s <span>%d</span></a>' % (kind, GROUPS[kind], len(pairs)) for kind, pairs in groups.items()))
-    out.append(again_html(site, crate))
+    jump = ['<a href="#%s">%s <span>%d</span></a>' % (kind, title(kind), len(pairs)) for kind, pairs in groups.items()]
+    out += ['<p class="jump">%s</p>' % "".join(jump), again_html(site, crate)]
     for kind, pairs in groups.items():
-        names = "".join("<li>%s</li>" % link("#" + anchor(kind, item.name), escaped(item.name)) for _, item in pairs)
-        side.append('<details%s><summary>%s</summary><ul>%s</ul></details>' % ("" if kind == "const" else " open", GROUPS[kind], names))
-        out.append('<h2 id="%s"><a href="#%s">%s</a></h2>' % (kind, kind, GROUPS[kind]))
+        names = "".join("<li>%s</li>" % link("#" + anchor(kind, item.name), breakable(item.name)) for _, item in pairs)
+        side.append("<details%s><summary>%s</summary><ul>%s</ul></details>" % ("" if kind == "const" else " open", title(kind), names))
+        out.append('<h2 id="%s"><a href="#%s">%s</a></h2>' % (kind, kind, title(kind)))
         out.append("<p>%s</p>" % ABOUT_LAWS if kind == "law" else "")
         out.append(contents(kind, pairs))
         out += [Writer(site, module).item(item) for module, item in pairs]
@@ -420,26 +476,31 @@ def cited_html(site, one):
     keys = {}
     for name in (one.name, *one.parts):
         keys.update(site.cited_by.get(api_names.Target("definition", one.crate, (one.module, name)), {}))
-    found = [link(site.places.get(key) or site.places[key[:2]], "<code>%s</code>" % escaped("::".join(key[1:]))) for key in keys if key[:2] in site.places]
+    keys = [key for key in keys if key[:2] in site.places]
+    found = [link(site.places.get(key) or site.places[key[:2]], "<code>%s</code>" % escaped("::".join(key[1:]))) for key in keys]
     if not found:
         return ""
-    return '<details class="cited"><summary>Cited by %d item%s</summary><p>%s</p></details>' % (len(found), "" if len(found) == 1 else "s", ", ".join(found))
+    head = "Cited by %d item%s" % (len(found), "" if len(found) == 1 else "s")
+    return '<details class="cited"><summary>%s</summary><p>%s</p></details>' % (head, ", ".join(found))
 
 
 def definitions_page(site):
-    out, side = ["<h1>Definitions</h1>", "<p>%s</p>" % ABOUT_DEFINITIONS], []
+    out, side, jump = [], [], []
     for crate in api_source.LIBRARIES:
         files = [(name, specs) for name, specs in api_names.all_specs(crate).items() if specs.definitions]
         names = "".join("<li>%s</li>" % link("#" + anchor(crate, name), escaped(name)) for name, _ in files)
         side.append("<details open><summary>%s</summary><ul>%s</ul></details>" % (crate, names))
+        jump.append('<a href="#%s">%s <span>%d</span></a>' % (crate, crate, sum(len(specs.definitions) for _, specs in files)))
         out.append('<h2 id="%s"><a href="#%s">%s</a></h2>' % (crate, crate, crate))
         for name, specs in files:
             place = anchor(crate, name)
-            out.append('<section class="file"><h3 id="%s"><a href="#%s">%s</a>%s</h3>' % (place, place, name, span("where", "%s/specs/%s.antt" % (crate, name))))
+            where = span("where", "%s/specs/%s.antt" % (crate, name))
+            out.append('<section class="file"><h3 id="%s"><a href="#%s">%s</a>%s</h3>' % (place, place, name, where))
             out.append(comment_html(specs.comment))
             out += [definition_entry(site, one) for one in specs.definitions]
             out.append("</section>")
-    return page("Definitions - Pulleynavy", "\n".join(out), "\n".join(side), DEFINITIONS)
+    head = '<h1>Definitions</h1><p>%s</p><p class="jump">%s</p>' % (ABOUT_DEFINITIONS, "".join(jump))
+    return page("Definitions - Pulleynavy", head + "\n".join(out), "\n".join(side), DEFINITIONS)
 
 
 def definition_entry(site, one):
@@ -460,15 +521,17 @@ def index_page(site):
     rows = []
     for crate in api_source.LIBRARIES:
         counts = grouped(site.modules[crate])
-        said = ", ".join("%d %s" % (len(pairs), GROUPS[kind].lower() if len(pairs) > 1 else kind.replace("type", "type alias").replace("fn", "function")) for kind, pairs in counts.items())
-        rows.append("<li>%s<span>%s</span><small>%s</small></li>" % (link(crate + ".html", escaped(crate)), inline(api_source.about(crate), lambda name: None), said))
+        said = ", ".join("%d %s" % (len(pairs), GROUPS[kind][len(pairs) > 1]) for kind, pairs in counts.items())
+        about = inline(api_source.about(crate), lambda name: None)
+        rows.append("<li>%s<span>%s</span><small>%s</small></li>" % (link(crate + ".html", escaped(crate)), about, said))
     main = "<h1>Pulleynavy API</h1><p>%s</p><ul class=\"contents crates\">%s</ul>" % (ABOUT, "".join(rows))
     return page("Pulleynavy API", main, here="index.html")
 
 
 def script(site):
     """The script of the pages, with the index that it searches."""
-    return "const INDEX = %s;\n%s" % (json.dumps(site.index, ensure_ascii=False, separators=(",", ":")), api_source.read("tools", "api.js"))
+    index = json.dumps(site.index, ensure_ascii=False, separators=(",", ":"))
+    return "const INDEX = %s;\n%s" % (index, api_source.read("tools", "api.js"))
 
 
 def files():

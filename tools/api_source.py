@@ -283,10 +283,17 @@ def functions(source, at):
     return [place for place in range(at + 1, end_of(source, at)) if re.match(r"    (?:pub )?(?:const |unsafe )?fn \w", source.lines[place])]
 
 
+def doc_of(source, at):
+    """The doc comment over a line, past other comments between them."""
+    while not source.doc_lines(at) and at > 0 and re.match(r"\s*(// |#\[)", source.lines[at - 1]):
+        at -= 1
+    return source.doc_lines(at)
+
+
 def comment_before(source, at):
     """The doc comment over a line, or the comment that stands there instead."""
-    found = source.doc_lines(at)
-    while not source.doc_lines(at) and at > 0 and re.match(r"\s*// ", source.lines[at - 1]):
+    found = doc_of(source, at)
+    while not doc_of(source, at) and at > 0 and re.match(r"\s*// ", source.lines[at - 1]):
         at -= 1
         found.insert(0, source.lines[at].strip()[3:])
     return found

@@ -49,16 +49,22 @@ def rust(text, target, link_of):
 
 def formula(text, scope, link_of):
     """A definition, or what a clause says, in which the names of definitions and items are links."""
-    out = []
+    out, last, trait = [], "", None
     for word in api_names.WORD.findall(text):
         if word in KEYWORDS:
             out.append(span("k", word))
         elif word.startswith(("--", "//")) or word[0] == '"':
             out.append(span("s" if word[0] == '"' else "c", word))
-        elif word.isspace() or word[0] == "." or word[0] in "(){}[],;":
+        elif word[0] == "." and last == "⟧" and trait:
+            href = link_of(trait._replace(path=(*trait.path, word[1:])), [])
+            out.append("." + link(href, escaped(word[1:])) if href else escaped(word))
+        elif word[0] in "(){}[],;." or word.isspace():
             out.append(escaped(word))
         else:
+            trait = scope.target(word) if last == "as" else trait
+            trait = trait if trait and trait.kind == "item" else None
             out.append(linked_word(word, scope, link_of))
+        last = last if word.isspace() else word
     return "".join(out)
 
 
@@ -69,9 +75,24 @@ def linked_word(word, scope, link_of):
     if not href:
         return escaped(word)
     first, dot, rest = word.partition(".")
-    if dot and first not in scope.aliases:
+    if dot and first not in scope.aliases and word not in scope.names:
         return link(href, escaped(first)) + escaped(dot + rest)
     return link(href, escaped(word))
+
+
+# What a clause begins with, its label among it.
+LABELED = re.compile(r"(requires|ensures)(\*?)( \w+)?(?= )|(ghost)()( \w+)")
+
+
+def clause(text, scope, link_of):
+    """A clause, or what a ghost member is. Its label is no name of a definition."""
+    head = LABELED.match(text)
+    word, star, label = (one or "" for one in (head[1] or head[4], head[2] or head[5], head[3] or head[6]))
+    return span("k", word + star) + escaped(label) + formula(text[head.end() :], scope, link_of)
+
+
+def unlabeled(text):
+    return text[LABELED.match(text).end() :]
 
 
 def cited(text, scope):
