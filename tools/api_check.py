@@ -34,7 +34,7 @@ class Page(html.parser.HTMLParser):
             self.ids.add(given["id"])
         for name in ("href", "src"):
             if name in given:
-                self.links.add((given[name], self.getpos()[0]))
+                self.links.add((given[name], tag, self.getpos()[0]))
         if tag in FLOW and {"p", "code", "span", "a"} & set(self.open) or tag == "a" and "a" in self.open:
             self.faults.append("%s: <%s> in <%s>" % (place, tag, self.open[-1]))
         if tag == "li" and self.open[-1:] not in (["ul"], ["ol"]) or tag in ("dt", "dd") and self.open[-1:] != ["dl"]:
@@ -60,17 +60,20 @@ def read_pages(folder):
 
 def wrong_links(folder, pages):
     for page in pages.values():
-        for href, line in sorted(page.links):
+        for href, tag, line in sorted(page.links):
             file, _, anchor = href.partition("#")
             file = file or page.name
-            if re.match(r"\w+:", href) or not os.path.exists(os.path.join(folder, file)):
+            if re.match(r"\w+:", href):
+                if tag != "a" and not href.startswith("data:"):
+                    yield "%s:%d: it requests %s" % (page.name, line, href)
+            elif not os.path.exists(os.path.join(folder, file)):
                 yield "%s:%d: no file %s" % (page.name, line, href)
             elif anchor and not {anchor, urllib.parse.unquote(anchor)} & pages[file].ids:
                 yield "%s:%d: no place %s" % (page.name, line, href)
 
 
 def listed_items():
-    """The items of docs/API.md: of each its crate, its owner if it is a member, and its name."""
+    """The items of docs/API.md: of each its crate, its owner if it is a member, its name, and what its clauses name."""
     crate = owner = ""
     for line in api_source.read("docs", "API.md").split("\n"):
         if line.startswith("## "):
@@ -78,16 +81,26 @@ def listed_items():
         found = re.match(r"( *)- `(?:unsafe |const )?(struct|enum|trait|fn|type|const)? ?(?:fn )?(\w+)", line)
         if found and found[2]:
             owner = owner if found[1] else found[3]
-            yield crate, owner if found[1] else "", found[3]
+            names = re.search(r" \[(`[^`\]]*`(?:, `[^`\]]*`)*)\]$", line)
+            yield crate, owner if found[1] else "", found[3], re.findall(r"`([^`]*)`", names[1]) if names else []
         elif line.startswith("  - variants: ") or line.startswith("  - fields: "):
             for part in re.findall(r"`(\w+)[^`]*`", line):
-                yield crate, owner, part
+                yield crate, owner, part, []
+
+
+def without_clause(site):
+    """The definitions that docs/API.md says that an item's clauses name, and that its entry has no clause with."""
+    for crate, owner, name, names in listed_items():
+        key = (crate, owner, name) if owner else (crate, name)
+        words = {part for word in site.words.get(key, ()) for part in (word, word.split(".")[0])}
+        for missing in [one for one in names if one not in words]:
+            yield "%s.html: no clause of %s with %s" % (crate, "::".join(key[1:]), missing)
 
 
 def without_entry(pages):
     """The items of docs/API.md that have no entry on the page of their crate."""
     ends = {name: {".".join(one.split(".")[1:]) for one in page.ids if "." in one} for name, page in pages.items()}
-    for crate, owner, name in listed_items():
+    for crate, owner, name, _ in listed_items():
         wanted = "%s.%s" % (owner, name) if owner else name
         if wanted not in ends.get(crate + ".html", ()):
             yield "%s.html: no entry of %s" % (crate, wanted)
@@ -112,6 +125,7 @@ def faults(folder, site):
         yield from page.faults
     yield from wrong_links(folder, pages)
     yield from without_entry(pages)
+    yield from without_clause(site)
     yield from sorted({*site.missing, *wrong_uses()})
     yield from sorted("%s: nothing is known of %s in a clause" % pair for pair in site.unknown)
 

@@ -16,7 +16,12 @@ Target = collections.namedtuple("Target", "kind crate path")
 USE = re.compile(r"^(\s*)(?:ghost )?use Rattle\.(\w+)\.specs\.([^\s{};]+?)(?:\.\{([^}]*)\}| as (\w+))?;?$", re.M)
 HEAD = re.compile(r"(?:(?:abbrev|unfoldable)(?: pub)?|pub(?: record| data)?) ([^\s:]+)")
 # Words of a definition or a clause. A name is one word with its qualifiers; an operator is one too.
-WORD = re.compile(r'"(?:[^"\\]|\\.)*"|--.*|[^\W\d][\w-]*(?:\.\w+)*|\.?\d\w*|\.[^\W\d]\w*|[^\s\w(){}\[\],;"⟦⟧]+|.', re.S)
+WORD = re.compile(r'"(?:[^"\\]|\\.)*"|--[^\n]*|[^\W\d][\w-]*(?:\.\w+)*|\.?\d\w*|\.[^\W\d]\w*|[^\s\w(){}\[\],;"⟦⟧]+|.', re.S)
+
+
+@functools.lru_cache(maxsize=None)
+def all_crates():
+    return frozenset(common.crates())
 
 
 # ---- definitions
@@ -57,7 +62,8 @@ class Specs:
         self.comment = comment_of(blocks[0]) if any(line.startswith("use ") for line in blocks[0]) else ()
         found = [definition_in(crate, module, block) for block in blocks]
         self.definitions = [one for one in found if one]
-        self.names, self.aliases = uses_of(text, 0)
+        names, self.aliases = uses_of(text, 0)
+        self.names = dict(names)
         for one in self.definitions:
             for name in (one.name, *one.parts):
                 self.names[name] = Target("definition", crate, (module, name))
@@ -87,7 +93,7 @@ def definition(crate, module, name):
 def target_of(crate, path, name):
     """What a name of a module of definitions stands for."""
     parts = path.split(".")
-    if crate not in common.crates():
+    if crate not in all_crates():
         return Target("std", crate, ".".join((path, name)))
     if parts[0] == "declared":
         variant = (name,) if parts[-1] == "TheVariants" else ()
@@ -98,6 +104,7 @@ def target_of(crate, path, name):
     return Target("definition", crate, (path, name))
 
 
+@functools.lru_cache(maxsize=None)
 def uses_of(text, indent):
     """The names that `use` brings in with this indent, and the modules that it brings in under another name."""
     names, aliases = {}, {}
@@ -161,7 +168,7 @@ def origins(crate):
     found = {}
     for path, here in code_uses(api_source.read("crates", crate, "src", "lib.rt"), "pub use"):
         first, *_, name = path.split("::")
-        if first in common.crates():
+        if first in all_crates():
             found[here] = origins(first).get(name, Target("item", first, (name,)))
     return found
 
@@ -171,6 +178,7 @@ def code_uses(text, word="use"):
         yield from use_paths(tree)
 
 
+@functools.lru_cache(maxsize=None)
 def code_names(crate, source):
     """What the names of the code of a source stand for, as far as they are items of the libraries."""
     found, text = {}, "\n".join(source.lines)
@@ -178,7 +186,7 @@ def code_names(crate, source):
         first, *_, name = path.split("::")
         if first in ("crate", "super", "self"):
             found[here] = origins(crate).get(name, Target("item", crate, (name,)))
-        elif first in common.crates():
+        elif first in all_crates():
             found[here] = origins(first).get(name, Target("item", first, (name,)))
     for name in re.findall(r"^(?:pub(?:\([\w ]+\))? )?(?:struct|enum|trait|fn|const fn|const|type|unsafe fn) (\w+)", text, re.M):
         found[name] = Target("item", crate, (name,))

@@ -55,7 +55,7 @@ class Site:
     def __init__(self):
         self.modules = {crate: list(api_source.modules(crate)) for crate in api_source.LIBRARIES}
         self.places, self.index, self.missing, self.without_doc, self.cited_by = {}, [], [], [], {}
-        self.of_types, self.of_traits, self.variants, self.ghosts, self.unknown = {}, {}, {}, {}, set()
+        self.of_types, self.of_traits, self.variants, self.ghosts, self.unknown, self.words = {}, {}, {}, {}, set(), {}
         for crate, modules in self.modules.items():
             self.index.append((crate, "crate", crate + ".html", plain(summary([api_source.about(crate)]))))
             for module in modules:
@@ -73,10 +73,9 @@ class Site:
             for name, _, at in api_source.ghosts(module.source, item.at):
                 self.ghosts.setdefault((crate, item.name), []).append(name)
                 self.add((crate, item.name, name), "ghost", "%s::%s" % (item.name, name), doc_of(module.source, at), False)
-        for member in module.source.members.get(item.name, []):
-            found = member_kind(member)
+        for other, member in api_source.members(module, item.name):
             name = name_of(member.signature)
-            self.add((crate, item.name, name), found, "%s::%s" % (item.name, name), doc_of(module.source, member.at))
+            self.add((crate, item.name, name), member_kind(member), "%s::%s" % (item.name, name), doc_of(other.source, member.at))
 
     def add(self, key, kind, name, doc, is_searched=True):
         """Notes where an item is, and what a search says of it."""
@@ -146,16 +145,26 @@ def comment_html(lines):
     return "<p>%s</p>" % inline(" ".join(lines), lambda name: None) if lines else ""
 
 
-def folded_definitions(site, targets):
-    """The definitions that a clause cites, folded."""
+def of_library(targets):
+    """The names of the standard library that a clause cites, with their modules, other than those of its prelude."""
+    paths = [target.path.rpartition(".") for target in targets]
+    return ["<code>%s</code> (%s)" % (escaped(name), module) for module, _, name in paths if module != "Prelude" and re.match(r"\w", name)]
+
+
+def folded_definitions(site, targets, others):
+    """The definitions that a clause cites, folded. Of those of the standard library it says only where they are."""
     found = list(dict.fromkeys(api_names.definition(target.crate, *target.path) for target in targets))
-    if not found:
+    library = of_library(others)
+    if not found and not library:
         return ""
-    out = ["<details class=\"cited\"><summary>Definitions: %s</summary>" % ", ".join("<code>%s</code>" % escaped(one.name) for one in found)]
+    names = ["<code>%s</code>" % escaped(one.name) for one in found] + [one.split(" ")[0] for one in library]
+    out = ['<details class="cited"><summary>Definitions: %s</summary>' % ", ".join(names)]
     for one in found:
         name = link(definition_link(one), "<code>%s</code>" % escaped(one.name))
         out.append('<div class="def"><p class="head">%s %s</p>' % (name, span("where", "%s, %s" % (one.crate, one.module))))
         out.append(comment_html(one.comment) + definition_html(site, one) + "</div>")
+    if library:
+        out.append("<p>Of <code>Rattle.std.specs</code>: %s.</p>" % ", ".join(library))
     return "".join(out) + "</details>"
 
 
@@ -232,6 +241,7 @@ class Writer:
         """A clause of what is declared at a line, and under it the definitions that it cites."""
         scope = self.scope(at, outer, text)
         targets = api_text.cited(api_text.unlabeled(text), scope)
+        self.site.words.setdefault((self.module.crate, *owner.split("::")), set()).update(api_names.WORD.findall(text))
         self.site.unknown.update(("%s, %s" % (self.module.crate, owner), word) for word in self.unknown_words(at, outer, text, scope))
         for target in targets:
             if not api_names.definition(target.crate, *target.path):
@@ -239,7 +249,8 @@ class Writer:
             self.site.cited_by.setdefault(target, {})[(self.module.crate, *owner.split("::"))] = None
         known = [target for target in targets if api_names.definition(target.crate, *target.path)]
         shown = api_text.clause(text, scope, self.site.link_of)
-        return '<div class="clause"><pre><code>%s</code></pre>%s</div>' % (shown, folded_definitions(self.site, known))
+        others = api_text.cited(api_text.unlabeled(text), scope, "std")
+        return '<div class="clause"><pre><code>%s</code></pre>%s</div>' % (shown, folded_definitions(self.site, known, others))
 
     def clauses(self, at, outer, owner):
         found = api_source.clauses(self.source, at)
@@ -265,13 +276,16 @@ class Writer:
         return "<section>%s%s%s</section>" % (head, signature, self.doc(member.at, 5, member.owner))
 
     def members(self, item):
-        out = []
-        for member in self.source.members.get(item.name, []):
-            name = name_of(member.signature)
+        out, links = [], []
+        for module, member in api_source.members(self.module, item.name):
+            name, writer = name_of(member.signature), self if module is self.module else Writer(self.site, module)
+            links.append(link("#" + anchor(member_kind(member), item.name, name), breakable(name)))
             if member_kind(member) == "method":
-                out.append(self.function(member.at, "method", (item.name, name), 4, self.outer_of(member.at)))
+                out.append(writer.function(member.at, "method", (item.name, name), 4, writer.outer_of(member.at)))
             else:
-                out.append(self.plain_member(member, name))
+                out.append(writer.plain_member(member, name))
+        if len(links) > 3:
+            out.insert(0, '<p class="jump small">%s</p>' % "".join(links))
         return "".join(out)
 
     def outer_of(self, at):
@@ -395,6 +409,7 @@ PAGE = """<!DOCTYPE html>
 <meta charset="utf-8">
 <meta name="viewport" content="width=device-width, initial-scale=1">
 <title>%(title)s</title>
+<link rel="icon" href="data:,">
 <link rel="stylesheet" href="api.css">
 <script src="api.js" defer></script>
 </head>
@@ -447,11 +462,11 @@ def again_html(site, crate):
     found = {}
     for name, target in api_names.origins(crate).items():
         href = site.link_of(target, [])
-        found.setdefault(target.crate, []).append(link(href, "<code>%s</code>" % name) if href else "<code>%s</code>" % name)
+        found.setdefault(target.crate, []).append((name, link(href, "<code>%s</code>" % name) if href else "<code>%s</code>" % name))
     out = []
     for other, names in found.items():
         head = "Re-exports %d name%s of <code>%s</code>" % (len(names), "" if len(names) == 1 else "s", other)
-        out.append("<details><summary>%s</summary><p>%s</p></details>" % (head, ", ".join(sorted(names))))
+        out.append("<details><summary>%s</summary><p>%s</p></details>" % (head, ", ".join(shown for _, shown in sorted(names))))
     return "".join(out)
 
 

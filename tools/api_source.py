@@ -183,6 +183,7 @@ def source_of(crate, module):
     return Source(read("crates", crate, "src", module + ".rt"))
 
 
+@functools.lru_cache(maxsize=None)
 def source_names(crate):
     """The names of all sources of a crate."""
     top = os.path.join(common.TOP, "crates", crate, "src")
@@ -205,6 +206,17 @@ def given_items(crate, module, names):
     yield Module(crate, module, source, items)
     for path, chosen in under:
         yield from given_items(crate, path, chosen)
+
+
+def members(module, name):
+    """The members of a type or a trait of a module, each with the module that it is in: first those next to it."""
+    for member in module.source.members.get(name, []):
+        yield module, member
+    for other in source_names(module.crate):
+        source = source_of(module.crate, other)
+        if other != module.path and name in source.members and name not in [item.name for item in source.items]:
+            for member in source.members[name]:
+                yield Module(module.crate, other, source, []), member
 
 
 def about(crate):

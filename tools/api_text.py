@@ -95,12 +95,12 @@ def unlabeled(text):
     return text[LABELED.match(text).end() :]
 
 
-def cited(text, scope):
-    """The definitions that a clause names, in their order."""
+def cited(text, scope, kind="definition"):
+    """The definitions that a clause names, in their order, or what else it names of another kind."""
     found = {}
     for word in api_names.WORD.findall(text):
         target = scope.target(word) if word[:1] not in '".' else None
-        if target and target.kind == "definition":
+        if target and target.kind == kind:
             found[target] = None
     return list(found)
 
