@@ -21,7 +21,10 @@ GROUPS = {
     "law": ("law", "laws"),
 }
 DEFINITIONS = "definitions.html"
-ABOUT_LAWS = "What holds of whole runs, of several calls, or of the values of a type. You don't call a law: its clauses are what is proved."
+ABOUT_LAWS = (
+    "Laws state what follows from the contracts: properties of whole iterations, of several calls, of comparisons and copies. "
+    "A law does nothing at run time; a program that calls one has its contract, and a proof may cite it."
+)
 # Words of clauses that are of the language.
 KNOWN = ("self", "result", "Self", "Type", "Unit", "_", "sem", "𝓛", "refl", "tt")
 # Traits of the standard library whose implementations say nothing that a reader looks for.
@@ -55,7 +58,7 @@ class Site:
     def __init__(self):
         self.modules = {crate: list(api_source.modules(crate)) for crate in api_source.LIBRARIES}
         self.places, self.index, self.missing, self.without_doc, self.cited_by = {}, [], [], [], {}
-        self.of_types, self.of_traits, self.variants, self.ghosts, self.unknown, self.words = {}, {}, {}, {}, set(), {}
+        self.of_types, self.of_traits, self.parts, self.ghosts, self.unknown, self.words = {}, {}, {}, {}, set(), {}
         for crate, modules in self.modules.items():
             self.index.append((crate, "crate", crate + ".html", plain(summary([api_source.about(crate)]))))
             for module in modules:
@@ -67,7 +70,6 @@ class Site:
         self.add((crate, item.name), kind, item.name, doc_of(module.source, item.at))
         for part in parts_of(module.source, item):
             word = "variant" if item.kind == "enum" else "field"
-            self.variants.setdefault((crate, part.name), []).append((crate, item.name, part.name))
             self.add((crate, item.name, part.name), word, "%s::%s" % (item.name, part.name), doc_of(module.source, part.at), word != "field")
         if item.kind == "trait":
             for name, _, at in api_source.ghosts(module.source, item.at):
@@ -80,6 +82,8 @@ class Site:
     def add(self, key, kind, name, doc, is_searched=True):
         """Notes where an item is, and what a search says of it."""
         self.places[key] = "%s.html#%s" % (key[0], anchor(kind, *key[1:]))
+        if kind in ("variant", "method"):
+            self.parts.setdefault((key[0], key[-1]), []).append(self.places[key])
         if is_searched:
             self.index.append((name, kind, self.places[key], plain(summary(doc))))
         if not doc:
@@ -96,10 +100,11 @@ class Site:
         return None
 
 
-    def only_variant(self, crate, name):
-        """Where the variant with this name is, if there is one in the crate."""
-        found = self.variants.get((crate, name), []) if name[:1].isupper() else []
-        return self.places[found[0]] if len(found) == 1 else None
+    def only_one(self, crate, name):
+        """Where the variant or the method with this name is, if there is one in the crate. A short name may be that of a parameter."""
+        is_clear = (name[:1].isupper() or "_" in name) and name not in ("None", "Some", "Ok", "Err")
+        found = self.parts.get((crate, name), []) if is_clear else []
+        return found[0] if len(found) == 1 else None
 
 
 def plain(text):
@@ -135,8 +140,8 @@ def member_kind(member):
 def definition_html(site, one):
     """The text of a definition, with links to those that it uses."""
     specs = api_names.all_specs(one.crate)[one.module]
-    itself = api_names.Target("definition", one.crate, (one.module, one.name))
-    names = {name: target for name, target in specs.names.items() if target != itself}
+    itself = {api_names.Target("definition", one.crate, (one.module, name)) for name in (one.name, *one.parts)}
+    names = {name: target for name, target in specs.names.items() if target not in itself}
     scope = api_names.Scope(names, specs.aliases, {}, api_names.bound_in(one.text))
     return "<pre><code>%s</code></pre>" % formula(one.text, scope, site.link_of)
 
@@ -146,9 +151,9 @@ def comment_html(lines):
 
 
 def of_library(targets):
-    """The names of the standard library that a clause cites, with their modules, other than those of its prelude."""
-    paths = [target.path.rpartition(".") for target in targets]
-    return ["<code>%s</code> (%s)" % (escaped(name), module) for module, _, name in paths if module != "Prelude" and re.match(r"\w", name)]
+    """The paths of what a clause cites of the standard library, without its prelude and without operators."""
+    paths = [target.path for target in targets]
+    return [path for path in paths if not path.startswith("Prelude.") and re.match(r"\w", path.split(".")[-1])]
 
 
 def folded_definitions(site, targets, others):
@@ -157,14 +162,14 @@ def folded_definitions(site, targets, others):
     library = of_library(others)
     if not found and not library:
         return ""
-    names = ["<code>%s</code>" % escaped(one.name) for one in found] + [one.split(" ")[0] for one in library]
-    out = ['<details class="cited"><summary>Definitions: %s</summary>' % ", ".join(names)]
+    names = [one.name for one in found] + [path.split(".")[-1] for path in library]
+    out = ['<details class="cited"><summary>Definitions: %s</summary>' % ", ".join("<code>%s</code>" % escaped(name) for name in names)]
     for one in found:
         name = link(definition_link(one), "<code>%s</code>" % escaped(one.name))
         out.append('<div class="def"><p class="head">%s %s</p>' % (name, span("where", "%s, %s" % (one.crate, one.module))))
         out.append(comment_html(one.comment) + definition_html(site, one) + "</div>")
     if library:
-        out.append("<p>Of <code>Rattle.std.specs</code>: %s.</p>" % ", ".join(library))
+        out.append("<p>In Rattle's standard library: %s.</p>" % ", ".join("<code>%s</code>" % escaped(path) for path in library))
     return "".join(out) + "</details>"
 
 
@@ -192,7 +197,7 @@ class Writer:
                 return None
             target = self.code.get(first) or api_names.Target("item", crate, (first,))
             known = places.get((crate, owner, first, *rest)) or self.site.link_of(target, rest) or places.get(("wasm_base", "Fault", first))
-            return known or self.site.only_variant(crate, first)
+            return known or self.site.only_one(crate, first)
 
         return find
 
@@ -205,16 +210,16 @@ class Writer:
         for line in (at, outer):
             text = self.source.signature(line)[0] if line is not None else ""
             for name, bounds in re.findall(r"\b([A-Z]\w*): ([^,>{(]+)", text):
-                for trait in filter(None, map(self.code.get, re.findall(r"[A-Z]\w*", bounds))):
-                    found.update(("%s.%s" % (name, ghost), self.ghost(trait, ghost)) for ghost in self.site.ghosts.get((trait.crate, *trait.path), ()))
+                for trait in re.findall(r"[A-Z]\w*", bounds):
+                    found.update(("%s.%s" % (name, ghost.path[-1]), ghost) for ghost in self.ghosts_of(trait))
             head = re.match(r"(?:pub trait|impl(?:<.*?>)?) (\w+)", text)
-            trait = self.code.get(head[1]) if head else None
-            if trait:
-                found.update((ghost, self.ghost(trait, ghost)) for ghost in self.site.ghosts.get((trait.crate, *trait.path), ()))
+            found.update((ghost.path[-1], ghost) for ghost in (self.ghosts_of(head[1]) if head else ()))
         return found
 
-    def ghost(self, trait, name):
-        return trait._replace(path=(*trait.path, name))
+    def ghosts_of(self, name):
+        trait = self.code.get(name)
+        names = self.site.ghosts.get((trait.crate, *trait.path), ()) if trait else ()
+        return [trait._replace(path=(*trait.path, ghost)) for ghost in names]
 
     def scope(self, at, outer, text):
         """What names stand for in a clause of what is declared at a line, in an implementation or a trait that begins at `outer`."""
@@ -473,7 +478,7 @@ def again_html(site, crate):
 def crate_page(site, crate):
     groups = grouped(site.modules[crate])
     side = ["<p>%s</p>" % escaped(crate)]
-    out = ["<h1>Crate <span>%s</span></h1>" % escaped(crate), "<p>%s</p>" % inline(api_source.about(crate), lambda name: None)]
+    out = ["<h1>Crate <span>%s</span></h1>" % escaped(crate), document(api_source.about_lines(crate), 2, lambda name: None)]
     jump = ['<a href="#%s">%s <span>%d</span></a>' % (kind, title(kind), len(pairs)) for kind, pairs in groups.items()]
     out += ['<p class="jump">%s</p>' % "".join(jump), again_html(site, crate)]
     for kind, pairs in groups.items():
@@ -525,10 +530,10 @@ def definition_entry(site, one):
     return '<div class="def">%s%s%s%s</div>' % (head, comment_html(one.comment), definition_html(site, one), cited_html(site, one))
 
 
-ABOUT_DEFINITIONS = "The definitions that the clauses of the crates cite, and those that these use. Each has its comment and its text."
+ABOUT_DEFINITIONS = "The definitions of the crates: those that contracts cite, and those that these use in turn."
 ABOUT = (
-    "The Rattle crates of Pulleynavy, a streaming parser for WebAssembly binaries. Each item has its documentation, its signature and its contract: "
-    "the <code>requires</code> and <code>ensures</code> clauses, which are proved. Under a clause, open the definitions that it cites."
+    "The Rattle crates of Pulleynavy, a streaming parser for WebAssembly binaries. Each item has its signature, its documentation and its contract: "
+    "the <code>requires</code> and <code>ensures</code> clauses, which are proved. Open <em>Definitions</em> under a clause to see what it cites."
 )
 
 

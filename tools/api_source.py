@@ -219,9 +219,13 @@ def members(module, name):
                 yield Module(module.crate, other, source, []), member
 
 
+def about_lines(crate):
+    """The doc comment of a crate."""
+    return [line[3:].strip() for line in read("crates", crate, "src", "lib.rt").split("\n") if line.startswith("//!")]
+
+
 def about(crate):
-    """What a crate says of itself."""
-    return " ".join(line[3:].strip() for line in read("crates", crate, "src", "lib.rt").split("\n") if line.startswith("//!"))
+    return " ".join(about_lines(crate))
 
 
 def modules(crate):
