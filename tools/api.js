@@ -87,4 +87,5 @@ document.addEventListener("keydown", (event) => {
   words.focus();
   words.select();
 });
+if (matchMedia("(hover: none)").matches) words.placeholder = "Search";
 box.hidden = false;

@@ -101,9 +101,8 @@ class Site:
 
 
     def only_one(self, crate, name):
-        """Where the variant or the method with this name is, if there is one in the crate. A short name may be that of a parameter."""
-        is_clear = (name[:1].isupper() or "_" in name) and name not in ("None", "Some", "Ok", "Err")
-        found = self.parts.get((crate, name), []) if is_clear else []
+        """Where the variant or the method with this name is, if there is one in the crate."""
+        found = self.parts.get((crate, name), []) if name not in ("None", "Some", "Ok", "Err") else []
         return found[0] if len(found) == 1 else None
 
 
@@ -197,7 +196,8 @@ class Writer:
                 return None
             target = self.code.get(first) or api_names.Target("item", crate, (first,))
             known = places.get((crate, owner, first, *rest)) or self.site.link_of(target, rest) or places.get(("wasm_base", "Fault", first))
-            return known or self.site.only_one(crate, first)
+            is_parameter = re.search(r"\b%s: " % first, "\n".join(self.source.lines))
+            return known or (None if is_parameter else self.site.only_one(crate, first))
 
         return find
 
