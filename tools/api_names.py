@@ -164,7 +164,7 @@ def use_paths(tree):
 
 @functools.lru_cache(maxsize=None)
 def origins(crate):
-    """The names of other libraries that a crate gives again, and the libraries that they are of."""
+    """The names that a crate re-exports of other libraries, and the libraries that define them."""
     found = {}
     for path, here in code_uses(api_source.read("crates", crate, "src", "lib.rt"), "pub use"):
         first, *_, name = path.split("::")

@@ -187,7 +187,7 @@ class Writer:
         return rust(text, self.code.get, self.site.link_of)
 
     def code_link(self, owner):
-        """What finds the item that a piece of code in a doc comment of this item names."""
+        """Returns what finds the item that code in a doc comment of this item names."""
 
         def find(text):
             first, *rest = text.replace("()", "").split("::")

@@ -26,7 +26,7 @@ def read(*parts):
 
 
 def given_names(text):
-    """The names that a crate gives of each of its modules, its public modules, and the names of each library that it gives again."""
+    """The names that a crate gives of each of its modules, its public modules, and the names of each library that it re-exports."""
     names, libraries = {}, {}
     for path, many, one in re.findall(r"^pub use ([\w:]+?)::(?:\{([^}]*)\}|(\w+));", text, re.M):
         found = [word.strip() for word in (many or one).split(",") if word.strip()]
@@ -235,7 +235,7 @@ def modules(crate):
         yield from given_items(crate, module, None if module in public else names[module])
 
 
-# ---- what stands under an item
+# ---- what is under an item
 
 
 def depth_of(line):
@@ -307,7 +307,7 @@ def doc_of(source, at):
 
 
 def comment_before(source, at):
-    """The doc comment over a line, or the comment that stands there instead."""
+    """The doc comment over a line, or the other comment that is there instead."""
     found = doc_of(source, at)
     while not doc_of(source, at) and at > 0 and re.match(r"\s*// ", source.lines[at - 1]):
         at -= 1

@@ -24,7 +24,7 @@ WAIT = 60
 
 
 class BrowserError(Exception):
-    """A browser refused a command, or did not answer."""
+    """A browser refused a command, or did not respond."""
 
 
 def pressed(keys):

@@ -1,4 +1,4 @@
-"""What the tools share: their arguments, the built programs, the models, and how differences are told."""
+"""What the tools share: their arguments, the built programs, the models, and how differences are printed."""
 import argparse
 import functools
 import hashlib
@@ -21,7 +21,7 @@ DIFFERS, WRONG_USE, NO_PROGRAM = 1, 2, 3
 
 
 def version():
-    """The version of this project, which stands in one file."""
+    """The version of this project, which is in one file."""
     with open(os.path.join(TOP, "VERSION"), encoding="ascii") as file:
         return file.read().strip()
 
@@ -116,12 +116,12 @@ def is_older(name):
 
 
 def path_of(name):
-    """Where a program stands once it is built."""
+    """The path of a program once it is built."""
     return os.path.join(TOP, "crates", name, "out", name)
 
 
 def built(name):
-    """The path of a built program; where it isn't built, the tool stops and says how to build it."""
+    """The path of a built program; if it isn't built, the tool stops and says how to build it."""
     path = path_of(name)
     if not os.access(path, os.X_OK):
         stop(NO_PROGRAM, "%s is not built: `tools/run --build %s` proves and builds it" % (name, name))

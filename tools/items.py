@@ -10,7 +10,7 @@ from texts import KNOWN
 
 
 def signed(rng, bits):
-    """A signed number of so many bits in LEB128, now and then with more bytes than it needs."""
+    """A signed number of this many bits in LEB128, now and then with more bytes than it needs."""
     if rng.random() < 0.04:
         # As many bytes as it may have, of which the last one may be wrong.
         return bytes([rng.getrandbits(7) | 128] * ((bits + 6) // 7 - 1) + [rng.getrandbits(8)])
@@ -54,7 +54,7 @@ def name(rng):
 
 
 def some(rng, part, most=3):
-    """A count and so many parts, seldom with another count."""
+    """A count and its parts, seldom with another count."""
     count = rng.randrange(most + 1)
     announced = count if rng.random() < 0.97 else rng.choice([count + 1, 2**32 - 1])
     return some_leb(rng, announced) + b"".join(part(rng) for _ in range(count))

@@ -1,16 +1,16 @@
-"""Streams in pieces: the cases that the program wasm_rows reads, and what a model says of them."""
+"""Streams in chunks: the cases that the program wasm_rows reads, and what a model says of them."""
 import rows
 from common import leb
 from texts import number_at
 
 
 def joined(pieces):
-    """The bytes of a row of pieces: their count, and each after its size."""
+    """The bytes of a row of chunks: their count, and each after its size."""
     return leb(len(pieces)) + b"".join(leb(len(piece)) + piece for piece in pieces)
 
 
 def case(reader, offset, pieces):
-    """The row of a stream in pieces."""
+    """The row of a stream in chunks."""
     return rows.row_line(reader, joined(pieces), offset)
 
 
@@ -70,7 +70,7 @@ def expected_steps(model, pieces, offset):
 
 
 def pieces_in(data):
-    """The pieces of a row."""
+    """The chunks of a row."""
     count, place = number_at(data, 0)
     pieces = []
     for _ in range(count):
@@ -81,7 +81,7 @@ def pieces_in(data):
 
 
 def model_lines(model, case):
-    """The lines that a model gives of a row of a stream in pieces; None of other rows."""
+    """The lines that a model has for a row of a stream in chunks; None for other rows."""
     reader, data, offset, _ = case
     if reader == "events":
         parts = expected_events(model, b"".join(pieces_in(data)), offset)

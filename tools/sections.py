@@ -9,7 +9,7 @@ SOURCE = os.path.join(os.path.dirname(os.path.dirname(os.path.abspath(__file__))
 
 
 def body_of(text, name):
-    """What stands in the braces of a function."""
+    """The body of a function."""
     start = re.search(r"\bfn %s\b" % name, text).start()
     return text[start : text.index("\n}\n", start)]
 

@@ -1,4 +1,4 @@
-"""Reads the lines that tell of items, and gives each item's text as a model writes it.
+"""Reads the lines of items, and returns each item's text as a model writes it.
 
 `case_text(row, lines, data, offset)` reads the result of a row of `crates/wasm_rows`, and `said_text` and `expected_text` give its text
 and the model's, to be compared; `listing_texts(lines, data)` reads the lines of a whole stream, as the program `wasm_dump` writes them; `shortened(text)` gives a model's text with no more of raw bytes than the lines have.
@@ -134,7 +134,7 @@ def with_instructions(row, lines, data):
 
 
 def named(event):
-    """The line of an event as a dump has it: with the name of a section that is told by its id."""
+    """The line of an event as a dump has it: with the name of a section that is listed by its id."""
     words = event.split(" ")
     return event + " " + S.NAMES[int(words[1])] if words[0] == "section" else event
 
@@ -162,7 +162,7 @@ def space_of(ident, node):
 
 
 def numbered(lines):
-    """Lines of a dump without numbers, with the number of each item: how many came before it in its index space."""
+    """Lines of a dump without numbers, with the number of each item: how many are before it in its index space."""
     came, imported, bodies, ident, told = Counter(), 0, 0, None, []
 
     def number(space):

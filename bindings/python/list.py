@@ -1,5 +1,5 @@
 #!/usr/bin/env python3
-"""Lists the module on standard input, in pieces of so many bytes (the argument), as wasm_list does."""
+"""Lists the module on standard input, in chunks of this many bytes (the argument), as wasm_list does."""
 import os
 import sys
 

@@ -1,5 +1,5 @@
 #!/usr/bin/env python3
-"""A model of framing: what a stream's events are, which data is too short, and what is left of a stripped stream.
+"""A model of framing: what a stream's events are, which data is too short, and stripped streams.
 
   model.py [--offset O] [--at-once] [--pieces N [--hints] | --prefix] < STREAM
   model.py --strip [--keep-names] < STREAM > STRIPPED
@@ -73,7 +73,7 @@ class State:
         self.rank = 0
         self.functions = self.code = self.data_count = self.data = None
         self.in_code = False    # inside a code section
-        self.bodies = 0         # that are still to come
+        self.bodies = 0         # that remain
         self.code_end = 0       # stream offset of the end of the code section
         self.at_once = at_once
 
@@ -351,7 +351,7 @@ def ending(st, d):
 
 
 def feed(S, n, o=0, at_once=False, hints=True):
-    """The events while pieces of n bytes come, the requests for more between them."""
+    """The events while chunks of n bytes arrive, and the requests for more between them."""
     st, p, to, out = State(o, at_once), 0, 0, []
     while True:
         d = S[:to] if to < len(S) else S
@@ -379,7 +379,7 @@ def feed(S, n, o=0, at_once=False, hints=True):
 
 
 def prefix(S, o=0, at_once=False, places=False):
-    """What is answered with eof false until the first request for more or fault. With `places` an event has how many bytes it takes, and
+    """The results with eof false until the first request for more or fault. With `places` an event has how many bytes it takes, and
     what comes last the offset of the next event."""
     st, p, out = State(o, at_once), 0, []
 
@@ -536,7 +536,7 @@ def rows():
     ]:
         got = reading(M + H(text))
         want("after a header: " + text, got[-len(last):], last)
-    # pieces
+    # chunks
     hints = [l for l in feed(r8[:12], 1)]
     want("requests, byte by byte", [l for l in hints if l.startswith("need")][:12],
          ["need %d" % n for n in (4, 3, 2, 1, 4, 3, 2, 1, 1, 1, 2, 1)])
@@ -562,7 +562,7 @@ def rows():
         front = M + H("03020100") + H(d[0])
         want("a body past its section, once its bytes are there", ask(front, H(d[1]), eof), before)
         want("a body past its section, at once", ask(front, H(d[1]), eof, 0, True), after)
-    # data that is too short: two endings decide it otherwise
+    # data that is too short: two suffixes decide it otherwise
     for front, d, x, ex, y, ey in [
         ("", "", M.hex(), "version 0 8 1 module", "00000000", "fault 0 " + T["BadMagic"]),
         ("", "0061736d", "01000000", "version 0 8 1 module", "", eofl(4)),
@@ -601,7 +601,7 @@ def rows():
 # ------------------------------------------------------------------ the laws
 
 def laws(depth=3):
-    """Over short streams: more bytes change no answer, and where more are asked for, two endings decide otherwise."""
+    """Over short streams: more bytes change no result, and where more are requested, two suffixes decide otherwise."""
     import itertools
     alphabet = [0x00, 0x01, 0x02, 0x03, 0x05, 0x0A, 0x0B, 0x0C, 0x61, 0x73, 0x6D, 0x7F, 0x80, 0xFF]
     tails = [b""] + [bytes(x) for n in (1, 2, 3) for x in itertools.product([0, 1, 0x61, 0x80], repeat=n)]

@@ -365,7 +365,7 @@ def compact(r):
 
 
 def counted(r, f, skip=None):
-    """The items of a window that begins at the count; `skip` first passes over them, where the list lies in an item."""
+    """The items of a window that begins at the count; `skip` first skips them, if the list is inside an item."""
     start = r.p
     if skip:
         for _ in range(r.u32()):
@@ -375,7 +375,7 @@ def counted(r, f, skip=None):
 
 
 def walk(r, f):
-    """(offset, text) of each item, then (None, fault) if one stands at the end."""
+    """(offset, text) of each item, then (None, fault) if one ends them."""
     n = r.u32()
     out = []
     for _ in range(n):

@@ -30,7 +30,7 @@ class Event:
 
     @property
     def content(self) -> bytes:
-        """The bytes from `start` to `end`, or those of them that came with the event."""
+        """The bytes from `start` to `end`, or those of them that the event has."""
         return self.raw[len(self.raw) - (self.end - self.start) :] if self.kind is not EventKind.CODE else b""
 
     @property

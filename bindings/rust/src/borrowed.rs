@@ -15,7 +15,7 @@ pub(crate) type Instances<'a> = CoreDumpInstancesSection<'a>;
 /// A frame of a core dump.
 pub(crate) type Frame<'a> = CoreDumpStackFrame<'a>;
 
-/// Reads this many items. `check` reads each item first, and its errors are returned; `read` reads it again where it is used.
+/// Reads this many items. `check` reads each item first, and its errors are returned; `read` reads it again on use.
 pub(crate) fn read_items<'a, T>(
     reader: &mut BinaryReader<'a>,
     count: u32,

@@ -166,7 +166,7 @@ pub enum ElementKind<'a> {
     Passive,
     /// It is copied to a table when the module is instantiated.
     Active {
-        /// The table's index, where it is written.
+        /// The table's index, if it is written.
         table_index: Option<u32>,
         /// The index in the table of the first element.
         offset_expr: ConstExpr<'a>,

@@ -115,7 +115,7 @@ pub(crate) fn parse(parser: &mut Parser, bytes: &[u8], eof: bool) -> Event {
     unsafe { ffi::pulleynavy_parse(parser, bytes.as_ptr(), bytes.len(), eof) }
 }
 
-/// Moves a parser past the remaining bytes of a code section; elsewhere it stays where it is.
+/// Moves a parser past the remaining bytes of a code section; elsewhere it does not move.
 pub(crate) fn skip_section(parser: &mut Parser) {
     // SAFETY: the declaration is generated from the library's sources, and nobody else has the parser.
     unsafe { ffi::pulleynavy_skip_section(parser) };

@@ -212,7 +212,7 @@ impl<'a> FromReader<'a> for ComdatSymbol {
 pub enum SymbolInfo<'a> {
     /// A function, by its index.
     Func { flags: SymbolFlags, index: u32, name: Option<&'a str> },
-    /// Data, and where it is if it is defined.
+    /// Data, and its place if it is defined.
     Data { flags: SymbolFlags, name: &'a str, symbol: Option<DefinedDataSymbol> },
     /// A global, by its index.
     Global { flags: SymbolFlags, index: u32, name: Option<&'a str> },

@@ -39,7 +39,7 @@ fn too_large(bytes: &[u8]) -> Error {
     Parser::new(u64::MAX - 15).parse_all(bytes).find_map(Result::err).unwrap()
 }
 
-/// The faults of one number: of each a reader, bytes, the number and the text of the fault, and where it is.
+/// The faults of one number: of each a reader, bytes, the number and the text of the fault, and its offset.
 fn agree(rows: &[(Read, &str, u32, &str, u64)]) {
     for (read, digits, code, text, offset) in rows {
         let error = read(&bytes(digits));

@@ -41,7 +41,7 @@ pub(crate) fn parse_all(bytes: &[u8]) -> Result<Tally> {
     Ok(tally)
 }
 
-/// Reads a stream that comes in chunks of this size: small ones are pushed to a feeder, and the others lent to it.
+/// Reads a stream that comes in chunks of this size: small ones are pushed to a feeder, and the others borrowed by it.
 #[inline(never)]
 pub(crate) fn feed(alloc: Global, bytes: &[u8], size: usize) -> Result<Tally> {
     if size <= SMALL_PIECE {

@@ -15,10 +15,10 @@ use tally::Tally;
 /// As many rounds as there are at most.
 const MOST_ROUNDS: u32 = 1000;
 
-/// No round begins after so many seconds.
+/// No round begins after this many seconds.
 const ENOUGH: u64 = 1;
 
-/// The ways that are gone where no argument names any.
+/// The modes that run if no argument names any.
 const WAYS: [&'static str; 6] = ["parse", "parse_all", "65536", "1", "items", "indices"];
 
 /// The stream has a fault, an argument names no way, or memory, input, output or the clock failed.
@@ -50,8 +50,8 @@ fn main(rt: HostRuntime) -> ExitCode {
     }
 }
 
-// For each way that an argument names a line of its name, how much was read, a checksum, and the nanoseconds of the
-// fastest round. With no argument each way is gone once, and its line has no time.
+// For each mode that an argument names a line of its name, how much was read, a checksum, and the nanoseconds of the fastest
+// round. With no argument each mode runs once, and its line has no time.
 fn run(rt: &HostRuntime) -> Result<(), Failed> {
     let names = env::args(rt)?.skip(1).collect::<Vec<String>>(rt.alloc())?;
     let mut bytes = Vec::new(rt.alloc());
@@ -87,7 +87,7 @@ fn time(rt: &HostRuntime, name: &str, bytes: &[u8]) -> Result<(Tally, u64), Fail
     Ok((tally, least))
 }
 
-// Reads the bytes in the way of this name: a word, or the size of the pieces for a feeder.
+// Reads the bytes in the mode of this name: a word, or the size of the chunks for a feeder.
 fn read(alloc: Global, name: &str, bytes: &[u8]) -> Result<Tally, Failed> {
     let tally = match name {
         "parse" => events::parse(bytes)?,

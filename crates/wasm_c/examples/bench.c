@@ -1,4 +1,4 @@
-/* Times the events of the module on standard input: whole, by the word `parse` or, many at a time, `batch`, or in chunks of so many bytes. Of each word it prints how
+/* Times the events of the module on standard input: whole, by the word `parse` or, many at a time, `batch`, or in chunks of a given size in bytes. Of each word it prints how
    many events there are, their bytes, and the nanoseconds of the fastest of the rounds of a second. */
 #include <pulleynavy.h>
 #include <stdio.h>

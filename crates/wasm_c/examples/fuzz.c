@@ -1,4 +1,4 @@
-/* Reads the stream on standard input whole and again in pieces, and stops by abort where an event differs. A target for AFL++:
+/* Reads the stream on standard input whole and again in chunks, and aborts if an event differs. A target for AFL++:
 
        afl-cc -O1 -g -I include examples/fuzz.c out/libwasm_c.a -o fuzz
        afl-fuzz -i seeds -o findings ./fuzz */
@@ -15,7 +15,7 @@ static bool is_same(const pulleynavy_event *one, const pulleynavy_event *other) 
            one->fault.offset == other->fault.offset && one->fault.number == other->fault.number;
 }
 
-/* The next event of a feeder, which is given pieces of so many bytes for as long as it asks. */
+/* The next event of a feeder, which receives chunks of this many bytes as long as it requests more. */
 static pulleynavy_event next(pulleynavy_feed *feed, size_t size, size_t *given, size_t piece) {
     for (;;) {
         pulleynavy_event event = pulleynavy_feed_step(feed, storage, sizeof storage);

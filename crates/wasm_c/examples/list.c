@@ -1,9 +1,9 @@
-/* Lists the module on standard input, which comes in pieces of so many bytes (the argument), exactly as wasm_list does. */
+/* Lists the module on standard input, read in chunks of this many bytes (the argument), exactly as wasm_list does. */
 #include "show.h"
 #include <stdlib.h>
 #include <string.h>
 
-/* Hands a piece to the feeder, whose storage grows where there is no room. */
+/* Pushes a chunk to the feeder, whose storage grows if there is no room. */
 static uint8_t *push(pulleynavy_feed *feed, uint8_t *storage, size_t *room, const uint8_t *piece, size_t size) {
     while (!pulleynavy_feed_push(feed, storage, *room, piece, size)) {
         uint8_t *grown = realloc(storage, *room *= 2);

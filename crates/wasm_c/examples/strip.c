@@ -1,4 +1,4 @@
-/* Takes the custom sections out of the module on standard input, in its own bytes, and writes what is left. With the argument `names` the
+/* Strips the custom sections of the module on standard input, in place, and writes the result. With the argument `names` the
    section of names stays. Of a module with a fault nothing is written. */
 #include <pulleynavy.h>
 #include <stdio.h>

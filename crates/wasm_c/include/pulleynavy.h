@@ -464,7 +464,7 @@ typedef struct pulleynavy_event {
     uint64_t end;
     /* The offset of the first item after a count, of the first body of a code section, or of the data of a custom section. */
     uint64_t data_offset;
-    /* Where it begins in memory, in bytes from the first one that `pulleynavy_parse` was given, or from the start of the storage of a
+    /* Where it begins in memory, in bytes from the first one passed to `pulleynavy_parse`, or from the start of the storage of a
        feeder. Of a request, the end and a fault, where the unread bytes begin. */
     size_t at;
     /* How many bytes were consumed: 0 for a request, the end and a fault, and at least 1 otherwise. */
@@ -481,7 +481,7 @@ typedef struct pulleynavy_event {
 typedef struct pulleynavy_parser {
     /* The stream offset of what comes next. */
     uint64_t offset;
-    /* The features of the windows to come, as bits. */
+    /* The features of the windows of later payloads, as bits. */
     uint32_t features;
     /* The count of the function section, if `has_functions` isn't 0. */
     uint32_t functions;
@@ -509,7 +509,7 @@ typedef struct pulleynavy_parser {
     uint8_t has_datas;
     /* Whether a data count section was passed. */
     uint8_t has_data_counts;
-    /* Whether the start of a code section came last, or a body. */
+    /* Whether the last payload was the start of a code section, or a body. */
     uint8_t in_code;
 } pulleynavy_parser;
 
@@ -594,9 +594,9 @@ pulleynavy_items pulleynavy_items_init(const pulleynavy_event *event, uint32_t f
    subsections has no count: 0 will do. */
 pulleynavy_items pulleynavy_list_init(uint64_t offset, uint32_t count, uint32_t features);
 
-/* A run of the bytes that a call was given. */
+/* A run of the bytes passed to a call. */
 typedef struct pulleynavy_span {
-    /* Where it begins, in bytes from the first of those that were given. */
+    /* Where it begins, in bytes from the first of those passed. */
     size_t at;
     /* How many bytes it has. */
     size_t size;
@@ -744,16 +744,16 @@ typedef struct pulleynavy_subtype {
     uint32_t count;
 } pulleynavy_subtype;
 
-/* Reads the beginning of the group of types at the start of `bytes` (core specification, Binary format, Types, Recursive Types;
-   Modules, Type Section). After it come its subtypes, each by `pulleynavy_read_subtype`. The bytes are the remaining bytes of its
-   section, at `offset` of the stream. After a fault all other fields are 0. */
+/* Reads the head of the group of types at the start of `bytes` (core specification, Binary format, Types, Recursive Types; Modules,
+   Type Section). Its subtypes follow, each read by `pulleynavy_read_subtype`. The bytes are the remaining bytes of its section, at
+   `offset` of the stream. After a fault all other fields are 0. */
 pulleynavy_type_group pulleynavy_read_type_group(
     const uint8_t *bytes, size_t bytes_size, uint64_t offset, uint32_t features);
 
-/* Reads the beginning of the subtype at the start of `bytes` (core specification, Binary format, Types, Recursive Types and Composite
-   Types). After it come so many parameters, each by `pulleynavy_read_value_type`, then a count of results, by
-   `pulleynavy_read_number`, and so many results; or so many fields, each by `pulleynavy_read_field_type`. The bytes are the remaining
-   bytes of its section, at `offset` of the stream. After a fault all other fields are 0. */
+/* Reads the head of the subtype at the start of `bytes` (core specification, Binary format, Types, Recursive Types and Composite
+   Types). After it come this many parameters, each read by `pulleynavy_read_value_type`, then a count of results, by
+   `pulleynavy_read_number`, and that many results; or this many fields, each by `pulleynavy_read_field_type`. The bytes are the
+   remaining bytes of its section, at `offset` of the stream. After a fault all other fields are 0. */
 pulleynavy_subtype pulleynavy_read_subtype(
     const uint8_t *bytes, size_t bytes_size, uint64_t offset, uint32_t features);
 
@@ -1003,7 +1003,8 @@ typedef struct pulleynavy_imports {
 pulleynavy_imports pulleynavy_imports_init(const pulleynavy_event *event, uint32_t features);
 
 /* Stores the next imports of a section in `out`, those of bundles one by one: `kind` is 0 in each (the proposal for compact imports).
-   Returns how many there were or there was room for: 0 at the end. `bytes` are those of the whole section. */
+   Returns how many there were or there was room for: 0 at the end. A malformed import of a bundle is stored with its fault, and the
+   list continues after the bundle. `bytes` are those of the whole section. */
 size_t pulleynavy_next_flat_imports(
     pulleynavy_imports *imports, const uint8_t *bytes, size_t bytes_size, pulleynavy_import *out, size_t out_count);
 

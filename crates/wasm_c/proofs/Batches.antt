@@ -49,7 +49,7 @@ goes_on {C} {T} next old c d before out count left item e s =
       cursor = s.cursor ∙ ap (λ (x : List T × C). x.1) (more next left c d item e);
     }
 
--- the same, by what is left to be filled
+-- `goes_on`, by the number of unfilled elements
 pub goes_on_at : {C T : Type 0} (next : C → Option T × C) (old c d : C) (before out : List T)
     (count : ℕ) (item : T) → next c ≡ (Some item, d) → count < length out
     → Stored next old before count (length out - count) c out
@@ -80,7 +80,7 @@ ends {C} {T} next old c d before out count left e s = stored next old d before o
     (s.items ∙ (ap (λ (x : List T × C). take count out ++ x.0) (none next left c d e) ∙ append-nil (take count out)))
     (s.cursor ∙ ap (λ (x : List T × C). x.1) (none next left c d e))
 
--- the same, by what is left to be filled
+-- `ends`, by the number of unfilled elements
 pub ends_at : {C T : Type 0} (next : C → Option T × C) (old c d : C) (before out : List T) (count : ℕ)
     → next c ≡ (None, d) → count < length out → Stored next old before count (length out - count) c out
     → StoresItems next old before count d out

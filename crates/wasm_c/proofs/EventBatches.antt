@@ -54,7 +54,7 @@ goes_on eof old p q bytes rest before out count left at event parses some s =
           }));
     }
 
--- the same, by what is left to be filled
+-- `goes_on`, by the number of unfilled elements
 pub goes_on_at : (eof : Bool) (old p q : ParserState) (bytes rest : List ℕ) (before out : List PlainEvent) (count at : ℕ)
     (event : PlainEvent) → ParsesPlain at p eof rest event q → nat_eq event.consumed 0 ≡ false → count < length out
     → Stored eof old bytes before count (length out - count) at p rest out

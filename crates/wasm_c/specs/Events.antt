@@ -1,4 +1,4 @@
--- The answers of a parser as plain numbers.
+-- The results of a parser as plain numbers.
 use Rattle.std.specs.Prelude.{◌≡◌, ℕ, ◌+◌, ◌-◌, ◌^◌, min, Bool, List, length, Option, Some, None, Result, Ok, Err}
 use Rattle.wasm_base.specs.FaultAt.{FaultAt, fault_at}
 use Rattle.wasm_base.specs.Section.{Section}
@@ -105,14 +105,14 @@ parsed_event base offset consumed payload = placed_event base offset consumed (p
 abbrev pub request_event : (base hint : ℕ) → PlainEvent
 request_event base hint = record silent { at = base; hint = hint }
 
--- what a parser answered at this offset, whose byte is at `base` in memory
+-- what a parser returned at this offset, whose byte is at `base` in memory
 abbrev pub answer_event : (base offset : ℕ) → Result Chunk Error → PlainEvent
 answer_event base offset (Ok (NeedMoreData hint)) = request_event base hint
 answer_event base offset (Ok (Parsed consumed payload)) = parsed_event base offset consumed payload
 answer_event base offset (Err e) = fault_event base (fault_at e)
 
--- The parser answered this on these bytes, which are all of the rest of the stream or a prefix of it and begin at
--- `base` in memory, and is then here.
+-- The parser returned this for these bytes, which are all of the rest of the stream or a prefix of it and begin at
+-- `base` in memory, and is then in this state.
 pub record ParsesPlain (base : ℕ) (old : ParserState) (eof : Bool) (bytes : List ℕ) (event : PlainEvent)
     (new : ParserState) : Type 0 where
   pub answer : Result Chunk Error

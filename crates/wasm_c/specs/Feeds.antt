@@ -18,21 +18,21 @@ IsNewFeed f p = (parser_of f.parser ≡ p) × (f.mark ≡ 0) × (f.end ≡ 0) ×
 abbrev pub IsFinished : (old new : StoredFeed) → Type 0
 IsFinished old new = new ≡ record old { is_finished = 1 }
 
--- The feeder's parser answered this on the bytes that were held, and then holds what is after those that it consumed.
+-- The feeder's parser returned this for the held bytes, and the feeder then holds the bytes after those consumed.
 pub record StepsPlain (old : StoredFeed) (storage : List ℕ) (event : PlainEvent) (new : StoredFeed) : Type 0 where
   pub parses : ParsesPlain old.mark (parser_of old.parser) (is_set old.is_finished) (held_in old storage) event
       (parser_of new.parser)
   pub goes_on : held_in new storage ≡ drop event.consumed (held_in old storage)
   pub finished : new.is_finished ≡ old.is_finished
 
--- A piece was put after what was held, and nothing else changed.
+-- A chunk was appended to the held bytes, and nothing else changed.
 pub record Holds (old : StoredFeed) (before piece : List ℕ) (new : StoredFeed) (after : List ℕ) : Type 0 where
   pub holds : held_in new after ≡ held_in old before ++ piece
   pub room : length after ≡ length before
   pub parser : new.parser ≡ old.parser
   pub finished : new.is_finished ≡ old.is_finished
 
--- The piece was put after what was held; or there is no room for both, and nothing changed.
+-- The chunk was appended to the held bytes; or there is no room for both, and nothing changed.
 abbrev pub PushesPlain : (old : StoredFeed) (before piece : List ℕ) → Bool → (new : StoredFeed) (after : List ℕ)
     → Type 0
 PushesPlain old before piece true new after = Holds old before piece new after

@@ -32,7 +32,7 @@ element_code Passive = 0
 element_code (Active table offset) = 1
 element_code Declared = 2
 
--- the table of an active segment, where it is written
+-- the table of an active segment, if it is written
 abbrev pub element_table : ElementKind → Option ℕ
 element_table (Active table offset) = table
 element_table other = None

@@ -16,7 +16,7 @@ count_from has count = if nat_eq has 0 then None else Some count
 abbrev pub encoding_from : ℕ → Encoding
 encoding_from byte = if nat_eq byte 0 then Module else Component
 
--- The parser that is stored. What is left of a code section ends below the top of the offsets.
+-- The stored parser. The remaining bytes of a code section end below the top of the offsets.
 abbrev pub parser_of : StoredParser → ParserState
 parser_of s = record {
   offset = s.offset;
@@ -33,6 +33,6 @@ parser_of s = record {
   in_code = is_set s.in_code;
 }
 
--- what is left of a code section, if the parser is in one
+-- the remaining bytes of a code section, if the parser is in one
 abbrev pub skipped_of : ParserState → ℕ × ParserState
 skipped_of p = if p.in_code then (p.code_bytes, skipped_state p) else (0, p)

@@ -40,7 +40,7 @@ no_symbol = record {
   data_size = 0;
 }
 
--- whether there is a name, and where it is as the last part of a symbol that ends at an offset
+-- whether there is a name, and its span as the last part of a symbol that ends at an offset
 abbrev pub name_parts : (from to : ℕ) → Option (List ℕ) → ℕ × PlainSpan
 name_parts from to None = (0, no_span)
 name_parts from to (Some text) = (1, span_before from to (length text))
@@ -55,7 +55,7 @@ indexed_symbol consumed kind flags index name = record no_symbol {
   has_name = name.0;
 }
 
--- a data symbol, and where it is if it is defined here
+-- a data symbol, and its location if it is defined here
 abbrev pub placed_symbol : PlainSymbol → Option DefinedDataSymbol → PlainSymbol
 placed_symbol s None = s
 placed_symbol s (Some d) =

@@ -9,7 +9,7 @@ use Rattle.wasm_parser.specs.ParserState.{ParserState}
 use Rattle.wasm_parser.specs.declared.payload.Chunk.{Chunk}
 use Rattle.wasm_c.specs.Faults.{fault_code}
 
--- these bytes with the beginning of a text in place of their first ones
+-- these bytes, the first of them overwritten with a prefix of a text
 abbrev pub written_over : (text old : List ℕ) → List ℕ
 written_over text old = take (length old) text ++ drop (length text) old
 
@@ -21,7 +21,7 @@ SaysText text old size new = (size ≡ length text) × (new ≡ written_over tex
 abbrev pub SaysNothing : (old : List ℕ) (size : ℕ) (new : List ℕ) → Type 0
 SaysNothing old size new = (size ≡ 0) × (new ≡ old)
 
--- A fault's text was written; of another answer nothing.
+-- A fault's text was written; for any other result, nothing.
 abbrev pub Says : Result Chunk Error → (old : List ℕ) (size : ℕ) (new : List ℕ) → Type 0
 Says (Ok chunk) old size new = SaysNothing old size new
 Says (Err e) old size new = SaysText (message_of (fault_at e).fault) old size new
@@ -31,7 +31,7 @@ pub record SaysMessage (kind : ℕ) (old : List ℕ) (size : ℕ) (new : List �
   pub of : (f : Fault) → fault_code f ≡ kind → SaysText (message_of f) old size new
   pub none : ((f : Fault) → fault_code f ≢ kind) → SaysNothing old size new
 
--- The text of the fault that a parser answers here was written, or nothing.
+-- The text of the fault that a parser returns here was written, or nothing.
 pub record SaysFault (p : ParserState) (eof : Bool) (bytes old : List ℕ) (size : ℕ) (new : List ℕ)
     : Type 0 where
   pub answer : Result Chunk Error

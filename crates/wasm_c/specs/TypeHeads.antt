@@ -30,8 +30,7 @@ group_head_at p = do
   first ← peeked_byte_at p
   if first.0 == 0x4E then counted_group_at (advanced 1 p) else Ok (record { explicit = false; count = 1 }, p)
 
--- a composite type: 0 for functions, 1 for arrays, 2 for structures, and how many parameters or fields come after its
--- beginning
+-- a composite type: 0 for functions, 1 for arrays, 2 for structures, and how many parameters or fields follow its head
 pub record CompositeHead : Type 0 where
   pub kind : ℕ
   pub count : ℕ
@@ -50,7 +49,7 @@ composite_head_at p = do
       else if first.0 == 0x5E then Ok (record { kind = 1; count = 1 }, first.1)
       else Err (leading_byte Leads.Composite first.0 p.offset)
 
--- a subtype: whether no type may extend it, the type that it extends, and the beginning of its composite type
+-- a subtype: whether no type may extend it, the type that it extends, and the head of its composite type
 pub record SubtypeHead : Type 0 where
   pub final : Bool
   pub supertype : Option ℕ

@@ -79,7 +79,7 @@ pub(crate) trait Indexed: Readable {
         ensures { result ≡ order };
 }
 
-/// The same list, of items whose indices ascend.
+/// A list of items whose indices ascend.
 #[derive(Clone, Copy)]
 pub(crate) struct Ascending<R>(pub(crate) R);
 

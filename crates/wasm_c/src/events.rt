@@ -1,4 +1,4 @@
-// The answers of a parser as plain numbers.
+// The results of a parser as plain numbers.
 ghost use Rattle.std.specs.Prelude.{◌≡◌};
 ghost use Rattle.wasm_base.specs.FaultAt.{fault_at};
 ghost use Rattle.wasm_parser.specs.ParseAnswer.{report_of};
@@ -35,7 +35,7 @@ pub struct PlainEvent {
     pub end: u64,
     /// The offset of the first item after a count, of the first body of a code section, or of the data of a custom section.
     pub data_offset: u64,
-    /// Where it begins in memory, in bytes from the first one that `pulleynavy_parse` was given, or from the start of the storage
+    /// Where it begins in memory, in bytes from the first one passed to `pulleynavy_parse`, or from the start of the storage
     /// of a feeder. Of a request, the end and a fault, where the unread bytes begin.
     pub at: usize,
     /// How many bytes were consumed: 0 for a request, the end and a fault, and at least 1 otherwise.

@@ -141,7 +141,7 @@ pub(crate) fn number_parts(number: Option<u64>) -> (u32, u64)
     }
 }
 
-/// An error's fault, where it is and the number that belongs to it.
+/// An error's fault, its offset and the number that belongs to it.
 pub(crate) fn plain_fault(error: Error) -> PlainFault
     ensures { result ≡ plain_fault (fault_at error) }
 {

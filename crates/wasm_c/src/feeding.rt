@@ -85,14 +85,14 @@ pub extern "C" fn pulleynavy_feed_push(
     true
 }
 
-// Whether the piece may be put there.
+// Whether the chunk fits there.
 fn has_room(storage: &[u8], end: usize, piece: &[u8]) -> bool
     ensures { IsTrue result ↔ (end + length piece.now ≤ length storage.now) }
 {
     end <= storage.len() && piece.len() <= storage.len() - end
 }
 
-// Puts a piece there.
+// Copies a chunk there.
 fn put(storage: &mut [u8], end: usize, piece: &[u8])
     requires { end + length piece.now ≤ length storage.old }
     ensures len { length storage.new ≡ length storage.old }
@@ -101,7 +101,7 @@ fn put(storage: &mut [u8], end: usize, piece: &[u8])
     storage[end..end + piece.len()].copy_from_slice(piece);
 }
 
-// Moves this many bytes from the mark to the front, and puts a piece after them. It is seldom called, and stays out of the way.
+// Moves this many bytes from the mark to the front, and appends a chunk. It is seldom called, and stays out of line.
 #[inline(never)]
 fn gather(storage: &mut [u8], mark: usize, held: usize, piece: &[u8])
     requires within { held ≤ length (drop mark storage.old) }

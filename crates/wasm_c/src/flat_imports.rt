@@ -132,7 +132,8 @@ pub extern "C" fn pulleynavy_imports_init(event: &PlainEvent, features: u32) -> 
 }
 
 /// Stores the next imports of a section in `out`, those of bundles one by one: `kind` is 0 in each (the proposal for compact
-/// imports). Returns how many there were or there was room for: 0 at the end. `bytes` are those of the whole section.
+/// imports). Returns how many there were or there was room for: 0 at the end. A malformed import of a bundle is stored with its fault,
+/// and the list continues after the bundle. `bytes` are those of the whole section.
 #[unsafe(no_mangle)]
 pub extern "C" fn pulleynavy_next_flat_imports(
     imports: &mut StoredImports,

@@ -8,7 +8,7 @@ pub fn each_fault_has_its_number()
 {}
 
 /// A group of types is its head and this many subtypes, and a subtype its head and what its kind has (core specification, Binary
-/// format, Types, Recursive Types and Composite Types). So what the calls for them answer one after the other is what the definitions of
+/// format, Types, Recursive Types and Composite Types). So what the calls for them return one after the other is what the definitions of
 /// both say.
 #[tactic(auto, using(crate::proofs::TypeHeads::groups, crate::proofs::TypeHeads::subtypes))]
 pub fn types_have_heads()

@@ -325,7 +325,7 @@ fn read_next_subsection(items: &mut StoredItems, rest: &[u8]) -> PlainSubsection
     }
 }
 
-// The same of any bytes.
+// Like `read_next_subsection`, for any bytes.
 fn next_subsection(items: &mut StoredItems, rest: &[u8]) -> PlainSubsection
     requires { 0 < length rest.now }
     ensures { (result, items.new) ≡ subsection_by items.old rest.now }

@@ -21,7 +21,7 @@ pub extern "C" fn pulleynavy_parser_init(offset: u64, features: u32) -> StoredPa
     StoredParser::of(&parser)
 }
 
-// What the parser that is stored answers, which is then stored again.
+// What the stored parser returns; its new state is stored again.
 #[inline(always)]
 pub(crate) fn parse_stored(
     stored: &mut StoredParser,

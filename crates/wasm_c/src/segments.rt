@@ -142,7 +142,7 @@ fn element_code(kind: &ElementKind) -> u32
     }
 }
 
-// The table of an active segment, where it is written.
+// The table of an active segment, if it is written.
 fn element_table(kind: &ElementKind) -> Option<u32>
     ensures { result ≡ element_table kind.now }
 {

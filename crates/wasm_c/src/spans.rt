@@ -11,11 +11,11 @@ ghost use Rattle.wasm_base.specs.declared.fault.Fault.TheVariants.{OffsetRange};
 use bitflags::Flags;
 use wasm_parser::{BinaryReader, Error, Fault, SectionLimited, WasmFeatures};
 
-/// A run of the bytes that a call was given.
+/// A run of the bytes passed to a call.
 #[repr(C)]
 #[derive(Clone, Copy, Debug, PartialEq, Eq)]
 pub struct PlainSpan {
-    /// Where it begins, in bytes from the first of those that were given.
+    /// Where it begins, in bytes from the first of those passed.
     pub at: usize,
     /// How many bytes it has.
     pub size: usize,
@@ -64,7 +64,7 @@ pub(crate) fn text_span(from: u64, mut reader: BinaryReader<'_>, size: usize) ->
     PlainSpan { at, size }
 }
 
-/// The same of the text after a size and this many bytes, with which the reader begins.
+/// Like `text_span`, for the text after a size and this many bytes, with which the reader begins.
 pub(crate) fn text_after_sized(from: u64, mut reader: BinaryReader<'_>, size: usize) -> PlainSpan
     ensures { result ≡ text_after from size (window_at (place reader.entry)) }
 {
@@ -74,7 +74,7 @@ pub(crate) fn text_after_sized(from: u64, mut reader: BinaryReader<'_>, size: us
     }
 }
 
-/// The same after a number.
+/// Like `text_span`, for the text after a number.
 pub(crate) fn text_after_number(from: u64, mut reader: BinaryReader<'_>, size: usize) -> PlainSpan
     ensures { result ≡ text_after from size (unsigned_at VarU32 (place reader.entry)) }
 {

@@ -115,7 +115,7 @@ pub extern "C" fn pulleynavy_read_linking_version(
     read_at(LinkingVersions, bytes, offset, features)
 }
 
-// Whether there is a name, and where it is as the last part of a symbol.
+// Whether there is a name, and its span as the last part of a symbol.
 fn name_parts(from: u64, to: u64, name: Option<&str>) -> (u32, PlainSpan)
     ensures { result ≡ name_parts from to (text_if_any name.entry (λ text. text.now)) }
 {

@@ -192,8 +192,8 @@ impl Readable for TypeGroups {
     }
 }
 
-/// Reads the beginning of the group of types at the start of `bytes` (core specification, Binary format, Types, Recursive Types;
-/// Modules, Type Section). After it come its subtypes, each by `pulleynavy_read_subtype`. The bytes are the remaining bytes of its
+/// Reads the head of the group of types at the start of `bytes` (core specification, Binary format, Types, Recursive Types;
+/// Modules, Type Section). Its subtypes follow, each read by `pulleynavy_read_subtype`. The bytes are the remaining bytes of its
 /// section, at `offset` of the stream. After a fault all other fields are 0.
 #[unsafe(no_mangle)]
 pub extern "C" fn pulleynavy_read_type_group(
@@ -245,10 +245,10 @@ impl Readable for Subtypes {
     }
 }
 
-/// Reads the beginning of the subtype at the start of `bytes` (core specification, Binary format, Types, Recursive Types and
-/// Composite Types). After it come so many parameters, each by `pulleynavy_read_value_type`, then a count of results, by
-/// `pulleynavy_read_number`, and so many results; or so many fields, each by `pulleynavy_read_field_type`. The bytes are the remaining
-/// bytes of its section, at `offset` of the stream. After a fault all other fields are 0.
+/// Reads the head of the subtype at the start of `bytes` (core specification, Binary format, Types, Recursive Types and
+/// Composite Types). After it come this many parameters, each read by `pulleynavy_read_value_type`, then a count of results, by
+/// `pulleynavy_read_number`, and that many results; or this many fields, each by `pulleynavy_read_field_type`. The bytes are the
+/// remaining bytes of its section, at `offset` of the stream. After a fault all other fields are 0.
 #[unsafe(no_mangle)]
 pub extern "C" fn pulleynavy_read_subtype(bytes: &[u8], offset: u64, features: u32) -> PlainSubtype
     ensures { result ≡ item_over plain_subtype subtype_head_at features offset bytes.now }

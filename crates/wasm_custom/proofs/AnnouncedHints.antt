@@ -1,4 +1,4 @@
--- The hints of a function that was read, which are all that it announces.
+-- A function that was read has as many hints as announced.
 use Rattle.std.proofs.Common.{◌≡◌, ℕ, true, false, [], ◌∷◌, Ok, ap, subst}
 use Rattle.wasm_base.proofs.Announced.{in_steps, read_as, announced, after_follows}
 use Rattle.wasm_base.proofs.OwnBytes.{Own, own_nothing, own_both, own_in_table, own_number, own_passed}
@@ -30,7 +30,7 @@ own_hint =
 abbrev pub Given : Section → Type 0
 Given hints = GivesAnnounced (NextItem (ReadsAs (λ (hint : BranchHint). hint) branch_hint_at)) hints
 
--- The hints of a function that was read are given.
+-- Iterating over the hints of a function that was read yields as many as announced.
 pub hints_given : (p q : Place) (function : BranchHintFunction) → function_hints_at p ≡ Ok (function, q) → Given function.hints
 unfolding function_hints_at
 hints_given p q function e =

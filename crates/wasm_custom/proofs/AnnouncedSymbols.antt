@@ -1,4 +1,4 @@
--- The symbols of a comdat that was read, which are all that it announces.
+-- A comdat that was read has as many symbols as announced.
 use Rattle.std.proofs.Common.{◌≡◌, ℕ, None, Ok, ap, subst}
 use Rattle.wasm_base.proofs.Announced.{in_steps, read_as, announced, after_follows}
 use Rattle.wasm_base.proofs.OwnBytes.{Own, own_nothing, own_both, own_in_table, own_number, own_passed}
@@ -28,7 +28,7 @@ own_symbol =
 abbrev pub Given : Section → Type 0
 Given symbols = GivesAnnounced (NextItem (ReadsAs (λ (symbol : ComdatSymbol). symbol) comdat_symbol_at)) symbols
 
--- The symbols of a comdat that was read are given.
+-- Iterating over the symbols of a comdat that was read yields as many as announced.
 pub symbols_given : (p q : Place) (comdat : ComdatParts) → comdat_at p ≡ Ok (comdat, q) → Given comdat.symbols
 unfolding comdat_at
 symbols_given p q comdat e =

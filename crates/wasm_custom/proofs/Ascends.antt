@@ -1,4 +1,4 @@
--- What calls of `next` give where indices ascend.
+-- What `next` returns if indices must ascend.
 use Rattle.std.proofs.Common.{◌≡◌, ◌⊎◌, inl, inr, ℕ, Bool, true, false, nat_lt, ◌&&◌, IsTrue, List, [], ◌∷◌, Option, Some, None, Result, Ok}
 use Rattle.std.proofs.Common.{Err, refl, sym, ap, subst, arith, ◌∙◌}
 use Rattle.std.specs.Prelude.{map}

@@ -26,7 +26,7 @@ counted n [] c i ty e = cc
 counted n (x ∷ tys) c zero ty e = let z : x ≡ ty = cc in ap number_of (sym z) ∙ c.0 ∙ omega arith
 counted n (x ∷ tys) c (suc i) ty e = counted (suc n) tys c.1 i ty e ∙ omega arith
 
--- The type that a number has in the list has the number.
+-- The type at an index of the list has this index as its number.
 pub type_has_number : (i : ℕ) (ty : RelocationType) → slice_get types i ≡ Some ty → number_of ty ≡ i
 type_has_number i ty e =
     counted 0 types (
@@ -93,7 +93,7 @@ numbered number None result is e = rw e (
   tt,
 )
 
--- Each type is the one that its number has in the list.
+-- Each type is at the index of its number in the list.
 type_in_list : (ty : RelocationType) → slice_get types (number_of ty) ≡ Some ty
 type_in_list FunctionIndexLeb = refl
 type_in_list TableIndexSleb = refl
@@ -123,7 +123,7 @@ type_in_list TableIndexRelSleb64 = refl
 type_in_list MemoryAddrTlsSleb64 = refl
 type_in_list FunctionIndexI32 = refl
 
--- A number's type, where it is the number of a type, is that type.
+-- The type that the number of a type converts to is that type.
 pub type_of_its_number : (ty : RelocationType) (number : ℕ) (result : Result RelocationType (Unit {0})) → number ≡ number_of ty
     → IsTypeOf number result → result ≡ Ok ty
 type_of_its_number ty number (Err e) is found =

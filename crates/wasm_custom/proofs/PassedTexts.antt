@@ -1,4 +1,4 @@
--- Passing over an item with texts takes the bytes that reading it takes, where no text is too long for it.
+-- Skipping an item with texts consumes the same bytes as reading it, if its texts are within the limit of skipped names.
 use Rattle.std.proofs.Common.{◌≡◌, ℕ, ◌≤◌, List, length, None, Ok, Err, refl, sym, ap, ◌∙◌}
 use Rattle.wasm_base.proofs.Passing.{text_passed, value_or}
 use Rattle.wasm_base.specs.Name.{name_limit, text_at}
@@ -10,21 +10,21 @@ use Rattle.wasm_base.specs.declared.fault.NumberKind.TheVariants.{VarU32}
 use Rattle.wasm_custom.specs.Names.{NamingParts, naming_at, passed_naming_at}
 use Rattle.wasm_custom.specs.Producers.{ValueParts, field_value_at, passed_value_at}
 
--- what comes after an index, and after its name
+-- the naming after its index and its name
 abbrev with_index : ℕ × Place → List ℕ × Place → Outcome NamingParts
 with_index index name = Ok (record { index = index.0; name = name.0 }, name.1)
 
 abbrev after_index : ℕ × Place → Outcome NamingParts
 after_index index = text_at None index.1 >>= with_index index
 
--- what comes after a value's name, and after its version
+-- the value after its name and its version
 abbrev with_name : List ℕ × Place → List ℕ × Place → Outcome ValueParts
 with_name name version = Ok (record { name = name.0; version = version.0 }, version.1)
 
 abbrev after_name : List ℕ × Place → Outcome ValueParts
 after_name name = text_at None name.1 >>= with_name name
 
--- the place after a name that is passed over
+-- the place after a skipped name
 abbrev skip_after : {A : Type 0} → A × Place → Outcome (Unit {0})
 skip_after before = skipped_name_at before.1
 

@@ -10,11 +10,11 @@ use Rattle.wasm_base.specs.declared.fault.NumberKind.TheVariants.{VarU32}
 use Rattle.wasm_custom.specs.declared.branch_hinting.BranchHint.{BranchHint}
 use Rattle.wasm_custom.specs.declared.branch_hinting.BranchHintFunction.{BranchHintFunction}
 
--- a byte for the size of a hint's value, which has to be 1
+-- a byte for the size of a hint's value, which must be 1
 abbrev pub hint_size_at : Place → Outcome (Unit {0})
 hint_size_at = in_table Leads.BranchHint ((1, tt) ∷ [])
 
--- a byte for a hint's value: 1 where the branch is likely to be taken, 0 where it isn't
+-- a byte for a hint's value: 1 if the branch is likely to be taken, 0 if it isn't
 abbrev pub taken_at : Place → Outcome Bool
 taken_at = flag_at Leads.BranchTaken
 

@@ -21,17 +21,17 @@ use Rattle.wasm_custom.specs.declared.coredumps.CoreDumpStackSection.{CoreDumpSt
 use Rattle.wasm_custom.specs.declared.coredumps.CoreDumpValue.{CoreDumpValue}
 use Rattle.wasm_custom.specs.declared.coredumps.CoreDumpValue.TheVariants as Values
 
--- the byte 0 with which something begins; another one is a fault at this offset
+-- the byte 0 at the start of an item; any other byte is a fault at this offset
 unfoldable pub start_at : CoreStart → (offset : ℕ) → Place → Outcome (Unit {0})
 start_at what offset p = do
   byte ← byte_at p
   if byte.0 == 0 then Ok (tt, byte.1) else Err (at_offset (CoreStartByte what) offset)
 
--- the end of the data; bytes that are left are a fault at the first of them
+-- the end of the data; trailing bytes are a fault at the first of them
 unfoldable pub end_at : Place → Result (Unit {0}) FaultAt
 end_at p = if length p.rest == 0 then Ok tt else Err (at_offset CustomTrailing p.offset)
 
--- what was dumped: the name of the process (Process Information)
+-- the process that was dumped: its name (Process Information)
 unfoldable pub name_section_in : Place → Result (List ℕ) FaultAt
 name_section_in p = do
   begin ← start_at Starts.Name p.offset p
@@ -39,7 +39,7 @@ name_section_in p = do
   end ← end_at name.1
   Ok name.0
 
--- the name of a module; what it begins with is a fault at the start of the list (Modules and Instances)
+-- the name of a module; a wrong first byte is a fault at the start of the list (Modules and Instances)
 unfoldable pub module_at : (start : ℕ) → Place → Outcome (List ℕ)
 module_at start p = do
   begin ← start_at Starts.Module start p
@@ -102,13 +102,13 @@ value_parts (Values.I64 n) = i64 n
 value_parts (Values.F32 float) = f32 (bits_of_32 float)
 value_parts (Values.F64 float) = f64 (bits_of_64 float)
 
--- a value by a reading of what is in it
+-- a value, by a reading of its content
 abbrev pub as_value : {A : Type 0} → (A → ValueParts) → (Place → Outcome A) → Place → Outcome ValueParts
 as_value value_of reading p = do
   part ← reading p
   Ok (value_of part.0, part.1)
 
--- a value: a byte that says what it is, and that (Thread(s) and Stack Frames)
+-- a value: a byte for its kind, and its content (Thread(s) and Stack Frames)
 unfoldable pub value_at : Place → Outcome ValueParts
 value_at p = do
   byte ← byte_at p

@@ -33,7 +33,7 @@ mem_info_at p = do
     table_alignment.1,
   )
 
--- what is said of an export, with the bytes of its name and its flags
+-- information about an export, with the bytes of its name and its flags
 pub record ExportInfoParts : Type 0 where
   pub name : List ℕ
   pub flags : ℕ
@@ -47,7 +47,7 @@ export_info_at p = do
   flags ← unsigned_at VarU32 name.1
   Ok (record { name = name.0; flags = flags.0 }, flags.1)
 
--- what is said of an import, with the bytes of its names and its flags
+-- information about an import, with the bytes of its names and its flags
 pub record ImportInfoParts : Type 0 where
   pub from : List ℕ
   pub field : List ℕ
@@ -81,7 +81,7 @@ dylink_parts (Dylinks.RuntimePath names) = texts 5 (map (λ name. name.now) name
 dylink_parts (Dylinks.TargetArch name) = arch name.now
 dylink_parts (Dylinks.Unknown id contents range) = unknown id contents.now range
 
--- the value that a window begins with; bytes after it are not looked at
+-- the value at the start of a window; bytes after it are ignored
 abbrev pub begins_with : {A : Type 0} → (A → DylinkParts) → (Place → Outcome A) → Window → Result DylinkParts FaultAt
 begins_with parts reading w = do
   value ← reading (place w)

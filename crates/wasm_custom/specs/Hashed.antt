@@ -1,4 +1,4 @@
--- What is hashed of what linkers read: fields in turn, and of cases their number, from 0. This project.
+-- How items for linkers are hashed: structs field by field, enums as the number of the variant, from 0. This project.
 use Rattle.std.specs.Prelude.{◌++◌, pos}
 use Rattle.std.specs.Hash.{HashWrites, isize, u8, u32, i64}
 use Rattle.wasm_custom.specs.Reloc.{number_of}

@@ -1,5 +1,5 @@
--- What the data of a custom section is, by the section's name. Core specification, Appendix, Custom Sections, and the
--- tool conventions; that data which can't be read is unknown is this project's profile.
+-- The data of known custom sections, by the section's name. Core specification, Appendix, Custom Sections, and the
+-- tool conventions; that malformed data is unknown is this project's profile.
 use Rattle.std.specs.Prelude.{◌≡◌, ℕ, Bool, ◌||◌, List, [], ◌∷◌, Result, Ok, Err, codes, bytes_eq, nat_eq}
 use Rattle.std.specs.Prelude.{if◌then◌else◌}
 use Rattle.std.specs.List.{starts_with}
@@ -45,7 +45,7 @@ known_parts (Knowns.Linking section) = linking section
 known_parts (Knowns.Reloc section) = relocations section
 known_parts Knowns.Unknown = unknown
 
--- data that was read as something, or else is unknown
+-- data that was read, or else is unknown
 abbrev pub or_unknown : {X : Type 0} → (X → Known) → Result X FaultAt → Known
 or_unknown known_as (Ok x) = known_as x
 or_unknown known_as (Err e) = unknown
@@ -74,7 +74,7 @@ linking_section_in w = or_unknown linking (linking_in w)
 abbrev pub relocations_in : Window → Known
 relocations_in w = or_unknown relocations (reloc_section_in w)
 
--- the names that are known, and what a window is as the data of a section of each
+-- the known names, and what a window is as the data of a section with each name
 abbrev pub readings : List (List ℕ × (Window → Known))
 readings =
     (codes "name", λ w. names (none_given w)) ∷ (codes "metadata.code.branch_hint", branch_hints_in)
@@ -82,7 +82,7 @@ readings =
     ∷ (codes "coremodules", core_modules_in) ∷ (codes "coreinstances", core_instances_in)
     ∷ (codes "corestack", core_stack_in) ∷ (codes "linking", linking_section_in) ∷ []
 
--- what a window is as the data of a section of this name; many names begin with the word of relocations
+-- what a window is as the data of a section with this name; relocation sections share a prefix
 abbrev pub read_by_name : List (List ℕ × (Window → Known)) → (name : List ℕ) → Window → Known
 read_by_name [] name w = if starts_with nat_eq name (codes "reloc.") then relocations_in w else unknown
 read_by_name (row ∷ rows) name w = if bytes_eq name row.0 then row.1 w else read_by_name rows name w
@@ -91,12 +91,12 @@ read_by_name (row ∷ rows) name w = if bytes_eq name row.0 then row.1 w else re
 abbrev pub known_of : Custom → Known
 known_of section = read_by_name readings section.name (whole_window (place section.reader))
 
--- whether reading a section of this name may ask for memory: the lists of core dumps are owned
+-- whether reading a section with this name may allocate: the lists of core dumps are owned
 abbrev pub owns_lists : (name : List ℕ) → Bool
 owns_lists name =
     bytes_eq name (codes "coremodules") || bytes_eq name (codes "coreinstances") || bytes_eq name (codes "corestack")
 
--- What a call returned is what the section is, or memory was refused.
+-- The result is what the section is, or an allocation failed.
 abbrev pub KnowsUnlessMemory : {A : Type 0} → Result (KnownCustom A) Error → Known → Type 0
 KnowsUnlessMemory (Ok known) section = known_parts known ≡ section
 KnowsUnlessMemory (Err e) section = fault_at e ≡ out_of_memory

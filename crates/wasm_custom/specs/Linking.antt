@@ -48,14 +48,14 @@ segment_at p = do
   flags ← unsigned_at VarU32 alignment.1
   Ok (record { name = name.0; alignment = alignment.0; flags = flags.0 }, flags.1)
 
--- a function that is called at first: its priority and its symbol's index (Init Functions Subsection)
+-- a function that is called at startup: its priority and its symbol's index (Init Functions Subsection)
 unfoldable pub init_function_at : Place → Outcome InitFunc
 init_function_at p = do
   priority ← unsigned_at VarU32 p
   symbol ← unsigned_at VarU32 priority.1
   Ok (record { priority = priority.0; symbol_index = symbol.0 }, symbol.1)
 
--- the kind of a comdat's symbol that each byte is (COMDAT Subsection)
+-- the kind of a comdat's symbol that each byte encodes (COMDAT Subsection)
 abbrev pub comdat_kinds : List (ℕ × ComdatSymbolKind)
 comdat_kinds =
     (0, Kinds.Data) ∷ (1, Kinds.Func) ∷ (2, Kinds.Global) ∷ (3, Kinds.Event) ∷ (4, Kinds.Table)
@@ -81,7 +81,7 @@ pub record ComdatParts : Type 0 where
 abbrev pub comdat_parts : Comdat → ComdatParts
 comdat_parts comdat = record { name = comdat.name.now; flags = comdat.flags; symbols = comdat.symbols }
 
--- a comdat: a name, flags, and symbols, which are passed over (COMDAT Subsection)
+-- a comdat: a name, flags, and symbols, which are skipped (COMDAT Subsection)
 unfoldable pub comdat_at : Place → Outcome ComdatParts
 comdat_at p = do
   name ← text_at None p
@@ -97,7 +97,7 @@ is_undefined flags = has_bit flags 4
 abbrev pub has_explicit_name : (flags : ℕ) → Bool
 has_explicit_name flags = has_bit flags 6
 
--- whether a symbol's name is written
+-- whether a symbol's name is present
 abbrev pub is_named : (flags : ℕ) → Bool
 is_named flags = not (is_undefined flags) || has_explicit_name flags
 
@@ -106,16 +106,16 @@ some_text_at p = do
   name ← text_at None p
   Ok (Some name.0, name.1)
 
--- the name of a symbol, where it is written
+-- the name of a symbol, if present
 unfoldable pub symbol_name_at : (flags : ℕ) → Place → Outcome (Option (List ℕ))
 symbol_name_at flags p = if is_named flags then some_text_at p else Ok (None, p)
 
--- the bytes of a text, where there is one
+-- the bytes of a text, if any
 abbrev pub text_if_any : {X : Type 0} → Option X → (X → List ℕ) → Option (List ℕ)
 text_if_any None bytes_of = None
 text_if_any (Some text) bytes_of = Some (bytes_of text)
 
--- where a data symbol is: a segment's index, an offset in it and a size
+-- the location of a data symbol: a segment's index, an offset in it and a size
 unfoldable pub defined_data_at : Place → Outcome DefinedDataSymbol
 defined_data_at p = do
   index ← unsigned_at VarU32 p
@@ -128,7 +128,7 @@ some_data_at p = do
   symbol ← defined_data_at p
   Ok (Some symbol.0, symbol.1)
 
--- where a data symbol is, if it is defined here
+-- the location of a data symbol, if it is defined here
 unfoldable pub data_place_at : (flags : ℕ) → Place → Outcome (Option DefinedDataSymbol)
 data_place_at flags p = if is_undefined flags then Ok (None, p) else some_data_at p
 
@@ -149,7 +149,7 @@ symbol_parts (Symbols.Table flags index name) = indexed 5 (symbol_bits flags) in
 symbol_parts (Symbols.Data flags name symbol) = data_symbol (symbol_bits flags) name.now symbol
 symbol_parts (Symbols.Section flags section) = section_symbol (symbol_bits flags) section
 
--- the index of a symbol, and its name, where it is written
+-- the index of a symbol, and its name, if present
 unfoldable pub index_and_name_at : (flags : ℕ) → Place → Outcome (ℕ × Option (List ℕ))
 index_and_name_at flags p = do
   index ← unsigned_at VarU32 p
@@ -209,7 +209,7 @@ arch_in w = do
   name ← text_at (Some name_limit) (place w)
   Ok (arch name.0)
 
--- a subsection for linkers, by its id; bytes after the name of an architecture are not looked at
+-- a subsection for linkers, by its id; bytes after the name of an architecture are ignored
 unfoldable pub linking_subsection_in : (id : ℕ) → Window → Result LinkingParts FaultAt
 linking_subsection_in id = lookup_or (λ w. Ok (unknown id (place w).rest (rest_range w)))
     ((5, listed_in 5) ∷ (6, listed_in 6) ∷ (7, listed_in 7) ∷ (8, listed_in 8) ∷ (9, arch_in) ∷ []) id
@@ -220,7 +220,7 @@ pub record LinkingSection : Type 0 where
   pub range : Range ℕ
   pub subsections : Window
 
--- the section for linkers: version 2, and subsections; another version is a fault at it, with it
+-- the section for linkers: version 2, and subsections; any other version is a fault at it, with it as the number
 unfoldable pub linking_in : Window → Result LinkingSection FaultAt
 linking_in w = do
   version ← unsigned_at VarU32 (place w)

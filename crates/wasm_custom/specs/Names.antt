@@ -41,30 +41,30 @@ naming_at p = do
   name ← text_at None index.1
   Ok (record { index = index.0; name = name.0 }, name.1)
 
--- the place after an index and its name, which is not looked at
+-- the place after an index and its skipped name, which isn't checked to be UTF-8
 unfoldable pub passed_naming_at : Place → Outcome (Unit {0})
 passed_naming_at p = do
   index ← unsigned_at VarU32 p
   skipped_name_at index.1
 
--- Its name is no longer than what is passed over may be.
+-- Its name is within the limit of skipped names.
 abbrev pub IsShortNaming : Naming → Type 0
 IsShortNaming naming = length naming.name.now ≤ name_limit
 
--- an index and the names of what it has, which are passed over (Indirect Name Maps)
+-- an index and its name map, whose entries are skipped (Indirect Name Maps)
 unfoldable pub indirect_naming_at : Place → Outcome IndirectNaming
 indirect_naming_at p = do
   index ← unsigned_at VarU32 p
   names ← inner_section_at passed_naming_at index.1
   Ok (record { index = index.0; names = none_given (all_items names.0) }, names.1)
 
--- the names of a window, direct or indirect: a count and so many of them, of which none was given
+-- the names of a window, direct or indirect: a count and as many names, none of them returned yet
 unfoldable pub entries_in : Window → Result (Ascending Items) FaultAt
 entries_in w = do
   section ← section_in w
   Ok (none_given (all_items section))
 
--- where the next name is, and the next subsection
+-- the offset of the next name, and of the next subsection
 abbrev pub offset_of_entry : Items → ℕ
 offset_of_entry entries = (place entries.reader).offset
 
@@ -105,7 +105,7 @@ id_of_parts (unknown id contents range) = id
 abbrev pub id_of : Name → ℕ
 id_of name = id_of_parts (name_parts name)
 
--- the name of the module, and nothing after it (Module Names)
+-- the name of the module, without trailing bytes (Module Names)
 unfoldable pub module_name_in : Window → Result NameParts FaultAt
 module_name_in w = do
   name ← text_at (Some name_limit) (place w)

@@ -1,4 +1,4 @@
--- What a module was produced with. Tool conventions, Producers Section.
+-- The tools that a module was produced with. Tool conventions, Producers Section.
 use Rattle.std.specs.Prelude.{ℕ, ◌≤◌, Bool, ◌||◌, List, length, None, Ok, Err, codes, bytes_eq, if◌then◌else◌}
 use Rattle.wasm_base.specs.FaultAt.{at_offset}
 use Rattle.wasm_base.specs.Inner.{inner_section_at}
@@ -16,7 +16,7 @@ abbrev pub is_field_name : List ℕ → Bool
 is_field_name name = bytes_eq name (codes "language") || bytes_eq name (codes "sdk")
     || bytes_eq name (codes "processed-by")
 
--- the name of a field: a text, which has to be one of three, else a fault where it begins
+-- the name of a field: a text, which must be one of three; any other is a fault at its start
 unfoldable pub field_name_at : Place → Outcome (List ℕ)
 field_name_at p = do
   name ← text_at None p
@@ -37,13 +37,13 @@ field_value_at p = do
   version ← text_at None name.1
   Ok (record { name = name.0; version = version.0 }, version.1)
 
--- the place after a value, whose texts are passed over as names
+-- the place after a value, whose texts are skipped as names
 unfoldable pub passed_value_at : Place → Outcome (Unit {0})
 passed_value_at p = do
   name ← skipped_name_at p
   skipped_name_at name.1
 
--- Neither of its texts is longer than what is passed over may be.
+-- Both of its texts are within the limit of skipped names.
 abbrev pub IsShortValue : ProducersFieldValue → Type 0
 IsShortValue value = (length value.name.now ≤ name_limit) × (length value.version.now ≤ name_limit)
 

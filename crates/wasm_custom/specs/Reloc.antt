@@ -30,7 +30,7 @@ use Rattle.wasm_custom.specs.declared.reloc.RelocationType.TheVariants.{MemoryAd
 use Rattle.wasm_custom.specs.declared.reloc.RelocationType.TheVariants.{MemoryAddrLocrelI32, TableIndexRelSleb64}
 use Rattle.wasm_custom.specs.declared.reloc.RelocationType.TheVariants.{MemoryAddrTlsSleb64, FunctionIndexI32}
 
--- a type's number, its addend, and how many bytes its place takes
+-- a type's number, its addend, and the size of its place in bytes
 pub record Row : Type 0 where
   pub number : ℕ
   pub addend : RelocAddendKind

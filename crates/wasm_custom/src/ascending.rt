@@ -5,7 +5,7 @@ ghost use Rattle.wasm_custom.specs.Ascending.{InOrder, is_above};
 
 use wasm_base::{Error, Fault, Result};
 
-// Whether an index is above the last one that was given, if one was.
+// Whether an index is above the last one returned, if any.
 fn is_above(last: Option<u32>, index: u32) -> bool
     ensures { result ≡ is_above last index }
 {
@@ -15,8 +15,8 @@ fn is_above(last: Option<u32>, index: u32) -> bool
     }
 }
 
-/// Gives an entry that was read, if its index is above the last one that was given, and notes it. Otherwise this fault is at
-/// the entry's start.
+/// Returns an entry that was read if its index is above the last one returned, and records the index. Otherwise returns this
+/// fault at the start of the entry.
 pub(crate) fn in_order<T: Drop>(
     last: &mut Option<u32>,
     index: u32,

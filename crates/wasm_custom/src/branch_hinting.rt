@@ -28,13 +28,13 @@ pub struct BranchHintFunction<'a> {
 /// Whether a branch is likely to be taken (tool conventions, Code Metadata, Branch Hints).
 #[derive(Clone, Copy, Debug)]
 pub struct BranchHint {
-    /// How many bytes after the start of the function's body the branch instruction is.
+    /// The offset of the branch instruction from the start of the function's body, in bytes.
     pub func_offset: u32,
     /// Whether it is likely to be taken.
     pub taken: bool,
 }
 
-// The size of a hint's value, which is 1.
+// Reads the size of a hint's value, which must be 1.
 #[tactic(auto, unfolding(wasm_base::specs::Leading::in_table))]
 fn read_hint_size(reader: &mut BinaryReader<'_>) -> Result<()>
     ensures gives { GivesBy (λ nothing. nothing) result reader.old reader.new hint_size_at }
@@ -75,7 +75,7 @@ impl<'a> SkipItem<'a> for BranchHint {
     }
 }
 
-/// The index of a function, a u32, and the list of its hints, which are passed over, with their own faults.
+/// The index of a function, a u32, and the list of its hints, which are skipped and their errors returned.
 impl<'a> FromReader<'a> for BranchHintFunction<'a> {
     ghost use Rattle.wasm_custom.specs.BranchHinting.{function_hints_at};
 

@@ -15,7 +15,7 @@ use wasm_base::{
     read_list,
 };
 
-/// The section `core`: what was dumped (tool conventions, Coredump, Process Information).
+/// The section `core`: the process that was dumped (tool conventions, Coredump, Process Information).
 #[derive(Drop)]
 pub struct CoreDumpSection<'a> {
     /// The name of the process.
@@ -63,7 +63,7 @@ pub struct CoreDumpStackFrame<A: Allocator = Global> {
     pub instanceidx: u32,
     /// The index of the function in its module.
     pub funcidx: u32,
-    /// How many bytes after the start of the function's body the instruction is.
+    /// The offset of the instruction from the start of the function's body, in bytes.
     pub codeoffset: u32,
     /// The values of its locals.
     pub locals: Vec<CoreDumpValue, A>,
@@ -74,7 +74,7 @@ pub struct CoreDumpStackFrame<A: Allocator = Global> {
 /// A value in a frame (tool conventions, Coredump, Thread(s) and Stack Frames).
 #[derive(Clone, Debug, Drop)]
 pub enum CoreDumpValue {
-    /// One that is not known any more.
+    /// A value that is no longer known.
     Missing,
     /// A number of 32 bits.
     I32(i32),
@@ -86,7 +86,7 @@ pub enum CoreDumpValue {
     F64(Ieee64),
 }
 
-// What a core dump lists. Some of its items answer a fault at the start of the data, which is told by its offset.
+// An item of a list in a core dump. Some items report a fault at the start of the data, whose offset is passed to `read`.
 trait Listed<'a, A: Allocator>: Sized + Drop {
     ghost meaning: { ℕ → Place → Outcome Self → Type 0 };
 
@@ -95,7 +95,7 @@ trait Listed<'a, A: Allocator>: Sized + Drop {
         ensures keeps { KeepsWindow reader.old reader.new };
 }
 
-// The byte 0 with which this begins; another one is a fault at this offset.
+// Reads the byte 0 at the start of an item. Any other byte is a fault at this offset.
 #[tactic(auto, unfolding(crate::specs::Coredumps::start_at))]
 fn read_start(what: CoreStart, offset: u64, reader: &mut BinaryReader<'_>) -> Result<()>
     ensures gives { GivesBy (λ nothing. nothing) result reader.old reader.new (start_at what offset) }
@@ -108,7 +108,7 @@ fn read_start(what: CoreStart, offset: u64, reader: &mut BinaryReader<'_>) -> Re
     Ok(())
 }
 
-// The end of the data.
+// Returns an error if bytes remain.
 #[tactic(auto, unfolding(crate::specs::Coredumps::end_at))]
 fn read_end(reader: &BinaryReader<'_>) -> Result<()>
     ensures gives { GivesResult (λ nothing. nothing) result (end_at (place reader.now)) }
@@ -120,7 +120,7 @@ fn read_end(reader: &BinaryReader<'_>) -> Result<()>
     Ok(())
 }
 
-// So many items, one after the other. The list grows as they are read.
+// Reads `count` items. The list grows as they are read.
 fn read_items<'a, T: Listed<'a, A>, A: Allocator + Copy>(
     alloc: A,
     start: u64,
@@ -139,7 +139,7 @@ fn read_items<'a, T: Listed<'a, A>, A: Allocator + Copy>(
     Ok(items)
 }
 
-// A count and so many items.
+// Reads a count and as many items.
 fn read_listed<'a, T: Listed<'a, A>, A: Allocator + Copy>(
     alloc: A,
     start: u64,
@@ -180,7 +180,7 @@ impl<'a, A: Allocator + Copy> Listed<'a, A> for CoreDumpStackFrame<A> {
     }
 }
 
-// A list of indices.
+// Reads a list of indices.
 fn read_indices<A: Allocator>(alloc: A, reader: &mut BinaryReader<'_>) -> Result<Vec<u32, A>>
     ensures gives { GivesUnlessMemory (λ list. list.items)
         result (place reader.new) (list_at (unsigned_at VarU32) (place reader.old)) }
@@ -189,7 +189,7 @@ fn read_indices<A: Allocator>(alloc: A, reader: &mut BinaryReader<'_>) -> Result
     read_list(alloc, reader)
 }
 
-// A list of values.
+// Reads a list of values.
 fn read_values<A: Allocator>(
     alloc: A,
     reader: &mut BinaryReader<'_>,
@@ -247,8 +247,8 @@ fn read_frame<A: Allocator + Copy>(
     })
 }
 
-/// A byte, and what it says: 0x01 for a missing value; 0x7F or 0x7E and a signed number of 32 or 64 bits; 0x7D or 0x7C and the
-/// 4 or 8 bytes of a float, the lowest first.
+/// A byte, and the value that it announces: 0x01 for a missing value; 0x7F or 0x7E and a signed number of 32 or 64 bits; 0x7D or
+/// 0x7C and the 4 or 8 bytes of a float, in little-endian order.
 ///
 /// Another byte is `CoreValue` at it.
 impl<'a> FromReader<'a> for CoreDumpValue {
@@ -291,9 +291,9 @@ impl<'a> FromReaderIn<'a> for CoreDumpStackFrame {
 }
 
 impl<'a> CoreDumpSection<'a> {
-    /// Reads a byte 0 and the name of the process, a text of any size, to the window's end.
+    /// Reads a byte 0 and the name of the process, a text of any size, up to the end of the window.
     ///
-    /// Another byte is `CoreStartByte(Name)` at it; bytes that are left are `CustomTrailing` at the first of them.
+    /// Another byte is `CoreStartByte(Name)` at it; trailing bytes are `CustomTrailing` at the first of them.
     #[tactic(auto, unfolding(crate::specs::Coredumps::name_section_in))]
     pub fn new(mut reader: BinaryReader<'a>) -> Result<CoreDumpSection<'a>>
         ensures gives { GivesResult (λ section. section.name.now)
@@ -308,7 +308,7 @@ impl<'a> CoreDumpSection<'a> {
     }
 }
 
-// The names of modules, in data that begins at this offset.
+// Reads the names of modules, in data that begins at this offset.
 fn read_modules<'a, A: Allocator + Copy>(
     alloc: A,
     start: u64,
@@ -321,7 +321,7 @@ fn read_modules<'a, A: Allocator + Copy>(
     read_listed(alloc, start, reader)
 }
 
-// The instances of a process.
+// Reads the instances of a process.
 fn read_instances<A: Allocator + Copy>(
     alloc: A,
     reader: &mut BinaryReader<'_>,
@@ -333,7 +333,7 @@ fn read_instances<A: Allocator + Copy>(
     read_listed(alloc, 0, reader)
 }
 
-// The frames of a thread.
+// Reads the frames of a thread.
 fn read_frames<A: Allocator + Copy>(
     alloc: A,
     reader: &mut BinaryReader<'_>,
@@ -346,10 +346,10 @@ fn read_frames<A: Allocator + Copy>(
 }
 
 impl<'a> CoreDumpModulesSection<'a> {
-    /// Reads the list of modules, of each a byte 0 and its name, a text of any size, to the window's end.
+    /// Reads the list of modules up to the end of the window: for each a byte 0 and its name, a text of any size.
     ///
-    /// Another byte is `CoreStartByte(Module)` at the start of the list; bytes that are left are `CustomTrailing` at the
-    /// first of them. `OutOfMemory`, at offset 0, when an allocation fails.
+    /// Another byte is `CoreStartByte(Module)` at the start of the list; trailing bytes are `CustomTrailing` at the first of
+    /// them. `OutOfMemory`, at offset 0, when an allocation fails.
     pub fn new(alloc: Global, reader: BinaryReader<'a>) -> Result<CoreDumpModulesSection<'a>>
         ensures gives { GivesResultUnlessMemory modules_parts result (modules_in (place reader.entry)) }
     {
@@ -358,7 +358,7 @@ impl<'a> CoreDumpModulesSection<'a> {
 }
 
 impl<'a, A: Allocator + Copy> CoreDumpModulesSection<'a, A> {
-    /// The same as `new`, with memory from any allocator: `OutOfMemory`, at offset 0, where it refuses a growth.
+    /// Like `new`, with any allocator: `OutOfMemory`, at offset 0, when an allocation fails.
     #[tactic(auto, unfolding(crate::specs::Coredumps::modules_in))]
     pub fn new_in(alloc: A, mut reader: BinaryReader<'a>) -> Result<Self>
         ensures gives { GivesResultUnlessMemory modules_parts result (modules_in (place reader.entry)) }
@@ -371,10 +371,10 @@ impl<'a, A: Allocator + Copy> CoreDumpModulesSection<'a, A> {
 }
 
 impl CoreDumpInstancesSection {
-    /// Reads the list of instances, to the window's end.
+    /// Reads the list of instances up to the end of the window.
     ///
-    /// The faults are those of instances; bytes that are left are `CustomTrailing` at the first of them. `OutOfMemory`, at
-    /// offset 0, when an allocation fails.
+    /// The errors are those of instances; trailing bytes are `CustomTrailing` at the first of them. `OutOfMemory`, at offset 0,
+    /// when an allocation fails.
     pub fn new(alloc: Global, reader: BinaryReader<'_>) -> Result<CoreDumpInstancesSection>
         ensures gives { GivesResultUnlessMemory instances_parts result (instances_in (place reader.entry)) }
     {
@@ -383,7 +383,7 @@ impl CoreDumpInstancesSection {
 }
 
 impl<A: Allocator + Copy> CoreDumpInstancesSection<A> {
-    /// The same as `new`, with memory from any allocator: `OutOfMemory`, at offset 0, where it refuses a growth.
+    /// Like `new`, with any allocator: `OutOfMemory`, at offset 0, when an allocation fails.
     #[tactic(auto, unfolding(crate::specs::Coredumps::instances_in))]
     pub fn new_in(alloc: A, mut reader: BinaryReader<'_>) -> Result<Self>
         ensures gives { GivesResultUnlessMemory instances_parts result (instances_in (place reader.entry)) }
@@ -395,10 +395,10 @@ impl<A: Allocator + Copy> CoreDumpInstancesSection<A> {
 }
 
 impl<'a> CoreDumpStackSection<'a> {
-    /// Reads a byte 0, the name of the thread, a text of any size, and the list of its frames, to the window's end.
+    /// Reads a byte 0, the name of the thread, a text of any size, and the list of its frames, up to the end of the window.
     ///
-    /// Another byte is `CoreStartByte(StackName)` at it; other faults are those of frames; bytes that are left are
-    /// `CustomTrailing` at the first of them. `OutOfMemory`, at offset 0, when an allocation fails.
+    /// Another byte is `CoreStartByte(StackName)` at it; other errors are those of frames; trailing bytes are `CustomTrailing` at
+    /// the first of them. `OutOfMemory`, at offset 0, when an allocation fails.
     pub fn new(alloc: Global, reader: BinaryReader<'a>) -> Result<CoreDumpStackSection<'a>>
         ensures gives { GivesResultUnlessMemory stack_parts result (stack_in (place reader.entry)) }
     {
@@ -407,7 +407,7 @@ impl<'a> CoreDumpStackSection<'a> {
 }
 
 impl<'a, A: Allocator + Copy> CoreDumpStackSection<'a, A> {
-    /// The same as `new`, with memory from any allocator: `OutOfMemory`, at offset 0, where it refuses a growth.
+    /// Like `new`, with any allocator: `OutOfMemory`, at offset 0, when an allocation fails.
     #[tactic(auto, unfolding(crate::specs::Coredumps::stack_in))]
     pub fn new_in(alloc: A, mut reader: BinaryReader<'a>) -> Result<Self>
         ensures gives { GivesResultUnlessMemory stack_parts result (stack_in (place reader.entry)) }

@@ -42,11 +42,11 @@ impl<'a> Clone for CustomSectionReader<'a> {
 impl<'a> CustomSectionReader<'a> {
     ghost use Rattle.wasm_custom.specs.Custom.{ReadsCustom};
 
-    /// Reads the name, a text of at most 100,000 bytes; what is left of the window is the data.
+    /// Reads the name, a text of at most 100,000 bytes; the remaining bytes of the window are the data.
     ///
-    /// The faults are those of `BinaryReader::read_string`: those of the name's size; `StringSize` at the size's last
-    /// byte, where it is above 100,000; `UnexpectedEof` after the size, where the window ends before the name does;
-    /// `MalformedUtf8` at the name's last byte.
+    /// The errors are those of `BinaryReader::read_string`: those of the name's size; `StringSize` at the last byte of the size
+    /// if it is above 100,000; `UnexpectedEof` after the size if the window ends before the name does; `MalformedUtf8` at the
+    /// last byte of the name.
     pub fn new(mut reader: BinaryReader<'a>) -> Result<Self>
         ensures reads { ReadsCustom reader.entry result }
         ensures hints { Hints (missing_of_sized (place reader.entry)) result }
@@ -56,42 +56,42 @@ impl<'a> CustomSectionReader<'a> {
         Ok(CustomSectionReader { name, reader })
     }
 
-    /// The section's name.
+    /// Returns the section's name.
     pub fn name(&self) -> &'a str
         ensures { result.now ≡ self.now.name }
     {
         self.name
     }
 
-    /// The bytes after the name.
+    /// Returns the bytes after the name.
     pub fn data(&self) -> &'a [u8]
         ensures { result.now ≡ (place self.now.reader).rest }
     {
         self.reader.remaining_buffer()
     }
 
-    /// The offset at which the data begins.
+    /// Returns the offset of the start of the data.
     pub fn data_offset(&self) -> u64
         ensures { result ≡ (place self.now.reader).offset }
     {
         self.reader.original_position()
     }
 
-    /// The offsets of the data.
+    /// Returns the offsets of the data.
     pub fn data_range(&self) -> Range<u64>
         ensures { result ≡ rest_range self.now.reader }
     {
         self.reader.remaining_range()
     }
 
-    /// The offsets of the whole window: the name's size, the name and the data.
+    /// Returns the offsets of the whole window: the name's size, the name and the data.
     pub fn range(&self) -> Range<u64>
         ensures { result ≡ range_of self.now.reader }
     {
         self.reader.range()
     }
 
-    /// A reader of the data, with the window's features.
+    /// Returns a reader of the data, with the window's features.
     pub fn data_reader(&self) -> BinaryReader<'a>
         ensures { result ≡ whole_window (place self.now.reader) }
     {

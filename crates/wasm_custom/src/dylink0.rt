@@ -18,20 +18,20 @@ use wasm_base::{
 /// The section `dylink.0`: its subsections (tool conventions, Dynamic Linking, The "dylink.0" Section).
 pub type Dylink0SectionReader<'a> = Subsections<'a, Dylink0Subsection<'a>>;
 
-/// What a library needs of the memory and the table (tool conventions, Dynamic Linking, The "dylink.0" Section).
+/// The memory and table space that a library needs (tool conventions, Dynamic Linking, The "dylink.0" Section).
 #[derive(Clone, Copy, Debug)]
 pub struct MemInfo {
-    /// How many bytes of memory.
+    /// The size in memory, in bytes.
     pub memory_size: u32,
-    /// The power of two that their address is a multiple of.
+    /// The alignment in memory, as a power of two.
     pub memory_alignment: u32,
-    /// How many elements of the table.
+    /// The number of table elements.
     pub table_size: u32,
-    /// The power of two that the index of the first is a multiple of.
+    /// The alignment in the table, as a power of two.
     pub table_alignment: u32,
 }
 
-/// What is said of an export (tool conventions, Dynamic Linking, The "dylink.0" Section).
+/// Information about an export (tool conventions, Dynamic Linking, The "dylink.0" Section).
 #[derive(Debug, Drop)]
 pub struct ExportInfo<'a> {
     /// The export's name.
@@ -40,12 +40,12 @@ pub struct ExportInfo<'a> {
     pub flags: SymbolFlags,
 }
 
-/// What is said of an import (tool conventions, Dynamic Linking, The "dylink.0" Section).
+/// Information about an import (tool conventions, Dynamic Linking, The "dylink.0" Section).
 #[derive(Debug, Drop)]
 pub struct ImportInfo<'a> {
     /// The module that it comes from.
     pub module: &'a str,
-    /// Its name there.
+    /// Its name in that module.
     pub field: &'a str,
     /// Its symbol's flags.
     pub flags: SymbolFlags,
@@ -54,15 +54,15 @@ pub struct ImportInfo<'a> {
 /// A subsection of the section `dylink.0` (tool conventions, Dynamic Linking, The "dylink.0" Section).
 #[derive(Debug, Drop)]
 pub enum Dylink0Subsection<'a, A: Allocator = Global> {
-    /// What the library needs of the memory and the table.
+    /// The memory and table space that the library needs.
     MemInfo(MemInfo),
     /// The names of the libraries that it needs.
     Needed(Vec<&'a str, A>),
-    /// What is said of exports.
+    /// Information about exports.
     ExportInfo(Vec<ExportInfo<'a>, A>),
-    /// What is said of imports.
+    /// Information about imports.
     ImportInfo(Vec<ImportInfo<'a>, A>),
-    /// The folders in which libraries are looked for.
+    /// The directories that are searched for libraries.
     RuntimePath(Vec<&'a str, A>),
     /// The name of the architecture that the library is for.
     TargetArch(&'a str),
@@ -127,7 +127,7 @@ impl<'a> FromReader<'a> for ImportInfo<'a> {
     }
 }
 
-// So many texts, one after the other. The list grows as they are read.
+// Reads `count` texts. The list grows as they are read.
 fn read_each_text<'a, A: Allocator>(
     alloc: A,
     reader: &mut BinaryReader<'a>,
@@ -146,7 +146,7 @@ fn read_each_text<'a, A: Allocator>(
     Ok(texts)
 }
 
-// A count and so many texts.
+// Reads a count and as many texts.
 fn read_text_list<'a, A: Allocator>(
     alloc: A,
     reader: &mut BinaryReader<'a>,
@@ -160,7 +160,7 @@ fn read_text_list<'a, A: Allocator>(
     read_each_text(alloc, reader, count)
 }
 
-// A list of texts.
+// Reads a list of texts.
 fn read_texts<'a, A: Allocator>(alloc: A, reader: &mut BinaryReader<'a>) -> Result<Vec<&'a str, A>>
     ensures gives { GivesUnlessMemory (λ list. map (λ text. text.now) list.items)
         result (place reader.new) (list_at (text_at None) (place reader.old)) }
@@ -169,7 +169,7 @@ fn read_texts<'a, A: Allocator>(alloc: A, reader: &mut BinaryReader<'a>) -> Resu
     read_text_list(alloc, reader)
 }
 
-// A list of what is said of exports.
+// Reads a list of information about exports.
 fn read_exports<'a, A: Allocator>(
     alloc: A,
     reader: &mut BinaryReader<'a>,
@@ -181,7 +181,7 @@ fn read_exports<'a, A: Allocator>(
     read_list(alloc, reader)
 }
 
-// A list of what is said of imports.
+// Reads a list of information about imports.
 fn read_imports<'a, A: Allocator>(
     alloc: A,
     reader: &mut BinaryReader<'a>,
@@ -194,7 +194,7 @@ fn read_imports<'a, A: Allocator>(
 }
 
 impl<'a, A: Allocator> Dylink0Subsection<'a, A> {
-    /// The same as `from_reader`, with memory from any allocator: `OutOfMemory`, at offset 0, where it refuses a growth.
+    /// Like `from_reader`, with any allocator: `OutOfMemory`, at offset 0, when an allocation fails.
     #[tactic(auto, unfolding(crate::specs::Dylink0::dylink_subsection_in))]
     pub fn from_reader_in(alloc: A, id: u8, mut reader: BinaryReader<'a>) -> Result<Self>
         ensures gives { GivesResultUnlessMemory dylink_parts result
@@ -216,7 +216,7 @@ impl<'a, A: Allocator> Dylink0Subsection<'a, A> {
     }
 }
 
-/// Numbers, lists of texts and of what is said of exports and imports, or a text. Bytes after these are not looked at.
+/// Numbers, a list of texts or of information about exports or imports, or a text. Bytes after these are ignored.
 impl<'a> Subsection<'a> for Dylink0Subsection<'a> {
     ghost meaning = { ReadsWindowAs dylink_parts dylink_subsection_in };
 

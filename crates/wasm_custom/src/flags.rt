@@ -7,36 +7,36 @@ ghost use Rattle.wasm_base.specs.declared.fault.NumberKind.TheVariants.{VarU32};
 use bitflags::{Flag, Flags};
 use wasm_base::{BinaryReader, FromReader, Result};
 
-/// What is said of a symbol, a bit each (tool conventions, Linking, Symbol Table Subsection). Other bits are kept.
+/// The flags of a symbol, one bit each (tool conventions, Linking, Symbol Table Subsection). Unknown bits are kept.
 #[derive(Clone, Copy, Debug, PartialEq, Eq, Hash, Default, PartialOrd, Ord)]
 pub struct SymbolFlags(u32);
 
 impl SymbolFlags {
-    /// The symbol is weak: another definition of it may stand in its place.
+    /// The symbol is weak: another definition of it may replace this one.
     pub const BINDING_WEAK: SymbolFlags = SymbolFlags(1);
 
-    /// The symbol is seen in its own module alone.
+    /// The symbol is visible only in its own module.
     pub const BINDING_LOCAL: SymbolFlags = SymbolFlags(2);
 
-    /// The symbol is not seen outside the module that is linked.
+    /// The symbol is not visible outside the linked module.
     pub const VISIBILITY_HIDDEN: SymbolFlags = SymbolFlags(4);
 
     /// The symbol is not defined in this module.
     pub const UNDEFINED: SymbolFlags = SymbolFlags(16);
 
-    /// The symbol is exported from the module that is linked.
+    /// The symbol is exported from the linked module.
     pub const EXPORTED: SymbolFlags = SymbolFlags(32);
 
     /// The symbol has a name of its own, though it is imported.
     pub const EXPLICIT_NAME: SymbolFlags = SymbolFlags(64);
 
-    /// The symbol is kept, used or not.
+    /// The symbol is kept even if it is unused.
     pub const NO_STRIP: SymbolFlags = SymbolFlags(128);
 
-    /// The symbol is in the memory of a thread.
+    /// The symbol is thread-local.
     pub const TLS: SymbolFlags = SymbolFlags(256);
 
-    /// The symbol is an address that stands by itself, in no segment.
+    /// The symbol is an absolute address, in no segment.
     pub const ABSOLUTE: SymbolFlags = SymbolFlags(512);
 
     const TABLE: &'static [Flag<SymbolFlags>] = &[
@@ -106,7 +106,7 @@ impl Flags for SymbolFlags {
     }
 }
 
-/// A u32; bits that are no flag stay.
+/// A u32. Unknown bits are kept.
 impl<'a> FromReader<'a> for SymbolFlags {
     ghost use Rattle.wasm_custom.specs.Flags.{symbol_bits};
 
@@ -117,15 +117,15 @@ impl<'a> FromReader<'a> for SymbolFlags {
     }
 }
 
-/// What is said of a data segment, a bit each (tool conventions, Linking, Segment Info Subsection). Other bits are kept.
+/// The flags of a data segment, one bit each (tool conventions, Linking, Segment Info Subsection). Unknown bits are kept.
 #[derive(Clone, Copy, Debug, PartialEq, Eq, Hash, Default)]
 pub struct SegmentFlags(u32);
 
 impl SegmentFlags {
-    /// The segment is texts that end with a zero byte, which may be merged.
+    /// The segment contains null-terminated strings, which may be merged.
     pub const STRINGS: SegmentFlags = SegmentFlags(1);
 
-    /// The segment is in the memory of a thread.
+    /// The segment is thread-local.
     pub const TLS: SegmentFlags = SegmentFlags(2);
 
     const TABLE: &'static [Flag<SegmentFlags>] = &[
@@ -164,7 +164,7 @@ impl Flags for SegmentFlags {
     }
 }
 
-/// A u32; bits that are no flag stay.
+/// A u32. Unknown bits are kept.
 impl<'a> FromReader<'a> for SegmentFlags {
     ghost use Rattle.wasm_custom.specs.Flags.{segment_bits};
 

@@ -1,4 +1,4 @@
-// What the data of a custom section is, by the section's name.
+// The data of known custom sections, by the section's name.
 ghost use Rattle.std.specs.Prelude.{◌≡◌, false, IfOk, IfErr, is_err, codes, nat_eq};
 ghost use Rattle.std.specs.List.{starts_with};
 ghost use Rattle.wasm_base.specs.FaultAt.{fault_at};
@@ -43,7 +43,7 @@ pub enum KnownCustom<'a, A: Allocator = Global> {
     Linking(LinkingSectionReader<'a>),
     /// A section whose name begins with `reloc.`.
     Reloc(RelocSectionReader<'a>),
-    /// A section of another name, or one whose data can't be read as what its name says.
+    /// A section with another name, or one whose data is malformed for its name.
     Unknown,
 }
 
@@ -135,8 +135,8 @@ fn core_stack<'a, A: Allocator + Copy>(
     }
 }
 
-// What a section is whose reader answered this error: `Unknown` after a fault of the data. Out of memory is an error here
-// too, made anew, so that it has the offset 0 whatever the reader said.
+// Converts an error of a section's reader: malformed data makes the section `Unknown`, and `OutOfMemory` is returned as a new
+// error, at offset 0 whatever the reader reported.
 fn unknown_but_for_memory<'a, A: Allocator>(error: Error) -> Result<KnownCustom<'a, A>>
     ensures known { IfOk result (λ known. known_parts known ≡ unknown) }
     ensures other { is_out_of_memory (fault_at error).fault ≡ is_err result }
@@ -149,8 +149,8 @@ fn unknown_but_for_memory<'a, A: Allocator>(error: Error) -> Result<KnownCustom<
 }
 
 impl<'a> CustomSectionReader<'a> {
-    /// The reader of the section's data, which its name decides. It is `Unknown` for a name that isn't known, and for data of
-    /// which the reader's `new` answers a fault.
+    /// Returns the reader of the section's data, selected by its name: `Unknown` if the name isn't known, or if the reader's `new`
+    /// reports a fault of the data.
     ///
     /// The only error is `OutOfMemory`, at offset 0, when an allocation fails. Only `coremodules`, `coreinstances` and
     /// `corestack` allocate.
@@ -162,8 +162,8 @@ impl<'a> CustomSectionReader<'a> {
         self.as_known_in(alloc, alloc)
     }
 
-    /// The same as `as_known`, where the lists of core dumps grow by `alloc`. A reader of subsections keeps `kept`, by which
-    /// the lists in its subsections grow when they are read.
+    /// Like `as_known`, with `alloc` for the lists of core dumps. A reader of subsections keeps `kept`, the allocator for the lists
+    /// that are read from its subsections.
     pub fn as_known_in<A: Allocator + Copy>(
         &self,
         kept: Global,

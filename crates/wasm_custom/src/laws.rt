@@ -1,5 +1,5 @@
-//! What comparing, hashing and copying custom sections and their items says, what holds of items that were read, and of
-//! whole runs over them.
+//! Laws of custom sections and their items: of comparing, hashing and cloning them, of items that were read, and of iterating
+//! over them to the end.
 ghost use Rattle.std.specs.Hash as hashed;
 ghost use Rattle.std.specs.Ordering.{nat_cmp};
 ghost use Rattle.std.specs.Prelude.{◌≡◌, Ok, Some, false};
@@ -85,8 +85,8 @@ pub fn default_flags_are_none()
         ⟦<SegmentFlags as Default>⟧.is_default flags → segment_bits flags ≡ 0 }
 {}
 
-/// A copy of a custom section or of one of its items is the same, its name as a text and its window, and can always be
-/// made: it takes no memory.
+/// A clone of a custom section or of one of its items is identical to it, its name as a text and its window. Cloning never
+/// fails, since it never allocates.
 pub fn copies_are_the_same<'a>()
     ensures section { IsCopy
         ⟦<CustomSectionReader<'a> as Clone>⟧.is_clone
@@ -118,8 +118,8 @@ pub fn copies_are_the_same<'a>()
         ⟦<RelocAddendKind as Clone>⟧.is_infallible }
 {}
 
-/// A copy of a name, of what has names, of a symbol, of what linkers and dynamic linkers read or of a set of flags is the same,
-/// and can always be made.
+/// A clone of a name, of what has names, of a symbol, of what linkers and dynamic linkers read or of a set of flags is identical
+/// to it. Cloning never fails.
 pub fn copies_of_names_and_symbols_are_the_same<'a>()
     ensures naming { IsCopy ⟦<Naming<'a> as Clone>⟧.is_clone ⟦<Naming<'a> as Clone>⟧.is_infallible }
     ensures segment { IsCopy
@@ -165,7 +165,7 @@ pub fn copies_of_names_and_symbols_are_the_same<'a>()
         ⟦<LinkingSectionReader<'a> as Clone>⟧.is_infallible }
 {}
 
-/// The hints of a function that was read are the announced ones: an iterator over them gives so many, and no fault.
+/// An iterator over the hints of a function that was read yields as many as announced, and no error.
 pub fn hints_that_were_read_are_given<'a>()
     ensures { (before after : Place) (function : BranchHintFunction) →
         ⟦<BranchHintFunction<'a> as FromReader<'a>>⟧.meaning before (Ok (function, after)) →
@@ -173,7 +173,7 @@ pub fn hints_that_were_read_are_given<'a>()
         ⟦<SectionLimitedIntoIter<'a, BranchHint> as Iterator>⟧.next_gives function.hints }
 {}
 
-/// The symbols of a comdat that was read are the announced ones: an iterator over them gives so many, and no fault.
+/// An iterator over the symbols of a comdat that was read yields as many as announced, and no error.
 pub fn symbols_that_were_read_are_given<'a>()
     ensures { (before after : Place) (comdat : Comdat) →
         ⟦<Comdat<'a> as FromReader<'a>>⟧.meaning before (Ok (comdat, after)) →
@@ -182,7 +182,7 @@ pub fn symbols_that_were_read_are_given<'a>()
 {}
 
 /// Each of these items allows one outcome at each place, so the iterators over a section of them, and clones of these,
-/// give the same items.
+/// yield the same items.
 pub fn items_allow_one_outcome<'a>()
     ensures function_hints { AllowsOne ⟦<BranchHintFunction<'a> as FromReader<'a>>⟧.meaning }
     ensures hint { AllowsOne ⟦<BranchHint as FromReader<'a>>⟧.meaning }
@@ -195,7 +195,7 @@ pub fn items_allow_one_outcome<'a>()
     ensures relocation_type { AllowsOne ⟦<RelocationType as FromReader<'a>>⟧.meaning }
 {}
 
-/// Each of these items is determined by its bytes, so the iterators over a section of them, and clones of these, give equal
+/// Each of these items is determined by its bytes, so the iterators over a section of them, and clones of these, yield equal
 /// items.
 pub fn items_are_determined<'a>()
     ensures function_hints { Determines ⟦<BranchHintFunction<'a> as FromReader<'a>>⟧.meaning }
@@ -204,9 +204,9 @@ pub fn items_are_determined<'a>()
     ensures relocation_type { Determines ⟦<RelocationType as FromReader<'a>>⟧.meaning }
 {}
 
-/// Calls of `next` up to the first `None` give exactly the names, or the subsections of names, whose index or id is above every
-/// one that was given before. Each other one is the fault of the order, at its start. One with a fault of its own is that
-/// fault. What they give ascends strictly, also across faults, and nothing comes after that `None`.
+/// `next` returns exactly the names, or the subsections of names, whose index or id is above every one returned before. Any
+/// other one is the order fault at its start, and one with a fault of its own is that fault. The returned indices or ids ascend
+/// strictly, also across faults. After the first `None`, every call returns `None`.
 pub fn names_ascend<'a>()
     ensures names { GivesAscending
         ⟦<SectionLimitedIntoIter<'a, Naming<'a>> as Iterator>⟧.next_gives
@@ -222,15 +222,15 @@ pub fn names_ascend<'a>()
         ⟦<NameSectionReader<'a> as Iterator>⟧.next_gives }
 {}
 
-/// Calls of `next` up to the first `None` give the subsections of a section for linkers, one after the other to its end, and
-/// nothing comes after that `None`. Each is what its id and its window mean, or its fault.
+/// `next` returns the subsections of a section for linkers, one after the other to its end, and then only `None`. Each is what
+/// its id and its window mean, or its fault.
 pub fn subsections_for_linkers<'a>()
     ensures { (s : Window) →
         GivesSubsections ⟦<LinkingIntoIter<'a> as Iterator>⟧.next_gives
         (UnlessTaken ⟦<Linking<'a> as Subsection<'a>>⟧.meaning false) s }
 {}
 
-/// A type of relocations is its number where it is cast, and is the type of this number.
+/// Casting a relocation type returns its number, and converting this number returns the type.
 pub fn a_relocation_type_is_its_number(ty: RelocationType) -> (u8, Result<RelocationType, ()>)
     ensures number { result.0 ≡ number_of ty }
     ensures back { result.1 ≡ Ok ty }
@@ -239,15 +239,15 @@ pub fn a_relocation_type_is_its_number(ty: RelocationType) -> (u8, Result<Reloca
     (number, RelocationType::try_from(number))
 }
 
-// The number that a cast gives.
+// Casts a relocation type to its number.
 fn cast(ty: RelocationType) -> u8
     ensures { result ≡ number_of ty }
 {
     ty as u8
 }
 
-/// Wherever an item of a list inside an item is read, passing over it takes the bytes that reading it takes. Of an index with
-/// a name, and of a producer's value, this is so where each text has at most 100,000 bytes, the limit of what is passed over.
+/// If an item of a list inside an item can be read, skipping it consumes the same bytes as reading it. For an index with a name,
+/// and for a producer's value, this holds if each text has at most 100,000 bytes, the limit of skipped names.
 pub fn passing_over_takes_what_reading_takes<'a>()
     ensures hint { PassesAsRead
         ⟦<BranchHint as FromReader<'a>>⟧.meaning

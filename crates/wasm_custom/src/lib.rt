@@ -1,4 +1,4 @@
-//! Custom sections: the name and the data that each of them has, and what the data of those that are known says.
+//! Custom sections: the name and the data of each, and readers for the data of the known ones.
 #![tactic(auto)]
 
 mod ascending;

@@ -24,41 +24,41 @@ use wasm_base::{
 /// The data segments of a module that is to be linked (tool conventions, Linking, Segment Info Subsection).
 pub type SegmentMap<'a> = SectionLimited<'a, Segment<'a>>;
 
-/// The functions that are called at first (tool conventions, Linking, Init Functions Subsection).
+/// The functions that are called at startup (tool conventions, Linking, Init Functions Subsection).
 pub type InitFuncMap<'a> = SectionLimited<'a, InitFunc>;
 
-/// The groups of symbols of which one is kept (tool conventions, Linking, COMDAT Subsection).
+/// The comdats of a module (tool conventions, Linking, COMDAT Subsection).
 pub type ComdatMap<'a> = SectionLimited<'a, Comdat<'a>>;
 
 /// The symbols of a module (tool conventions, Linking, Symbol Table Subsection).
 pub type SymbolInfoMap<'a> = SectionLimited<'a, SymbolInfo<'a>>;
 
-/// What is said of a data segment (tool conventions, Linking, Segment Info Subsection).
+/// Information about a data segment (tool conventions, Linking, Segment Info Subsection).
 #[derive(Clone, Copy, Debug)]
 pub struct Segment<'a> {
     /// Its name.
     pub name: &'a str,
-    /// The power of two that its address is a multiple of.
+    /// Its alignment, as a power of two.
     pub alignment: u32,
     /// Its flags.
     pub flags: SegmentFlags,
 }
 
-/// A function that is called at first (tool conventions, Linking, Init Functions Subsection).
+/// A function that is called at startup (tool conventions, Linking, Init Functions Subsection).
 #[derive(Clone, Copy, Debug)]
 pub struct InitFunc {
-    /// Those with lower numbers are called before it.
+    /// Its priority: functions with lower numbers are called first.
     pub priority: u32,
     /// The index of the function's symbol.
     pub symbol_index: u32,
 }
 
-/// A group of symbols, of which one is kept where several modules have it (tool conventions, Linking, COMDAT Subsection).
+/// A group of symbols, of which one copy is kept if several modules have it (tool conventions, Linking, COMDAT Subsection).
 #[derive(Clone, Debug, Drop)]
 pub struct Comdat<'a> {
     /// Its name.
     pub name: &'a str,
-    /// Its flags; none is known.
+    /// Its flags, none of which is known.
     pub flags: u32,
     /// Its symbols.
     pub symbols: SectionLimited<'a, ComdatSymbol>,
@@ -69,7 +69,7 @@ pub struct Comdat<'a> {
 pub struct ComdatSymbol {
     /// What it is.
     pub kind: ComdatSymbolKind,
-    /// Its index among those of its kind.
+    /// Its index in the index space of its kind.
     pub index: u32,
 }
 
@@ -95,9 +95,9 @@ pub enum ComdatSymbolKind {
 pub struct DefinedDataSymbol {
     /// The index of the data segment.
     pub index: u32,
-    /// How many bytes after the start of the segment it is.
+    /// Its offset from the start of the segment, in bytes.
     pub offset: u32,
-    /// How many bytes it has.
+    /// Its size, in bytes.
     pub size: u32,
 }
 
@@ -110,7 +110,7 @@ pub enum SymbolInfo<'a> {
         flags: SymbolFlags,
         /// The function's index.
         index: u32,
-        /// Its name, where it is written: not of an import, unless it has a name of its own.
+        /// Its name, if present: an import has one only with `EXPLICIT_NAME`.
         name: Option<&'a str>,
     },
     /// A global.
@@ -119,7 +119,7 @@ pub enum SymbolInfo<'a> {
         flags: SymbolFlags,
         /// The global's index.
         index: u32,
-        /// Its name, where it is written.
+        /// Its name, if present.
         name: Option<&'a str>,
     },
     /// An event.
@@ -128,7 +128,7 @@ pub enum SymbolInfo<'a> {
         flags: SymbolFlags,
         /// The event's index.
         index: u32,
-        /// Its name, where it is written.
+        /// Its name, if present.
         name: Option<&'a str>,
     },
     /// A table.
@@ -137,7 +137,7 @@ pub enum SymbolInfo<'a> {
         flags: SymbolFlags,
         /// The table's index.
         index: u32,
-        /// Its name, where it is written.
+        /// Its name, if present.
         name: Option<&'a str>,
     },
     /// Data.
@@ -153,7 +153,7 @@ pub enum SymbolInfo<'a> {
     Section {
         /// Its flags.
         flags: SymbolFlags,
-        /// The section's index among all of the module.
+        /// The section's index among all sections of the module.
         section: u32,
     },
 }
@@ -194,7 +194,7 @@ impl<'a> FromReader<'a> for InitFunc {
     }
 }
 
-// The kind of a comdat's symbol that a byte is.
+// Returns the kind of a comdat's symbol that a byte encodes, if any.
 fn comdat_kind(byte: u8) -> Option<ComdatSymbolKind>
     ensures { result ≡ lookup comdat_kinds byte }
 {
@@ -240,7 +240,7 @@ impl<'a> FromReader<'a> for ComdatSymbol {
     }
 }
 
-/// As it is read.
+/// Skips a symbol by reading it.
 impl<'a> SkipItem<'a> for ComdatSymbol {
     ghost passed_at = { after_reading comdat_symbol_at };
 
@@ -251,7 +251,7 @@ impl<'a> SkipItem<'a> for ComdatSymbol {
     }
 }
 
-/// A name of any length, flags, a u32, and a list of symbols, which are passed over, with their own faults: those of a
+/// A name of any length, flags, a u32, and a list of symbols, which are skipped and their errors returned, so those of a
 /// comdat that was read have none.
 impl<'a> FromReader<'a> for Comdat<'a> {
     ghost use Rattle.wasm_custom.specs.Linking.{comdat_parts, comdat_at};
@@ -290,7 +290,7 @@ impl<'a> FromReader<'a> for DefinedDataSymbol {
     }
 }
 
-// The name of a symbol, where it is written.
+// Reads the name of a symbol, if present.
 #[tactic(auto, unfolding(crate::specs::Linking::symbol_name_at))]
 #[inline(always)]
 fn read_name<'a>(flags: SymbolFlags, reader: &mut BinaryReader<'a>) -> Result<Option<&'a str>>
@@ -305,7 +305,7 @@ fn read_name<'a>(flags: SymbolFlags, reader: &mut BinaryReader<'a>) -> Result<Op
     Ok(None)
 }
 
-// The index of a symbol, and its name where it is written.
+// Reads the index of a symbol, and its name, if present.
 #[tactic(auto, unfolding(crate::specs::Linking::index_and_name_at))]
 #[inline(always)]
 fn read_indexed<'a>(
@@ -322,7 +322,7 @@ fn read_indexed<'a>(
     Ok((index, name))
 }
 
-// Where data is, if it is defined in this module.
+// Reads the location of data, if it is defined in this module.
 #[tactic(auto, unfolding(crate::specs::Linking::data_place_at))]
 fn read_data_place(
     flags: SymbolFlags,
@@ -339,10 +339,10 @@ fn read_data_place(
     Ok(Some(reader.read()?))
 }
 
-/// A kind, a byte, and flags, a u32; then an index and, where it is written, a name; for data a name and, where it is defined,
-/// its place; for a section its index.
+/// A kind, a byte, and flags, a u32; then an index and, if present, a name; for data a name and, if it is defined, its location;
+/// for a section its index.
 ///
-/// Another kind is `LeadingByte(Symbol)` at it, with the byte as its number, after the faults of the flags.
+/// Another kind is `LeadingByte(Symbol)` at it, with the byte as its number, unless the flags have an error.
 impl<'a> FromReader<'a> for SymbolInfo<'a> {
     ghost use Rattle.wasm_custom.specs.Linking.{symbol_parts, symbol_at};
 
@@ -391,11 +391,11 @@ impl<'a> FromReader<'a> for SymbolInfo<'a> {
 /// A subsection of the section for linkers (tool conventions, Linking, Linking Metadata Section).
 #[derive(Clone, Debug, Drop)]
 pub enum Linking<'a> {
-    /// What is said of data segments.
+    /// Information about data segments.
     SegmentInfo(SegmentMap<'a>),
-    /// The functions that are called at first.
+    /// The functions that are called at startup.
     InitFuncs(InitFuncMap<'a>),
-    /// The groups of symbols of which one is kept.
+    /// The comdats.
     ComdatInfo(ComdatMap<'a>),
     /// The symbols.
     SymbolTable(SymbolInfoMap<'a>),
@@ -412,8 +412,8 @@ pub enum Linking<'a> {
     },
 }
 
-/// A count, a u32, and items that are read when they come; for the architecture a name of at most 100,000 bytes, after which
-/// nothing is looked at.
+/// A count, a u32, and items that are read on demand; for the architecture a name of at most 100,000 bytes. Bytes after that
+/// name are ignored.
 impl<'a> Subsection<'a> for Linking<'a> {
     ghost meaning = { ReadsWindowAs linking_parts linking_subsection_in };
 
@@ -469,8 +469,8 @@ impl<'a> Clone for LinkingSectionReader<'a> {
 }
 
 impl<'a> LinkingSectionReader<'a> {
-    /// Reads the version, a u32, with the faults of `read_var_u32`. A version other than 2 is `LinkingVersion` at it, with
-    /// it as its number. What is left of the window is the subsections, which take no memory.
+    /// Reads the version, a u32, with the errors of `read_var_u32`. A version other than 2 is `LinkingVersion` at it, with
+    /// it as its number. The remaining bytes of the window are the subsections; reading them never allocates.
     #[tactic(auto, unfolding(crate::specs::Linking::linking_in))]
     pub fn new(alloc: Global, mut reader: BinaryReader<'a>) -> Result<Self>
         ensures gives { GivesResult (λ section. section) result (linking_in reader.entry) }
@@ -489,28 +489,28 @@ impl<'a> LinkingSectionReader<'a> {
         })
     }
 
-    /// The version, which is 2.
+    /// Returns the version, which is 2.
     pub fn version(&self) -> u32
         ensures { result ≡ self.now.version }
     {
         self.version
     }
 
-    /// The offset after the version.
+    /// Returns the offset after the version.
     pub fn original_position(&self) -> u64
         ensures { result ≡ (place self.now.subsections).offset }
     {
         self.subsections.original_position()
     }
 
-    /// The offsets of the whole window, the version among them.
+    /// Returns the offsets of the whole window, including the version.
     pub fn range(&self) -> Range<u64>
         ensures { result ≡ self.now.range }
     {
         self.range.start..self.range.end
     }
 
-    /// The subsections.
+    /// Returns the subsections.
     pub fn subsections(&self) -> Subsections<'a, Linking<'a>>
         ensures { result ≡ self.now.subsections }
     {
@@ -532,7 +532,7 @@ impl<'a> IntoIterator for LinkingSectionReader<'a> {
     }
 }
 
-/// The subsections of a section for linkers, which come as those of `Subsections`.
+/// An iterator over the subsections of a section for linkers, like `Subsections`.
 #[derive(Drop)]
 pub struct LinkingIntoIter<'a> {
     subsections: Subsections<'a, Linking<'a>>,

@@ -29,7 +29,7 @@ pub struct Naming<'a> {
     pub name: &'a str,
 }
 
-/// An index, a u32, and a name of any length, with the faults of `read_unlimited_string`.
+/// An index, a u32, and a name of any length, with the errors of `read_unlimited_string`.
 impl<'a> FromReader<'a> for Naming<'a> {
     ghost meaning = { ReadsAs naming_parts naming_at };
 
@@ -52,7 +52,7 @@ impl<'a> SkipItem<'a> for Naming<'a> {
     }
 }
 
-/// An entry of a map: what an index stands for, and the fault where indices don't ascend.
+/// An entry of a map: what an index names, and the fault of indices that don't ascend.
 pub trait MapEntry<'a>: FromReader<'a> {
     ghost use Rattle.wasm_base.specs.declared.fault.Fault.{Fault};
 
@@ -62,7 +62,7 @@ pub trait MapEntry<'a>: FromReader<'a> {
 
     ghost takes_no_memory: { is_out_of_memory order_fault ≡ false };
 
-    /// The fault of an entry whose index isn't above every index that was given before.
+    /// Returns the fault of an entry whose index isn't above every index returned before.
     fn order_fault() -> Fault
         ensures { result ≡ order_fault };
 
@@ -91,13 +91,13 @@ impl<'a> MapEntry<'a> for Naming<'a> {
     }
 }
 
-/// Entries by index, which ascend (core specification, Appendix, Custom Sections, Name Section, Name Maps).
+/// An iterator over entries whose indices ascend (core specification, Appendix, Custom Sections, Name Section, Name Maps).
 ///
-/// They come in order, up to the first that can't be read. One whose index isn't above every index that was given before is
-/// its `order_fault` at its start, and the next one follows.
+/// It ends after the first malformed entry. One whose index isn't above every index returned before is its `order_fault` at its
+/// start, and the next one follows.
 #[derive(Drop)]
 pub struct IndexedMap<'a, T> {
-    /// The entries as they stand, in whatever order.
+    /// The entries as encoded, in any order.
     pub names: SectionLimitedIntoIter<'a, T>,
     last: Option<u32>,
 }
@@ -105,8 +105,8 @@ pub struct IndexedMap<'a, T> {
 /// Names by index. One whose index isn't above the last is `NamesOrder`.
 pub type NameMap<'a> = IndexedMap<'a, Naming<'a>>;
 
-/// Names of what indices have, by index (core specification, Appendix, Custom Sections, Name Section, Indirect Name Maps). One
-/// whose index isn't above the last is `IndirectOrder`.
+/// Name maps by index (core specification, Appendix, Custom Sections, Name Section, Indirect Name Maps). One whose index isn't
+/// above the last is `IndirectOrder`.
 pub type IndirectNameMap<'a> = IndexedMap<'a, IndirectNaming<'a>>;
 
 impl<'a, T> Model for IndexedMap<'a, T> {
@@ -141,7 +141,7 @@ impl<'a, T: Clone> Clone for IndexedMap<'a, T> {
 }
 
 impl<'a, T: FromReader<'a>> IndexedMap<'a, T> {
-    /// Reads the count, a u32, with the faults of `read_var_u32`. No entry is looked at.
+    /// Reads the count, a u32, with the errors of `read_var_u32`. No entry is read.
     #[tactic(auto, unfolding(crate::specs::Names::entries_in))]
     pub fn new(reader: BinaryReader<'a>) -> Result<Self>
         ensures gives { GivesResult (λ names. names) result (entries_in reader.entry) }
@@ -182,17 +182,16 @@ impl<'a, T: MapEntry<'a>> Iterator for IndexedMap<'a, T> {
     }
 }
 
-/// An index, and the names by index of what it has (core specification, Appendix, Custom Sections, Name Section, Indirect Name
-/// Maps).
+/// An index and its name map (core specification, Appendix, Custom Sections, Name Section, Indirect Name Maps).
 #[derive(Clone, Debug, Drop)]
 pub struct IndirectNaming<'a> {
-    /// The index of what has the names, as a function.
+    /// The index of what owns the names, such as a function.
     pub index: u32,
-    /// The names of what it has, as of its locals.
+    /// The names of what it owns, such as its locals.
     pub names: NameMap<'a>,
 }
 
-/// An index, a u32, and a list of names, which are passed over, with the faults of `skip_string`.
+/// An index, a u32, and a list of names, which are skipped, with the errors of `skip_string`.
 impl<'a> FromReader<'a> for IndirectNaming<'a> {
     ghost meaning = { ReadsAs (λ naming. naming) indirect_naming_at };
 
@@ -235,7 +234,7 @@ pub enum Name<'a> {
     Module {
         /// The name.
         name: &'a str,
-        /// The offsets of the name and its size: of all that was left of the subsection, in the whole stream.
+        /// The offsets of the name and its size, all remaining bytes of the subsection, in the whole stream.
         name_range: Range<u64>,
     },
     /// The names of functions.
@@ -275,7 +274,7 @@ pub enum Name<'a> {
     },
 }
 
-// The name of the module, and nothing after it.
+// Reads the name of the module, without trailing bytes.
 #[tactic(auto, unfolding(crate::specs::Names::module_name_in))]
 fn module_name<'a>(mut reader: BinaryReader<'a>) -> Result<Name<'a>>
     ensures gives { GivesResult name_parts result (module_name_in reader.entry) }
@@ -289,8 +288,8 @@ fn module_name<'a>(mut reader: BinaryReader<'a>) -> Result<Name<'a>>
     Ok(Name::Module { name, name_range })
 }
 
-/// The name of the module is the whole subsection: bytes after it are `NameTrailing`, at the first of them. Other subsections
-/// are a count, a u32, and names that are read when they come.
+/// The name of the module is the whole subsection: trailing bytes are `NameTrailing` at the first of them. Other subsections are
+/// a count, a u32, and names that are read on demand.
 impl<'a> Subsection<'a> for Name<'a> {
     ghost meaning = { ReadsWindowAs name_parts name_in };
 
@@ -322,7 +321,7 @@ impl<'a> Subsection<'a> for Name<'a> {
     }
 }
 
-// The id of a subsection.
+// Returns the id of a subsection.
 fn id_of(name: &Name<'_>) -> u8
     ensures { result ≡ id_of name.now }
 {
@@ -347,11 +346,11 @@ fn id_of(name: &Name<'_>) -> u8
 
 /// The section `name`: its subsections, whose ids ascend (core specification, Appendix, Custom Sections, Name Section).
 ///
-/// They come in order. One whose id isn't above every id that was given before is `NameSectionOrder` at its start; one that
-/// can't be read is its fault, and isn't given. After either the next one follows.
+/// A subsection whose id isn't above every id returned before is `NameSectionOrder` at its start. A malformed one is its fault,
+/// and its id doesn't count as returned. After either, the next one follows.
 #[derive(Drop)]
 pub struct NameSectionReader<'a> {
-    /// The subsections as they stand, in whatever order.
+    /// The subsections as encoded, in any order.
     pub sections: Subsections<'a, Name<'a>>,
     last: Option<u32>,
 }
@@ -379,7 +378,7 @@ impl<'a> Clone for NameSectionReader<'a> {
 }
 
 impl<'a> NameSectionReader<'a> {
-    /// The subsections of what is left of a reader's window. They take no memory.
+    /// Creates an iterator over the subsections in the remaining bytes of a reader's window, which never allocates.
     pub fn new(alloc: Global, reader: BinaryReader<'a>) -> Self
         ensures { result ≡ none_given reader.entry }
     {

@@ -1,4 +1,4 @@
-// What a module was produced with.
+// The tools that a module was produced with.
 ghost use Rattle.std.specs.Prelude.{◌≡◌};
 ghost use Rattle.wasm_base.specs.Hints.{TakesNoMemory};
 ghost use Rattle.wasm_base.specs.Item.{ReadsAs};
@@ -38,7 +38,7 @@ fn is_field_name(name: &str) -> bool
     name == "language" || name == "sdk" || name == "processed-by"
 }
 
-// The name of a field.
+// Reads the name of a field.
 #[tactic(auto, unfolding(crate::specs::Producers::field_name_at))]
 fn read_field_name<'a>(reader: &mut BinaryReader<'a>) -> Result<&'a str>
     ensures gives { GivesBy (λ name. name.now) result reader.old reader.new field_name_at }
@@ -78,7 +78,7 @@ impl<'a> SkipItem<'a> for ProducersFieldValue<'a> {
     }
 }
 
-/// A text, and the list of the field's values, which are passed over as two names each, with the faults of these.
+/// A text, and the list of the field's values, which are skipped as two names each, with the errors of these.
 ///
 /// A text other than `language`, `sdk` or `processed-by` is `ProducersField` at the field's start.
 impl<'a> FromReader<'a> for ProducersField<'a> {

@@ -21,16 +21,16 @@ pub struct RelocSectionReader<'a> {
     entries: RelocationEntryReader<'a>,
 }
 
-/// A relocation: a place in a section to be filled in by a linker (tool conventions, Linking, Relocation Sections).
+/// A relocation: a place in a section that a linker fills in (tool conventions, Linking, Relocation Sections).
 #[derive(Clone, Copy, Debug, PartialEq, Eq, Hash)]
 pub struct RelocationEntry {
     /// Its type.
     pub ty: RelocationType,
-    /// How many bytes after the start of the section's content the place begins.
+    /// The offset of the place from the start of the section's content, in bytes.
     pub offset: u32,
-    /// The index of what it is filled in with: a symbol, or of `TypeIndexLeb` a type.
+    /// The index of what it is filled in with: a symbol, or for `TypeIndexLeb` a type.
     pub index: u32,
-    /// What is added to the value, 0 where the type has none.
+    /// What is added to the value, 0 if the type has no addend.
     pub addend: i64,
 }
 
@@ -136,7 +136,7 @@ const TYPES: [RelocationType; 27] = [
     RelocationType::FunctionIndexI32,
 ];
 
-// The type of a number, if there is one.
+// Returns the type with this number, if any.
 fn type_numbered(number: u8) -> Option<RelocationType>
     ensures { result ≡ slice_get types number }
 {
@@ -146,7 +146,7 @@ fn type_numbered(number: u8) -> Option<RelocationType>
     }
 }
 
-/// The type of a number from 0 to 26; other numbers are refused.
+/// Converts a number from 0 to 26 to its type; other numbers are an error.
 impl TryFrom<u8> for RelocationType {
     ghost use Rattle.wasm_custom.specs.Reloc.{IsTypeOf};
 
@@ -160,7 +160,7 @@ impl TryFrom<u8> for RelocationType {
 }
 
 impl RelocationType {
-    /// Whether relocations of this type have an addend.
+    /// Returns whether relocations of this type have an addend, and of what size.
     pub fn addend_kind(&self) -> RelocAddendKind
         ensures { result ≡ addend_of self.now }
     {
@@ -183,7 +183,7 @@ impl RelocationType {
         }
     }
 
-    /// How many bytes the place of such a relocation takes.
+    /// Returns the size of the place that such a relocation fills in, in bytes.
     pub fn extent(&self) -> usize
         ensures { result ≡ extent_of self.now }
     {
@@ -226,7 +226,7 @@ impl<'a> FromReader<'a> for RelocationType {
     }
 }
 
-// The addend of a relocation of this type.
+// Reads the addend of a relocation of this type.
 fn read_addend(ty: RelocationType, reader: &mut BinaryReader<'_>) -> Result<i64>
     ensures gives { GivesBy (λ addend. addend) result reader.old reader.new (addend_at (addend_of ty)) }
     ensures keeps { KeepsWindow reader.old reader.new }
@@ -264,7 +264,7 @@ impl RelocationEntry {
     ghost use Rattle.std.specs.Prelude.{Ok};
     ghost use Rattle.wasm_custom.specs.Reloc.{relocated_range};
 
-    /// The bytes that are filled in, counted from the start of the section's content. It is always `Ok`.
+    /// Returns the range of the bytes that are filled in, from the start of the section's content. It is always `Ok`.
     pub fn relocation_range(&self) -> Result<Range<usize>>
         ensures { result ≡ Ok (relocated_range self.now) }
     {
@@ -277,9 +277,9 @@ impl<'a> RelocSectionReader<'a> {
     ghost use Rattle.wasm_custom.specs.Reloc.{reloc_section_in};
     ghost use Rattle.wasm_base.specs.Outcome.{GivesResult};
 
-    /// Reads the index of the section that has the places, a u32, and the count of relocations, a u32.
+    /// Reads the index of the relocated section, a u32, and the count of relocations, a u32.
     ///
-    /// The faults are those of the two numbers. No relocation is looked at.
+    /// The errors are those of the two numbers. No relocation is read.
     #[tactic(auto, unfolding(crate::specs::Reloc::reloc_section_in))]
     pub fn new(mut reader: BinaryReader<'a>) -> Result<Self>
         ensures gives { GivesResult (λ section. section) result (reloc_section_in reader.entry) }
@@ -295,21 +295,21 @@ impl<'a> RelocSectionReader<'a> {
         })
     }
 
-    /// The index of the section that has the places, counting all sections of the module.
+    /// Returns the index of the relocated section among all sections of the module.
     pub fn section_index(&self) -> u32
         ensures { result ≡ self.now.section }
     {
         self.section
     }
 
-    /// The offsets of the whole window, in bytes from the start of the whole stream.
+    /// Returns the offsets of the whole window, in bytes from the start of the whole stream.
     pub fn range(&self) -> Range<u64>
         ensures { result ≡ self.now.range }
     {
         self.range.start..self.range.end
     }
 
-    /// The relocations, as a window that begins at their count.
+    /// Returns the relocations, as a window that begins at their count.
     pub fn entries(&self) -> RelocationEntryReader<'a>
         ensures { result ≡ self.now.entries }
     {

@@ -1,4 +1,4 @@
--- How many numbers the items of a section have, those that were shown and those that are to come.
+-- How many numbers the items of a section have, those that were shown and the remaining ones.
 use Rattle.std.proofs.Common.{◌≡◌, ℕ, zero, suc, ◌+◌, ◌^◌, ◌<◌, Bool, true, false, List, [], ◌∷◌, ◌++◌, Some, None, Result, Ok, Err}
 use Rattle.std.proofs.Common.{refl, sym, ap, subst, subst₂, ◌∙◌, add-one, append-nil, arith}
 use Rattle.std.specs.Option.{is_some}
@@ -13,7 +13,7 @@ use Rattle.wasm_tree.specs.Tree.{Writing, IsWritten, with_numbers, AddsThese, Ad
 use Rattle.wasm_tree.specs.declared.numbers.Space.{Space}
 use Rattle.wasm_dumper.proofs.Numbering.{joined, no_numbers, more_none, more_more, numbers_more, begin_shown, all_are}
 
--- how many are to come of an iterator
+-- how many remain of an iterator
 abbrev pub left_over : (reading : Place → Outcome ℕ) (ended : Bool) (left : ℕ) → Place → ℕ
 left_over reading true left p = 0
 left_over reading false left p = numbers_read reading left p
@@ -61,7 +61,7 @@ module _ {T : Type 0} (meaning : Place → Outcome T → Type 0) (reading : Plac
   none_by false zero s t e m h = refl
   none_by false (suc n) s t e m h = absurd (h.item e (omega (arith, m)))
 
--- Of the numbers of a section's items these were shown, this one comes next, and the others are to come.
+-- Of the numbers of a section's items these were shown, this one is next, and the others remain.
 abbrev pub AreSoFar : {T : Type 0} → (Place → Outcome T → Type 0) → Space → (from index : ℕ) → Section → Items → List Number → Type 0
 AreSoFar {T} meaning space from index section s shown = (k : ℕ) × (shown ≡ numbers_from space from k) × (index ≡ more from k)
     × ((reading : Place → Outcome ℕ) → ((p : Place) (o : Outcome T) → meaning p o → ReadsAs one_number reading p o)

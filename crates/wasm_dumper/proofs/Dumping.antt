@@ -71,7 +71,7 @@ WrittenWith why only has_bytes events style taken failed outline now =
     (numbers : List Number) × AreOfEvents why only no_counts events numbers
     × IsWritten (origin style taken failed outline numbers (bytes_of_events has_bytes only events)) now
 
--- what is shown of an answer goes on from what was shown of events to that of these
+-- what is shown of a result continues from what was shown of events to that of these
 abbrev pub Continues : List Only → (has_bytes : Bool) → Counts → Result Step Error → (old new : List Event) → Type 0
 Continues only has_bytes c x old new = ((why : Option ListError) (numbers shown : List Number)
     → AreOfEvents why only no_counts old numbers → AreOfAnswer why only c x shown
@@ -104,7 +104,7 @@ pub record Wanting (only : List Only) (has_bytes : Bool) (full rest : Option (Li
   pub writing : (taken : Option (List ℕ)) (failed : Bool) → IsFresh before taken failed
       → WrittenWith None only has_bytes counting.events before.style taken failed outline now
 
--- nothing came
+-- no event yet
 abbrev counts_nothing : (full : Option (List ℕ)) → Counting full full (new_feed 0 all_features) no_counts
 counts_nothing full = record {
   given = [];
@@ -183,7 +183,7 @@ numbers_at why whole only has_bytes full rest f c k numbers none a = record {
   are_of = a;
 }
 
--- where more bytes came that were not pushed
+-- more bytes were read and not pushed
 numbers_after : (why : Option ListError) (only : List Only) (has_bytes : Bool) (full rest rest' : Option (List ℕ)) (f : Feed)
     (c : Counts) (k : Counting full rest f c) (piece : List ℕ)
     → Consumes rest rest' piece → (numbers : List Number) → AreOfEvents why only no_counts k.events numbers
@@ -211,7 +211,7 @@ bytes_more true only events e r bytes same is = flat_map-append (λ x. bytes_of_
     ∙ ap (λ (x : List ℕ). if is_chosen only r then x else []) is))
 bytes_more false only events e r bytes same is = refl
 
--- what was given may be all
+-- the bytes so far may be all
 may_be : (eof : Bool) (given : List ℕ) → MayBe eof given given
 may_be true given = refl
 may_be false given = ([], sym (append-nil given))
@@ -452,7 +452,7 @@ cut_off style only has_bytes full rest had has h taken failed outline numbers by
     (record { text = c.written; unwritten = c.unwritten; shaped = c.shaped; wrote = c.took }) h c.failed
 cut_off style only has_bytes full rest had has h taken failed outline numbers bytes Input w b n c = absurd (c.no_input refl)
 
--- what was listed is a beginning
+-- what was listed is a prefix
 nothing_cut : (outline : Option (List ℕ)) → WritesHead outline outline []
 nothing_cut outline = record { moved = []; unwritten = []; parts = refl; wrote = Appends-nil outline }
 
@@ -509,7 +509,7 @@ shows_step only has_bytes c c' f stored piece items rest bytes old new x now rea
 module _ (only : List Only) (has_bytes : Bool) (full rest : Option (List ℕ)) (before : Writing) (f : Feed) (c : Counts) (now : Writing)
     (d : Dumping only has_bytes full rest before f c now) (g : Feed) (c' : Counts) (new : Writing) (next : Turn)
     (s : ShowsStep only has_bytes c c' f g now new next) where
-  -- the outline with the lines of the answer
+  -- the outline with the lines of the result
   abbrev outline : List ℕ
   outline = d.outline ++ text_after (chosen_line only) s.answer
 
@@ -660,7 +660,7 @@ same_going only has_bytes full rest before e f g c now same p = rw same p
 
 -- ---- a read
 
--- more bytes came, or the end
+-- more bytes, or the end
 module _ (full rest : Option (List ℕ)) (f : Feed) (c : Counts) (k : Counting full rest f c) where
   counted_filled : (rest' : Option (List ℕ)) (g : Feed) → FillsAlike rest rest' f g
       → (k' : Counting full rest' g c) × (k'.events ≡ k.events)

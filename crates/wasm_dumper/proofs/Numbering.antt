@@ -61,7 +61,7 @@ joined o one later w i = subst (λ (x : List Number). IsWritten (record o { numb
 shows_none : (allowed : List Number → Type 0) (old new : Writing) → allowed [] → Adds old new → AddsNumbers allowed old new
 shows_none allowed old new held a o i = ([], held, no_numbers o new (a o i))
 
--- ---- so many of an index space
+-- ---- numbers of an index space
 
 pub more_none : (n : ℕ) → n < 2 ^ 64 → n ≡ more n 0
 more_none n h = rw add-zero (sym (min-eq_left (omega arith)))
@@ -125,7 +125,7 @@ all_begin (Some why) stop shown all b = b
 
 -- ---- those of imports
 
--- what is left of them, after those that were shown
+-- those that remain after the shown ones
 abbrev pub AddsAllBut : (all left : List Number) (old new : Writing) → Type 0
 AddsAllBut all left old new = AddsNumbers (λ shown. all ≡ shown ++ left) old new
 
@@ -160,7 +160,7 @@ pub all_are : (why : Option ListError) (shown all : List Number) → shown ≡ a
 all_are None shown all e = e
 all_are (Some why) shown all e = all_begin None why shown all e
 
--- none is left where no import comes next
+-- none remains if no import comes next
 pub all_shown : (all : List Number) (c : Counts) (s t : List Found) (old new : Writing) → AddsAllBut all (import_numbers c s) old new
     → NextImport {X = ℕ × Import} found_at s None t → AddsAll all old new
 all_shown all c s t old new a h o i =

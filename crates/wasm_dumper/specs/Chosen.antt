@@ -65,7 +65,7 @@ shown_line report = report_text report ++ (section_words report ++ codes "\n")
 abbrev pub end_text : Counts → Report → List ℕ
 end_text counts report = section_words report ++ blank_numbers (numbers_in_line counts report) []
 
--- the same line with the numbers of items that it has, after what came before, and with this after it
+-- the same line with the numbers of its items, after earlier ones, and with this after it
 abbrev pub numbered_text : Counts → Report → (rest : List ℕ) → List ℕ
 numbered_text counts report rest =
     report_text report ++ (section_words report ++ blank_numbers (numbers_in_line counts report) rest)
@@ -74,7 +74,7 @@ numbered_text counts report rest =
 abbrev pub numbered_line : Counts → Report → List ℕ
 numbered_line counts report = numbered_text counts report (codes "\n")
 
--- the line of what is reported, where it is shown
+-- the line of what is reported, if it is shown
 abbrev pub chosen_line : List Only → Report → List ℕ
 chosen_line only report = if is_chosen only report then shown_line report else []
 

@@ -34,7 +34,7 @@ AreOfShown why false counts report numbers = numbers ≡ []
 abbrev pub AreOf : (why : Option ListError) → List Only → Counts → Report → List Number → Type 0
 AreOf why only counts report numbers = AreOfShown why (is_chosen only report) counts report numbers
 
--- The numbers are those of these events, in order, after what came before.
+-- The numbers are those of these events, in order, after earlier ones.
 abbrev pub AreOfEvents : (why : Option ListError) → List Only → Counts → List Event → List Number → Type 0
 AreOfEvents why only counts [] numbers = numbers ≡ []
 AreOfEvents why only counts (e ∷ events) numbers = (one : List Number) × (later : List Number)
@@ -85,10 +85,10 @@ abbrev pub is_whole : Result Ended ListError → Bool
 is_whole (Ok End) = true
 is_whole other = false
 
--- What the source gave is read as events that begin with these, which consumed all of it but what is left: nothing, if
--- that was the whole stream. The numbers are theirs: each is how many items came before in its index space. But for
--- types, no number is missing up to a section's first fault, unless the writing had stopped. The bytes are those that
--- they consumed, where these are shown.
+-- What the source returned is read as events that begin with these, which consumed all of it but the remaining bytes:
+-- none, if that was the whole stream. The numbers are theirs: each is how many items precede it in its index space. But
+-- for types, no number is missing up to a section's first fault, unless the writing had stopped. The bytes are those
+-- that they consumed, if these are shown.
 pub record AreOfSource (why : Option ListError) (whole : Bool) (only : List Only) (has_bytes : Bool) (input : Change)
     (numbers : List Number) (bytes : List ℕ) : Type 0 where
   pub given : List ℕ
@@ -102,7 +102,7 @@ pub record AreOfSource (why : Option ListError) (whole : Bool) (only : List Only
   pub are_bytes : bytes ≡ bytes_of_events has_bytes only events
 
 -- The lines of the first level are those of the source's listing that are shown; all others begin with two blanks. The
--- numbers of items count what came before, and rows of bytes show those of the events that are shown, each once and in
+-- numbers of items count preceding ones, and rows of bytes show those of the events that are shown, each once and in
 -- order. In the style of objects each line is one object, and the dump ends as it does in lines.
 pub record Dumps (style : Style) (only : List Only) (has_bytes : Bool) (input output : Change)
     (result : Result Ended ListError) : Type 0 where
@@ -115,7 +115,7 @@ pub record Dumps (style : Style) (only : List Only) (has_bytes : Bool) (input ou
 
 -- ---- the parts of a dump
 
--- The items of what is reported were shown, with their numbers after what came before.
+-- The items of what is reported were shown, with their numbers after earlier ones.
 abbrev pub ShowsItems : Counts → Report → (old new : Writing) → Type 0
 ShowsItems counts report old new = AddsNumbers (AreOfItems new.why counts report) old new
 
@@ -135,7 +135,7 @@ abbrev pub ShowsReport : List Only → (has_bytes : Bool) → Counts → Report 
 ShowsReport only has_bytes counts report bytes old new = ShowsLine (chosen_line only report)
     (AreOf new.why only counts report) (shown_bytes has_bytes only report bytes) old new
 
--- the numbers that are shown of an answer, and what came before what is after it
+-- the numbers that are shown of a result, and the counts after it
 abbrev pub AreOfAnswer : (why : Option ListError) → List Only → Counts → Result Step Error → List Number → Type 0
 AreOfAnswer why only counts (Ok (NeedMoreData hint)) shown = shown ≡ []
 AreOfAnswer why only counts (Ok (Parsed bytes payload)) shown = AreOf why only counts (report_of payload) shown
@@ -146,14 +146,14 @@ after_answer counts (Ok (NeedMoreData hint)) = counts
 after_answer counts (Ok (Parsed bytes payload)) = after counts (report_of payload)
 after_answer counts (Err e) = counts
 
--- the bytes that are shown with an answer
+-- the bytes that are shown with a result
 abbrev pub bytes_of_answer : (has_bytes : Bool) → List Only → Result Step Error → List ℕ
 bytes_of_answer has_bytes only (Ok (NeedMoreData hint)) = []
 bytes_of_answer has_bytes only (Ok (Parsed bytes payload)) =
     shown_bytes has_bytes only (report_of payload) bytes.now
 bytes_of_answer has_bytes only (Err e) = []
 
--- An answer was shown, if it was chosen.
+-- A result was shown, if it was chosen.
 abbrev pub ShowsAnswer : List Only → (has_bytes : Bool) → Counts → Result Step Error → (old new : Writing) → Type 0
 ShowsAnswer only has_bytes counts answer old new = ShowsLine (text_after (chosen_line only) answer)
     (AreOfAnswer new.why only counts answer) (bytes_of_answer has_bytes only answer) old new
@@ -171,7 +171,7 @@ pub record DumpsFrom (style : Style) (only : List Only) (has_bytes : Bool) (inpu
   pub source : input.has_failed ≡ input_failed result input.had_failed
   pub sink : new.has_failed ≡ output_failed result failed
 
--- The same by a writer whose outline is empty.
+-- Like `Dumps`, by a writer whose outline is empty.
 abbrev pub DumpsInto : (only : List Only) (has_bytes : Bool) (input : Device) (old : Writing)
     (result : Result Ended ListError)
     (new : Writing) → Type 0
@@ -179,7 +179,7 @@ DumpsInto only has_bytes input old result new = (taken : Option (List ℕ)) (fai
     → IsWritten (origin old.style taken failed [] [] []) old
     → DumpsFrom old.style only has_bytes input taken failed result new
 
--- The same by a tree that has written nothing yet.
+-- Like `Dumps`, by a tree that has written nothing yet.
 abbrev pub DumpsByTree : (only : List Only) (has_bytes : Bool) (input : Device) (old : Writing)
     (result : Result Ended ListError)
     (new : Writing) → Type 0

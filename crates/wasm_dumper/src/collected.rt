@@ -95,7 +95,7 @@ fn add_subsections(
     Ok(true)
 }
 
-// The same of a custom section, if it is one of names.
+// Adds the names of a custom section, if it is one of names.
 fn add_section(
     alloc: Global,
     names: &mut ItemNames,
@@ -127,7 +127,7 @@ fn add_payload(
     }
 }
 
-// The same of what a step answered.
+// Adds the names of a step's result.
 fn add_answer(
     alloc: Global,
     names: &mut ItemNames,
@@ -143,7 +143,7 @@ fn add_answer(
     }
 }
 
-// Goes one step along the stream, and adds the names of what it answered.
+// Performs one step, and adds the names of its result.
 fn add_step(alloc: Global, names: &mut ItemNames, feeder: &mut Feeder) -> Result<Next, ListError>
     ensures keeps { KeepsNames names.old names.new }
     ensures memory { IfErr result (λ why. why ≡ Memory) }

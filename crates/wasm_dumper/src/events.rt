@@ -96,7 +96,7 @@ fn short_name(id: u8) -> Option<&'static str>
     section_name(id)
 }
 
-// The name of a section that a listing tells by its id.
+// The name of a section whose line has its id.
 fn counted_name(payload: &Payload<'_>) -> Option<&'static str>
     ensures name { option_map (λ name. name.now) result ≡ name_counted (report_of payload.now) }
     ensures short { IfSome result (λ name. length name.now ≤ 9) }
@@ -140,7 +140,7 @@ fn write_end(bytes: &mut [u8], at: usize, counts: &Counts, payload: &Payload<'_>
     }
 }
 
-// The text of a payload's line, without its line feed: after the text of a body stands the number of the function that it is of.
+// The text of a payload's line, without its line feed. A body's ends with the number of its function.
 #[derive(Drop)]
 struct Heading<'a, 'b> {
     counts: &'a Counts,
@@ -270,7 +270,7 @@ fn function_of(counts: &Counts, payload: &Payload<'_>) -> Option<u64> {
     }
 }
 
-/// Writes the line of an event, with the number of the function and its name where it is a body; or its object.
+/// Writes the line of an event, with the number and the name of the function if it is a body; or its object.
 pub(crate) fn show_event<O: Tree>(counts: &Counts, payload: &Payload<'_>, out: &mut O)
     ensures { AddsFirst (numbered_line counts.now (report_of payload.now))
         (O.writing out.old) (O.writing out.new) }

@@ -42,7 +42,7 @@ fn show_one<T: Show, O: Tree>(space: Space, index: u64, item: &Result<(u64, T)>,
     }
 }
 
-/// Writes the items of a section, each with its number, which is that after what came before in this index space.
+/// Writes the items of a section, each with its number after earlier items of this index space.
 pub(crate) fn show_numbered<'a, T: FromReader<'a> + Show, O: Tree>(
     space: Space,
     counts: &Counts,

@@ -8,7 +8,7 @@ use wasm_parser::Payload;
 use wasm_show::{show_custom, show_section};
 use wasm_tree::{Counts, Offsets, Space, Tree};
 
-/// Writes what a payload holds, under its line, each item with its number after what came before.
+/// Writes the items of a payload under its line, each with its number after earlier items.
 pub fn show_payload<O: Tree>(alloc: Global, counts: &Counts, payload: &Payload<'_>, out: &mut O)
     ensures { ItemsBegin payload.now
         → ShowsItems counts.now (report_of payload.now) (O.writing out.old) (O.writing out.new) }

@@ -67,7 +67,7 @@ fn show_chosen<O: Tree>(
     }
 }
 
-// Writes what a step answered, and says what is to be done next.
+// Writes the result of a step, and returns what to do next.
 fn show_answer<O: Tree>(
     alloc: Global,
     shown: Shown<'_>,
@@ -179,18 +179,18 @@ fn dump_into<R: Source, O: Tree>(
     }
 }
 
-/// Reads the input, at most `piece` bytes at once and at least one, and writes what it holds as text. Each event that is shown
+/// Reads the input, at most `piece` bytes at once and at least one, and writes its contents as text. Each event that is shown
 /// has its line, as `list` writes it and with the name of its section, or the number of its function, and under it a line for each
 /// item, indented by two blanks a level, with its number in its index space. Offsets count bytes from the start of the stream, which
-/// is at 0. Where bytes are shown, they are in rows before the lines that are read from them. In the style of objects each line is
-/// an object of JSON. The tree must be one that has written nothing.
+/// is at 0. If bytes are shown, they are in rows before the lines that are read from them. In the style of objects each line is
+/// an object of JSON. The tree must not have written anything.
 ///
-/// It keeps what the parser has not decided, the piece that came last, the buffer that it was read into, and the lines that wait,
-/// of which the tree's invariant bounds the bytes; where bytes are shown, a copy of the part at hand and where its items begin.
+/// It buffers the undecided bytes, the last chunk, and the lines that are not written yet, whose bytes the tree's invariant bounds; if
+/// bytes are shown, also a copy of the current part and the offsets of its items.
 ///
 /// A fault of the stream ends it; a fault of an item is a line at its place. An error leaves a prefix of the dump written:
-/// `Input` where the source failed, all of what it gave but the last event; `Output` where the sink did; `Memory` where a growth was
-/// refused. A device that had failed before the call is still known to have failed.
+/// `Input` if the source failed, all of what it returned but the last event; `Output` if the sink did; `Memory` if an allocation
+/// failed. A device that had failed before the call is still known to have failed.
 pub fn dump<R: Source, O: Tree>(
     alloc: Global,
     shown: Shown<'_>,

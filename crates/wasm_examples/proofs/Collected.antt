@@ -11,7 +11,7 @@ use Rattle.wasm_examples.specs.Compiling.{bodies_of, CompilesStream}
 use Rattle.wasm_examples.specs.Visits.{Visits, VisitsStream}
 
 module _ {V X : Type 0} (view : V → List X) (of : Event → List X) where
-  -- each event adds what it gives
+  -- each event adds what it yields
   abbrev pub Adds : V → Event → V → Type 0
   Adds v e w = view w ≡ view v ++ of e
 
@@ -37,7 +37,7 @@ module _ {V X : Type 0} (view : V → List X) (of : Event → List X) where
   collects pieces features before (Err e) after (inr (events, reads, visits)) =
       inr (record { events = events; reading = reads (joined pieces) refl; collected = collected before events after visits })
 
--- what is told one thing after the other, each by several
+-- a sequence of reports, each as several
 module _ {V X : Type 0} (takes : V → X → V → Type 0) where
   visits-append : (v : V) (xs ys : List X) (u w : V) → Visits takes v xs u → Visits takes u ys w → Visits takes v (xs ++ ys) w
   visits-append v [] ys u w h t = subst (λ (x : V). Visits takes x ys w) (sym h) t
@@ -48,7 +48,7 @@ module _ {V X : Type 0} (takes : V → X → V → Type 0) where
   visits-flat of v [] w h = h
   visits-flat of v (e ∷ events) w h = visits-append v (of e) (flat_map of events) h.0 w h.1 (visits-flat of h.0 events w h.2)
 
--- a compiler inside of what is told a stream
+-- a compiler inside a visitor of a stream
 module _ {C D : Type 0} (compiles : C → Window → C → Type 0) (inside : D → C) where
   abbrev pub ReportedAs : D → Event → D → Type 0
   ReportedAs v e w = Visits compiles (inside v) (bodies_of e) (inside w)

@@ -20,7 +20,7 @@ use Rattle.wasm_examples.specs.Linking.{LinkedParts, each_from, with_subsection,
 -- ---- items
 
 module _ {S T Y : Type 0} (view : T → Y) (read : Place → Outcome Y) (add : S → Y → S) where
-  -- one came
+  -- an item arrived
   pub came : (m : S) (s t : Items) (x : T) → s.ended ≡ false → NextItem (ReadsAs view read) s (Some (Ok x)) t → (t.ended ≡ false)
       × (each_from add read m s.left (place s.reader) ≡ each_from add read (add m (view x)) t.left (place t.reader))
   came m s t x going next =
@@ -38,12 +38,12 @@ module _ {S T Y : Type 0} (view : T → Y) (read : Place → Outcome Y) (add : S
       by_rest false e = cc
   fault_from m (suc left) p f h = rw h.0 refl
 
-  -- a fault came
+  -- a fault arrived
   pub fault : (m : S) (s t : Items) (e : Error) → s.ended ≡ false → NextItem (ReadsAs view read) s (Some (Err e)) t
       → each_from add read m s.left (place s.reader) ≡ Err (fault_at e)
   fault m s t e going next = fault_from m s.left (place s.reader) (fault_at e) (fault_came (ReadsAs view read) s t e going (gives next))
 
--- what came of this is the same
+-- equal results have equal values
 pub same_ok : {S : Type 0} (x y : S) → (let r : Result S FaultAt = Ok x in r) ≡ Ok y → x ≡ y
 same_ok x y h = cc
 
@@ -103,7 +103,7 @@ module _ (all : Result LinkedParts FaultAt) (m : LinkedParts) (s t : Window) (w 
             ∙ first_came m k (place s) (place t) (subsection_at (place s)) x next.0),
       )
 
-  -- one came
+  -- a subsection arrived
   pub subsection_came : (x : Linking) (after : LinkedParts) → NextSubsection meaning false s (Some (Ok x)) t
       → with_subsection m (linking_parts x) ≡ Ok after → SubsectionsLeft all after (place t)
   subsection_came x after next h =
@@ -130,7 +130,7 @@ module _ (all : Result LinkedParts FaultAt) (m : LinkedParts) (s t : Window) (w 
       by_most zero h l = absurd (omega (arith, h, next.3))
       by_most (suc k) h l = l ∙ (first m k (place s) next.3 ∙ first_fault m k (place s) (place t) (subsection_at (place s)) e next.0)
 
-  -- none is left
+  -- none remains
   pub subsections_over : NextSubsection meaning false s None t → all ≡ Ok m
   subsections_over next = by_most w.most w.left
     where
@@ -144,7 +144,7 @@ pub subsections_begin : (m : LinkedParts) (section : LinkingSection) (it : Windo
 subsections_begin m section it e = subst (λ (w : Window). SubsectionsLeft (with_linking m section) m (place w)) (sym e)
     (record { most = length (place section.subsections).rest; enough = omega arith; left = refl })
 
--- what follows from what came, if memory was not refused
+-- what follows from the result, unless out of memory
 pub unless_memory : {A B C : Type 0} → A ⊎ B → (B → C) → A ⊎ C
 unless_memory (inl a) f = inl a
 unless_memory (inr b) f = inr (f b)

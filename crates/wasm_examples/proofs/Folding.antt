@@ -1,4 +1,4 @@
--- How far a loop over the payloads of a stream has come, by what these make of a beginning.
+-- How far a loop over the payloads of a stream has come, by their fold from a start value.
 use Rattle.std.proofs.Common.{◌≡◌, ℕ, ◌^◌, ◌<◌, List, [], ◌∷◌, ◌++◌, length, map, Some, None, Result, Ok, Err, refl, sym, ap, ◌∙◌}
 use Rattle.wasm_base.specs.FaultAt.{fault_at}
 use Rattle.wasm_base.specs.declared.error.Error.{Error}
@@ -36,7 +36,7 @@ module _ {S R : Type 0} (step : S → Report → Result S R) where
       ∙ (after_more begin (map event_report events) (e.report ∷ [])
       ∙ ap (λ (x : Result S R). unless_refused x (λ t. after_all step t (e.report ∷ []))) h)
 
-  -- what came so far made this of the beginning
+  -- the payloads so far fold to this from the start value
   pub record Came (begin : S) (stream : List ℕ) (it : Walk) (s : S) : Type 0 where
     pub events : List Event
     pub walked : walking.Walked stream it events
@@ -76,7 +76,7 @@ module _ {S R : Type 0} (step : S → Report → Result S R) where
                 ∙ ap (λ (x : Result S R). unless_refused x (λ t. after_all step t (map event_report b.more))) (made_here (Err r) h))),
           )
 
-    -- a fault came: the reading's last event
+    -- a fault arrived: the reading's last event
     pub fault_came : (e : Error) (r : R) → step s (stream_end (fault (fault_at e))) ≡ Err r → NextPayload it (Some (Err e)) next
         → ReadsTo step begin stream (Err r)
     fault_came e r h n = (
@@ -85,6 +85,6 @@ module _ {S R : Type 0} (step : S → Report → Result S R) where
       one_more begin s w.events (last_event (fault (fault_at e))) w.made ∙ ap (λ (x : Result S R). unless_refused x (λ t. Ok t)) h,
     )
 
-    -- nothing came: the walk is over
+    -- nothing arrived: the walk is over
     pub nothing_came : NextPayload it None next → ReadsTo step begin stream (Ok s)
     nothing_came n = (w.events, walking.nothing_came stream it next w.events w.walked small n, w.made)

@@ -10,7 +10,7 @@ use Rattle.wasm_items.specs.declared.imports.TypeRef.TheVariants.{Func, Table, M
 use Rattle.wasm_items.specs.declared.types.MemoryType.{MemoryType}
 use Rattle.wasm_examples.specs.Imported.{memory_in, or_memory}
 
--- the imports that were to come, by the one that came
+-- the remaining imports, by the one that arrived
 pub none_left : (s t : List (Result ImportParts FaultAt)) → NextImport {X = Import} found s None t → memory_in s ≡ Ok false
 none_left s t h = ap memory_in h.0.0
 

@@ -9,7 +9,7 @@ use Rattle.wasm_items.specs.declared.imports.Import.{Import}
 use Rattle.wasm_examples.specs.Folding.{Gives, ReadsTo}
 use Rattle.wasm_examples.specs.ImportsText.{line_of, with_lines, with_part}
 
--- one came
+-- an import arrived
 pub import_came : (text : List ℕ) (s t : List (Result ImportParts FaultAt)) (x : Import)
     → NextImport {X = Import} found s (Some (Ok x)) t → with_lines text s ≡ with_lines (text ++ line_of (import_parts x)) t
 import_came text s t x h = ap (with_lines text) h.0

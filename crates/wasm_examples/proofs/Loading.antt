@@ -23,7 +23,7 @@ use Rattle.wasm_examples.specs.declared.outside.Misfit.TheVariants as misfits
 
 -- ---- imports
 
--- one came
+-- an import arrived
 pub import_came : (o : OutsideParts) (s t : List (Result ImportParts FaultAt)) (x : Import)
     → NextImport {X = Import} found s (Some (Ok x)) t → imported o s ≡ imported (with_import o (import_parts x)) t
 import_came o s t x h = ap (imported o) h.0
@@ -41,11 +41,11 @@ imports_over o s t h = ap (imported o) h.0.0
 abbrev pub exports_mean : Place → Outcome Export → Type 0
 exports_mean = ReadsAs export_parts export_at
 
--- what is left of a section's exports adds this
+-- the remaining exports of a section add this
 abbrev pub rest_of : OutsideParts → Items → Result OutsideParts Refused
 rest_of o s = exported o s.left (place s.reader)
 
--- one came
+-- an export arrived
 pub export_came : (o : OutsideParts) (s t : Items) (x : Export) → s.ended ≡ false → NextItem exports_mean s (Some (Ok x)) t
     → (t.ended ≡ false) × (exported o s.left (place s.reader) ≡ unless_refused (with_export o (export_parts x))
     (λ q. exported q t.left (place t.reader)))
@@ -68,7 +68,7 @@ pub export_fault : (o : OutsideParts) (s t : Items) (e : Error) → s.ended ≡ 
     → exported o s.left (place s.reader) ≡ Err (at_fault (fault_at e))
 export_fault o s t e going next = export_fault_at o s.left (place s.reader) (fault_at e) (fault_came exports_mean s t e going (gives next))
 
--- ---- what calls answer
+-- ---- what calls return
 
 pub comes_memory : (of : Result OutsideParts Refused) (m : Misfit) (after : OutsideParts) → IsMemory m → Comes of (Err m) after
 comes_memory of (misfits.Stream e) after i = inl i

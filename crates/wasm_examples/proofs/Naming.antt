@@ -51,7 +51,7 @@ from_fault : (names : Names) (left : ℕ) (last : Option ℕ) (p : Place) (f : F
     → names_from names (suc left) last p ≡ names
 from_fault names left last p f read = rw read refl
 
--- what is left of a map that goes on, and of one that is over
+-- the remaining names of a map that goes on, and of one that is over
 going_on : (names : Names) (map : Ascending Items) → map.entries.ended ≡ false → names_of_map names map
     ≡ names_from names map.entries.left map.last (place map.entries.reader)
 going_on names map e = rw e refl
@@ -124,7 +124,7 @@ subsections_mean = ReadsWindowAs name_parts name_in
 abbrev pub NextPart : Ascending Window → Option (Result Name Error) → Ascending Window → Type 0
 NextPart = NextAscending (NextSubsection subsections_mean false) offset_of_subsection id_of NameSectionOrder
 
--- What is left of a section's subsections makes these of the names so far.
+-- The remaining subsections of a section make these of the names so far.
 pub record Left (all names : Names) (s : Ascending Window) : Type 0 where
   pub most : ℕ
   pub enough : length (place s.entries).rest ≤ most
@@ -155,7 +155,7 @@ headless : (names : Names) (most : ℕ) (last : Option ℕ) (p q : Place) (f : F
 headless names most last p q f some read after = rw (some, read, after) refl
 
 module _ (all names : Names) (s t : Ascending Window) (w : Left all names s) where
-  -- one step: so many more may come, and what comes after it is what was to come
+  -- one step: at most this many more follow, and the rest after it is the rest there was
   goes_on : (after : Names) → KeepsWindow s.entries t.entries → s.entries.position < t.entries.position → 0 < length (place s.entries).rest
       → ((most : ℕ) → names_of_subsections names (suc most) s.last (place s.entries)
       ≡ names_of_subsections after most t.last (place t.entries)) → Left all after t

@@ -1,4 +1,4 @@
--- The start of a module by the payloads that a walk has given.
+-- The start of a module by the payloads that a walk has yielded.
 use Rattle.std.proofs.Common.{◌≡◌, ℕ, ◌^◌, ◌<◌, true, false, List, [], ◌∷◌, ◌++◌, length, map, Option, Some, None, Result, Ok, Err, refl}
 use Rattle.std.proofs.Common.{sym, ap, subst, ◌∙◌, arith, append-nil}
 use Rattle.std.specs.Iterator.{Yields, Drains}
@@ -17,7 +17,7 @@ use Rattle.wasm_parser.specs.declared.payload.Payload.TheVariants.{CodeSectionEn
 use Rattle.wasm_examples.specs.Streams.{started_by, latest, unless_stopped, start_from}
 use Rattle.wasm_base.specs.Features.{all_features}
 
--- what was given so far leaves this start to be known
+-- by the payloads so far, this is the start known
 abbrev pub Known : List (Result Payload Error) → Option ℕ → Type 0
 Known given start = (later : List Report) → start_from None (map given_report given ++ later) ≡ start_from start later
 

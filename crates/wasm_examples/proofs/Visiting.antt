@@ -1,4 +1,4 @@
--- What a step, a loop over steps and a loop over pieces say of a visit.
+-- What a step, a loop over steps and a loop over chunks say of a visit.
 use Rattle.std.proofs.Common.{◌≡◌, ℕ, ◌+◌, ◌<◌, ◌≤◌, ◌^◌, Bool, true, false, List, [], ◌∷◌, ◌++◌, length, max, take, drop, slice_index_or}
 use Rattle.std.proofs.Common.{Bor, nat_lt, ltb-true, ltb-false, Result, Ok, Err, refl, sym, ap, subst, ◌∙◌, arith, length-append}
 use Rattle.std.proofs.Common.{append_assoc, inl, inr}
@@ -34,7 +34,7 @@ module _ {V : Type 0} (takes : V → Event → V → Type 0) where
   -- ---- a step
 
   module _ (f g : Feed) (before : V) where
-    -- an event came, and was told
+    -- an event arrived, and was reported
     part_visited : (bytes : Bor (List ℕ)) (payload : Payload) (after : V) → Steps f (Ok (Parsed bytes payload)) g
         → is_end (report_of payload) ≡ false → takes before (part bytes.now payload) after → VisitsNext takes f before (Ok Advance) g after
     part_visited bytes payload after s goes t = (shorter, s.eof, visited)
@@ -69,7 +69,7 @@ module _ {V : Type 0} (takes : V → Event → V → Type 0) where
             let u = feeders_go_along.steps 0 features given f g h.events (Ok (NeedMoreData hint)) h.is_along (omega (arith, l)) s in
             record { events = h.events; is_along = u.1; visits = h.visits }
 
-    -- the end came
+    -- the end arrived
     ended_there : (bytes : Bor (List ℕ)) (payload : Payload) (how : Ended) → Steps f (Ok (Parsed bytes payload)) g
         → is_end (report_of payload) ≡ true → VisitsNext takes f before (Ok (End how)) g before
     ended_there bytes payload how s is features given begun h l =
@@ -83,13 +83,13 @@ module _ {V : Type 0} (takes : V → Event → V → Type 0) where
           visits = h.visits;
         }
 
-    -- a fault came
+    -- a fault arrived
     pub stopped : (e : Error) → Steps f (Err e) g → VisitsNext takes f before (Err e) g before
     stopped e s features given begun h l =
         let u = feeders_go_along.steps 0 features given f g h.events (Err e) h.is_along (omega (arith, l)) s in
         inr (h.events, u.0, h.visits)
 
-    -- what came with a part
+    -- what arrived with a part
     pub noted : (bytes : Bor (List ℕ)) (payload : Payload) (r : Result Turn Error) (after : V) → Steps f (Ok (Parsed bytes payload)) g
         → Tells takes before bytes.now payload r after → VisitsNext takes f before r g after
     noted bytes payload (Ok Advance) after s t = part_visited bytes payload after s t.0 t.1
@@ -129,7 +129,7 @@ module _ {V : Type 0} (takes : V → Event → V → Type 0) where
       held_stopped e n features given begun h l = subst (λ (eof : Bool). StopsAt takes features eof given begun e after) r.eof
           (n features given begun (r.visited features given begun h l) l)
 
-  -- ---- the pieces
+  -- ---- the chunks
 
   -- the bytes of a stream that may come, by those that have
   may_be : (eof : Bool) (given rest stream : List ℕ) → eof ≡ false → stream ≡ given ++ rest → MayBe eof given stream
@@ -157,7 +157,7 @@ module _ {V : Type 0} (takes : V → Event → V → Type 0) where
         visits,
       )
 
-  -- how far a loop over pieces has come
+  -- how far a loop over chunks has come
   pub record Along (features : ℕ) (pieces : List (Bor (List ℕ))) (begun : V) (i : ℕ) (f : Feed) (now : V) (most : ℕ) : Type 0 where
     pub visited : HasVisited takes features (joined (take i pieces)) begun f now
     pub asked : IsAsked f
@@ -177,7 +177,7 @@ module _ {V : Type 0} (takes : V → Event → V → Type 0) where
     piece : List ℕ
     piece = (slice_index_or pieces i d).now
 
-    -- the pieces, of which one more came
+    -- the chunks, of which one more arrived
     whole : joined pieces ≡ joined (take i pieces) ++ ((slice_index_or pieces i d).now ++ joined (drop (i + 1) pieces))
     whole = joined_parts pieces (i + 1) ∙ (ap (λ (x : List ℕ). x ++ joined (drop (i + 1) pieces)) (joined_more pieces i d b)
         ∙ append_assoc (joined (take i pieces)) (slice_index_or pieces i d).now (joined (drop (i + 1) pieces)))
@@ -189,7 +189,7 @@ module _ {V : Type 0} (takes : V → Event → V → Type 0) where
         ∙ length-append (joined (take (i + 1) pieces)) (joined (drop (i + 1) pieces)) in
         omega (arith, n, small)
 
-    -- a push below the top of the offsets is refused for want of memory alone
+    -- a push below the top of the offsets fails only when out of memory
     pub push_refused : (x : Error) → RefusesPush f (slice_index_or pieces i d).now (Err x)
         → VisitsStream takes pieces features begun (Err x) now
     push_refused x r =
@@ -263,7 +263,7 @@ module _ {V : Type 0} (takes : V → Event → V → Type 0) where
       stopped_there x h = stop_of features mid.eof (joined (take (i + 1) pieces)) (joined (drop (i + 1) pieces)) (joined pieces) begun x
           after more_comes (joined_parts pieces (i + 1)) (h features (joined (take (i + 1) pieces)) begun pushed_on within)
 
-  -- all pieces came
+  -- all chunks arrived
   module _ (features : ℕ) (pieces : List (Bor (List ℕ))) (begun : V) (i : ℕ) (f mid new : Feed) (now after : V) (most : ℕ)
       (small : length (joined pieces) < 2 ^ 64) (a : Along features pieces begun i f now most) (b : length pieces ≤ i)
       (e : mid ≡ finished f) where

@@ -15,7 +15,7 @@ use Rattle.wasm_parser.specs.declared.payload.Payload.{Payload}
 use Rattle.wasm_parser.proofs.ForCallers.{answers_go_along}
 use Rattle.wasm_base.specs.Features.{all_features}
 
--- The walk has given these events, which are the first of the stream's reading; or all of it, where the walk is over.
+-- The walk has yielded these events, which are the first of the stream's reading; or all of it, if the walk is over.
 pub record Walked (stream : List ℕ) (it : Walk) (events : List Event) : Type 0 where
   pub going : it.ended ≡ false → Along 0 all_features stream it.state it.bytes events
   pub over : it.ended ≡ true → Reading stream 0 all_features events
@@ -28,7 +28,7 @@ walk_begun stream it e = subst (λ (w : Walk). Walked stream w []) (sym e)
       over = λ o. cc;
     })
 
--- the payload of an event came
+-- the payload of an event arrived
 pub record PayloadCame (stream : List ℕ) (it : Walk) (events : List Event) (payload : Payload) : Type 0 where
   pub event : Event
   pub report : event.report ≡ report_of payload
@@ -74,7 +74,7 @@ module _ (stream : List ℕ) (it next : Walk) (events : List Event) (w : Walked 
       };
     }
 
-  -- a fault came: the reading's last event
+  -- a fault arrived: the reading's last event
   pub fault_came : (e : Error) → NextPayload it (Some (Err e)) next
       → Reading stream 0 all_features (events ++ last_event (fault (fault_at e)) ∷ [])
   fault_came e n =
@@ -84,7 +84,7 @@ module _ (stream : List ℕ) (it next : Walk) (events : List Event) (w : Walked 
       (omega (arith, small))
       a.0 refl refl).0 stream refl
 
-  -- nothing came: the walk is over
+  -- nothing arrived: the walk is over
   pub nothing_came : NextPayload it None next → Reading stream 0 all_features events
   nothing_came n = by_end it.ended refl
     where
@@ -92,7 +92,7 @@ module _ (stream : List ℕ) (it next : Walk) (events : List Event) (w : Walked 
       by_end true e = w.over e
       by_end false e = absurd (n.going e)
 
--- what came so far is the first of the reading
+-- the events so far are a prefix of the reading
 pub first_of : (stream : List ℕ) (it : Walk) (events : List Event) → Walked stream it events → ReadingBegins 0 all_features stream events
 first_of stream it events w = by_end it.ended refl
   where

@@ -11,7 +11,7 @@ use Rattle.wasm_examples.specs.declared.careless.Nothing.{Nothing}
 abbrev pub nothing_at : Place → Outcome Nothing
 nothing_at p = Ok (record {}, p)
 
--- A byte is taken where one is left, and any value may come of it.
+-- A byte is taken if one remains, and any value may result.
 abbrev pub TakesOneByte : Place → Outcome AnyByte → Type 0
 TakesOneByte p (Ok x) = (0 < length p.rest) × (x.1 ≡ advanced 1 p)
 TakesOneByte p (Err e) = (length p.rest ≡ 0) × (e ≡ at_offset UnexpectedEof p.offset)

@@ -9,15 +9,15 @@ use Rattle.wasm_grammar.specs.Reading.{Event, last_event, Reading}
 use Rattle.wasm_feed.specs.Pieces.{joined}
 use Rattle.wasm_examples.specs.Visits.{StoresLittle}
 
--- The stream's reading ends so, and this is what each of its other events gives, in their order, after what was there.
+-- The stream's reading ends so, and this is what each of its other events yields, in order, after what was there.
 pub record Collects {X : Type 0} (of : Event → List X) (stream : List ℕ) (features : ℕ) (before : List X) (end : Ending)
     (after : List X) : Type 0 where
   pub events : List Event
   pub reading : Reading stream 0 features (events ++ last_event end ∷ [])
   pub collected : after ≡ before ++ flat_map of events
 
--- That was collected of all the stream that these pieces are, and little was stored at any time; or of what comes
--- before the fault at which it stops; or memory was refused.
+-- That was collected from the whole stream in these chunks, and little was stored at any time; or from what precedes
+-- the fault at which it stops; or an allocation failed.
 abbrev pub CollectsStream : {X : Type 0} (of : Event → List X) (pieces : List (Bor (List ℕ))) (features : ℕ)
     (before : List X) → Result ℕ Error → (after : List X) → Type 0
 CollectsStream of pieces features before (Ok most) after =

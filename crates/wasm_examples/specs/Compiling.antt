@@ -1,4 +1,4 @@
--- A compiler that is handed the bodies of a stream that comes in chunks.
+-- A compiler that is passed the bodies of a stream that arrives in chunks.
 use Rattle.std.specs.Borrow.{Bor}
 use Rattle.std.specs.Prelude.{◌≡◌, ◌⊎◌, ℕ, List, [], ◌∷◌, ◌++◌, flat_map, Result, Ok, Err}
 use Rattle.wasm_base.specs.FaultAt.{fault_at}
@@ -18,15 +18,15 @@ body_in other = []
 abbrev pub bodies_of : Event → List Window
 bodies_of e = body_in e.report
 
--- The stream's reading ends so, and the compiler was handed the bodies in it, one after the other, and nothing else.
+-- The stream's reading ends so, and the compiler was passed its bodies, one after the other, and nothing else.
 pub record HandsOnBodies {C : Type 0} (compiles : C → Window → C → Type 0) (stream : List ℕ) (features : ℕ) (before : C)
     (end : Ending) (after : C) : Type 0 where
   pub events : List Event
   pub reading : Reading stream 0 features (events ++ last_event end ∷ [])
   pub passes_on : Visits compiles before (flat_map bodies_of events) after
 
--- It was handed all bodies of the stream that these pieces are, wherever it is cut, and the result is bounded as that
--- of a visit; or those before the fault at which the stream stops; or memory was refused.
+-- It was passed all bodies of the stream in these chunks, wherever it is cut, and the result is bounded as that
+-- of a visit; or those before the fault at which the stream stops; or an allocation failed.
 abbrev pub CompilesStream : {C : Type 0} (compiles : C → Window → C → Type 0) (pieces : List (Bor (List ℕ)))
     (features : ℕ) (before : C) → Result ℕ Error → (after : C) → Type 0
 CompilesStream compiles pieces features before (Ok most) after =

@@ -28,8 +28,8 @@ customs_of e = map (λ name. (name, length e.consumed)) (names_in e.report)
 abbrev pub sizes_in : {A : Type 0} → Vec CustomSize A → List (List ℕ × ℕ)
 sizes_in list = map (λ c. (string_bytes c.name, c.size)) list.items
 
--- The list has the custom sections of the stream that these pieces are, in order, wherever it is cut; or the stream
--- stops at this fault; or memory was refused.
+-- The list has the custom sections of the stream in these chunks, in order, wherever it is cut; or the stream
+-- stops at this fault; or an allocation failed.
 abbrev pub ListsCustoms : {A : Type 0} (pieces : List (Bor (List ℕ))) (features : ℕ) → Result (Vec CustomSize A) Error
     → Type 0
 ListsCustoms pieces features (Ok list) =

@@ -17,12 +17,12 @@ abbrev pub after_all : {S R : Type 0} → (S → Report → Result S R) → S �
 after_all step s [] = Ok s
 after_all step s (r ∷ later) = unless_refused (step s r) (λ t. after_all step t later)
 
--- This is what the parts of a stream make of a beginning, by its reading with all features from offset 0.
+-- The fold of a stream's parts from a start value, by its reading with all features from offset 0.
 abbrev pub ReadsTo : {S R : Type 0} → (S → Report → Result S R) → S → List ℕ → Result S R → Type 0
 ReadsTo step begin stream end = (events : List Event) × Reading stream 0 all_features events
     × (after_all step begin (map event_report events) ≡ end)
 
--- This came of it, or memory was refused.
+-- This is the result, or an allocation failed.
 abbrev pub Gives : {S : Type 0} → Result S FaultAt → Result (Unit {0}) Error → (after : S) → Type 0
 Gives of (Ok done) after = of ≡ Ok after
 Gives of (Err e) after = (fault_at e ≡ out_of_memory) ⊎ (of ≡ Err (fault_at e))

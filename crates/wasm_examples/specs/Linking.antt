@@ -26,7 +26,7 @@ use Rattle.wasm_examples.specs.Folding.{ReadsTo}
 use Rattle.wasm_examples.specs.declared.linking.Fixup.{Fixup}
 use Rattle.wasm_examples.specs.declared.linking.Linked.{Linked}
 
--- ---- what came so far
+-- ---- the parts so far
 
 -- a relocation, with the symbol that it names and the offsets of the bytes that it fills in
 pub record FixupParts : Type 0 where
@@ -75,7 +75,7 @@ abbrev pub filled_if_there : Option (Range ℕ) → RelocationEntry → Option (
 filled_if_there (Some section) entry = filled_in section entry
 filled_if_there None entry = None
 
--- with what it names and fills in, of what came before it
+-- with what it names and fills in, of the parts before it
 abbrev pub fixup_of : LinkedParts → (section : ℕ) → RelocationEntry → FixupParts
 fixup_of m section entry = record {
   entry = entry;
@@ -105,7 +105,7 @@ with_subsection m other = Ok m
 abbrev pub with_window : LinkedParts → ℕ → Window → Result LinkedParts FaultAt
 with_window m id window = linking_subsection_in id window >>= (λ subsection. with_subsection m subsection)
 
--- the subsections from a place on, at most so many
+-- the subsections from a place on, at most `most`
 abbrev pub with_subsections : LinkedParts → (most : ℕ) → Place → Result LinkedParts FaultAt
 with_subsections m zero p = Ok m
 with_subsections m (suc most) p = if nat_eq (length p.rest) 0 then Ok m else
@@ -145,7 +145,7 @@ with_if_custom m other = Ok m
 abbrev pub linked : LinkedParts → Report → Result LinkedParts FaultAt
 linked m report = with_if_custom (with_section m (section_of report)) report
 
--- ---- what calls answer
+-- ---- what calls return
 
 -- This is what a linker fills in of the module that the stream is, by its reading with all features from offset 0; or
 -- the module has this fault; or memory was refused.

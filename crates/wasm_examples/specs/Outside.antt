@@ -1,4 +1,4 @@
--- What a module needs of its outside and gives to it, as a loader wants it.
+-- What a module needs from its outside and provides to it, as a loader wants it.
 use Rattle.std.specs.Prelude.{◌≡◌, ◌⊎◌, ℕ, zero, suc, ◌+◌, ◌-◌, ◌^◌, min, List, [], ◌∷◌, ◌++◌, length, map, nat_lt}
 use Rattle.std.specs.Prelude.{nat_eq, Result, Ok, Err, if◌then◌else◌}
 use Rattle.wasm_base.specs.FaultAt.{FaultAt, fault_at, at_offset}
@@ -26,7 +26,7 @@ use Rattle.wasm_grammar.specs.Ids.{export_id, function_id, global_id, import_id,
 
 -- ---- index spaces
 
--- so many more; a count stops at the greatest number of 64 bits, above every index
+-- this many more; a count stops at the greatest number of 64 bits, above every index
 abbrev pub more : ℕ → ℕ → ℕ
 more count n = min (count + n) (2 ^ 64 - 1)
 
@@ -39,7 +39,7 @@ span_of s kinds.Global = s.globals
 span_of s kinds.Tag = s.tags
 span_of s kinds.FuncExact = s.functions
 
--- with so many more of a kind
+-- with this many more of a kind
 abbrev pub with_more : Spans → ExternalKind → ℕ → Spans
 with_more s kinds.Func n = record s { functions = more s.functions n }
 with_more s kinds.Table n = record s { tables = more s.tables n }
@@ -102,7 +102,7 @@ abbrev pub unless_fault : {A : Type 0} → Outcome A → Result (A × Place) Ref
 unless_fault (Ok x) = Ok x
 unless_fault (Err f) = Err (at_fault f)
 
--- so many exports from a place on, and nothing after them
+-- this many exports from a place on, and nothing after them
 abbrev pub exported : OutsideParts → (left : ℕ) → Place → Result OutsideParts Refused
 exported o zero p = if nat_lt 0 (length p.rest) then Err (at_fault (at_offset SizeMismatch p.offset)) else Ok o
 exported o (suc left) p = unless_refused (unless_fault (export_at p))
@@ -116,7 +116,7 @@ after_number (Err f) p = p
 abbrev pub items_place : Window → Place
 items_place w = after_number (unsigned_at VarU32 (place w)) (place w)
 
--- so many more of the kind that a section with this id defines
+-- this many more of the kind that a section with this id defines
 abbrev pub with_section : OutsideParts → ExternalKind → ℕ → Result OutsideParts Refused
 with_section o kind count = Ok (record o { spans = with_more o.spans kind count })
 
@@ -134,9 +134,9 @@ noted o (counted id count window) =
 noted o (stream_end (fault f)) = Err (at_fault f)
 noted o other = Ok o
 
--- ---- what calls answer
+-- ---- what calls return
 
--- This came of it, or memory was refused.
+-- This is the result, or an allocation failed.
 abbrev pub Comes : Result OutsideParts Refused → Result (Unit {0}) Misfit → (after : OutsideParts) → Type 0
 Comes of (Ok done) after = of ≡ Ok after
 Comes of (Err (misfits.Stream e)) after = (fault_at e ≡ out_of_memory) ⊎ (of ≡ Err (at_fault (fault_at e)))

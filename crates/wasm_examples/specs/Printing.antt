@@ -51,15 +51,15 @@ abbrev pub or_before : {A : Type 0} → Names → (A → Names) → Result A Fau
 or_before names later (Ok x) = later x
 or_before names later (Err f) = names
 
--- so many names from a place on, of which those are taken whose index is above the last one taken; up to the first that
--- can't be read
+-- this many names from a place on, of which those are taken whose index is above the last one taken; up to the first
+-- that can't be read
 abbrev pub names_from : Names → (left : ℕ) → (last : Option ℕ) → Place → Names
 names_from names zero last p = names
 names_from names (suc left) last p = or_before names (λ x.
     if is_above last x.0.index then names_from (with_name names x.0) left (Some x.0.index) x.1 else
     names_from names left last x.1) (naming_at p)
 
--- what is left of the names of a map
+-- the remaining names of a map
 abbrev pub names_of_map : Names → Ascending Items → Names
 names_of_map names map = if map.entries.ended then names else
     names_from names map.entries.left map.last (place map.entries.reader)
@@ -84,7 +84,7 @@ subsection_and_more names last p more (Ok head) =
     part_and_more names last (λ n l. more n l head.1) (name_in head.0.0 head.0.1)
 subsection_and_more names last p more (Err f) = more names last (after_refused p)
 
--- The subsections from a place on, at most so many: one that can't be read has no names, and the next one follows.
+-- The subsections from a place on, at most `most`: one that can't be read has no names, and the next one follows.
 abbrev pub names_of_subsections : Names → (most : ℕ) → (last : Option ℕ) → Place → Names
 names_of_subsections names zero last p = names
 names_of_subsections names (suc most) last p = if nat_eq (length p.rest) 0 then names else
@@ -122,7 +122,7 @@ named names (custom_section name data_offset window) = Ok (with_custom names nam
 named names (stream_end (fault f)) = Err f
 named names other = Ok names
 
--- ---- what calls answer
+-- ---- what calls return
 
 -- These are the names of the functions of the module that the stream is, by its reading with all features from offset
 -- 0; or the module has this fault; or memory was refused.

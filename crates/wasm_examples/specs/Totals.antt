@@ -12,7 +12,7 @@ abbrev pub plus : ℕ → Result ℕ FaultAt → Result ℕ FaultAt
 plus n (Ok total) = Ok (n + total)
 plus n (Err e) = Err e
 
--- the sum of this many numbers from a place on, if nothing is left after them; or the first fault
+-- the sum of this many numbers from a place on, if nothing remains after them; or the first fault
 abbrev pub total_at : ℕ → Place → Result ℕ FaultAt
 total_at zero p = if nat_lt 0 (length p.rest) then Err (at_offset SizeMismatch p.offset) else Ok 0
 total_at (suc left) p = do

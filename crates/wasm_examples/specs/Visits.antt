@@ -23,12 +23,12 @@ use Rattle.wasm_feed.specs.declared.listing.Turn.TheVariants.{Advance, Read, End
 abbrev pub part : (bytes : List ℕ) → Payload → Event
 part bytes payload = record { report = report_of payload; consumed = bytes }
 
--- What is told these things, one after the other, becomes another.
+-- Reporting these to a visitor, one after the other, turns it into another.
 abbrev pub Visits : {V X : Type 0} (takes : V → X → V → Type 0) → V → List X → V → Type 0
 Visits takes v [] w = v ≡ w
 Visits {V} takes v (x ∷ later) w = (u : V) × takes v x u × Visits takes u later w
 
--- A part was told, unless it is the end; or memory was refused.
+-- A part was reported, unless it is the end; or an allocation failed.
 abbrev pub Tells : {V : Type 0} (takes : V → Event → V → Type 0) (before : V) (bytes : List ℕ) → Payload
     → Result Turn Error → (after : V) → Type 0
 Tells takes before bytes payload (Ok Advance) after =
@@ -37,15 +37,15 @@ Tells takes before bytes payload (Ok Read) after = ⊥
 Tells takes before bytes payload (Ok (End how)) after = (is_end (report_of payload) ≡ true) × (after ≡ before)
 Tells takes before bytes payload (Err e) after = fault_at e ≡ out_of_memory
 
--- A visitor that began as the first one was told what the feeder has passed of the bytes that it was given, and is now
--- the second one.
+-- A visitor began as the first one, and is now the second one, after what the feeder has passed of the given bytes was
+-- reported to it.
 pub record HasVisited {V : Type 0} (takes : V → Event → V → Type 0) (features : ℕ) (given : List ℕ) (begun : V)
     (feed : Feed) (now : V) : Type 0 where
   pub events : List Event
   pub is_along : IsAlong 0 features given feed events
   pub visits : Visits takes begun events now
 
--- It was told all parts of each stream that goes on so, up to its end.
+-- All parts of each stream that goes on so were reported to it, up to the end.
 pub record HasVisitedAll {V : Type 0} (takes : V → Event → V → Type 0) (features : ℕ) (eof : Bool) (given : List ℕ)
     (begun now : V) : Type 0 where
   pub events : List Event
@@ -53,7 +53,7 @@ pub record HasVisitedAll {V : Type 0} (takes : V → Event → V → Type 0) (fe
   pub reads : ReadsEach 0 features eof given (events ++ last_event (ended offset) ∷ [])
   pub visits : Visits takes begun events now
 
--- It was told all parts before this fault; or memory was refused.
+-- All parts before this fault were reported to it; or an allocation failed.
 abbrev pub StopsAt : {V : Type 0} (takes : V → Event → V → Type 0) (features : ℕ) (eof : Bool) (given : List ℕ)
     (begun : V) (e : Error) (now : V) → Type 0
 StopsAt {V} takes features eof given begun e now =
@@ -61,7 +61,7 @@ StopsAt {V} takes features eof given begun e now =
     × ReadsEach 0 features eof given (events ++ last_event (fault (fault_at e)) ∷ [])
     × Visits takes begun events now)
 
--- what is known where a visitor was told all that a feeder had passed, of bytes below the top of the offsets
+-- what is known if all that a feeder passed was reported to a visitor, of bytes below the top of the offsets
 abbrev pub WhereVisited : {V : Type 0} (takes : V → Event → V → Type 0) (feed : Feed) (before : V)
     → ((features : ℕ) (given : List ℕ) (begun : V) → Type 0) → Type 0
 WhereVisited {V} takes feed before P = (features : ℕ) (given : List ℕ) (begun : V)
@@ -71,7 +71,7 @@ WhereVisited {V} takes feed before P = (features : ℕ) (given : List ℕ) (begu
 abbrev pub IsAsked : Feed → Type 0
 IsAsked f = (f.wants_more ≡ true) × (hint : ℕ) × IsUndecided f.state f.eof f.held hint
 
--- One step told the visitor what came next; or asked for more; or was the end, or a fault.
+-- One step reported the next part to the visitor; or asked for more; or was the end, or a fault.
 abbrev pub VisitsNext : {V : Type 0} (takes : V → Event → V → Type 0) (old : Feed) (before : V) → Result Turn Error
     → (new : Feed) (after : V) → Type 0
 VisitsNext takes old before (Ok Advance) new after = (length new.held < length old.held) × (new.eof ≡ old.eof)
@@ -83,7 +83,7 @@ VisitsNext takes old before (Ok (End how)) new after =
 VisitsNext takes old before (Err e) new after = WhereVisited takes old before
     (λ features given begun. StopsAt takes features old.eof given begun e after)
 
--- All that is held was told, up to a request or the end; it is known which.
+-- All held bytes were reported, up to a request or the end; it is known which.
 abbrev pub VisitsHeld : {V : Type 0} (takes : V → Event → V → Type 0) (old : Feed) (before : V) → Result Bool Error
     → (new : Feed) (after : V) → Type 0
 VisitsHeld takes old before (Ok false) new after = IsAsked new × (new.eof ≡ old.eof)
@@ -112,8 +112,8 @@ pub record Stores (features : ℕ) (stream : List ℕ) (most : ℕ) : Type 0 whe
 abbrev pub StoresLittle : (features : ℕ) (stream : List ℕ) (most : ℕ) → Type 0
 StoresLittle features stream most = (most ≡ 0) ⊎ Stores features stream most
 
--- The visitor was told all parts of the stream that these pieces are, wherever it is cut, up to its end, and the result
--- is such a number. Or it was told all parts before the fault at which the stream stops, or memory was refused.
+-- All parts of the stream in these chunks, wherever it is cut, were reported to the visitor, up to its end, and the
+-- result is such a number. Or all parts before the fault at which the stream stops were; or an allocation failed.
 abbrev pub VisitsStream : {V : Type 0} (takes : V → Event → V → Type 0) (pieces : List (Bor (List ℕ))) (features : ℕ)
     (before : V) → Result ℕ Error → (after : V) → Type 0
 VisitsStream takes pieces features before (Ok most) after =

@@ -21,7 +21,7 @@ pub struct CustomSize {
     pub size: usize,
 }
 
-/// The custom sections that came so far.
+/// The custom sections so far.
 #[derive(Drop)]
 struct CustomSizes {
     alloc: Global,
@@ -70,8 +70,8 @@ fn custom_name(payload: Payload<'_>) -> Option<&str>
     }
 }
 
-/// The custom sections of a stream that is cut into these pieces, in order, with the bytes that each takes; their contents are
-/// let go as the stream passes. Or the fault at which the stream stops; or `OutOfMemory`.
+/// The custom sections of a stream that is cut into these chunks, in order, with the bytes that each takes; their contents are
+/// dropped as the stream passes. Or the fault at which the stream stops; or `OutOfMemory`.
 pub fn custom_sizes(
     alloc: Global,
     features: WasmFeatures,

@@ -1,4 +1,4 @@
-// What a module needs of its outside and gives to it: a check before it is loaded.
+// What a module needs from its outside and provides to it: a check before it is loaded.
 ghost use Rattle.std.specs.Prelude.{◌≡◌, OnOk, IfErr};
 ghost use Rattle.wasm_base.specs.Window.{place};
 ghost use Rattle.wasm_parser.specs.ParseAnswer.{report_of, ItemsBegin};
@@ -45,7 +45,7 @@ impl Spans {
         }
     }
 
-    // Adds so many of a kind.
+    // Adds this many of a kind.
     fn add(&mut self, kind: ExternalKind, count: u64)
         ensures { self.new ≡ with_more self.old kind count }
     {

@@ -15,7 +15,7 @@ use wasm_custom::{CustomSectionReader, Name, NameMap, NameSectionReader, Naming}
 use wasm_items::{ImportSection, ImportSectionReader, TypeRef};
 use wasm_parser::{Parser, Payload};
 
-// Of each function that came so far its name, if it has one.
+// The name of each function so far, if it has one.
 #[derive(Drop)]
 struct Names<'a> {
     alloc: Global,
@@ -121,9 +121,9 @@ impl<'a> Names<'a> {
     }
 }
 
-/// Of each function of a module its name, if its name sections give one to it: first of those that it imports, then of its own.
+/// The name of each function of a module, if its name sections name it: first of those that it imports, then of its own.
 ///
-/// A section gives names to functions that come before it; of two names for one function the later one holds. A name that is out of
+/// A section names functions that come before it; of two names for one function the later one holds. A name that is out of
 /// order or can't be read is skipped. The fault at which the stream stops, or that of an import; or `OutOfMemory`.
 pub fn function_names<'a>(alloc: Global, bytes: &'a [u8]) -> Result<Vec<Option<&'a str>>>
     ensures { AreNames bytes.now result }

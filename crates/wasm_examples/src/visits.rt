@@ -12,7 +12,7 @@ use wasm_base::{Result, WasmFeatures};
 use wasm_feed::{Ended, Feeder, Step, Turn};
 use wasm_parser::Payload;
 
-/// What is told the parts of a stream in their order.
+/// A visitor, to which the parts of a stream are reported in order.
 pub trait Visitor {
     /// What a part makes of a visitor.
     ghost takes: { Self → Event → Self → Type 0 };

@@ -1,4 +1,4 @@
--- What a step adds to the events that came.
+-- What a step adds to the events so far.
 use Rattle.std.proofs.Common.{◌≡◌, ℕ, ◌+◌, ◌^◌, ◌<◌, Bool, true, false, List, [], ◌∷◌, ◌++◌, length, take, drop, slice_index_or, Bor, Some}
 use Rattle.std.proofs.Common.{None, Result, Ok, Err, refl, sym, ap, subst₂, ◌∙◌, arith, length-append}
 use Rattle.std.proofs.lemmas.Bool.Decides.{nat_tests}
@@ -54,7 +54,7 @@ module _ {A : Type 0} (start features : ℕ) (given : List ℕ) (f g : Feed) (va
   pub asks : (x : Result Step Error) → Steps f x g → IsEventOfStep {A = A} x None → HasCome start features given g values × (f.eof ≡ false)
   asks x s i = grind (arith, stepped)
 
-  -- an event came, and is not the last one
+  -- an event arrived, and is not the last one
   pub adds : (x : Result Step Error) (value : Event A) → Steps f x g → IsEventOfStep x (Some value) → is_last value.kind ≡ false
       → HasCome start features given g (values ++ value ∷ [])
   adds (Ok (NeedMoreData hint)) value s i n = absurd i
@@ -64,7 +64,7 @@ module _ {A : Type 0} (start features : ℕ) (given : List ℕ) (f g : Feed) (va
       grind (arith, last_is_end, all_more, came_is)
   adds (Err e) value s i n = let no : true ≡ false = sym (fault_is_last e value.kind i.kind) ∙ n in cc
 
-  -- the last event came
+  -- the last event arrived
   pub ends : (x : Result Step Error) (value : Event A) → Steps f x g → IsEventOfStep x (Some value) → is_last value.kind ≡ true
       → HasEnded start features f.eof given (values ++ value ∷ [])
   ends (Ok (NeedMoreData hint)) value s i n = absurd i
@@ -96,7 +96,7 @@ pub steps_in : (bytes : List ℕ) (old new : Cursor) (x : Result Step Error)
     → new.is_finished ≡ old.is_finished → new.wants_more ≡ is_request x → Steps (feed_of bytes old) x (feed_of bytes new)
 steps_in bytes old new x parses shows finished wants = grind arith
 
--- ---- the pieces
+-- ---- the chunks
 
 pub come_begins : {A : Type 0} (start features : ℕ) → HasCome {A = A} start features [] (new_feed start features) []
 come_begins start features = ([], answers_go_along.begins start features, tt)
@@ -112,7 +112,7 @@ come_finished start features given f g values e h = rw e (h.0, h.1, h.2)
 module _ {A : Type 0} (start features : ℕ) (pieces : List (Bor (List ℕ))) (i : ℕ) (d : Bor (List ℕ)) (f mid new : Feed)
     (before after : List (Event A)) (b : i < length pieces) (l : start + length (joined pieces) < 2 ^ 64)
     (h : HasCome start features (joined (take i pieces)) f before) (e : mid ≡ pushed f (slice_index_or pieces i d).now) where
-  -- one piece more was given
+  -- one more chunk was given
   given : HasCome start features (joined (take (i + 1) pieces)) mid before
   given =
       subst₂ (λ (x : List ℕ) (y : Feed). HasCome start features x y before) (sym (joined_more pieces i d b)) (sym e)
@@ -132,7 +132,7 @@ module _ {A : Type 0} (start features : ℕ) (pieces : List (Bor (List ℕ))) (i
   pub next_piece : ReadsHeld mid before (Ok false) new after → HasCome start features (joined (take (i + 1) pieces)) new after
   next_piece r = (r is_given).0
 
-  -- and the last event came
+  -- and the last event arrived
   pub last_piece : mid.eof ≡ false → ReadsHeld mid before (Ok true) new after → IsReading (joined pieces) start features after
   last_piece goes r =
       let z : HasEnded start features false (joined (take (i + 1) pieces)) after =

@@ -1,4 +1,4 @@
--- That what a step answers beside a piece is what it answers on all of the piece.
+-- That what a step returns beside a chunk is what it returns on all of the chunk.
 use Rattle.std.proofs.Common.{◌≡◌, ℕ, ◌+◌, ◌-◌, ◌<◌, ◌≤◌, Bool, true, false, List, [], ◌∷◌, ◌++◌, length, drop, Result, Ok, Err}
 use Rattle.std.proofs.Common.{refl, sym, ap, subst₂, ◌∙◌, arith, append_assoc, append-nil, length-append, inl, inr, Option}
 use Rattle.std.proofs.lemmas.List.{append_cancel_right, length-drop, drop-drop}
@@ -27,7 +27,7 @@ use Rattle.wasm_feed.proofs.Stepping.{none_passed, steps_from}
 
 -- ---- enough bytes
 
--- bytes on which one answer is no request are enough
+-- bytes for which one result is no request are enough
 pub enough : (law : AnswersLast) (p : ParserState) (bytes : List ℕ) (one : Result Chunk Error) (new : ParserState)
     → ParseAnswer p false bytes one new → (IsRequest one → ⊥) → AreEnough p bytes
 enough law p bytes one new a decided more l other last b = law p last bytes more other b
@@ -60,7 +60,7 @@ idle_by : (old : Feed) (piece stored : List ℕ) (count : ℕ) (c : Cursor) → 
     → length old.held ≤ old.stored → (HasDecided old piece → count ≡ 0) → HasDecided old piece → StaysIdle old count stored c
 idle_by old piece stored count c first same stores idle h = grind (arith, append_cancel_right)
 
--- a cursor at the first of the stored bytes, where these and what is left of the piece are what was held and the piece
+-- a cursor at the first stored byte, where the stored bytes and the rest of the chunk are the held bytes and the chunk
 pub ready : (old : Feed) (piece stored : List ℕ) (count : ℕ) (c : Cursor) → count ≤ length piece → c.mark ≡ 0
     → stored ++ drop count piece ≡ old.held ++ piece → c.parser ≡ old.state → c.is_finished ≡ old.eof → c.wants_more ≡ old.wants_more
     → SeesEnough c.parser c.is_finished stored (drop count piece) → length old.held ≤ old.stored → (HasDecided old piece → count ≡ 0)
@@ -84,7 +84,7 @@ ready old piece (x ∷ xs) count c within first same state eof wants sees stores
 
 -- ---- a step
 
--- what the cursor says of a step is what the feeder beside the piece does
+-- what the cursor says of a step is what the feeder beside the chunk does
 pub loan : (f : Feed) (stored piece items rest bytes : List ℕ) (old new : Cursor) (x : Result Step Error) → lending stored piece old ≡ f
     → ReadsEnough stored piece old → bytes ≡ seen items rest → items ≡ stored → rest ≡ piece
     → ParseAnswer old.parser old.is_finished (drop old.mark bytes) (answer_of x) new.parser
@@ -98,7 +98,7 @@ loan f stored piece items rest bytes old new x from sees read items_are rest_is 
 
 -- ---- a listing
 
--- how far it has come is seen by where the feeder is, what it holds, and whether the end was told
+-- progress depends only on the feeder's position, the bytes it holds, and whether the end was reported
 pub alike : (text_of : Report → List ℕ) (input output : Change) (f g : Feed) (page : List ℕ) → IsAlike f g
     → Progress text_of input output f page → Progress text_of input output g page
 alike text_of input output f g page a p = grind arith
@@ -125,7 +125,7 @@ filled_alike text_of source rest taken written rest' f g w (inr (piece, gave, so
     alike_lighter text_of (from_to source rest') (from_to taken written) f (pushed f piece) g [] a
     (filled text_of source rest taken written f w rest' (pushed f piece) (inr (piece, gave, some, refl)))
 
--- ---- a step over a piece
+-- ---- a step over a chunk
 
 -- a step reads what is stored, if something is
 pub seen_some : (stored rest : List ℕ) → 0 < length stored → seen stored rest ≡ stored

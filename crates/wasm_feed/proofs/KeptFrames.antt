@@ -1,4 +1,4 @@
--- What is left of the events of sections.
+-- The kept events of sections.
 use Rattle.std.proofs.Common.{◌≡◌, ℕ, ◌+◌, ◌⊎◌, inl, inr, Bool, true, false, List, [], ◌∷◌, ◌++◌, length, Some, refl, sym}
 use Rattle.std.proofs.Common.{subst, arith, length-append, append-nil, append_assoc, eqb-true}
 use Rattle.std.specs.List.{All, AllZip, filter, flat_map}
@@ -96,7 +96,7 @@ kept_more keep xs ys = search (filter-append, flat_map-append)
 abbrev pub bytes_of_frames : (keep : Bool) → List SectionFrame → List ℕ
 bytes_of_frames keep frames = flat_map frame_bytes (filter (frame_stays keep) frames)
 
--- What is left of the events of sections, of which the first begins at this offset after this many bytes were dropped, and of
+-- The kept events of sections, of which the first begins at this offset after this many bytes were dropped, and of
 -- events after them.
 pub record KeptOf (keep : Bool) (features : ℕ) (encoding : Encoding) (at dropped : ℕ) (frames : List SectionFrame)
     (inner rest kept : List Event) : Type 0 where
@@ -105,7 +105,7 @@ pub record KeptOf (keep : Bool) (features : ℕ) (encoding : Encoding) (at dropp
   pub moved : AllZip IsMovedBack (staying keep dropped (inner ++ rest)) (others ++ kept)
   pub bytes : kept_bytes keep inner ≡ bytes_of_frames keep frames
 
--- what is left of events after those of sections, however many bytes of the sections were dropped
+-- the kept events after those of sections, however many bytes of the sections were dropped
 abbrev pub KeptAfter : (keep : Bool) (at dropped : ℕ) (frames : List SectionFrame) (rest kept : List Event) → Type 0
 KeptAfter keep at dropped frames rest kept =
     (total : ℕ) → at + dropped + length (flat_map frame_bytes frames) ≡ at + length (bytes_of_frames keep frames) + total

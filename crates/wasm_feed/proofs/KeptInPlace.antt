@@ -1,4 +1,4 @@
--- What is left of a stream, moved to the front of its bytes.
+-- The kept bytes of a stream, moved to its front.
 use Rattle.std.proofs.Common.{◌≡◌, ℕ, Bool, ◌+◌, ◌-◌, ◌≤◌, ◌<◌, List, ◌++◌, length, take, drop, sym, ap, ◌∙◌, arith}
 use Rattle.std.proofs.Common.{length-append, append_assoc}
 use Rattle.std.specs.List.{copy_within}
@@ -50,7 +50,7 @@ pub not_empty : (bytes part : List ℕ) (old new : ℕ) → drop old bytes ≡ p
     → length (drop new bytes) < length (drop old bytes) → 0 < length part
 not_empty bytes part old new parts fewer = grind (arith, length-append)
 
--- so what is left goes on with it
+-- so the kept bytes go on with it
 pub moves_on : (keep : Bool) (stream bytes items part : List ℕ) (kept old : ℕ) (new : Cursor) → kept ≤ old
     → (at : EndsAtMark bytes old part new.mark)
     → items ≡ copy_within bytes (new.mark - length part) (new.mark - length part + length part) kept

@@ -34,7 +34,7 @@ part_goes_on keep f g bytes payload fate s i = grind (arith, fewer)
 
 module _ (keep : Bool) (stream : List ℕ) (events : List Event) (f g : Feed) (a : Along 0 all_features stream f.state f.held events)
     (l : length stream < 2 ^ 64) (eof : f.eof ≡ true) where
-  -- what came with a payload
+  -- what arrived with a payload
   came : (bytes : Bor (List ℕ)) (payload : Payload) → Steps f (Ok (Parsed bytes payload)) g
       → Came 0 all_features true stream events bytes.now payload g.state g.held
   came bytes payload s =
@@ -91,7 +91,7 @@ kept_shorter : (keep : Bool) (events : List Event) → length (kept_bytes keep e
 kept_shorter keep [] = omega arith
 kept_shorter keep (e ∷ events) = grind (arith, length-append, kept_shorter keep events)
 
--- what is left is no longer than the stream
+-- the kept bytes are no longer than the stream
 pub no_longer : (keep : Bool) (stream : List ℕ) (f : Feed) (kept : List ℕ) → HasKept keep stream f kept → length kept ≤ length stream
 no_longer keep stream f kept (events, a, e) =
     let n : length kept ≡ length (kept_bytes keep events) = rw e refl in

@@ -34,7 +34,7 @@ use Rattle.wasm_base.specs.Features.{all_features}
 
 -- ---- what the feeder was given
 
--- a reading that is told begins each of its streams
+-- events that are each stream's reading are a prefix of it
 whole_begins : (start features : ℕ) (eof : Bool) (given : List ℕ) (events : List Event) → ReadsEach start features eof given events
     → BeginsEach start features eof given events
 whole_begins start features eof given events r stream m = grind (arith, append-nil)
@@ -98,7 +98,7 @@ module _ (text_of : Report → List ℕ) where
     parts = grind (arith, listing-append, append_assoc);
   }
 
-  -- a page of which a beginning was written
+  -- a page of which a prefix was written
   cut_page : (lines page moved unwritten : List ℕ) → page ≡ moved ++ unwritten → lines ++ page ≡ (lines ++ moved) ++ unwritten
   cut_page lines page moved unwritten e = ap (λ (x : List ℕ). lines ++ x) e ∙ sym (append_assoc lines moved unwritten)
 
@@ -159,7 +159,7 @@ module _ (text_of : Report → List ℕ) where
         → ListsBy text_of (from_to source rest) (from_to taken written') (Err e)
     cut written' e w = grind (arith, cut_head)
 
-    -- no memory for what came
+    -- out of memory for what arrived
     pub no_memory : (rest' : Option (List ℕ)) (piece : List ℕ) → Consumes rest rest' piece
         → ListsBy text_of (from_to source rest') (from_to taken written) (Err Memory)
     no_memory rest' piece c = record {
@@ -191,7 +191,7 @@ module _ (text_of : Report → List ℕ) where
     whole_input events r = grind (arith, all_given, append-nil)
 
     module _ (g : Feed) where
-      -- what a step did, where what was given is below the top
+      -- what a step did, if the given bytes are below the top
       stepped : (x : Result Step Error) → Steps f x g → length p.given < 2 ^ 64
           → Stepped 0 all_features f.eof p.given p.events x g.state g.held
       stepped x s l = step_along 0 all_features p.given f.state f.held p.events p.is_along f.eof x g.state g.held (omega (arith, l))

@@ -18,7 +18,7 @@ use Rattle.wasm_feed.specs.Step.{answer_of, shown, Stepped, GivesStep, Steps}
 use Rattle.wasm_feed.specs.declared.feeder.Step.{Step}
 use Rattle.wasm_feed.specs.declared.feeder.Step.TheVariants.{NeedMoreData, Parsed}
 
--- the parser after a step is the one that the answer says
+-- the parser after a step is the one that the result says
 becomes : (f g : Feed) (x : Result Step Error) → Steps f x g → g.state ≡ state_after_answer f.state (answer_of x)
 becomes f g x s = answers_go_along.becomes f.state g.state f.eof f.held (answer_of x) s.parses
 
@@ -31,7 +31,7 @@ steps_from a b x new e s = rw e at s
 
 -- ---- along a stream
 
--- as many bytes are shown as the answer consumes
+-- as many bytes are shown as the result consumes
 taken : (x : Result Step Error) → length (shown x) ≡ taken_by (answer_of x)
 taken x = grind arith
 
@@ -41,7 +41,7 @@ pub stepped : (start features : ℕ) (given : List ℕ) (p : ParserState) (held 
     → ParseAnswer p eof held (answer_of x) new → held ≡ shown x ++ rest → Stepped start features eof given events x new rest
 stepped start features given p held events a eof x new rest l r w = search (answers_go_along.answers, taken)
 
--- after the last answer nothing is passed, and nothing is shown
+-- after the last result nothing is passed, and nothing is shown
 pub none_passed : (p new : ParserState) (eof : Bool) (held : List ℕ) (x : Result Step Error) → ParseAnswer p eof held (answer_of x) new
     → is_last (answer_of x) ≡ true → shown x ≡ []
 none_passed p new eof held (Ok (Parsed bytes payload)) a l = grind (arith, empty, answers_go_along.consumes)
@@ -80,9 +80,9 @@ module _ (f g : Feed) (hint : ℕ) (s : Steps f (Ok (NeedMoreData hint)) g) wher
   pub asked : IsUndecided g.state g.eof g.held hint
   asked = grind (arith, answers_go_along.becomes, answers_go_along.asks)
 
--- ---- a step over a piece
+-- ---- a step over a chunk
 
--- a step over a piece is a step of the stream that goes on with it, and then the feeder was given what it took
+-- a step over a chunk is a step of the stream that goes on with it, and then the feeder was given what it took
 steps_over : (start features : ℕ) (given : List ℕ) (f g : Feed) (piece : List ℕ) (events : List Event) (x : Result Step Error)
     (taken : ℕ) → IsAlong start features given f events → start + length (given ++ piece) < 2 ^ 64 → StepsOver f piece x taken g
     → SteppedOver start features given f piece events x taken g
@@ -105,7 +105,7 @@ over_none f g x l s = grind (arith, append-nil, nothing_shown, length-append)
 is_decided : (x : Result Step Error) → is_last (answer_of x) ≡ true → IsRequest (answer_of x) → ⊥
 is_decided x l r = grind arith
 
--- what decided the last answer decides each later one
+-- what decided the last result decides each later one
 again_over : (f g k h : Feed) (piece more : List ℕ) (one two : Result Step Error) (taken later : ℕ)
     → is_last (answer_of one) ≡ true → StepsOver f piece one taken g → GoesOn g k → MayCome k more → end_of k + length more < 2 ^ 64
     → StepsOver k more two later h → SaysTheSame (answer_of one) (answer_of two)

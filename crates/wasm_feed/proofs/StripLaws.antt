@@ -1,4 +1,4 @@
--- What is left of a stream is accepted, and is read as the stream is but for what was dropped.
+-- A stripped stream is accepted, and is read as the stream is but for what was dropped.
 use Rattle.std.proofs.Common.{◌≡◌, ℕ, ◌+◌, ◌<◌, ◌≤◌, ◌^◌, ◌⊎◌, inl, inr, Bool, true, false, cond, List, [], ◌∷◌, ◌++◌, length}
 use Rattle.std.proofs.Common.{take, Result, Ok, Err, refl, ap, ◌∙◌, arith, length-append, eqb-true}
 use Rattle.std.specs.List.{All, filter, flat_map}
@@ -39,7 +39,7 @@ push_same (a ∷ xs) (b ∷ ys) x y e =
 end_same : (a b : Ending) → last_event a ≡ last_event b → a ≡ b
 end_same a b e = let z : stream_end a ≡ stream_end b = ap (λ (x : Event). x.report) e in cc
 
--- a reading that is told to end so does
+-- a reading whose last event reports this ending ends so
 ends_so : (stream : List ℕ) (events : List Event) (end : Ending) → Reading stream 0 all_features (events ++ last_event end ∷ [])
     → (tiles : List Tile) × Reads stream 0 tiles end
 ends_so stream events end r = grind (arith, push_same, end_same)
@@ -71,7 +71,7 @@ pub left_as_it_was : (stream after : List ℕ) (e : Error) → Stream stream 0 �
     → LeavesStream stream e after
 left_as_it_was stream after e s h u = record { refused = λ a. not_accepted stream e s h a; fault = h; unchanged = u }
 
--- ---- what is left is accepted
+-- ---- the stripped stream is accepted
 
 all_rest : (P : ℕ → Type 0) (xs ys : List ℕ) → All P (xs ++ ys) → All P ys
 all_rest P [] ys a = a
@@ -97,7 +97,7 @@ length_kept : (q : SectionFrame → Bool) (frames : List SectionFrame)
 length_kept q [] = omega arith
 length_kept q (f ∷ frames) = length_step f frames (filter q frames) (length_kept q frames) (q f)
 
--- what is left of a stream is one
+-- a stripped stream is a stream
 stream_kept : (keep : Bool) (stream : List ℕ) (a : IsAccepted stream) → Stream stream 0 → Stream (stripped keep a.encoding a.frames) 0
 stream_kept keep stream a s =
     let h : List ℕ = header_bytes a.encoding in
@@ -117,7 +117,7 @@ custom_rank encoding f z = grind arith
 ranked_stays : (keep : Bool) (encoding : Encoding) (f : SectionFrame) → 0 < frame_rank encoding f → frame_stays keep f ≡ true
 ranked_stays keep encoding f r = grind (arith, custom_rank, eqb-true)
 
--- what is left of an accepted stream is accepted, with the sections that stay
+-- an accepted stream is accepted when stripped, with the sections that stay
 pub accepted_kept : (keep : Bool) (stream : List ℕ) (a : IsAccepted stream)
     → (b : IsAccepted (stripped keep a.encoding a.frames)) × (b.encoding ≡ a.encoding) × (b.frames ≡ filter (frame_stays keep) a.frames)
 accepted_kept keep stream a = search (rankless_may_go, each_of, ranked_stays)
@@ -187,7 +187,7 @@ strips_so keep stream kept s r =
     let a : IsAccepted stream = accepted_of keep stream kept s r in
     rw (kept_is keep stream kept a s r) (is_stripped keep stream a s)
 
--- what is left was moved to the front, which cannot end with a fault where the stream is accepted
+-- the kept bytes were moved to the front, which cannot end with a fault if the stream is accepted
 pub strips_to_front : (keep : Bool) (stream kept after : List ℕ) (r : Result ℕ Error) → Stream stream 0
     → ReadsKept keep stream kept → MovesKept keep stream r after → StripsToFront keep stream r after
 strips_to_front keep stream kept after (Ok size) s reads m = (strips_so keep stream (take size after) s m.0, m.1, m.2)

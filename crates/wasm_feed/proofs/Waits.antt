@@ -39,7 +39,7 @@ finishes f w = record { stores = w.stores; below = w.below; undecided = λ e. cc
 steps : (f g : Feed) (x : Result Step Error) → WaitsUndecided f → Steps f x g → WaitsUndecided g
 steps f g x w s = grind (arith, length-append, ends, asked)
 
--- ---- a step over a piece
+-- ---- a step over a chunk
 
 steps_over : (f g : Feed) (piece : List ℕ) (x : Result Step Error) (taken : ℕ) → end_of f + length piece < 2 ^ 64
     → StepsOver f piece x taken g → WaitsUndecided g

@@ -1,4 +1,4 @@
--- A feeder beside a piece, of which it stores nothing, a part or all.
+-- A feeder beside a chunk, of which it stores nothing, a part or all.
 use Rattle.std.specs.Prelude.{◌≡◌, ℕ, ◌+◌, ◌-◌, ◌<◌, ◌≤◌, ◌^◌, Bool, true, false, List, [], ◌∷◌, ◌++◌, length}
 use Rattle.std.specs.Prelude.{◌⊎◌, take, drop, Option, Result, Ok, Err}
 use Rattle.std.specs.Io.KnownBytes.{Consumes, IsAtEnd, Keeps}
@@ -17,16 +17,16 @@ use Rattle.wasm_lines.specs.declared.devices.ListError.{ListError}
 use Rattle.wasm_feed.specs.declared.feeder.Cursor.{Cursor}
 use Rattle.wasm_feed.specs.declared.feeder.Step.{Step}
 
--- a feeder and the bytes that come next, as one that holds both; how many are stored is left out
+-- a feeder and the bytes after its own, as one that holds both; how many are stored is left out
 abbrev pub beside : Feed → (rest : List ℕ) → Feed
 beside f rest = record f { held = f.held ++ rest; stored = 0 }
 
--- the bytes that a step reads: those that are stored, or the piece where there are none
+-- the bytes that a step reads: those that are stored, or the chunk if there are none
 abbrev pub seen : (stored piece : List ℕ) → List ℕ
 seen [] piece = piece
 seen (x ∷ xs) piece = x ∷ xs
 
--- those of the piece that it doesn't
+-- those of the chunk that it doesn't
 abbrev pub unseen : (stored piece : List ℕ) → List ℕ
 unseen [] piece = []
 unseen (x ∷ xs) piece = piece
@@ -35,7 +35,7 @@ unseen (x ∷ xs) piece = piece
 abbrev pub lending : (stored piece : List ℕ) → Cursor → Feed
 lending stored piece c = beside (feed_of (seen stored piece) c) (unseen stored piece)
 
--- What a parser answers on the first bytes is what it answers on all of them.
+-- What a parser returns for the first bytes is what it returns for all of them.
 abbrev pub SeesEnough : ParserState → (eof : Bool) → (first more : List ℕ) → Type 0
 SeesEnough p eof first more = (answer : Result Chunk Error) (new : ParserState) → ParseAnswer p eof first answer new
     → ParseAnswer p eof (first ++ more) answer new
@@ -49,7 +49,7 @@ abbrev pub ReadsEnough : (stored piece : List ℕ) → Cursor → Type 0
 ReadsEnough stored piece c =
     SeesEnough c.parser c.is_finished (drop c.mark (seen stored piece)) (unseen stored piece)
 
--- So many bytes of a piece were put after those that were there, and these are enough: none, if those were.
+-- This many bytes of a chunk were appended to those that were there, and these are enough: none, if those were.
 pub record Gathers (p : ParserState) (old piece : List ℕ) (count : ℕ) (new : List ℕ) : Type 0 where
   pub within : count ≤ length piece
   pub stores : new ≡ old ++ take count piece
@@ -68,7 +68,7 @@ pub record HasDecided (f : Feed) (piece : List ℕ) : Type 0 where
   pub below : end_of f + length piece < 2 ^ 64
   pub decides : waiting (grammar_of f.state) f.held ≡ enough
 
--- How many bytes are stored after a piece came: at most those that were held, and the piece. Without a piece there
+-- How many bytes are stored after a chunk arrived: at most those that were held, and the chunk. Without a chunk there
 -- are no more than before.
 pub record Bounds (old : Feed) (piece : List ℕ) (stored : ℕ) : Type 0 where
   pub fed : 0 < length piece → stored ≤ length old.held + length piece
@@ -81,7 +81,7 @@ pub record StaysIdle (old : Feed) (count : ℕ) (stored : List ℕ) (c : Cursor)
   pub some : 0 < length stored
   pub bounded : length stored ≤ old.stored
 
--- So many bytes of a piece were stored, so that a step reads enough.
+-- This many bytes of a chunk were stored, so that a step reads enough.
 pub record MakesReady (old : Feed) (piece : List ℕ) (count : ℕ) (stored : List ℕ) (c : Cursor) : Type 0 where
   pub within : count ≤ length piece
   pub same : lending stored (drop count piece) c ≡ beside old piece
@@ -90,8 +90,8 @@ pub record MakesReady (old : Feed) (piece : List ℕ) (count : ℕ) (stored : Li
   pub bounded : Bounds old piece (length stored + (length piece - count))
   pub idle : HasDecided old piece → StaysIdle old count stored c
 
--- A step along what a feeder holds and then a piece, of which it took this many bytes: all where more is asked for, and
--- none where the bytes that it holds decide. After the end or a fault it holds the bytes that decided that.
+-- A step along what a feeder holds and then a chunk, of which it took this many bytes: all if more is asked for, and
+-- none if the bytes that it holds decide. After the end or a fault it holds the bytes that decided that.
 pub record StepsOver (old : Feed) (piece : List ℕ) (result : Result Step Error) (taken : ℕ) (new : Feed) : Type 0 where
   pub steps : Steps (beside old piece) result (beside new (drop taken piece))
   pub asks : is_request result ≡ true → taken ≡ length piece

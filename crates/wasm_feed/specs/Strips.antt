@@ -1,4 +1,4 @@
--- One pass over a stream that is stripped.
+-- One step of stripping a stream.
 use Rattle.std.specs.Prelude.{◌≡◌, ◌⊎◌, ℕ, ◌+◌, ◌<◌, ◌≤◌, ◌^◌, Bool, true, false, List, ◌∷◌, [], ◌++◌, length}
 use Rattle.std.specs.Prelude.{take, drop, Option, Some, None, Result, Ok, Err, if◌then◌else◌}
 use Rattle.std.specs.Borrow.{Bor}
@@ -26,12 +26,12 @@ IsFateOf keep report Stays = (is_end report ≡ false) × (report_stays keep rep
 IsFateOf keep report Goes = (is_end report ≡ false) × (report_stays keep report ≡ false)
 IsFateOf keep report End = is_end report ≡ true
 
--- An event came after these, and this is whether it stays.
+-- An event arrived after these, and this is whether it stays.
 abbrev pub Comes : (keep : Bool) (stream : List ℕ) → List Event → (stays : Bool) → Event → Feed → Type 0
 Comes keep stream events stays e new = (event_stays keep e ≡ stays)
     × Along 0 all_features stream new.state new.held (events ++ e ∷ [])
 
--- What came next in a stream after these events: an event that stays, with these bytes; one that is dropped; or the
+-- What is next in a stream after these events: an event that stays, with these bytes; one that is dropped; or the
 -- end.
 abbrev pub FateComes : (keep : Bool) (stream : List ℕ) → List Event → (bytes : List ℕ) → Fate → Feed → Type 0
 FateComes keep stream events bytes Stays new = (e : Event) × Comes keep stream events true e new × (e.consumed ≡ bytes)
@@ -81,7 +81,7 @@ abbrev pub CopiesKept : (keep : Bool) (stream before : List ℕ) → Result (Uni
 CopiesKept keep stream before (Ok done) after = (kept : List ℕ) × ReadsKept keep stream kept × (after ≡ before ++ kept)
 CopiesKept keep stream before (Err e) after = EndsWithFault stream e ⊎ (fault_at e ≡ out_of_memory)
 
--- what is left of a stream was moved to the front of its bytes, and is so many of them, if it has no fault
+-- the kept bytes of a stream were moved to its front, and are this many, if it has no fault
 abbrev pub MovesKept : (keep : Bool) (stream : List ℕ) → Result ℕ Error → (after : List ℕ) → Type 0
 MovesKept keep stream (Ok size) after = ReadsKept keep stream (take size after) × (size ≤ length after)
     × (length after ≡ length stream)
@@ -93,7 +93,7 @@ Passes bytes old (Ok part) new = (new ≡ old + length part.bytes.now)
     × (drop old bytes ≡ part.bytes.now ++ drop new bytes)
 Passes bytes old (Err e) new = Unit {0}
 
--- These bytes were kept of a stream, and this came next: a part that stays, which is kept too; the end; or a fault.
+-- These bytes were kept of a stream, and this is next: a part that stays, which is kept too; the end; or a fault.
 abbrev pub KeptComes : (keep : Bool) (stream kept : List ℕ) → Result (Option (Bor (List ℕ))) Error → Feed → Type 0
 KeptComes keep stream kept (Ok (Some part)) new = HasKept keep stream new (kept ++ part.now)
 KeptComes keep stream kept (Ok None) new = ReadsKept keep stream kept

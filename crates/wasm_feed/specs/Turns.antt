@@ -1,4 +1,4 @@
--- What a listing does after an answer of the parser.
+-- What a listing does after a result of the parser.
 use Rattle.std.specs.Prelude.{◌≡◌, ℕ, List, [], Option, Result, Ok, Err, if◌then◌else◌}
 use Rattle.wasm_base.specs.FaultAt.{fault_at}
 use Rattle.wasm_base.specs.declared.error.Error.{Error}
@@ -14,7 +14,7 @@ use Rattle.wasm_lines.specs.declared.devices.ListError.{ListError}
 use Rattle.wasm_feed.specs.declared.listing.Turn.{Turn}
 use Rattle.wasm_feed.specs.declared.listing.Turn.TheVariants as turn
 
--- what is written for an answer, by what it reports; nothing for a request
+-- what is written for a result, by what it reports; nothing for a request
 abbrev pub text_after : (text_of : Report → List ℕ) → Result Step Error → List ℕ
 text_after text_of (Ok (NeedMoreData hint)) = []
 text_after text_of (Ok (Parsed bytes payload)) = text_of (report_of payload)
@@ -24,13 +24,13 @@ text_after text_of (Err e) = text_of (stream_end (fault (fault_at e)))
 abbrev pub line_after : Result Step Error → List ℕ
 line_after answer = text_after line_of answer
 
--- what is done after an answer: at the end of the stream, and at a fault, the listing ends
+-- what is done after a result: at the end of the stream, and at a fault, the listing ends
 abbrev pub turn_after : Result Step Error → Turn
 turn_after (Ok (NeedMoreData hint)) = turn.Read
 turn_after (Ok (Parsed bytes payload)) = if is_end (report_of payload) then turn.End how.End else turn.Advance
 turn_after (Err e) = turn.End (how.Fault e)
 
--- The line of the answer was put after those that waited.
+-- The line of the result was appended to the pending ones.
 abbrev pub TakesTurn : (taken written : Option (List ℕ)) (waiting new : List ℕ) → Result Step Error
     → Result Turn ListError → Type 0
 TakesTurn taken written waiting new answer (Ok next) =

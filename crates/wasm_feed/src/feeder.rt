@@ -90,8 +90,8 @@ impl Cursor {
 
 /// Reads a stream that comes in chunks (core specification, Binary format, Modules).
 ///
-/// A feeder stores the bytes that were pushed and not consumed yet, and no others after a push; `step` lends the payloads
-/// that borrow them. A download is read so:
+/// A feeder stores the bytes that were pushed and not consumed yet, and no others after a push; the payloads
+/// that `step` returns borrow from them. A download is read so:
 ///
 /// ```text
 /// let mut feeder = Feeder::new(alloc, 0, WasmFeatures::all());

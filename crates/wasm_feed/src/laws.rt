@@ -16,7 +16,7 @@ pub fn feeders_go_along()
     ensures { FeedersGoAlong }
 {}
 
-/// A feeder wants more only if its parser is undecided on the held bytes, and more may come. After bytes came, by a push, a read or
+/// A feeder wants more only if its parser is undecided on the held bytes, and more may come. After bytes arrived, by a push, a read or
 /// a step over a chunk, it stores less than the bound of the undecided ones and the chunk together. If the held bytes decide, a
 /// step over a chunk takes and stores nothing. All of this holds below the largest offset; a step past it is the fault
 /// `OffsetRange`.

@@ -32,7 +32,7 @@ fn same_at<T: PartialEq + Debug + Drop>(rt: &impl Abort, found: T, wanted: T, at
     assert!(rt; found == wanted, "{found:?}, and not {wanted:?}, at {at:?}");
 }
 
-// How the listing of what this source gives ends.
+// How the listing of what this source returns ends.
 fn ends<R: Source, W: Sink>(
     alloc: Global,
     input: &mut R,
@@ -52,7 +52,7 @@ fn lists<W: Sink>(
     ends(alloc, &mut SliceSource::new(stream), output, piece)
 }
 
-// The events of a stream in these pieces, which has to stay within the offsets.
+// The events of a stream in these chunks, which has to stay within the offsets.
 fn events(rt: &impl Abort, alloc: Global, offset: u64, pieces: &[&[u8]]) -> Vec<Event> {
     assert!(rt; fits_pieces(offset, pieces));
     read_pieces(alloc, offset, pieces).expect(rt, "out of memory")

@@ -1,4 +1,4 @@
--- The elements of a segment that was read, which are all that it announces.
+-- A segment that was read has as many elements as announced.
 use Rattle.std.proofs.Common.{◌≡◌, ℕ, Bool, true, false, cond, Ok, Err, refl, ap, subst}
 use Rattle.wasm_base.proofs.Announced.{in_steps, read_as, Follows, announced, after_follows}
 use Rattle.wasm_base.proofs.OwnBytes.{own_number, own_passed}
@@ -87,7 +87,7 @@ flags_given : (start : ℕ) (o : Outcome ℕ) (element : Element) (q : Place)
 flags_given start (Err f) element q e = cc
 flags_given start (Ok f) element q e = kind_given f.0 start (element_kind_at f.0 f.1) element q e
 
--- The elements of a segment that was read are given.
+-- Iterating over the elements of a segment that was read yields as many as announced.
 pub element_given : (p q : Place) (element : Element) → element_at p ≡ Ok (element, q) → Given element.items
 unfolding element_at
 element_given p q element e = flags_given p.offset (element_flags_at p) element q e

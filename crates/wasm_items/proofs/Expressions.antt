@@ -1,4 +1,4 @@
--- An expression is the end, or an instruction and then an expression: the bound on the number of instructions is no limit.
+-- An expression is `end`, or an instruction followed by an expression: the bound on the number of instructions is no limit.
 use Rattle.std.proofs.Common.{◌≡◌, ℕ, zero, suc, ◌+◌, ◌-◌, ◌*◌, ◌^◌, ◌≤◌, Bool, true}
 use Rattle.std.proofs.Common.{false, cond, List, [], ◌∷◌, length, take, drop, Option, Some, None}
 use Rattle.std.proofs.Common.{Ok, Err, nat_lt, nat_eq, ℤ, pos, negsuc, refl, sym, ◌==◌, if◌then◌else◌, arith, length-drop, ◌∙◌}
@@ -20,7 +20,7 @@ use Rattle.wasm_items.specs.Values.{heap_type_at, heap_type_from, abstract_heap_
 use Rattle.wasm_items.specs.declared.init.ConstOperator.{ConstOperator}
 use Rattle.wasm_items.specs.declared.types.HeapType.{HeapType}
 
--- After a reading at most so many bytes are to come.
+-- At most n bytes remain after a reading.
 abbrev pub Within : {A : Type 0} → ℕ → Outcome A → Type 0
 Within n (Ok x) = length x.1.rest ≤ n
 Within n (Err e) = Unit {0}
@@ -108,7 +108,7 @@ numbered_within : (start : ℕ) (table : ℕ → Option Operands) (n : ℕ) (p :
 numbered_within start table n p le = then_within n (unsigned_at VarU32 p) (λ number. constant_operands_at start (table number.0) number.1)
     (unsigned_within VarU32 n p le) (λ x h. constant_within start (table x.0) n x.1 h)
 
--- After an instruction no more bytes are to come than before it.
+-- No more bytes remain after an instruction than before it.
 pub after_within : (start opcode n : ℕ) (p : Place) → length p.rest ≤ n → Within n (after_opcode start opcode p)
 unfolding after_opcode
 after_within start opcode n p le = by_test (nat_eq opcode 0xFB) (nat_eq opcode 0xFD)
@@ -119,7 +119,7 @@ after_within start opcode n p le = by_test (nat_eq opcode 0xFB) (nat_eq opcode 0
     by_test false true = numbered_within start vector_operands_of n p le
     by_test false false = constant_within start (operands_of opcode) n p le
 
--- the end, or an instruction and then what goes on so
+-- `end`, or an instruction and then more
 abbrev first_and_more : (Place → Outcome (Unit {0})) → Place → Outcome (Unit {0})
 first_and_more more p = byte_at p >>= λ opcode. if opcode.0 == 0x0B then Ok (tt, opcode.1) else
     (after_opcode p.offset opcode.0 opcode.1 >>= λ instruction. more instruction.1)
@@ -157,7 +157,7 @@ none_of : (f : Place → Outcome (Unit {0})) (p : Place) (rest : List ℕ) → l
 none_of f p [] le = refl
 none_of f p (b ∷ rest) le = absurd (omega arith)
 
--- How many instructions may come at most makes no difference, where these are as many as bytes.
+-- The bound on the number of instructions makes no difference if it is at least the number of bytes.
 pub same_bound : (m n : ℕ) (p : Place) → length p.rest ≤ m → length p.rest ≤ n → instructions_at m p ≡ instructions_at n p
 same_bound zero zero p lm ln = refl
 same_bound zero (suc n) p lm ln = sym (none_of (λ q. instructions_at n q) p p.rest lm)

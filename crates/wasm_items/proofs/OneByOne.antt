@@ -1,4 +1,4 @@
--- The instructions of an expression one by one: what is to come after each, and that those of an expression tile its window.
+-- The instructions of an expression one by one: which remain after each, and that those of an expression tile its window.
 use Rattle.std.proofs.Common.{◌≡◌, ℕ, zero, suc, ◌+◌, ◌-◌, ◌≤◌, Bool, true, false, cond, List, [], ◌∷◌, ◌++◌, length, take, Option}
 use Rattle.std.proofs.Common.{Some, None, Result, Ok, Err, nat_eq, ℤ, refl, sym, ap, subst, ◌∙◌, if◌then◌else◌, arith, map, add-zero}
 use Rattle.std.proofs.lemmas.List.{length-take}
@@ -33,7 +33,7 @@ use Rattle.wasm_items.specs.declared.init.ConstOperator.TheVariants.{StructNew, 
 use Rattle.wasm_items.specs.declared.init.ConstOperator.TheVariants.{AnyConvertExtern, ExternConvertAny, RefI31}
 use Rattle.wasm_items.specs.declared.instructions.ConstInstruction.{ConstInstruction}
 
--- ---- an instruction takes a byte at least
+-- ---- an instruction has at least one byte
 
 operator_within : (start opcode n : ℕ) (p : Place) → length p.rest ≤ n → Within n (operator_at start opcode p)
 operator_within start opcode n p le = by (nat_eq opcode 0x0B)
@@ -67,9 +67,9 @@ shorter p x q e = by p.rest refl
         let n : length p.rest ≡ length (b ∷ bs) = ap length is in
         omega (arith, w, n)
 
--- ---- what is to come
+-- ---- the remaining instructions
 
--- How many instructions may come at most makes no difference, where these are more than bytes.
+-- The bound on the number of instructions makes no difference if it is more than the number of bytes.
 same_from : (m n : ℕ) (p : Place) → length p.rest + 1 ≤ m → length p.rest + 1 ≤ n → instructions_from m p ≡ instructions_from n p
 same_from zero n p lm ln = absurd (omega arith)
 same_from (suc m) zero p lm ln = absurd (omega arith)
@@ -86,7 +86,7 @@ same_from (suc m) (suc n) p lm ln = by (λ q le. same_from m n q (omega (arith, 
     by again (Ok x) is = by_end x.0 (instructions_from m x.1) (instructions_from n x.1) (again x.1 (shorter p x.0 x.1 is))
         (is_end x.0.operator)
 
--- One was read: it is the first that was to come, and the others are to come now.
+-- One was read: it is the first of the remaining instructions, and the others remain.
 pub next_given : (p q : Place) (read : Result ConstInstruction Error) (ended : Bool) → Gives (λ x. x) read q (instruction_at p)
     → ended ≡ is_last read → instructions_in p ≡ item_or_fault read ∷ instructions_left ended q
 unfolding instructions_in
@@ -100,9 +100,9 @@ next_given p q (Ok x) ended g b = ap (with_more (λ r. instructions_from (length
     by false b = rw (sym b) (ap (λ (l : List (Result ConstInstruction FaultAt)). Ok x ∷ l)
         (same_from (length p.rest) (suc (length q.rest)) q (omega (arith, shorter p x q g)) (omega arith)))
 
--- ---- no other opcode is the end
+-- ---- no other opcode is `end`
 
--- No operands make an operator the end.
+-- No operands make the operator `end`.
 abbrev NotEnd : Operands → Type 0
 NotEnd (done operator) = is_end operator ≡ false
 NotEnd (signed kind more) = (n : ℤ) → NotEnd (more n)
@@ -158,7 +158,7 @@ vector_rows : (number : ℕ) → NoneEnds (vector_operands_of number)
 vector_rows number =
     (row _ (raw 16 (λ bytes. done (V128Const (record { 0 = bytes })))) _ (λ bytes. refl) no_row)
 
--- An operator that was read isn't the end.
+-- An operator that was read isn't `end`.
 abbrev IsOther : Outcome ConstOperator → Type 0
 IsOther (Ok x) = is_end x.0 ≡ false
 IsOther (Err e) = Unit {0}
@@ -192,7 +192,7 @@ after_other start opcode p = by (nat_eq opcode 0xFB) (nat_eq opcode 0xFD)
 
 -- ---- an expression that was read
 
--- so many instructions at most, from one place to another
+-- at most `most` instructions, from one place to another
 record Listed (most : ℕ) (p q : Place) : Type 0 where
   first : List ConstInstruction
   last : ConstInstruction

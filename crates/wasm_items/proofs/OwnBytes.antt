@@ -1,4 +1,4 @@
--- Types and expressions depend on no byte after those that they take.
+-- Types and expressions depend on no byte after those that they consume.
 use Rattle.std.proofs.Common.{length-drop, ◌≡◌, ℕ, zero, suc, ◌+◌, ◌*◌, ◌^◌, ◌<◌, ◌≤◌}
 use Rattle.std.proofs.Common.{Bool, true, false, cond, List, [], ◌∷◌, length, take, drop}
 use Rattle.std.proofs.Common.{Option, Some, None, nat_eq, Ok, Err, refl, sym, ap, arith, ◌∙◌, ℤ, pos, negsuc}
@@ -106,7 +106,7 @@ own_instruction start opcode =
     (own_cond (nat_eq opcode 0xFD) (numbered_operands_at start vector_operands_of) (constant_operands_at start (operands_of opcode))
     (own_numbered start vector_operands_of) (own_constant start (operands_of opcode)))
 
--- Instructions up to the end take a byte each at least, so they are read however many more are allowed.
+-- Instructions up to `end` have at least one byte each, so any bound that is at least their number of bytes will do.
 record OwnInstructions (p q : Place) : Type 0 where
   used : ℕ
   there : used ≤ length p.rest

@@ -1,4 +1,4 @@
--- Instructions one after the other, as a loop passes over them.
+-- Instructions one after the other, as a loop skips them.
 use Rattle.std.proofs.Common.{◌≡◌, ℕ, zero, suc, ◌+◌, ◌≤◌, false, List, [], ◌∷◌, length, drop, Ok, refl, arith, length-drop, ap, nat_eq}
 use Rattle.wasm_base.specs.Name.{byte_at, first_of}
 use Rattle.wasm_base.specs.Outcome.{Outcome}
@@ -17,16 +17,16 @@ first_passed p (x ∷ rest) b q r e =
     let l : length p.rest ≡ length (x ∷ rest) = ap length r in
     omega (arith, k, l, length-drop 1 p.rest)
 
--- a byte that is read is one less to come
+-- after reading a byte, one byte less remains
 pub byte_passed : (p : Place) (b : ℕ) (q : Place) → byte_at p ≡ Ok (b, q) → length q.rest + 1 ≡ length p.rest
 byte_passed p b q e = first_passed p p.rest b q refl e
 
--- A reader that goes on has no more bytes to come.
+-- A reader that advances has no more bytes remaining than before.
 pub fewer_remaining : (old new : Window) → KeepsWindow old new → length (place new).rest ≤ length (place old).rest
 fewer_remaining old new kept =
     omega (arith, kept.forward, ap length kept.bytes, length-drop new.position new.bytes, length-drop old.position old.bytes)
 
--- what the instructions that are left come to, of so many at most, is this
+-- the outcome of the remaining instructions, at most `most` of them
 pub record Left (p : Place) (whole : Outcome (Unit {0})) : Type 0 where
   pub most : ℕ
   pub fewer : length p.rest ≤ most

@@ -1,4 +1,4 @@
--- Passing over an item takes the bytes that reading it takes.
+-- Skipping an item consumes the same bytes as reading it.
 use Rattle.std.proofs.Common.{◌≡◌, ℕ, List, Some, Ok, Err, refl, ap}
 use Rattle.wasm_base.proofs.Passing.{name_passed, value_or}
 use Rattle.wasm_base.specs.Name.{name_limit, text_at}
@@ -9,7 +9,7 @@ use Rattle.wasm_items.specs.Imports.{ItemParts, item_at, passed_item_at, type_re
 use Rattle.wasm_items.specs.Init.{end_of_expression, expression_at}
 use Rattle.wasm_items.specs.declared.imports.TypeRef.{TypeRef}
 
--- what comes after a name, and after a type
+-- the import after its name and its type
 abbrev with_name : List ℕ × Place → TypeRef × Place → Outcome ItemParts
 with_name name ty = Ok (record { name = name.0; ty = ty.0 }, ty.1)
 

@@ -1,4 +1,4 @@
--- One call of `next` over the bundles of an import section, as what is to come of their imports.
+-- One call of `next` over the bundles of an import section, in terms of their remaining imports.
 use Rattle.std.proofs.Common.{◌≡◌, ℕ, zero, suc, ◌<◌, ◌⊎◌, inl, inr, length, nat_lt, lt-ltb, Bool, true, false, List, [], ◌∷◌, ◌++◌, Option}
 use Rattle.std.proofs.Common.{Some, None, Result, Ok, Err, refl, sym, ap, arith, ◌∙◌}
 use Rattle.std.specs.Prelude.{map}
@@ -12,7 +12,7 @@ use Rattle.wasm_items.specs.Flattened.{bundle_imports, imports_of_bundles, NextI
 use Rattle.wasm_items.specs.Imports.{ImportParts, bundle_parts, bundle_at}
 use Rattle.wasm_items.specs.declared.imports.Imports.{Imports}
 
--- An item was given, so there was one.
+-- An item was returned, so the iterator hadn't ended.
 going : (ended : Bool) (s t : Items) (x : Result Imports Error) → s.ended ≡ ended
     → NextItem {T = Imports} (ReadsAs bundle_parts bundle_at) s (Some x) t → ended ≡ false
 going true s t x e next = absurd (let z = (next.over e).0 in cc)
@@ -37,7 +37,7 @@ over_after : (left : ℕ) (s t : Items) (e : Error) → s.left ≡ left → s.en
 over_after zero s t e z on next = ap (λ (w : Items). w.ended) (next.last on z).2
 over_after (suc left) s t e z on next = (next.item on (omega (arith, z))).2
 
--- a fault was given, and nothing is to come
+-- a fault was returned, and nothing remains
 pub fault_given : (s t : Items) (e : Error) → NextItem {T = Imports} (ReadsAs bundle_parts bundle_at) s (Some (Err e)) t
     → (imports_of_bundles s ≡ Err (fault_at e) ∷ []) × (imports_of_bundles t ≡ [])
 fault_given s t e next =
@@ -54,7 +54,7 @@ fault_given s t e next =
         let left : s.left ≡ suc t.left = omega (arith, item.1) in
         rw (on, left, item.0) refl
 
--- Nothing was left of a bundle, and the next one is at hand: what is to come is the same.
+-- No imports of the bundle remained, and the next one starts: the remaining imports don't change.
 pub bundle_follows : (bundle started s t whole : List (Result (ℕ × ImportParts) FaultAt)) → bundle ++ s ≡ whole → bundle ≡ []
     → s ≡ started ++ t
     → started ++ t ≡ whole
@@ -62,14 +62,14 @@ bundle_follows bundle started s t whole e none next =
     let h : [] ++ s ≡ whole = rw none at e in
     sym next ∙ h
 
--- Nothing was left of a bundle, and the next one is a fault.
+-- No imports of the bundle remained, and the next one is a fault.
 pub fault_follows : (bundle after s t whole : List (Result (ℕ × ImportParts) FaultAt)) (fault : FaultAt) → bundle ++ s ≡ whole → bundle ≡ []
     → after ≡ [] → s ≡ Err fault ∷ [] → t ≡ [] → whole ≡ Err fault ∷ (after ++ t)
 fault_follows bundle after s t whole fault e none none_after next over =
     let h : [] ++ s ≡ whole = rw none at e in
     rw (none_after, over) (sym h ∙ next)
 
--- a bundle was given, and the others are to come
+-- a bundle was returned, and the others remain
 pub bundle_given : (s t : Items) (x : Imports) → NextItem {T = Imports} (ReadsAs bundle_parts bundle_at) s (Some (Ok x)) t
     → imports_of_bundles s ≡ bundle_imports (bundle_parts x) ++ imports_of_bundles t
 bundle_given s t x next =
@@ -89,7 +89,7 @@ module _ {X B : Type 0} (view : Result X Error → B) where
   nothing_after s t u None end next = refl
   nothing_after s t u (Some x) end next = absurd (let z : [] ≡ view x ∷ u = sym end.0.1 ∙ next.0 in cc)
 
-  -- All that is to come is given.
+  -- All remaining items are returned.
   pub gives_all : GivesAll view (NextImport view)
   gives_all = record {
     items = λ s given run. run_is_all s run.1.0 run.0 given run.1.1 run.1.2;

@@ -33,14 +33,14 @@ active_data_at memory p = do
   offset ← expression_at p
   Ok (Active memory (record { reader = offset.0 }), offset.1)
 
--- an active segment whose memory's index is written
+-- an active segment with a memory index
 abbrev pub indexed_data_at : Place → Outcome DataKind
 indexed_data_at p = do
   memory ← unsigned_at VarU32 p
   active_data_at memory.0 memory.1
 
--- What becomes of a segment, by its flags: 0 for memory 0, 1 for a passive segment, 2 for a memory whose index follows.
--- Others are a fault, at the segment's start.
+-- The kind of a segment, by its flags: 0 for memory 0, 1 for a passive segment, 2 for a memory whose index follows.
+-- Other flags are a fault at the start of the segment.
 abbrev pub data_kind_after : (start flags : ℕ) → Place → Outcome DataKind
 data_kind_after start flags p =
     if flags == 0 then active_data_at 0 p
@@ -48,13 +48,13 @@ data_kind_after start flags p =
     else if flags == 2 then indexed_data_at p
     else Err (at_offset DataFlags start)
 
--- flags, and what becomes of the segment
+-- flags, and the kind of the segment
 unfoldable pub data_kind_at : Place → Outcome DataKind
 data_kind_at p = do
   flags ← unsigned_at VarU32 p
   data_kind_after p.offset flags.0 flags.1
 
--- a data segment: what becomes of it, a size, and so many bytes
+-- a data segment: its kind, a size, and as many bytes
 unfoldable pub data_at : Place → Outcome DataParts
 data_at p = do
   kind ← data_kind_at p

@@ -21,7 +21,7 @@ use Rattle.wasm_items.specs.declared.exports.ExternalKind.TheVariants.{Func}
 use Rattle.wasm_items.specs.declared.types.HeapType.TheVariants as Heaps
 use Rattle.wasm_items.specs.declared.types.RefType.{RefType}
 
--- flags below 8; others are a fault, at their last byte
+-- flags below 8; other flags are a fault at their last byte
 unfoldable pub element_flags_at : Place → Outcome ℕ
 element_flags_at p = do
   flags ← unsigned_at VarU32 p
@@ -33,32 +33,32 @@ active_element_at table p = do
   offset ← expression_at p
   Ok (Active table (record { reader = offset.0 }), offset.1)
 
--- an active segment whose table's index is written
+-- an active segment with a table index
 abbrev pub indexed_element_at : Place → Outcome ElementKind
 indexed_element_at p = do
   table ← unsigned_at VarU32 p
   active_element_at (Some table.0) table.1
 
--- whether a segment is passive or declared, and not active
+-- whether a segment is passive or declared
 abbrev pub is_not_active : (flags : ℕ) → Bool
 is_not_active flags = has_bit flags 0
 
--- whether the table's index of an active segment is written, or the segment is declared and not passive
+-- whether an active segment has a table index, or any other segment is declared
 abbrev pub is_indexed_or_declared : (flags : ℕ) → Bool
 is_indexed_or_declared flags = has_bit flags 1
 
--- whether the elements are expressions, and not indices of functions
+-- whether the elements are expressions rather than function indices
 abbrev pub has_expressions : (flags : ℕ) → Bool
 has_expressions flags = has_bit flags 2
 
--- what becomes of a segment
+-- the kind of a segment
 unfoldable pub element_kind_at : (flags : ℕ) → Place → Outcome ElementKind
 element_kind_at flags p =
     if is_not_active flags then (if is_indexed_or_declared flags then Ok (Declared, p) else Ok (Passive, p))
     else if is_indexed_or_declared flags then indexed_element_at p
     else active_element_at None p
 
--- whether the kind or the type of the elements is written: an active segment without a table index has neither
+-- whether the kind or the type of the elements is present: an active segment without a table index has neither
 abbrev pub is_typed : (flags : ℕ) → Bool
 is_typed flags = is_not_active flags || is_indexed_or_declared flags
 
@@ -66,13 +66,13 @@ abbrev pub only_functions : ExternalKind → (offset : ℕ) → Place → Outcom
 only_functions Func offset p = Ok (tt, p)
 only_functions kind offset p = Err (at_offset ElementFunctionOnly offset)
 
--- the kind of the elements: an external kind, which has to be that of functions
+-- the kind of the elements: an external kind, which must be that of functions
 unfoldable pub element_kind_passed_at : Place → Outcome (Unit {0})
 element_kind_passed_at p = do
   kind ← kind_at p
   only_functions kind.0 p.offset kind.1
 
--- the place after the kind of the elements, where it is written
+-- the place after the kind of the elements, if present
 abbrev pub after_element_kind : (flags : ℕ) → Place → Outcome (Unit {0})
 after_element_kind flags p = if is_typed flags then element_kind_passed_at p else Ok (tt, p)
 
@@ -87,7 +87,7 @@ function_elements_at flags p = do
 abbrev pub funcref : RefType
 funcref = record { nullable = true; heap = Heaps.Func }
 
--- the type of the elements, where it is written
+-- the type of the elements, if present; without one it is `funcref`
 abbrev pub element_type_at : (flags : ℕ) → Place → Outcome RefType
 element_type_at flags p = if is_typed flags then ref_type_at p else Ok (funcref, p)
 
@@ -102,7 +102,7 @@ expression_elements_at flags p = do
 abbrev pub elements_at : (flags : ℕ) → Place → Outcome ElementItems
 elements_at flags p = if has_expressions flags then expression_elements_at flags p else function_elements_at flags p
 
--- an element segment: flags, what becomes of it, its elements
+-- an element segment: flags, its kind, its elements
 unfoldable pub element_at : Place → Outcome Element
 element_at p = do
   flags ← element_flags_at p

@@ -21,7 +21,7 @@ pub record ExportParts : Type 0 where
 abbrev pub export_parts : Export → ExportParts
 export_parts export = record { name = export.name.now; kind = export.kind; index = export.index }
 
--- the index after a kind: an export is of no exact function
+-- the index after a kind, which can't be that of exact functions
 abbrev pub export_index_at : ExternalKind → Place → Outcome ℕ
 export_index_at FuncExact p = Err (at_offset ExactExport p.offset)
 export_index_at kind p = unsigned_at VarU32 p

@@ -8,7 +8,7 @@ use Rattle.wasm_base.specs.Leading.{in_table}
 use Rattle.wasm_items.specs.declared.exports.ExternalKind.{ExternalKind}
 use Rattle.wasm_items.specs.declared.exports.ExternalKind.TheVariants.{Func, Table, Memory, Global, Tag, FuncExact}
 
--- the kind that each byte is
+-- the kind that each byte encodes
 abbrev pub external_kinds : List (ℕ × ExternalKind)
 external_kinds =
     (0x00, Func) ∷ (0x01, Table) ∷ (0x02, Memory) ∷ (0x03, Global) ∷ (0x04, Tag) ∷ (0x20, FuncExact) ∷ []

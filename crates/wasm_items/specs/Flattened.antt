@@ -15,83 +15,83 @@ use Rattle.wasm_items.specs.Imports.{bundle_at}
 use Rattle.wasm_items.specs.declared.imports.Import.{Import}
 use Rattle.wasm_items.specs.declared.imports.TypeRef.{TypeRef}
 
--- the import that an import of a bundle is
+-- an import of a bundle, with the bundle's module
 abbrev pub import_of_item : (from : List ℕ) → ItemParts → ImportParts
 import_of_item from item = record { from = from; name = item.name; ty = item.ty }
 
--- the import that a name of a bundle is
+-- a name of a bundle, with the bundle's module and type
 abbrev pub import_of_name : (from : List ℕ) → TypeRef → (name : List ℕ) → ImportParts
 import_of_name from ty name = record { from = from; name = name; ty = ty }
 
--- an import with its offset and what comes after it, or its fault, after which nothing of the bundle comes
+-- an import with its offset and the imports after it, or its fault, which ends the bundle
 abbrev pub one_and_more : {A : Type 0} → (A → ImportParts) → (offset : ℕ)
     → (Place → List (Result (ℕ × ImportParts) FaultAt)) → Outcome A → List (Result (ℕ × ImportParts) FaultAt)
 one_and_more import_of offset more (Ok x) = Ok (offset, import_of x.0) ∷ more x.1
 one_and_more import_of offset more (Err e) = Err e ∷ []
 
--- so many imports of a bundle from a place on, each with the offset at which it begins
+-- the `left` remaining imports of a bundle from a place on, each with its offset
 abbrev pub imports_from : {A : Type 0} → (Place → Outcome A) → (A → ImportParts) → (left : ℕ) → Place
     → List (Result (ℕ × ImportParts) FaultAt)
 imports_from reading import_of zero p = at_the_end p
 imports_from reading import_of (suc left) p = one_and_more import_of p.offset
     (λ q. imports_from reading import_of left q) (reading p)
 
--- what is left of a bundle's items
+-- the remaining items of a bundle, as imports
 abbrev pub imports_of_items : (from : List ℕ) → Items → List (Result (ℕ × ImportParts) FaultAt)
 imports_of_items from s = if s.ended then [] else imports_from item_at (import_of_item from) s.left (place s.reader)
 
--- what is left of a bundle's names
+-- the remaining names of a bundle, as imports
 abbrev pub imports_of_names : (from : List ℕ) → TypeRef → Items → List (Result (ℕ × ImportParts) FaultAt)
 imports_of_names from ty s = if s.ended then [] else imports_from (text_at (Some name_limit)) (import_of_name from ty)
     s.left (place s.reader)
 
--- the imports of an item of an import section: the one that it is, or those of its bundle
+-- the imports of an item of an import section: the single import, or those of the bundle
 abbrev pub bundle_imports : Bundle → List (Result (ℕ × ImportParts) FaultAt)
 bundle_imports (single offset one) = Ok (offset, one) ∷ []
 bundle_imports (of_module from items) = imports_from item_at (import_of_item from) items.count (place items.reader)
 bundle_imports (of_type from ty names) = imports_from (text_at (Some name_limit)) (import_of_name from ty) names.count
     (place names.reader)
 
--- the imports of a bundle and what comes after it, or its fault, after which nothing comes
+-- the imports of a bundle and those after it, or its fault, which ends the list
 abbrev pub bundle_and_more : (Place → List (Result (ℕ × ImportParts) FaultAt)) → Outcome Bundle
     → List (Result (ℕ × ImportParts) FaultAt)
 bundle_and_more more (Ok x) = bundle_imports x.0 ++ more x.1
 bundle_and_more more (Err e) = Err e ∷ []
 
--- so many bundles from a place on, as their imports in order
+-- the imports of the `left` remaining bundles from a place on, in order
 abbrev pub flattened : (left : ℕ) → Place → List (Result (ℕ × ImportParts) FaultAt)
 flattened zero p = at_the_end p
 flattened (suc left) p = bundle_and_more (λ q. flattened left q) (bundle_at p)
 
--- what is left of an import section's bundles
+-- the imports of the remaining bundles of an import section
 abbrev pub imports_of_bundles : Items → List (Result (ℕ × ImportParts) FaultAt)
 imports_of_bundles s = if s.ended then [] else flattened s.left (place s.reader)
 
--- an import alone, or the fault
+-- an import without its offset, or the fault
 abbrev pub import_alone : Result (ℕ × ImportParts) FaultAt → Result ImportParts FaultAt
 import_alone (Ok x) = Ok x.1
 import_alone (Err e) = Err e
 
--- what an iterator gave: an import with its offset, or what the error says
+-- what an iterator returned: an import with its offset, or the fault of the error
 abbrev pub found_at : Result (ℕ × Import) Error → Result (ℕ × ImportParts) FaultAt
 found_at (Ok x) = Ok (x.0, import_parts x.1)
 found_at (Err e) = Err (fault_at e)
 
--- what an iterator gave: an import, or what the error says
+-- what an iterator returned: an import, or the fault of the error
 abbrev pub found : Result Import Error → Result ImportParts FaultAt
 found (Ok x) = Ok (import_parts x)
 found (Err e) = Err (fault_at e)
 
--- Of what is to come the first was given and the others are to come now; or nothing was given, and nothing is to come.
+-- The first of the remaining items is returned and the others remain, or nothing is returned and nothing remains.
 abbrev pub GivesFirst : {A B : Type 0} → (A → B) → List B → Option A → List B → Type 0
 GivesFirst view before (Some given) after = before ≡ view given ∷ after
 GivesFirst view before None after = (before ≡ []) × (after ≡ [])
 
--- one call of `next`, which takes no memory
+-- one call of `next`, which never returns `OutOfMemory`
 abbrev pub NextImport : {X B : Type 0} → (Result X Error → B) → List B → Option (Result X Error) → List B → Type 0
 NextImport view before given after = GivesFirst view before given after × IfSome given TakesNoMemory
 
--- Calls of `next` up to the first `None` give all that is to come, in order, and nothing comes after that `None`.
+-- `next` returns all remaining items in order, and then only `None`.
 pub record GivesAll {A B : Type 0} (view : A → B) (next : List B → Option A → List B → Type 0) : Type 0 where
   pub items : (s : List B) (given : List A) → Drains next s given → map view given ≡ s
   pub after : (s t u : List B) (given : Option A) → next s None t → next t given u → given ≡ None

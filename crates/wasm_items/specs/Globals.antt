@@ -12,7 +12,7 @@ use Rattle.wasm_items.specs.Values.{val_type_at}
 use Rattle.wasm_items.specs.declared.globals.Global.{Global}
 use Rattle.wasm_items.specs.declared.types.GlobalType.{GlobalType}
 
--- a global type: the type of its value, and flags below 4: bit 0 of one that can be changed, bit 1 of a shared one
+-- a global type: the type of its value, and flags below 4: bit 0 of a mutable one, bit 1 of a shared one
 unfoldable pub global_type_at : Place → Outcome GlobalType
 global_type_at p = do
   content ← val_type_at p
@@ -20,7 +20,7 @@ global_type_at p = do
   if nat_lt 3 flags.0 then Err (at_offset GlobalFlags content.1.offset) else
       Ok (record { content_type = content.0; mutable = has_bit flags.0 0; shared = has_bit flags.0 1 }, flags.1)
 
--- a global: its type, and the expression of its first value
+-- a global: its type, and the expression of its initial value
 unfoldable pub global_at : Place → Outcome Global
 global_at p = do
   ty ← global_type_at p

@@ -1,5 +1,5 @@
--- What is hashed of types: of those with fields each field in turn, of those by cases the number of the case, from 0,
--- and what it holds. This project.
+-- How types are hashed: structs field by field, enums as the number of the variant, from 0, and what it holds. This
+-- project.
 use Rattle.std.specs.Hash.{HashWrites, bool, u32, u64, isize, option}
 use Rattle.std.specs.Prelude.{◌++◌, [], pos}
 use Rattle.wasm_items.specs.declared.types.FieldType.{FieldType}
@@ -62,7 +62,7 @@ hash_of_memory ty = bool ty.memory64 ++ bool ty.shared ++ u64 ty.initial ++ opti
 abbrev pub hash_of_global : GlobalType → HashWrites
 hash_of_global ty = hash_of_value ty.content_type ++ bool ty.mutable ++ bool ty.shared
 
--- the one kind that there is needs no number
+-- the only variant needs no number
 abbrev pub hash_of_kind : TagKind → HashWrites
 hash_of_kind Tags.Exception = []
 

@@ -80,15 +80,15 @@ item_at p = do
   ty ← type_ref_at name.1
   Ok (record { name = name.0; ty = ty.0 }, ty.1)
 
--- the place after an import of a bundle, whose name is not looked at
+-- the place after a skipped import of a bundle, whose name isn't checked to be UTF-8
 unfoldable pub passed_item_at : Place → Outcome (Unit {0})
 passed_item_at p = do
   name ← skipped_name_at p
   ty ← type_ref_at name.1
   Ok (tt, ty.1)
 
--- an item of an import section: one import and where it begins, imports of one module, or names of imports of one
--- module and one type
+-- an item of an import section: one import and its offset, imports of one module, or names of imports of one module
+-- and one type
 pub data Bundle : Type 0 where
   single : (offset : ℕ) (one : ImportParts) → Bundle
   of_module : (from : List ℕ) (items : Section) → Bundle
@@ -99,7 +99,7 @@ bundle_parts (Single offset one) = single offset (import_parts one)
 bundle_parts (Compact1 from items) = of_module from.now items
 bundle_parts (Compact2 from ty names) = of_type from.now ty names
 
--- the byte that a bundle has, where bundles are taken; else it is a fault, at it
+-- the byte of a bundle; this fault at the byte if bundles aren't accepted
 abbrev pub bundle_byte_at : Fault → Place → Outcome (Unit {0})
 bundle_byte_at fault p =
     if takes_import_bundles p.features then Ok (tt, advanced 1 p) else Err (at_offset fault p.offset)
@@ -125,8 +125,8 @@ single_at start from name p = do
   ty ← type_ref_at p
   Ok (single start (record { from = from; name = name; ty = ty.0 }), ty.1)
 
--- An item of an import section after its two names, by the byte there: a bundle has an empty second name, and a byte
--- that is no external kind.
+-- An item of an import section after its two names, by the next byte: a bundle has an empty second name, and a byte
+-- that isn't an external kind.
 abbrev pub bundle_after_names : (start : ℕ) (from name : List ℕ) → (byte : ℕ) → Place → Outcome Bundle
 bundle_after_names start from name byte =
     if length name == 0

@@ -26,23 +26,23 @@ use Rattle.wasm_items.specs.declared.init.ConstOperator.TheVariants.{ArrayNewFix
 use Rattle.wasm_items.specs.declared.init.ConstOperator.TheVariants.{RefI31}
 use Rattle.wasm_items.specs.declared.types.HeapType.{HeapType}
 
--- What an instruction has after its opcode, one operand after the other, and the operator that it then is.
+-- The operands of an instruction after its opcode, in order, and the operator made of them.
 pub data Operands : Type 0 where
-  -- no more of them
+  -- no more operands
   done : ConstOperator → Operands
   -- a signed number
   signed : NumberKind → (ℤ → Operands) → Operands
   -- a float
   float_32 : (Ieee32 → Operands) → Operands
   float_64 : (Ieee64 → Operands) → Operands
-  -- so many bytes
+  -- raw bytes, by their number
   raw : ℕ → (List ℕ → Operands) → Operands
   -- an index, or another unsigned number of 32 bits
   u32_index : (ℕ → Operands) → Operands
   -- a heap type
   heap : (HeapType → Operands) → Operands
 
--- the operator with the index that comes next
+-- the operator with an index as its only operand
 abbrev pub index : (ℕ → ConstOperator) → Operands
 index operator = u32_index (λ n. done (operator n))
 
@@ -67,7 +67,7 @@ aggregate_operands_of = lookup (
 abbrev pub vector_operands_of : ℕ → Option Operands
 vector_operands_of = lookup ((12, raw 16 (λ bytes. done (V128Const (record { 0 = bytes })))) ∷ [])
 
--- the operator that is after operands
+-- the operator with these operands, read at a place
 abbrev pub operands_at : Operands → Place → Outcome ConstOperator
 operands_at (done operator) p = Ok (operator, p)
 operands_at (signed kind more) p = do
@@ -89,26 +89,26 @@ operands_at (heap more) p = do
   ty ← heap_type_at p
   operands_at (more ty.0) ty.1
 
--- the operator that is after the operands of an instruction, or the fault that it is not constant, where it begins
+-- the operator with the operands of an instruction, or the fault, at its start, that it isn't constant
 abbrev pub constant_operands_at : (start : ℕ) → Option Operands → Place → Outcome ConstOperator
 constant_operands_at start (Some operands) p = operands_at operands p
 constant_operands_at start None p = Err (at_offset NotConstant start)
 
--- the same where a number after the opcode says which instruction it is
+-- like `constant_operands_at`, where a number after the opcode selects the instruction
 abbrev pub numbered_operands_at : (start : ℕ) → (ℕ → Option Operands) → Place → Outcome ConstOperator
 numbered_operands_at start table p = do
   number ← unsigned_at VarU32 p
   constant_operands_at start (table number.0) number.1
 
--- the operator of an instruction, which begins at this offset, by what it has after its opcode
+-- the operator of an instruction that begins at this offset, read after its opcode
 unfoldable pub after_opcode : (start opcode : ℕ) → Place → Outcome ConstOperator
 after_opcode start opcode p =
     if opcode == 0xFB then numbered_operands_at start aggregate_operands_of p
     else if opcode == 0xFD then numbered_operands_at start vector_operands_of p
     else constant_operands_at start (operands_of opcode) p
 
--- The place after so many instructions at most, and the opcode `end`, which is the byte 0x0B. Where the window has no
--- byte left, the next opcode is missing.
+-- The place after at most `most` instructions, the last of which is `end`, the byte 0x0B. At the end of the window, the
+-- next opcode is missing.
 abbrev pub instructions_at : (most : ℕ) → Place → Outcome (Unit {0})
 instructions_at zero p = Err (at_offset UnexpectedEof p.offset)
 instructions_at (suc most) p = do
@@ -116,17 +116,17 @@ instructions_at (suc most) p = do
   if opcode.0 == 0x0B then Ok (tt, opcode.1) else (after_opcode p.offset opcode.0 opcode.1 >>= λ instruction.
       instructions_at most instruction.1)
 
--- the place after an expression: an instruction takes a byte at least, so there are no more of them than bytes
+-- the place after an expression: an instruction has at least one byte, so there are no more instructions than bytes
 unfoldable pub end_of_expression : Place → Outcome (Unit {0})
 end_of_expression p = instructions_at (length p.rest) p
 
--- a constant expression, as the window of its instructions with the end
+-- a constant expression, as the window of its instructions including `end`
 unfoldable pub expression_at : Place → Outcome Window
 expression_at p = do
   end ← end_of_expression p
   Ok (window_between p end.1, end.1)
 
--- An expression is the end, or an instruction and then an expression.
+-- An expression is `end`, or an instruction followed by an expression.
 abbrev pub IsEndOrInstruction : Place → Type 0
 IsEndOrInstruction p = end_of_expression p ≡ (byte_at p >>= λ opcode.
     if opcode.0 == 0x0B then Ok (tt, opcode.1) else (after_opcode p.offset opcode.0 opcode.1 >>= λ instruction.

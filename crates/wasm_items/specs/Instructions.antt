@@ -22,7 +22,7 @@ abbrev pub is_end : ConstOperator → Bool
 is_end End = true
 is_end other = false
 
--- the operator of an instruction, which begins at this offset, by its opcode and what comes after it
+-- the operator of an instruction that begins at this offset, by its opcode and the bytes after it
 abbrev pub operator_at : (start : ℕ) → (opcode : ℕ) → Place → Outcome ConstOperator
 operator_at start opcode p = if opcode == 0x0B then Ok (End, p) else after_opcode start opcode p
 
@@ -33,31 +33,31 @@ instruction_at p = do
   operator ← operator_at p.offset opcode.0 opcode.1
   Ok (record { offset = p.offset; operator = operator.0 }, operator.1)
 
--- an instruction and, unless it is the end, what comes after it; or a fault, after which nothing comes
+-- an instruction and, unless it is `end`, the instructions after it; or a fault, which ends the list
 abbrev pub with_more : (Place → List (Result ConstInstruction FaultAt)) → Outcome ConstInstruction
     → List (Result ConstInstruction FaultAt)
 with_more more (Ok x) = Ok x.0 ∷ (if is_end x.0.operator then [] else more x.1)
 with_more more (Err e) = Err e ∷ []
 
--- the instructions from a place on, so many at most, up to the end or the first fault
+-- at most `most` instructions from a place on, up to `end` or the first fault
 abbrev pub instructions_from : (most : ℕ) → Place → List (Result ConstInstruction FaultAt)
 instructions_from zero p = []
 instructions_from (suc most) p = with_more (λ q. instructions_from most q) (instruction_at p)
 
--- all of them: each takes a byte at least, and one more may be missing
+-- all of them: each has at least one byte, and one more may be missing
 unfoldable pub instructions_in : Place → List (Result ConstInstruction FaultAt)
 instructions_in p = instructions_from (suc (length p.rest)) p
 
--- the instructions that an iterator gives from a place on, if it hasn't given the last
+-- the remaining instructions of an iterator at a place, none if it has ended
 abbrev pub instructions_left : (ended : Bool) → Place → List (Result ConstInstruction FaultAt)
 instructions_left ended p = if ended then [] else instructions_in p
 
--- whether nothing comes after what was read
+-- whether the iterator ends after this result
 abbrev pub is_last : Result ConstInstruction Error → Bool
 is_last (Ok x) = is_end x.operator
 is_last (Err e) = true
 
--- one call of `next`, which takes no memory
+-- one call of `next`, which never returns `OutOfMemory`
 abbrev pub NextInstruction : (before : List (Result ConstInstruction FaultAt)) → Option (Result ConstInstruction Error)
     → (after : List (Result ConstInstruction FaultAt)) → Type 0
 NextInstruction before given after = GivesFirst item_or_fault before given after × IfSome given TakesNoMemory
@@ -73,8 +73,7 @@ Tile p (x ∷ xs) q = (between : Place) × (instruction_at p ≡ Ok (x, between)
 abbrev pub end_of_window : Window → Place
 end_of_window w = record { features = w.features; offset = w.start + length w.bytes; rest = [] }
 
--- What was given are instructions without a fault, of which the last one, and no other, is the end. They tile the
--- window.
+-- The results are instructions without a fault, and only the last one is `end`. They tile the window.
 pub record TileTheirWindow (window : Window) (given : List (Result ConstInstruction FaultAt)) : Type 0 where
   pub first : List ConstInstruction
   pub last : ConstInstruction
@@ -83,7 +82,7 @@ pub record TileTheirWindow (window : Window) (given : List (Result ConstInstruct
   pub only_last : list_any (λ x. is_end x.operator) first ≡ false
   pub is_the_end : last.operator ≡ End
 
--- What calls of `next` give up to the first `None`, from the start of an expression.
+-- What `next` returns up to the first `None`, from the start of an expression.
 abbrev pub GivesItsInstructions : (next : List (Result ConstInstruction FaultAt)
     → Option (Result ConstInstruction Error) → List (Result ConstInstruction FaultAt) → Type 0) → ConstExpr → Type 0
 GivesItsInstructions next expression = (given : List (Result ConstInstruction Error))

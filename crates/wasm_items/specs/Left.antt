@@ -1,4 +1,4 @@
--- What is left of an item of an import section.
+-- The remaining imports of an item of an import section.
 use Rattle.std.specs.Prelude.{ℕ, List, [], ◌∷◌, Some, None, Result, Ok}
 use Rattle.wasm_base.specs.FaultAt.{FaultAt}
 use Rattle.wasm_items.specs.Flattened.{imports_of_items, imports_of_names}
@@ -8,15 +8,15 @@ use Rattle.wasm_items.specs.declared.flattened.Left.{Left}
 use Rattle.wasm_items.specs.declared.flattened.Left.TheVariants.{One, Items, Names}
 use Rattle.wasm_items.specs.declared.flattened.NamesLeft.{NamesLeft}
 
--- the imports that are left of a bundle of one module, each with its offset, up to the first fault
+-- the remaining imports of a bundle of one module, each with its offset, up to the first fault
 abbrev pub items_left : ItemsLeft → List (Result (ℕ × ImportParts) FaultAt)
 items_left bundle = imports_of_items bundle.module.now bundle.items
 
--- the imports that are left of a bundle of one module and one type
+-- the remaining imports of a bundle of one module and one type
 abbrev pub names_left : NamesLeft → List (Result (ℕ × ImportParts) FaultAt)
 names_left bundle = imports_of_names bundle.module.now bundle.ty bundle.names
 
--- the imports that are left of an item of an import section
+-- the remaining imports of an item of an import section
 abbrev pub imports_left : Left → List (Result (ℕ × ImportParts) FaultAt)
 imports_left (One None) = []
 imports_left (One (Some one)) = Ok (one.0, import_parts one.1) ∷ []

@@ -8,7 +8,7 @@ use Rattle.wasm_base.specs.Outcome.{Outcome, ◌>>=◌}
 use Rattle.wasm_base.specs.Window.{Place}
 use Rattle.wasm_base.specs.declared.fault.NumberKind.TheVariants.{VarU32, VarU64}
 
--- whether a maximum is written
+-- whether a maximum is present
 abbrev pub has_maximum : (flags : ℕ) → Bool
 has_maximum flags = has_bit flags 0
 
@@ -20,7 +20,7 @@ is_shared flags = has_bit flags 1
 abbrev pub is_wide : (flags : ℕ) → Bool
 is_wide flags = has_bit flags 2
 
--- whether the size of a memory's pages is written
+-- whether a memory's page size is present
 abbrev pub has_page_size : (flags : ℕ) → Bool
 has_page_size flags = has_bit flags 3
 
@@ -28,13 +28,13 @@ has_page_size flags = has_bit flags 3
 unfoldable pub limit_at : Place → Outcome ℕ
 limit_at p = if takes_wide_limits p.features then unsigned_at VarU64 p else unsigned_at VarU32 p
 
--- a limit that is there
+-- a limit that is present
 abbrev pub some_limit_at : Place → Outcome (Option ℕ)
 some_limit_at p = do
   limit ← limit_at p
   Ok (Some limit.0, limit.1)
 
--- the maximum, if it is there
+-- the maximum, if present
 unfoldable pub maximum_at : (flags : ℕ) → Place → Outcome (Option ℕ)
 maximum_at flags p = if has_maximum flags then some_limit_at p else Ok (None, p)
 

@@ -11,11 +11,11 @@ use Rattle.wasm_base.specs.declared.fault.NumberKind.TheVariants.{VarU32}
 use Rattle.wasm_items.specs.Limits.{is_shared, is_wide, has_page_size, limits_at}
 use Rattle.wasm_items.specs.declared.types.MemoryType.{MemoryType}
 
--- the size of a page as a power of two, below 64; the fault is where the memory type begins
+-- the base-2 logarithm of the page size, below 64; the fault is at the start of the memory type
 abbrev pub small_page_size : (start : ℕ) → ℕ × Place → Outcome (Option ℕ)
 small_page_size start size = if nat_lt size.0 64 then Ok (Some size.0, size.1) else Err (at_offset PageSize start)
 
--- the size of a page, if it is there
+-- the page size, if present
 unfoldable pub page_size_at : (start flags : ℕ) → Place → Outcome (Option ℕ)
 page_size_at start flags p =
     if has_page_size flags then (unsigned_at VarU32 p >>= small_page_size start) else Ok (None, p)

@@ -37,11 +37,11 @@ storage_type_at p = do
       else if first.0 == 0x77 then Ok (I16, advanced 1 p)
       else value_storage_at p
 
--- whether a field can be changed: 0 for one that can't, 1 for one that can
+-- whether a field is mutable: 0 for one that isn't, 1 for one that is
 abbrev pub mutability_at : Place → Outcome Bool
 mutability_at = flag_at Leads.Mutability
 
--- a field: what it holds, and whether it can be changed (Composite Types)
+-- a field: its storage type, and whether it is mutable (Composite Types)
 unfoldable pub field_type_at : Place → Outcome FieldType
 field_type_at p = do
   storage ← storage_type_at p
@@ -89,7 +89,7 @@ structures_at p = do
   fields ← list_at field_type_at p
   Ok (structures fields.0, fields.1)
 
--- A composite type: 0x60 for functions, 0x5F for structures, 0x5E for arrays. Another first byte is a fault, at it
+-- A composite type: 0x60 for functions, 0x5F for structures, 0x5E for arrays. Any other first byte is a fault at it
 -- (Composite Types).
 unfoldable pub composite_type_at : Place → Outcome CompositeParts
 composite_type_at p = do
@@ -116,13 +116,13 @@ one_supertype_at p = do
   index ← unsigned_at VarU32 p
   Ok (Some index.0, index.1)
 
--- no supertype or one, by their count; more are a fault, at the count
+-- no supertype or one, by their count; more are a fault at the count
 abbrev pub supertypes_after : (count offset : ℕ) → Place → Outcome (Option ℕ)
 supertypes_after zero offset p = Ok (None, p)
 supertypes_after (suc zero) offset p = one_supertype_at p
 supertypes_after (suc (suc n)) offset p = Err (at_offset Supertypes offset)
 
--- the list of the types that a type extends, of which there is one at most
+-- the list of the types that a type extends, at most one
 unfoldable pub supertypes_at : Place → Outcome (Option ℕ)
 supertypes_at p = do
   count ← unsigned_at VarU32 p
@@ -141,7 +141,7 @@ plain_subtype_at p = do
   composite ← composite_type_at p
   Ok (record { final = true; supertype = None; composite = composite.0 }, composite.1)
 
--- a subtype: 0x50 or, where it is final, 0x4F, and its parts; or a composite type alone (Recursive Types)
+-- a subtype: 0x50, or 0x4F if it is final, and its parts; or a composite type alone (Recursive Types)
 unfoldable pub subtype_at : Place → Outcome SubtypeParts
 subtype_at p = do
   first ← peeked_byte_at p
@@ -157,7 +157,7 @@ pub record RecGroupParts : Type 0 where
 abbrev pub rec_group_parts : RecGroup → RecGroupParts
 rec_group_parts group = record { explicit = group.explicit; types = map subtype_parts group.types.items }
 
--- the types of a group that is written as one
+-- the types of an explicit group
 abbrev pub whole_group_at : Place → Outcome RecGroupParts
 whole_group_at p = do
   types ← list_at subtype_at p

@@ -36,7 +36,7 @@ table_type_at p = do
   flags ← byte_at element.1
   if nat_lt 7 flags.0 then Err (at_offset TableFlags element.1.offset) else table_after_flags element.0 flags.0 flags.1
 
--- a table whose elements are null at first
+-- a table whose elements are initially null
 abbrev pub null_table_at : Place → Outcome Table
 null_table_at p = do
   ty ← table_type_at p

@@ -16,7 +16,7 @@ use Rattle.wasm_items.specs.declared.types.RefType.{RefType}
 use Rattle.wasm_items.specs.declared.types.ValType.{ValType}
 use Rattle.wasm_items.specs.declared.types.ValType.TheVariants as Values
 
--- the abstract heap type that each byte is (Heap Types)
+-- the abstract heap type that each byte encodes (Heap Types)
 abbrev pub abstract_heap_of : ℕ → Option HeapType
 abstract_heap_of = lookup (
     (0x69, Heaps.Exn) ∷ (0x6A, Heaps.Array) ∷ (0x6B, Heaps.Struct) ∷ (0x6C, Heaps.I31) ∷ (0x6D, Heaps.Eq)
@@ -29,7 +29,7 @@ abbrev pub type_index : (first start : ℕ) → ℤ × Place → Outcome HeapTyp
 type_index first start (pos index, after) = Ok (Heaps.Concrete index, after)
 type_index first start (negsuc n, after) = Err (leading_byte Leads.Heap first start)
 
--- a heap type whose first byte is this, by the abstract heap type that the byte is
+-- a heap type with this first byte, by the abstract heap type that the byte encodes
 abbrev pub heap_type_from : (first : ℕ) → Place → Option HeapType → Outcome HeapType
 heap_type_from first p (Some heap) = Ok (heap, advanced 1 p)
 heap_type_from first p None = do
@@ -48,7 +48,7 @@ reference_to nullable p = do
   heap ← heap_type_at p
   Ok (record { nullable = nullable; heap = heap.0 }, heap.1)
 
--- a reference type after its first byte, by the abstract heap type that the byte is, or the fault that it is none
+-- a reference type after its first byte, by the abstract heap type that the byte encodes, or else this fault
 abbrev pub ref_type_after : FaultAt → ℕ × Place → Option HeapType → Outcome RefType
 ref_type_after fault first (Some heap) = Ok (record { nullable = true; heap = heap }, first.1)
 ref_type_after fault first None =
@@ -56,7 +56,7 @@ ref_type_after fault first None =
     else if first.0 == 0x64 then reference_to false first.1
     else Err fault
 
--- a reference type, where another first byte is a fault of what is to be read
+-- a reference type; any other first byte is a fault with this `lead`
 unfoldable pub ref_type_in : Lead → Place → Outcome RefType
 ref_type_in lead p = do
   first ← byte_at p
@@ -66,12 +66,12 @@ ref_type_in lead p = do
 abbrev pub ref_type_at : Place → Outcome RefType
 ref_type_at = ref_type_in Leads.Reference
 
--- the number type or vector type that each byte is (Number Types, Vector Types)
+-- the number type or vector type that each byte encodes (Number Types, Vector Types)
 abbrev pub plain_type_of : ℕ → Option ValType
 plain_type_of = lookup (
     (0x7F, Values.I32) ∷ (0x7E, Values.I64) ∷ (0x7D, Values.F32) ∷ (0x7C, Values.F64) ∷ (0x7B, Values.V128) ∷ [])
 
--- a value type, by the number type or vector type that its first byte is
+-- a value type, by the number type or vector type that its first byte encodes
 abbrev pub val_type_from : Place → Option ValType → Outcome ValType
 val_type_from p (Some plain) = Ok (plain, advanced 1 p)
 val_type_from p None = do

@@ -5,14 +5,14 @@ use Rattle.wasm_items.specs.declared.code.FunctionBody.{FunctionBody}
 use Rattle.wasm_items.specs.declared.init.ConstExpr.{ConstExpr}
 use Rattle.wasm_items.specs.declared.init.V128.{V128}
 
--- the window that a body is
+-- the window of a body
 abbrev pub body_window : FunctionBody → Window
 body_window body = body.reader
 
--- the window that a constant expression is
+-- the window of a constant expression
 abbrev pub expression_window : ConstExpr → Window
 expression_window expression = expression.reader
 
--- the bytes that a vector is
+-- the bytes of a vector
 abbrev pub bytes_of_vector : V128 → List ℕ
 bytes_of_vector vector = vector.0

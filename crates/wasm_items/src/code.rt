@@ -16,21 +16,21 @@ impl<'a> FunctionBody<'a> {
     ghost use Rattle.wasm_base.specs.Window.{range_of};
     ghost use Rattle.wasm_items.specs.Windows.{body_window};
 
-    /// The body in a reader's window. No byte of it is looked at.
+    /// Creates the body from a reader's window, without reading any of it.
     pub fn new(reader: BinaryReader<'a>) -> Self
         ensures { body_window result ≡ reader.entry }
     {
         FunctionBody { reader }
     }
 
-    /// The reader that the body was made of, where it was then.
+    /// Returns the reader that the body was created from, at its original position.
     pub fn get_binary_reader(&self) -> BinaryReader<'a>
         ensures { result ≡ body_window self.now }
     {
         self.reader.clone().unwrap()
     }
 
-    /// The offsets of the body, in bytes from the start of the whole stream.
+    /// Returns the offsets of the body, in bytes from the start of the whole stream.
     pub fn range(&self) -> Range<u64>
         ensures { result ≡ range_of (body_window self.now) }
     {

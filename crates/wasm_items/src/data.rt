@@ -16,7 +16,7 @@ pub type DataSectionReader<'a> = SectionLimited<'a, Data<'a>>;
 /// A data segment (core specification, Binary format, Modules, Data Section).
 #[derive(Clone, Debug, Drop)]
 pub struct Data<'a> {
-    /// What becomes of it.
+    /// Its kind: passive or active.
     pub kind: DataKind<'a>,
     /// Its bytes.
     pub bytes: &'a [u8],
@@ -24,21 +24,21 @@ pub struct Data<'a> {
     pub range: Range<u64>,
 }
 
-/// What becomes of a data segment (core specification, Binary format, Modules, Data Section).
+/// The kind of a data segment (core specification, Binary format, Modules, Data Section).
 #[derive(Clone, Debug, Drop)]
 pub enum DataKind<'a> {
-    /// Instructions copy it to memories.
+    /// Copied to memories by instructions.
     Passive,
-    /// It is copied to a memory at first.
+    /// Copied to a memory at instantiation.
     Active {
         /// The memory's index.
         memory_index: u32,
-        /// The address in the memory of the first byte.
+        /// The address of its first byte in the memory.
         offset_expr: ConstExpr<'a>,
     },
 }
 
-// An active segment, after its memory's index.
+// Reads an active segment after its memory index.
 fn read_active<'a>(memory_index: u32, reader: &mut BinaryReader<'a>) -> Result<DataKind<'a>>
     ensures gives { GivesBy (λ kind. kind) result reader.old reader.new (active_data_at memory_index) }
     ensures keeps { KeepsWindow reader.old reader.new }
@@ -51,7 +51,7 @@ fn read_active<'a>(memory_index: u32, reader: &mut BinaryReader<'a>) -> Result<D
     })
 }
 
-// What becomes of a segment, by its flags.
+// Reads the flags of a segment, and its kind.
 #[tactic(auto, unfolding(crate::specs::Data::data_kind_at))]
 fn read_kind<'a>(reader: &mut BinaryReader<'a>) -> Result<DataKind<'a>>
     ensures gives { GivesBy (λ kind. kind) result reader.old reader.new data_kind_at }
@@ -70,8 +70,8 @@ fn read_kind<'a>(reader: &mut BinaryReader<'a>) -> Result<DataKind<'a>>
     }
 }
 
-/// Flags, a u32: 0 and the expression of an offset in memory 0, 1 for a passive segment, or 2, a memory's index and an
-/// expression; then a size and so many bytes. Other flags are `DataFlags` at the segment's start.
+/// Flags, a u32: 0 and an offset expression for memory 0, 1 for a passive segment, or 2, a memory index and an offset
+/// expression; then a size and as many bytes. Other flags are `DataFlags` at the start of the segment.
 impl<'a> FromReader<'a> for Data<'a> {
     ghost use Rattle.wasm_items.specs.Data.{data_parts, data_at};
 

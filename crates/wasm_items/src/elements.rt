@@ -21,7 +21,7 @@ pub type ElementSectionReader<'a> = SectionLimited<'a, Element<'a>>;
 /// An element segment (core specification, Binary format, Modules, Element Section).
 #[derive(Clone, Drop)]
 pub struct Element<'a> {
-    /// What becomes of it.
+    /// Its kind: passive, active or declared.
     pub kind: ElementKind<'a>,
     /// Its elements.
     pub items: ElementItems<'a>,
@@ -29,19 +29,19 @@ pub struct Element<'a> {
     pub range: Range<u64>,
 }
 
-/// What becomes of an element segment (core specification, Binary format, Modules, Element Section).
+/// The kind of an element segment (core specification, Binary format, Modules, Element Section).
 #[derive(Clone, Drop)]
 pub enum ElementKind<'a> {
-    /// Instructions copy it to tables.
+    /// Copied to tables by instructions.
     Passive,
-    /// It is copied to a table at first.
+    /// Copied to a table at instantiation.
     Active {
-        /// The table's index, where it is written. Without one it is table 0.
+        /// The table's index, if present; without one it is table 0.
         table_index: Option<u32>,
-        /// The place in the table of the first element.
+        /// The index of its first element in the table.
         offset_expr: ConstExpr<'a>,
     },
-    /// It only declares functions that are referred to.
+    /// Only declares functions that are referred to.
     Declared,
 }
 
@@ -54,16 +54,16 @@ pub enum ElementItems<'a> {
     Expressions(RefType, SectionLimited<'a, ConstExpr<'a>>),
 }
 
-// The flag of a segment that is passive or declared, and not active.
+// The flag of a passive or declared segment.
 const IS_NOT_ACTIVE: u8 = 1;
 
-// The flag of an active segment whose table's index is written, or of one that is declared and not passive.
+// The flag of an active segment with a table index, or of a declared segment.
 const IS_INDEXED_OR_DECLARED: u8 = 2;
 
-// The flag of elements that are expressions, and not indices of functions.
+// The flag of elements that are expressions rather than function indices.
 const HAS_EXPRESSIONS: u8 = 4;
 
-// The flags of a segment.
+// Reads the flags of a segment.
 #[tactic(auto, unfolding(crate::specs::Elements::element_flags_at))]
 fn read_flags(reader: &mut BinaryReader<'_>) -> Result<u8>
     ensures gives { GivesBy (λ flags. flags) result reader.old reader.new element_flags_at }
@@ -77,7 +77,7 @@ fn read_flags(reader: &mut BinaryReader<'_>) -> Result<u8>
     Ok(flags as u8)
 }
 
-// An active segment, after its table's index.
+// Reads an active segment after its table index.
 fn read_active<'a>(
     table_index: Option<u32>,
     reader: &mut BinaryReader<'a>,
@@ -93,7 +93,7 @@ fn read_active<'a>(
     })
 }
 
-// What becomes of a segment with these flags.
+// Reads the kind of a segment with these flags.
 #[tactic(auto, unfolding(crate::specs::Elements::element_kind_at))]
 fn read_kind<'a>(flags: u8, reader: &mut BinaryReader<'a>) -> Result<ElementKind<'a>>
     ensures gives { GivesBy (λ kind. kind) result reader.old reader.new (element_kind_at flags) }
@@ -113,14 +113,14 @@ fn read_kind<'a>(flags: u8, reader: &mut BinaryReader<'a>) -> Result<ElementKind
     read_active(None, reader)
 }
 
-// Whether the kind or the type of the elements is written.
+// Whether the kind or the type of the elements is present.
 fn is_typed(flags: u8) -> bool
     ensures { result ≡ is_typed flags }
 {
     has_flag(flags, IS_NOT_ACTIVE) || has_flag(flags, IS_INDEXED_OR_DECLARED)
 }
 
-// Passes over the kind of the elements, where it is written.
+// Skips the kind of the elements, if present.
 #[tactic(auto, unfolding(crate::specs::Elements::element_kind_passed_at))]
 fn pass_kind(flags: u8, reader: &mut BinaryReader<'_>) -> Result<()>
     ensures gives { GivesBy (λ nothing. nothing) result reader.old reader.new (after_element_kind flags) }
@@ -137,7 +137,7 @@ fn pass_kind(flags: u8, reader: &mut BinaryReader<'_>) -> Result<()>
     }
 }
 
-// Elements that are functions.
+// Reads elements that are function indices.
 #[tactic(auto, unfolding(crate::specs::Elements::function_elements_at))]
 fn read_functions<'a>(flags: u8, reader: &mut BinaryReader<'a>) -> Result<ElementItems<'a>>
     ensures gives { GivesBy (λ items. items) result reader.old reader.new (function_elements_at flags) }
@@ -148,7 +148,7 @@ fn read_functions<'a>(flags: u8, reader: &mut BinaryReader<'a>) -> Result<Elemen
     Ok(ElementItems::Functions(read_inner_u32s(reader)?))
 }
 
-// The type of the elements, where it is written.
+// Reads the type of the elements, if present; without one it is `funcref`.
 fn read_type(flags: u8, reader: &mut BinaryReader<'_>) -> Result<RefType>
     ensures gives { GivesBy (λ ty. ty) result reader.old reader.new (element_type_at flags) }
     ensures keeps { KeepsWindow reader.old reader.new }
@@ -161,7 +161,7 @@ fn read_type(flags: u8, reader: &mut BinaryReader<'_>) -> Result<RefType>
     }
 }
 
-// Elements that are expressions.
+// Reads elements that are expressions.
 #[tactic(auto, unfolding(crate::specs::Elements::expression_elements_at))]
 fn read_typed<'a>(flags: u8, reader: &mut BinaryReader<'a>) -> Result<ElementItems<'a>>
     ensures gives { GivesBy (λ items. items) result reader.old reader.new (expression_elements_at flags) }
@@ -172,7 +172,7 @@ fn read_typed<'a>(flags: u8, reader: &mut BinaryReader<'a>) -> Result<ElementIte
     Ok(ElementItems::Expressions(ty, read_inner(reader)?))
 }
 
-// The elements of a segment with these flags.
+// Reads the elements of a segment with these flags.
 fn read_items<'a>(flags: u8, reader: &mut BinaryReader<'a>) -> Result<ElementItems<'a>>
     ensures gives { GivesBy (λ items. items) result reader.old reader.new (elements_at flags) }
     ensures keeps { KeepsWindow reader.old reader.new }
@@ -184,11 +184,11 @@ fn read_items<'a>(flags: u8, reader: &mut BinaryReader<'a>) -> Result<ElementIte
     read_functions(flags, reader)
 }
 
-/// Flags, a u32 below 8; a table's index and the expression of an offset, as the flags say; the kind or the type of the
-/// elements, where it is written; then a list of functions or of expressions.
+/// Flags, a u32 below 8; a table index and an offset expression, as the flags say; the kind or the type of the elements,
+/// if present; then a list of function indices or of expressions.
 ///
-/// Larger flags are `ElementFlags` at their last byte, another kind than that of functions is `ElementFunctionOnly` at
-/// it. The elements are passed over, with their own faults: those of an element that was read have none.
+/// Larger flags are `ElementFlags` at their last byte; any other kind than that of functions is `ElementFunctionOnly` at the
+/// kind. The elements are skipped and their errors returned, so those of a segment that was read have none.
 impl<'a> FromReader<'a> for Element<'a> {
     ghost use Rattle.wasm_items.specs.Elements.{element_at};
 

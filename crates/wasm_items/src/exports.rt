@@ -33,11 +33,11 @@ pub struct Export<'a> {
     pub name: &'a str,
     /// What it is.
     pub kind: ExternalKind,
-    /// Its index among those of its kind.
+    /// Its index in the index space of its kind.
     pub index: u32,
 }
 
-/// A byte. One that is no kind is `LeadingByte(External)` at it, with the byte as its number.
+/// A byte. One that isn't a kind is `LeadingByte(External)` at it, with the byte as its number.
 impl<'a> FromReader<'a> for ExternalKind {
     ghost use Rattle.wasm_items.specs.Externals.{kind_at};
 
@@ -60,7 +60,7 @@ impl<'a> FromReader<'a> for ExternalKind {
     }
 }
 
-/// A name, a kind and an index, a u32. A kind of exact functions is `ExactExport`, after it.
+/// A name, a kind and an index, a u32. The kind of exact functions is `ExactExport` at the offset after the kind.
 impl<'a> FromReader<'a> for Export<'a> {
     ghost use Rattle.wasm_items.specs.Exports.{export_parts, export_at};
 

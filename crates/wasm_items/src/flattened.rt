@@ -11,7 +11,7 @@ use crate::imports::{Import, ImportItemCompact, ImportSectionReader, Imports, Ty
 use std::marker::Model;
 use wasm_base::{Result, SectionLimitedIntoIter, SectionLimitedIntoIterWithOffsets};
 
-// What is left of a bundle of imports from one module.
+// The remaining imports of a bundle of one module.
 #[derive(Drop)]
 struct ItemsLeft<'a> {
     module: &'a str,
@@ -34,7 +34,7 @@ impl<'a> ItemsLeft<'a> {
     }
 }
 
-// What is left of a bundle of imports from one module and of one type.
+// The remaining imports of a bundle of one module and one type.
 #[derive(Drop)]
 struct NamesLeft<'a> {
     module: &'a str,
@@ -56,7 +56,7 @@ impl<'a> NamesLeft<'a> {
     }
 }
 
-// What is left of an item of an import section.
+// The remaining imports of an item of an import section.
 #[derive(Drop)]
 enum Left<'a> {
     One(Option<(u64, Import<'a>)>),
@@ -64,11 +64,10 @@ enum Left<'a> {
     Names(NamesLeft<'a>),
 }
 
-/// The imports of an item of an import section, each with its offset in the whole stream: of a single import that of the
-/// item, of an import in a bundle its own.
+/// An iterator over the imports of an item of an import section, each with its offset in the whole stream: that of the item
+/// for a single import, its own for an import in a bundle.
 ///
-/// They come up to the first fault. Where all were read and bytes of the bundle are left, one `SizeMismatch` follows, at the
-/// first of them.
+/// It ends after the first error. Trailing bytes after the last import of a bundle are one `SizeMismatch` at the first of them.
 #[derive(Drop)]
 pub struct ImportsIter<'a> {
     left: Left<'a>,
@@ -102,7 +101,7 @@ impl<'a> Iterator for ImportsIter<'a> {
 }
 
 impl<'a> ImportsIter<'a> {
-    // Gives the imports of a bundle from now on.
+    // Continues with the imports of this bundle.
     fn start(&mut self, bundle: Imports<'a>)
         ensures { self.new ≡ bundle_imports (bundle_parts bundle.entry) }
     {
@@ -134,7 +133,7 @@ impl<'a> IntoIterator for Imports<'a> {
     }
 }
 
-// The next import of an import section: the next one of the bundle at hand, or the first one of a bundle after it.
+// Returns the next import of an import section: the next one of the current bundle, or the first one of a later bundle.
 fn next_import<'a>(
     bundle: &mut ImportsIter<'a>,
     bundles: &mut SectionLimitedIntoIter<'a, Imports<'a>>,
@@ -155,11 +154,10 @@ fn next_import<'a>(
     }
 }
 
-/// The imports of an import section one by one, each with its offset in the whole stream: of a single import where it
-/// begins, of an import in a bundle its own.
+/// An iterator over the imports of an import section, single or in bundles, each with its own offset in the whole stream.
 ///
-/// After a fault inside a bundle the next bundle follows. After the fault of an item of the section itself nothing
-/// comes; bytes after the last one are a `SizeMismatch`.
+/// After an error inside a bundle, the next bundle follows. After an error in an item of the section itself, the iterator
+/// ends. Trailing bytes after the last item are a `SizeMismatch`.
 #[derive(Drop)]
 pub struct IntoImportsWithOffsets<'a> {
     bundle: ImportsIter<'a>,
@@ -189,7 +187,7 @@ impl<'a> Iterator for IntoImportsWithOffsets<'a> {
     }
 }
 
-/// The imports of an import section one by one, as those of `IntoImportsWithOffsets`.
+/// An iterator over the imports of an import section, like `IntoImportsWithOffsets` without the offsets.
 #[derive(Drop)]
 pub struct IntoImports<'a> {
     imports: IntoImportsWithOffsets<'a>,
@@ -222,7 +220,7 @@ impl<'a> Iterator for IntoImports<'a> {
     }
 }
 
-/// What an import section can do beside other sections: give its imports one by one, whatever bundles they are in.
+/// Extends import sections with iterators over their imports, whether single or in bundles.
 ///
 /// ```text
 /// for import in section.into_imports() {
@@ -230,10 +228,10 @@ impl<'a> Iterator for IntoImports<'a> {
 /// }
 /// ```
 pub trait ImportSection<'a> {
-    /// The imports in order.
+    /// Returns an iterator over the imports, in order.
     fn into_imports(self) -> IntoImports<'a>;
 
-    /// The imports in order, each with its offset in the whole stream.
+    /// Returns an iterator over the imports, in order, each with its offset in the whole stream.
     fn into_imports_with_offsets(self) -> IntoImportsWithOffsets<'a>;
 }
 

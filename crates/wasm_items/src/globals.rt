@@ -15,14 +15,14 @@ pub type GlobalSectionReader<'a> = SectionLimited<'a, Global<'a>>;
 pub struct Global<'a> {
     /// Its type.
     pub ty: GlobalType,
-    /// The expression of its first value.
+    /// The expression of its initial value.
     pub init_expr: ConstExpr<'a>,
 }
 
-// The flag of a global that can be changed.
+// The flag of a mutable global.
 const IS_MUTABLE: u8 = 1;
 
-/// The type of the value, and flags. Flags above 3 are `GlobalFlags` at them.
+/// The type of the value, and flags. Flags above 3 are `GlobalFlags` at the flags.
 impl<'a> FromReader<'a> for GlobalType {
     ghost use Rattle.wasm_items.specs.Globals.{global_type_at};
 

@@ -40,7 +40,7 @@ pub enum TypeRef {
 pub struct Import<'a> {
     /// The module that it comes from.
     pub module: &'a str,
-    /// Its name there.
+    /// Its name in that module.
     pub name: &'a str,
     /// What it is.
     pub ty: TypeRef,
@@ -61,7 +61,7 @@ pub struct ImportItemCompact<'a> {
 /// of the proposal for compact imports.
 #[derive(Clone, Debug, Drop)]
 pub enum Imports<'a> {
-    /// One import, and the offset at which it begins, in bytes from the start of the whole stream.
+    /// One import, and its offset in bytes from the start of the whole stream.
     Single(u64, Import<'a>),
     /// Imports of one module.
     Compact1 {
@@ -81,7 +81,7 @@ pub enum Imports<'a> {
     },
 }
 
-/// A kind, and the type of it: of a function the index of its type, a u32.
+/// A kind, and its type: for a function a type index, a u32.
 impl<'a> FromReader<'a> for TypeRef {
     ghost use Rattle.wasm_items.specs.Imports.{type_ref_at};
 
@@ -100,7 +100,7 @@ impl<'a> FromReader<'a> for TypeRef {
     }
 }
 
-/// The name of a module, a name in it, and what it is.
+/// The name of a module, a name in it, and the type of the import.
 impl<'a> FromReader<'a> for Import<'a> {
     ghost use Rattle.wasm_items.specs.Imports.{import_parts, import_at};
 
@@ -115,7 +115,7 @@ impl<'a> FromReader<'a> for Import<'a> {
     }
 }
 
-/// A name, and what it is.
+/// A name, and the type of the import.
 impl<'a> FromReader<'a> for ImportItemCompact<'a> {
     ghost use Rattle.wasm_items.specs.Imports.{item_parts, item_at};
 
@@ -129,7 +129,7 @@ impl<'a> FromReader<'a> for ImportItemCompact<'a> {
     }
 }
 
-/// Its name is passed over whether or not it is UTF-8, which is seen when it is read.
+/// Skipping doesn't check that the name is UTF-8; reading does.
 impl<'a> SkipItem<'a> for ImportItemCompact<'a> {
     ghost use Rattle.wasm_items.specs.Imports.{passed_item_at};
 
@@ -143,14 +143,14 @@ impl<'a> SkipItem<'a> for ImportItemCompact<'a> {
     }
 }
 
-// Whether a reader takes bundles.
+// Whether a reader accepts bundles.
 fn takes_bundles(reader: &BinaryReader<'_>) -> bool
     ensures { result ≡ takes_import_bundles reader.now.features }
 {
     reader.features().contains(WasmFeatures::COMPACT_IMPORTS)
 }
 
-// Passes over the byte of a bundle. Where bundles aren't taken, this is the fault at it.
+// Skips the byte of a bundle. If bundles aren't accepted, returns this fault at the byte.
 fn pass_bundle_byte(fault: Fault, reader: &mut BinaryReader<'_>) -> Result<()>
     requires byte { 0 < length (place reader.old).rest }
     requires other { is_out_of_memory fault ≡ false }
@@ -165,7 +165,7 @@ fn pass_bundle_byte(fault: Fault, reader: &mut BinaryReader<'_>) -> Result<()>
     Ok(())
 }
 
-// Imports of one module.
+// Reads a bundle of imports of one module.
 #[tactic(auto, unfolding(crate::specs::Imports::module_bundle_at))]
 fn read_module_bundle<'a>(module: &'a str, reader: &mut BinaryReader<'a>) -> Result<Imports<'a>>
     requires { 0 < length (place reader.old).rest }
@@ -178,7 +178,7 @@ fn read_module_bundle<'a>(module: &'a str, reader: &mut BinaryReader<'a>) -> Res
     Ok(Imports::Compact1 { module, items })
 }
 
-// Imports of one module and one type.
+// Reads a bundle of imports of one module and one type.
 #[tactic(auto, unfolding(crate::specs::Imports::type_bundle_at))]
 fn read_type_bundle<'a>(module: &'a str, reader: &mut BinaryReader<'a>) -> Result<Imports<'a>>
     requires { 0 < length (place reader.old).rest }
@@ -192,7 +192,7 @@ fn read_type_bundle<'a>(module: &'a str, reader: &mut BinaryReader<'a>) -> Resul
     Ok(Imports::Compact2 { module, ty, names })
 }
 
-// One import, after its names.
+// Reads a single import after its names.
 #[tactic(auto, unfolding(crate::specs::Imports::single_at))]
 fn read_single<'a>(
     start: u64,
@@ -209,11 +209,11 @@ fn read_single<'a>(
     Ok(Imports::Single(start, Import { module, name, ty }))
 }
 
-/// The name of a module and a name in it, and what is imported; or, where the second name is empty, the byte 0x7F or 0x7E and
+/// The name of a module, a name in it, and the type of the import; or, if the second name is empty, the byte 0x7F or 0x7E and
 /// a bundle.
 ///
-/// Without the feature `COMPACT_IMPORTS` the byte is `Compact7F` or `Compact7E`, at it. The items of a bundle are passed
-/// over, with the faults of a skipped name and of a type; that their names are UTF-8 is seen when they are read.
+/// Without the feature `COMPACT_IMPORTS`, this byte is `Compact7F` or `Compact7E` at it. The items of a bundle are skipped,
+/// with the errors of a skipped name and of a type; reading them checks that their names are UTF-8.
 impl<'a> FromReader<'a> for Imports<'a> {
     ghost use Rattle.wasm_items.specs.Imports.{bundle_parts, bundle_at};
 

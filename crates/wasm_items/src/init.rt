@@ -14,7 +14,7 @@ use wasm_base::{
     BinaryReader, Error, Fault, FromReader, Ieee32, Ieee64, Result, SkipItem, passed_since,
 };
 
-/// The window of a constant expression, its end instruction included (core specification, Binary format, Instructions,
+/// The window of a constant expression, including its `end` instruction (core specification, Binary format, Instructions,
 /// Expressions).
 #[derive(Clone, Debug, Drop)]
 pub struct ConstExpr<'a> {
@@ -24,21 +24,21 @@ pub struct ConstExpr<'a> {
 impl<'a> ConstExpr<'a> {
     ghost use Rattle.wasm_items.specs.Windows.{expression_window};
 
-    /// The expression in a reader's window. No instruction is looked at.
+    /// Creates the expression from a reader's window, without reading any of it.
     pub fn new(reader: BinaryReader<'a>) -> Self
         ensures { expression_window result ≡ reader.entry }
     {
         ConstExpr { reader }
     }
 
-    /// The reader that the expression was made of, where it was then.
+    /// Returns the reader that the expression was created from, at its original position.
     pub fn get_binary_reader(&self) -> BinaryReader<'a>
         ensures { result ≡ expression_window self.now }
     {
         self.reader.clone().unwrap()
     }
 
-    /// The offsets of the expression, in bytes from the start of the whole stream.
+    /// Returns the offsets of the expression, in bytes from the start of the whole stream.
     pub fn range(&self) -> Range<u64>
         ensures { result ≡ range_of (expression_window self.now) }
     {
@@ -51,7 +51,7 @@ impl<'a> ConstExpr<'a> {
 pub struct V128(pub(crate) [u8; 16]);
 
 impl V128 {
-    /// Its bytes, the lowest first.
+    /// Returns its bytes in little-endian order.
     pub fn bytes(&self) -> &[u8; 16]
         ensures { result.now ≡ bytes_of_vector self.now }
     {
@@ -72,12 +72,12 @@ pub enum ConstOperator {
     },
     /// `i32.const`: an integer of 32 bits.
     I32Const {
-        /// The integer, with a sign.
+        /// The signed integer.
         value: i32,
     },
     /// `i64.const`: an integer of 64 bits.
     I64Const {
-        /// The integer, with a sign.
+        /// The signed integer.
         value: i64,
     },
     /// `f32.const`: a float of 32 bits.
@@ -107,7 +107,7 @@ pub enum ConstOperator {
     I64Sub,
     /// `i64.mul`: a product of 64 bits.
     I64Mul,
-    /// `ref.null`: a reference to nothing.
+    /// `ref.null`: a null reference.
     RefNull {
         /// What it would refer to.
         hty: HeapType,
@@ -117,7 +117,7 @@ pub enum ConstOperator {
         /// The index of the function.
         function_index: u32,
     },
-    /// `struct.new`: a structure of the values before it.
+    /// `struct.new`: a structure of values taken from the stack.
     StructNew {
         /// The index of its type.
         struct_type_index: u32,
@@ -127,21 +127,21 @@ pub enum ConstOperator {
         /// The index of its type.
         struct_type_index: u32,
     },
-    /// `array.new`: an array of as many copies of a value as the number before it says.
+    /// `array.new`: an array of *n* copies of a value; both are taken from the stack.
     ArrayNew {
         /// The index of its type.
         array_type_index: u32,
     },
-    /// `array.new_default`: an array of as many default values as the number before it says.
+    /// `array.new_default`: an array of *n* default values; *n* is taken from the stack.
     ArrayNewDefault {
         /// The index of its type.
         array_type_index: u32,
     },
-    /// `array.new_fixed`: an array of the values before it.
+    /// `array.new_fixed`: an array of values taken from the stack.
     ArrayNewFixed {
         /// The index of its type.
         array_type_index: u32,
-        /// How many values.
+        /// The number of values.
         array_size: u32,
     },
     /// `any.convert_extern`: a value of the host as one of the module.
@@ -152,7 +152,7 @@ pub enum ConstOperator {
     RefI31,
 }
 
-// Reads so many bytes as a vector has.
+// Reads the 16 bytes of a vector.
 fn read_vector(reader: &mut BinaryReader<'_>) -> Result<V128>
     ensures gives { GivesBy bytes_of_vector result reader.old reader.new (bytes_at 16) }
     ensures keeps { KeepsWindow reader.old reader.new }
@@ -163,7 +163,7 @@ fn read_vector(reader: &mut BinaryReader<'_>) -> Result<V128>
     Ok(V128(bytes))
 }
 
-/// Reads what an instruction, which begins at this offset, has after its opcode.
+/// Reads the operator of an instruction that begins at this offset, after its opcode.
 #[tactic(auto, unfolding(crate::specs::Init::after_opcode))]
 pub(crate) fn read_operands(
     start: u64,
@@ -209,7 +209,7 @@ pub(crate) fn read_operands(
     }
 }
 
-// The same where the opcode is that of structures, arrays and references, and a number follows.
+// Like `read_operands`, after the opcode 0xFB of structures, arrays and references, which a number follows.
 fn read_aggregate(start: u64, reader: &mut BinaryReader<'_>) -> Result<ConstOperator>
     ensures gives { GivesBy (λ operator. operator) result reader.old reader.new
         (numbered_operands_at start aggregate_operands_of) }
@@ -240,7 +240,7 @@ fn read_aggregate(start: u64, reader: &mut BinaryReader<'_>) -> Result<ConstOper
     }
 }
 
-// The same where the opcode is that of vectors, and a number follows.
+// Like `read_operands`, after the opcode 0xFD of vectors, which a number follows.
 fn read_vector_constant(start: u64, reader: &mut BinaryReader<'_>) -> Result<ConstOperator>
     ensures gives { GivesBy (λ operator. operator) result reader.old reader.new
         (numbered_operands_at start vector_operands_of) }
@@ -255,7 +255,7 @@ fn read_vector_constant(start: u64, reader: &mut BinaryReader<'_>) -> Result<Con
     })
 }
 
-/// Passes over instructions up to the end, which is passed too.
+/// Skips instructions up to and including `end`.
 fn pass_expression(reader: &mut BinaryReader<'_>) -> Result<()>
     ensures gives { GivesBy (λ nothing. nothing) result reader.old reader.new end_of_expression }
     ensures keeps { KeepsWindow reader.old reader.new }
@@ -271,7 +271,7 @@ fn pass_expression(reader: &mut BinaryReader<'_>) -> Result<()>
     }
 }
 
-/// Constant instructions up to the end, as their window. Another instruction is `NotConstant` at its first byte.
+/// Constant instructions up to and including `end`, as their window. Any other instruction is `NotConstant` at its first byte.
 impl<'a> FromReader<'a> for ConstExpr<'a> {
     ghost use Rattle.wasm_items.specs.Init.{expression_at};
     ghost use Rattle.wasm_items.specs.Windows.{expression_window};

@@ -20,10 +20,10 @@ pub struct ConstInstruction {
     pub operator: ConstOperator,
 }
 
-/// The instructions of a constant expression in order, the end among them, up to it or the first fault.
+/// An iterator over the instructions of a constant expression, up to and including `end` or the first error.
 ///
-/// Those of an expression that was read have no fault. One that was made of other bytes ends at the first `NotConstant`, at
-/// the offset of that instruction, or at another fault of an operand; bytes after the end are not looked at.
+/// An expression that was read has no errors. One that was created from other bytes ends at the first `NotConstant`, at the
+/// offset of that instruction, or at the first error of an operand. Bytes after `end` are ignored.
 #[derive(Drop)]
 pub struct ConstInstructions<'a> {
     reader: BinaryReader<'a>,
@@ -43,7 +43,7 @@ impl<'a> Model for ConstInstructions<'a> {
 }
 
 impl<'a> ConstExpr<'a> {
-    /// The instructions of the expression, in order.
+    /// Returns an iterator over the instructions of the expression, in order.
     pub fn instructions(&self) -> ConstInstructions<'a>
         ensures { result ≡ instructions_in (place (expression_window self.now)) }
     {
@@ -54,7 +54,7 @@ impl<'a> ConstExpr<'a> {
     }
 }
 
-// Whether an operator is the end.
+// Whether an operator is `end`.
 fn ends(operator: &ConstOperator) -> bool
     ensures { result ≡ is_end operator.now }
 {
@@ -64,7 +64,7 @@ fn ends(operator: &ConstOperator) -> bool
     }
 }
 
-// Whether nothing comes after what was read.
+// Whether the iterator ends after this result.
 fn ends_with(read: &Result<ConstInstruction>) -> bool
     ensures { result ≡ is_last read.now }
 {
@@ -74,7 +74,7 @@ fn ends_with(read: &Result<ConstInstruction>) -> bool
     }
 }
 
-// Reads what comes after the opcode of an instruction, which begins at this offset.
+// Reads the operator of an instruction that begins at this offset, after its opcode.
 fn read_operator(start: u64, opcode: u8, reader: &mut BinaryReader<'_>) -> Result<ConstOperator>
     ensures gives { GivesBy (λ operator. operator) result reader.old reader.new
         (operator_at start opcode) }
@@ -87,9 +87,9 @@ fn read_operator(start: u64, opcode: u8, reader: &mut BinaryReader<'_>) -> Resul
     read_operands(start, opcode, reader)
 }
 
-/// Reads an instruction of a constant expression, its end among them (core specification, Binary format, Instructions).
+/// Reads one instruction of a constant expression, which may be `end` (core specification, Binary format, Instructions).
 ///
-/// `NotConstant` at the opcode of any other instruction, and the faults of operands.
+/// Errors are `NotConstant` at the opcode of any other instruction, and those of operands.
 #[tactic(auto, unfolding(crate::specs::Instructions::instruction_at))]
 pub fn read_instruction(reader: &mut BinaryReader<'_>) -> Result<ConstInstruction>
     ensures gives { GivesBy (λ instruction. instruction) result reader.old reader.new instruction_at }

@@ -1,4 +1,4 @@
-//! What comparing and copying items says, what holds of items that were read, and of whole runs over them.
+//! Laws of items: of comparing and cloning them, of items that were read, and of iterating over them to the end.
 ghost use Rattle.std.specs.Prelude.{◌≡◌, Ok};
 ghost use Rattle.wasm_base.specs.Comparing.{DecidesWhether, DecidesSame, IsCopy};
 ghost use Rattle.wasm_base.specs.Inner.{PassesAsRead};
@@ -73,7 +73,7 @@ pub fn equal_imports_and_exports_are_the_same<'a>()
     ensures export { DecidesWhether IsSameExport ⟦<Export<'a> as PartialEq>⟧.eq }
 {}
 
-/// A copy of an item is the item itself, and can always be made: it takes no memory.
+/// A clone of an item is identical to it. Cloning never fails, since it never allocates.
 pub fn copies_are_the_same<'a>()
     ensures expression { IsCopy
         ⟦<ConstExpr<'a> as Clone>⟧.is_clone
@@ -129,15 +129,15 @@ pub fn copies_are_the_same<'a>()
     ensures export { IsCopy ⟦<Export<'a> as Clone>⟧.is_clone ⟦<Export<'a> as Clone>⟧.is_infallible }
 {}
 
-/// Calls of `next` up to the first `None` give all the imports that are to come, in order, and nothing comes after that
-/// `None`: of an item of an import section, and of a section, with offsets or without.
+/// `next` returns all remaining imports in order, and then only `None`: those of an item of an import section, and those of a
+/// section, with offsets or without.
 pub fn all_imports_come<'a>()
     ensures of_an_item { GivesAll found_at ⟦<ImportsIter<'a> as Iterator>⟧.next_gives }
     ensures with_offsets { GivesAll found_at ⟦<IntoImportsWithOffsets<'a> as Iterator>⟧.next_gives }
     ensures alone { GivesAll found ⟦<IntoImports<'a> as Iterator>⟧.next_gives }
 {}
 
-/// Wherever an import of a bundle or a constant expression is read, passing over it takes the bytes that reading it takes.
+/// If an import of a bundle or a constant expression can be read, skipping it consumes the same bytes as reading it.
 pub fn passing_over_takes_what_reading_takes<'a>()
     ensures item { PassesAsRead
         ⟦<ImportItemCompact<'a> as FromReader<'a>>⟧.meaning
@@ -148,7 +148,7 @@ pub fn passing_over_takes_what_reading_takes<'a>()
 {}
 
 /// Each of these items allows one outcome at each place, so the iterators over a section of them, and clones of these,
-/// give the same items.
+/// yield the same items.
 pub fn items_allow_one_outcome<'a>()
     ensures kind { AllowsOne ⟦<ExternalKind as FromReader<'a>>⟧.meaning }
     ensures external { AllowsOne ⟦<TypeRef as FromReader<'a>>⟧.meaning }
@@ -168,7 +168,7 @@ pub fn items_allow_one_outcome<'a>()
     ensures global_type { AllowsOne ⟦<GlobalType as FromReader<'a>>⟧.meaning }
 {}
 
-/// Each of these items is determined by its bytes, so the iterators over a section of them, and clones of these, give equal
+/// Each of these items is determined by its bytes, so the iterators over a section of them, and clones of these, yield equal
 /// items.
 pub fn items_are_determined<'a>()
     ensures kind { Determines ⟦<ExternalKind as FromReader<'a>>⟧.meaning }
@@ -184,7 +184,7 @@ pub fn items_are_determined<'a>()
     ensures global_type { Determines ⟦<GlobalType as FromReader<'a>>⟧.meaning }
 {}
 
-/// The elements of a segment that was read are the announced ones: an iterator over them gives so many, and no fault.
+/// An iterator over the elements of a segment that was read yields as many as announced, and no error.
 pub fn elements_that_were_read_are_given<'a>()
     ensures { (before after : Place) (element : Element) →
         ⟦<Element<'a> as FromReader<'a>>⟧.meaning before (Ok (element, after)) →
@@ -208,14 +208,14 @@ pub fn segments_and_types_allow_one_outcome<'a>()
     ensures group { AllowsOne ⟦<RecGroup as FromReaderIn<'a>>⟧.meaning }
 {}
 
-/// A constant expression is the end, or an instruction and then an expression: its definition, which counts instructions,
-/// sets no limit on how many there are.
+/// A constant expression is `end`, or an instruction followed by an expression: its definition counts instructions, but sets
+/// no limit on their number.
 pub fn expressions_are_instructions_and_the_end()
     ensures { (p : Place) → IsEndOrInstruction p }
 {}
 
-/// The instructions of an expression that was read come without a fault. They tile its window, each beginning where the one
-/// before it ends, and the last one, and no other, is the end.
+/// The instructions of an expression that was read have no errors. They tile its window, each beginning where the previous one
+/// ends, and only the last one is `end`.
 pub fn instructions_tile_their_expression<'a>()
     ensures { (before after : Place) (expression : ConstExpr) →
         ⟦<ConstExpr<'a> as FromReader<'a>>⟧.meaning before (Ok (expression, after)) →

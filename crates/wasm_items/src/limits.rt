@@ -11,13 +11,13 @@ use wasm_base::{BinaryReader, Result};
 /// The flag of limits with a maximum.
 pub(crate) const HAS_MAXIMUM: u8 = 1;
 
-/// The flag of a memory or table that is shared.
+/// The flag of a shared memory or table.
 pub(crate) const IS_SHARED: u8 = 2;
 
-/// The flag of indices of 64 bits.
+/// The flag of 64-bit indices.
 pub(crate) const IS_WIDE: u8 = 4;
 
-/// The flag of a memory whose size of pages is written.
+/// The flag of a memory with a page size.
 pub(crate) const HAS_PAGE_SIZE: u8 = 8;
 
 /// Whether a flag, a power of two, is set.
@@ -27,7 +27,7 @@ pub(crate) fn has_flag(flags: u8, flag: u8) -> bool
     flags & flag == flag
 }
 
-// One limit: a u64 with 64-bit memories, a u32 without them.
+// Reads one limit: a u64 with 64-bit memories, a u32 without them.
 #[tactic(auto, unfolding(crate::specs::Limits::limit_at))]
 fn read_limit(reader: &mut BinaryReader<'_>) -> Result<u64>
     ensures gives { GivesBy (λ n. n) result reader.old reader.new limit_at }
@@ -41,7 +41,7 @@ fn read_limit(reader: &mut BinaryReader<'_>) -> Result<u64>
     }
 }
 
-// The maximum, if it is there.
+// Reads the maximum, if present.
 #[tactic(auto, unfolding(crate::specs::Limits::maximum_at))]
 fn read_maximum(flags: u8, reader: &mut BinaryReader<'_>) -> Result<Option<u64>>
     ensures gives { GivesBy (λ n. n) result reader.old reader.new (maximum_at flags) }

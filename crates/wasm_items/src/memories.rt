@@ -13,7 +13,7 @@ use wasm_base::{BinaryReader, Error, Fault, FromReader, Result, SectionLimited};
 /// The memory section: the types of its memories (core specification, Binary format, Modules, Memory Section).
 pub type MemorySectionReader<'a> = SectionLimited<'a, MemoryType>;
 
-// The size of a page, which a flag says is there, in a memory type that begins at this offset.
+// Reads the page size, if its flag is set, of a memory type that begins at this offset.
 #[tactic(auto, unfolding(crate::specs::Memories::page_size_at))]
 fn read_page_size(start: u64, flags: u8, reader: &mut BinaryReader<'_>) -> Result<Option<u32>>
     ensures gives { GivesBy (λ size. size) result reader.old reader.new (page_size_at start flags) }
@@ -30,9 +30,9 @@ fn read_page_size(start: u64, flags: u8, reader: &mut BinaryReader<'_>) -> Resul
     Ok(Some(size))
 }
 
-/// Flags, limits, and the size of a page where a flag says so.
+/// Flags, limits, and the page size if its flag is set.
 ///
-/// Flags above 15 are `MemoryFlags` at them, a page of 2^64 bytes or more is `PageSize` at the flags. The limits are
+/// Flags above 15 are `MemoryFlags`, and a page of 2^64 bytes or more is `PageSize`, both at the flags. The limits are
 /// 64-bit numbers if the reader has the feature `MEMORY64`, whatever the flags are.
 impl<'a> FromReader<'a> for MemoryType {
     ghost use Rattle.wasm_items.specs.Memories.{memory_type_at};

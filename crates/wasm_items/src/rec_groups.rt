@@ -1,4 +1,4 @@
-// How groups of types are read.
+// Reading groups of types.
 ghost use Rattle.std.specs.Prelude.{◌≡◌, map};
 ghost use Rattle.wasm_base.specs.Hints.{TakesNoMemory};
 ghost use Rattle.wasm_base.specs.Item.{ReadsAs};
@@ -15,7 +15,7 @@ use wasm_base::{
     read_flag, read_list, read_list_in,
 };
 
-/// A byte for 8 or 16 bits, or a value type, with the faults of that.
+/// A byte for 8 or 16 bits, or a value type, with its errors.
 impl<'a> FromReader<'a> for StorageType {
     ghost use Rattle.wasm_items.specs.RecGroups.{storage_type_at};
 
@@ -37,7 +37,7 @@ impl<'a> FromReader<'a> for StorageType {
     }
 }
 
-/// What the field holds, and a byte that is 0, or 1 where it can be changed.
+/// The storage type, and a byte: 0 for an immutable field, 1 for a mutable one.
 ///
 /// Another byte is `LeadingByte(Mutability)` at it, with the byte as its number.
 impl<'a> FromReader<'a> for FieldType {
@@ -51,7 +51,7 @@ impl<'a> FromReader<'a> for FieldType {
     }
 }
 
-// A list of value types.
+// Reads a list of value types.
 fn read_val_types(alloc: Global, reader: &mut BinaryReader<'_>) -> Result<Vec<ValType>>
     ensures gives { GivesUnlessMemory (λ types. types.items)
         result (place reader.new) (list_at val_type_at (place reader.old)) }
@@ -60,7 +60,7 @@ fn read_val_types(alloc: Global, reader: &mut BinaryReader<'_>) -> Result<Vec<Va
     read_list(alloc, reader)
 }
 
-// A list of fields.
+// Reads a list of fields.
 fn read_fields(alloc: Global, reader: &mut BinaryReader<'_>) -> Result<Vec<FieldType>>
     ensures gives { GivesUnlessMemory (λ fields. fields.items)
         result (place reader.new) (list_at field_type_at (place reader.old)) }
@@ -69,7 +69,7 @@ fn read_fields(alloc: Global, reader: &mut BinaryReader<'_>) -> Result<Vec<Field
     read_list(alloc, reader)
 }
 
-// A list of subtypes.
+// Reads a list of subtypes.
 fn read_subtypes(alloc: Global, reader: &mut BinaryReader<'_>) -> Result<Vec<SubType>>
     ensures gives { GivesUnlessMemory (λ types. map subtype_parts types.items)
         result (place reader.new) (list_at subtype_at (place reader.old)) }
@@ -78,7 +78,7 @@ fn read_subtypes(alloc: Global, reader: &mut BinaryReader<'_>) -> Result<Vec<Sub
     read_list_in(alloc, reader)
 }
 
-/// The list of the parameters' types, and that of the results'.
+/// The list of parameter types, and the list of result types.
 impl<'a> FromReaderIn<'a> for FuncType {
     ghost use Rattle.wasm_items.specs.RecGroups.{function_parts, func_type_at};
 
@@ -113,7 +113,7 @@ impl<'a> FromReaderIn<'a> for CompositeType {
     }
 }
 
-// The supertypes of a subtype, of which there is one at most.
+// Reads the supertypes of a subtype, at most one.
 #[tactic(auto, unfolding(crate::specs::RecGroups::supertypes_at))]
 fn read_supertype(reader: &mut BinaryReader<'_>) -> Result<Option<u32>>
     ensures gives { GivesBy (λ supertype. supertype) result reader.old reader.new supertypes_at }
@@ -128,7 +128,7 @@ fn read_supertype(reader: &mut BinaryReader<'_>) -> Result<Option<u32>>
     }
 }
 
-// A subtype after its first byte.
+// Reads a subtype after its first byte.
 #[tactic(auto, unfolding(crate::specs::RecGroups::extending_at))]
 fn read_extending(alloc: Global, is_final: bool, reader: &mut BinaryReader<'_>) -> Result<SubType>
     ensures gives { GivesUnlessMemory subtype_parts
@@ -172,7 +172,7 @@ impl<'a> FromReaderIn<'a> for SubType {
     }
 }
 
-/// A byte and a list of subtypes, for a group that is written as one; or a subtype alone.
+/// A byte and a list of subtypes, for an explicit group; or a subtype alone.
 impl<'a> FromReaderIn<'a> for RecGroup {
     ghost use Rattle.wasm_items.specs.RecGroups.{rec_group_parts, rec_group_at};
 

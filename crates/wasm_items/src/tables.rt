@@ -19,11 +19,11 @@ pub type TableSectionReader<'a> = SectionLimited<'a, Table<'a>>;
 pub struct Table<'a> {
     /// Its type.
     pub ty: TableType,
-    /// What each of its elements is at first.
+    /// The initial value of its elements.
     pub init: TableInit<'a>,
 }
 
-/// What each element of a table is at first (core specification, Binary format, Modules, Table Section).
+/// The initial value of a table's elements (core specification, Binary format, Modules, Table Section).
 #[derive(Clone, Debug, Drop)]
 pub enum TableInit<'a> {
     /// A null reference.
@@ -32,7 +32,7 @@ pub enum TableInit<'a> {
     Expr(ConstExpr<'a>),
 }
 
-/// The type of the elements, flags, and limits. Flags above 7 are `TableFlags` at them.
+/// The type of the elements, flags, and limits. Flags above 7 are `TableFlags` at the flags.
 ///
 /// The limits are 64-bit numbers if the reader has the feature `MEMORY64`, whatever the flags are.
 impl<'a> FromReader<'a> for TableType {
@@ -59,7 +59,7 @@ impl<'a> FromReader<'a> for TableType {
     }
 }
 
-// A table with an expression, after its first byte.
+// Reads a table with an expression, after its first byte.
 #[tactic(auto, unfolding(crate::specs::Tables::filled_table_at))]
 fn read_filled<'a>(reader: &mut BinaryReader<'a>) -> Result<Table<'a>>
     ensures gives { GivesBy (λ table. table) result reader.old reader.new filled_table_at }

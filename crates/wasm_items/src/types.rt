@@ -72,7 +72,7 @@ pub enum HeapType {
 /// Types that may refer to each other (core specification, Binary format, Types, Recursive Types).
 #[derive(Debug, PartialEq, Eq, Drop)]
 pub struct RecGroup {
-    /// Whether the group is written as one. If not, it is a single type.
+    /// Whether the group is encoded as a group. If not, it is a single type.
     pub explicit: bool,
     /// The types of the group, in their order.
     pub types: Vec<SubType>,
@@ -85,7 +85,7 @@ pub struct SubType {
     pub is_final: bool,
     /// The index of the type that this one extends.
     pub supertype: Option<u32>,
-    /// What it is a type of.
+    /// Its composite type.
     pub composite: CompositeType,
 }
 
@@ -115,7 +115,7 @@ pub struct FuncType {
 pub struct FieldType {
     /// What the field holds.
     pub storage: StorageType,
-    /// Whether it can be changed.
+    /// Whether it is mutable.
     pub mutable: bool,
 }
 
@@ -137,9 +137,9 @@ pub struct TableType {
     pub element_type: RefType,
     /// Whether its indices have 64 bits.
     pub table64: bool,
-    /// How many elements it begins with.
+    /// Its initial number of elements.
     pub initial: u64,
-    /// The most elements that it may have.
+    /// Its maximum number of elements.
     pub maximum: Option<u64>,
     /// Whether threads share it.
     pub shared: bool,
@@ -152,11 +152,11 @@ pub struct MemoryType {
     pub memory64: bool,
     /// Whether threads share it.
     pub shared: bool,
-    /// How many pages it begins with.
+    /// Its initial number of pages.
     pub initial: u64,
-    /// The most pages that it may have.
+    /// Its maximum number of pages.
     pub maximum: Option<u64>,
-    /// The size of a page, as a power of two. A page has 65,536 bytes where there is none.
+    /// The base-2 logarithm of the page size. Without one, a page has 65,536 bytes.
     pub page_size_log2: Option<u32>,
 }
 
@@ -165,7 +165,7 @@ pub struct MemoryType {
 pub struct GlobalType {
     /// The type of its value.
     pub content_type: ValType,
-    /// Whether its value can be changed.
+    /// Whether its value is mutable.
     pub mutable: bool,
     /// Whether threads share it.
     pub shared: bool,

@@ -1,4 +1,4 @@
-// How types of values, references and heaps are read.
+// Reading value types, reference types and heap types.
 ghost use Rattle.std.specs.Prelude.{◌≡◌};
 ghost use Rattle.wasm_base.specs.Hints.{TakesNoMemory};
 ghost use Rattle.wasm_base.specs.Item.{ReadsAs};
@@ -9,7 +9,7 @@ ghost use Rattle.wasm_items.specs.Values.{abstract_heap_of, plain_type_of, ref_t
 use crate::types::{HeapType, RefType, ValType};
 use wasm_base::{BinaryReader, FromReader, Lead, Result, leading_byte_error};
 
-// The abstract heap type that a byte is.
+// Returns the abstract heap type that a byte encodes, if any.
 fn abstract_heap(byte: u8) -> Option<HeapType>
     ensures { result ≡ abstract_heap_of byte }
 {
@@ -54,7 +54,7 @@ impl<'a> FromReader<'a> for HeapType {
     }
 }
 
-// A reference type. Another first byte is a fault of what is to be read.
+// Reads a reference type. Any other first byte is a `LeadingByte` fault with this `lead`.
 #[tactic(auto, unfolding(crate::specs::Values::ref_type_in))]
 fn read_ref_type(lead: Lead, reader: &mut BinaryReader<'_>) -> Result<RefType>
     ensures gives { GivesBy (λ ty. ty) result reader.old reader.new (ref_type_in lead) }
@@ -95,7 +95,7 @@ impl<'a> FromReader<'a> for RefType {
     }
 }
 
-// The number type or vector type that a byte is.
+// Returns the number type or vector type that a byte encodes, if any.
 fn plain_type(byte: u8) -> Option<ValType>
     ensures { result ≡ plain_type_of byte }
 {

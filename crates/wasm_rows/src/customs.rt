@@ -66,7 +66,7 @@ fn show_counted<'a, T: FromReader<'a> + Show, W: Sink>(
     }
 }
 
-// The same for items that own lists.
+// Like `show_counted`, for items that own lists.
 fn show_counted_in<'a, T: FromReaderIn<'a> + Show, W: Sink>(
     alloc: Global,
     reader: BinaryReader<'a>,

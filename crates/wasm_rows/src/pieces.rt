@@ -61,8 +61,8 @@ fn write_line<W: Sink>(mut text: String, out: &mut Lines<W>) -> Result<(), Faile
 pub(crate) enum Shown {
     /// The events that are read.
     Events,
-    /// The steps of a feeder that is given pieces as it asks for them, and one step after the last. Each with the bytes that are
-    /// then held and stored.
+    /// The steps of a feeder that receives chunks as it requests them, and one step after the last. Each with the bytes that are then
+    /// held and stored.
     Steps,
 }
 
@@ -161,7 +161,7 @@ fn write_steps(
     Ok(())
 }
 
-// Writes what a step answered. Whether it is the last.
+// Writes the result of a step. Returns whether it is the last.
 fn show_step(step: wasm_base::Result<Step<'_>>, out: &mut String) -> Result<bool, AllocError> {
     match step {
         Ok(Step::NeedMoreData(hint)) => {

@@ -62,7 +62,7 @@ fn shown(error: Error, hints: bool) -> Error {
     }
 }
 
-/// Adds the lines of a stream of which the parser is given one more byte at a time. Each event is taken as soon as it is complete.
+/// Adds the lines of a stream of which the parser sees one more byte at a time. Each event is read as soon as it is complete.
 pub(crate) fn add_bytewise(stream: &Stream<'_>, lines: &mut Vec<u8>) -> Result<(), AllocError> {
     let mut parser = stream.parser();
     let mut from = 0_usize;
@@ -128,7 +128,7 @@ fn add_payload(
     })
 }
 
-/// Adds the lines of a stream that a feeder is given in chunks of this many bytes.
+/// Adds the lines of a stream that a feeder receives in chunks of this many bytes.
 pub(crate) fn add_fed(
     alloc: Global,
     stream: &Stream<'_>,

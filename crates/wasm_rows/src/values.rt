@@ -114,7 +114,7 @@ pub(crate) fn show_value<W: Sink>(
     true
 }
 
-// The same for what is longer than a number.
+// Like `show_value`, for what is longer than a number.
 fn show_text<W: Sink>(name: &str, reader: &mut BinaryReader<'_>, out: &mut Lines<W>) -> bool {
     match name {
         "bool" => show_call(reader.read::<bool>(), reader, out),
@@ -131,7 +131,7 @@ fn show_text<W: Sink>(name: &str, reader: &mut BinaryReader<'_>, out: &mut Lines
     true
 }
 
-// The same for sections.
+// Like `show_text`, for sections.
 fn show_section<W: Sink>(name: &str, reader: &mut BinaryReader<'_>, out: &mut Lines<W>) -> bool {
     let window = reader.shrink();
     match name {

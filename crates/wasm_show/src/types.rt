@@ -256,7 +256,7 @@ fn show_mutable<O: Tree>(name: &str, mutable: bool, ty: &ValType, out: &mut O)
     write_mutable(mutable, ty, out);
 }
 
-/// The same number in more bits.
+/// The number in more bits.
 pub(crate) fn wide(number: Option<u32>) -> Option<u64>
     ensures { result ≡ number }
 {

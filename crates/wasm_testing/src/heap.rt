@@ -2,14 +2,14 @@
 use std::alloc::{AllocError, Allocator};
 use std::cell::Cell;
 
-/// An allocator that gives so many blocks and then refuses. A block that comes back is not given again.
+/// An allocator that returns a number of blocks and then refuses. A block that is freed is not returned again.
 pub struct Sparing<B: Allocator> {
     inner: B,
     left: Cell<u64>,
 }
 
 impl<B: Allocator> Sparing<B> {
-    /// Takes its blocks from this allocator, so many of them. No clause says what a cell holds, so tests show what it does.
+    /// Takes this many blocks from this allocator. No clause says what a cell holds, so tests show what it does.
     pub fn new(inner: B, blocks: u64) -> Sparing<B> {
         Sparing {
             inner,
@@ -17,7 +17,7 @@ impl<B: Allocator> Sparing<B> {
         }
     }
 
-    /// Gives so many more from now on, in place of those that were left.
+    /// Allows this many more blocks from now on, in place of the remaining ones.
     pub fn give(&self, blocks: u64) {
         self.left.set(blocks);
     }
@@ -29,7 +29,7 @@ impl<B: Allocator> Drop for Sparing<B> {
     }
 }
 
-// Whether none is left. Where one is, takes it away.
+// Whether none remains. If one does, takes it.
 fn is_spent(left: &Cell<u64>) -> bool {
     match left.get().checked_sub(1) {
         Some(fewer) => {

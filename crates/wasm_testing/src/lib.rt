@@ -1,5 +1,5 @@
-//! What tests put in the place of memory and of input: an allocator that runs out, and a source that notes the buffers that it
-//! is given. No library and no program stands on it.
+//! Test doubles: an allocator that runs out, and a source that records the sizes of the buffers that it is passed. No library and no
+//! program uses them.
 #![tactic(auto)]
 
 mod heap;

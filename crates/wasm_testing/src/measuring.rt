@@ -1,9 +1,9 @@
-// A source that notes the buffers that it is given.
+// A source that records the sizes of the buffers that it is passed.
 ghost use Rattle.std.specs.Prelude.{◌≡◌};
 
 use wasm_lines::{Failed, SliceSource, Source};
 
-/// A source of the bytes of a slice that notes the lengths of the smallest and the largest buffer that it was given.
+/// A source of the bytes of a slice that records the lengths of the smallest and the largest buffer that it was passed.
 #[derive(Drop)]
 pub struct Measuring<'a> {
     inner: SliceSource<'a>,
@@ -12,7 +12,7 @@ pub struct Measuring<'a> {
 }
 
 impl<'a> Measuring<'a> {
-    /// A source of these bytes, which was given no buffer yet.
+    /// A source of these bytes, which was passed no buffer yet.
     pub fn new(bytes: &'a [u8]) -> Measuring<'a>
         ensures { result.inner.rest.now ≡ bytes.now }
     {

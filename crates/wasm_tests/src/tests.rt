@@ -23,7 +23,7 @@ fn same_at<T: PartialEq + Debug + Drop>(rt: &impl Abort, found: T, wanted: T, at
     assert!(rt; found == wanted, "{found:?}, and not {wanted:?}, at {at:?}");
 }
 
-// A reader of these bytes. A proof is told nothing of them, which tests don't ask for.
+// A reader of these bytes. A proof knows nothing of them, and tests don't need that.
 fn window(bytes: &[u8], offset: u64) -> BinaryReader<'_>
     requires { offset + length bytes.now < 2 ^ 64 }
 {
@@ -52,7 +52,7 @@ fn prints<'a, T: FromReader<'a> + Clone + Debug>(
     is_printed(rt, alloc, &item.clone().expect(rt, "out of memory"), text);
 }
 
-// The same of an item that owns lists.
+// Like `prints`, for an item that owns lists.
 fn prints_in<'a, T: FromReaderIn<'a> + Debug>(
     rt: &impl Abort,
     alloc: Global,
@@ -75,7 +75,7 @@ fn polled<I: Iterator>(items: &mut I) -> Option<I::Item>
     items.next()
 }
 
-// An iterator says that it gives at most this many items, and then gives this one.
+// An iterator has this size hint, and then returns this item.
 fn is_next<I: Iterator>(rt: &impl Abort, items: &mut I, most: usize, wanted: Option<I::Item>)
 where
     I::Item: PartialEq + Debug + Drop,
@@ -85,7 +85,7 @@ where
     same(rt, polled(items), wanted);
 }
 
-// An iterator gives nothing, however often it is polled, and says so.
+// An iterator returns nothing, however often it is polled, and its size hint says so.
 fn is_over<I: Iterator>(rt: &impl Abort, items: &mut I)
 where
     I::Item: PartialEq + Debug + Drop,
@@ -97,7 +97,7 @@ where
     same(rt, items.size_hint(), (0, Some(0)));
 }
 
-// An iterator gives items that are printed as these texts, and then nothing, however often it is polled.
+// An iterator returns items that are printed as these texts, and then nothing, however often it is polled.
 fn gives<I: Iterator>(rt: &impl Abort, alloc: Global, mut items: I, texts: &[&str])
 where
     I::Item: Debug + Drop,

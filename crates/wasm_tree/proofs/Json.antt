@@ -27,7 +27,7 @@ completion InName = codes "\":null}\n"
 completion AtValue = codes "null}\n"
 completion InText = codes "\"}\n"
 
--- after a value comes what may stand after one, though a number has no byte that ends it
+-- after a value comes what may follow one, though a number has no byte that ends it
 value_over : (p : Place) (inside : List Bracket) (b : ℕ) → has_value p ≡ true → is_digit b ≡ false → after_byte p inside b
     ≡ after_value inside b
 value_over after_zero inside b h d = refl
@@ -101,13 +101,13 @@ module _ (k : Bool) (inside : List Bracket) where
   escaped_by b h false true low e = rw (low, e) (quote_stays b e)
   escaped_by b h false false low e = rw (low, e) (plain_stays b low e)
 
--- what stands in a string for a byte is part of it
+-- the escape of a byte is part of its string
 pub escaped_stays : (b : ℕ) → b < 256 → StaysInString (escaped_byte b)
 escaped_stays b h InName i s e = rw e (escaped_by true (object ∷ []) b h (nat_lt b 32) (nat_eq b 34 || nat_eq b 92) refl refl)
 escaped_stays b h InText i s e = rw e (escaped_by false (object ∷ []) b h (nat_lt b 32) (nat_eq b 34 || nat_eq b 92) refl refl)
 escaped_stays b h other i s e = cc
 
--- nor do bytes end it that stand for themselves in quotes
+-- nor do plain bytes end it
 pub plain_run_stays : (xs : List ℕ) → list_any is_escaped xs ≡ false → StaysInString xs
 plain_run_stays xs p InName i s e = rw e (run_stays true (object ∷ []) xs p)
 plain_run_stays xs p InText i s e = rw e (run_stays false (object ∷ []) xs p)

@@ -31,7 +31,7 @@ after_text : (waiting text moved waiting' bytes : List ℕ) → waiting ++ text 
 after_text waiting text moved waiting' bytes e = sym (append_assoc waiting text bytes)
     ∙ (ap (λ (x : List ℕ). x ++ bytes) e ∙ append_assoc moved waiting' bytes)
 
--- a page that is given up before more is put on it
+-- a page that is abandoned before more is put on it
 wider : (taken written : Option (List ℕ)) (waiting bytes : List ℕ) → WritesHead taken written waiting
     → WritesHead taken written (waiting ++ bytes)
 wider taken written waiting bytes w = record {
@@ -47,7 +47,7 @@ cut_wider taken written waiting bytes Output w = wider taken written waiting byt
 cut_wider taken written waiting bytes Memory w = wider taken written waiting bytes w
 cut_wider taken written waiting bytes Input w = absurd w
 
--- of a page that is given up later
+-- of a page that is abandoned later
 begins_later : (taken mid written : Option (List ℕ)) (waiting text moved waiting' bytes : List ℕ) → Appends taken mid moved
     → waiting ++ text ≡ moved ++ waiting' → WritesHead mid written (waiting' ++ bytes)
     → WritesHead taken written (waiting ++ (text ++ bytes))
@@ -182,7 +182,7 @@ says_none_ever old new objects since m = absurd (no_lines old.style (still_lines
 
 -- ---- texts
 
--- a piece, where the line that is begun isn't begun again
+-- a part of a line that is begun already
 pub says_piece : (old mid new : Writing) (bytes : List ℕ) → (old.is_begun ≡ true → mid ≡ old) → Puts bytes mid new → Says bytes old new
 says_piece old mid new bytes same p since before h = puts_more since mid new before bytes
     (subst (HasLine since before) (sym (same (still_begun since old before h))) h) p
@@ -232,7 +232,7 @@ pub more_fields : (before : List ℕ) (xs ys : List Field) → with_fields (with
 more_fields before [] ys = refl
 more_fields before (x ∷ xs) ys = more_fields (before ++ field_text x) xs ys
 
--- ---- pieces of a text
+-- ---- parts of a text
 
 neither : (a b : Bool) → (a || b) ≡ false → (a ≡ false) × (b ≡ false)
 neither true b e = cc
@@ -283,7 +283,7 @@ pub none_in_digits : (i j : ℕ)
     → has_line_feed (slice_index (codes "0123456789abcdef") i ∷ slice_index (codes "0123456789abcdef") j ∷ []) ≡ false
 none_in_digits i j = rw (none_at (codes "0123456789abcdef") i refl, none_at (codes "0123456789abcdef") j refl) refl
 
--- nor is a byte that stands for itself in quotes
+-- nor is a plain byte in quotes
 pub none_in_quoted : (byte : ℕ) → is_escaped byte ≡ false → has_line_feed (byte ∷ []) ≡ false
 none_in_quoted byte e =
     let unquoted = (neither _ (nat_eq byte 92) e).0 in
@@ -293,7 +293,7 @@ none_in_quoted byte e =
     other : (n : ℕ) → nat_lt n 32 ≡ false → nat_eq n 10 ≡ false
     other n h = grind (arith, nat_tests)
 
--- ---- bytes that stand for themselves in quotes
+-- ---- plain bytes in quotes
 
 pub plain_quoted : (xs : List ℕ) → list_any is_escaped xs ≡ false → flat_map quoted_byte xs ≡ xs
 plain_quoted [] e = refl

@@ -115,7 +115,7 @@ grown : (written waiting bytes moved waiting' : List ℕ) → waiting ++ bytes �
 grown written waiting bytes moved waiting' e = append_assoc written moved waiting'
     ∙ (ap (λ (x : List ℕ). written ++ x) (sym e) ∙ sym (append_assoc written waiting bytes))
 
--- what was written of a page that was given up
+-- what was written of a page that was abandoned
 beginning : (taken written : Option (List ℕ)) (waiting : List ℕ) (why : ListError) → IsCut taken written waiting why
     → WritesHead taken written waiting
 beginning taken written waiting Output w = w
@@ -317,7 +317,7 @@ module _ (o : Origin) (old new : Writing) (i : IsGoing o old) where
       (append_assoc (i.written ++ old.waiting) (if b then codes "\n" else []) (row_text 0 old.unshown)) (sym i.rowed)
       (row_more ((i.written ++ old.waiting) ++ (if b then codes "\n" else [])) o.outline o.numbers i.rows 0 old.unshown (rest_of_line b e))
 
--- of all that was written or waited, a beginning is written
+-- of all that was written or waited, a prefix is written
 cut_at : (written waiting moved unwritten more : List ℕ) → waiting ≡ moved ++ unwritten → (written ++ moved) ++ (unwritten ++ more)
     ≡ (written ++ waiting) ++ more
 cut_at written waiting moved unwritten more e = append_assoc written moved (unwritten ++ more)
@@ -477,7 +477,7 @@ module _ (o : Origin) (old new : Writing) (line outline : List ℕ) (numbers : L
   abbrev after_line : Writing
   after_line = record new { is_begun = false }
 
-  -- of which a beginning could be written
+  -- of which a prefix could be written
   stops_in : (why : ListError) → o.style ≡ Lines → old.is_begun ≡ false → IsGoing o old → StopsIn line why in_line new
       → IsCutShort with_this why after_line
   stops_in why e b i p =

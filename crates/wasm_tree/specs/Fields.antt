@@ -18,7 +18,7 @@ pub data Value : Type 0 where
   nothing : Value
   -- from one offset to another
   range : (start end : ℕ) → Value
-  -- bytes that are no text
+  -- bytes that are not text
   raw : List ℕ → Value
 
 -- a field with its name, or a word that has none

@@ -1,6 +1,5 @@
 -- Lines of JSON, each of which is one object. RFC 8259 (The JavaScript Object Notation Data Interchange Format),
--- sections 4 to 7; without blanks between tokens, and without fractions and exponents. Bytes of 128 and more stand for
--- themselves.
+-- sections 4 to 7; without blanks between tokens, and without fractions and exponents. Bytes of 128 and more are plain.
 use Rattle.std.specs.Prelude.{◌≡◌, ℕ, zero, suc, Bool, true, false, List, [], ◌∷◌, ◌++◌, codes, nat_eq, nat_lt, ◌&&◌}
 use Rattle.std.specs.Prelude.{◌||◌}
 use Rattle.std.specs.Prelude.{if◌then◌else◌}
@@ -13,7 +12,7 @@ pub data Bracket : Type 0 where
   object : Bracket
   array : Bracket
 
--- what is to come
+-- what may follow
 pub data Place : Type 0 where
   -- at the start of a line its object, and after that the line feed
   line_start : Place
@@ -25,7 +24,7 @@ pub data Place : Type 0 where
   -- a value, which is an array's first one if it has any, or another one
   first_value : Place
   value : Place
-  -- more of a string, which is a name or a value; what an escape stands for; and more of its hexadecimal digits, after
+  -- more of a string, which is a name or a value; the rest of an escape; and the rest of its hexadecimal digits, after
   -- this one
   string : (is_name : Bool) → Place
   escape : (is_name : Bool) → Place
@@ -41,7 +40,7 @@ pub data Place : Type 0 where
   -- it is no such text
   wrong : Place
 
--- what is to come, and the brackets that are open, the inner ones first
+-- what may follow, and the brackets that are open, the inner ones first
 pub record State : Type 0 where
   pub place : Place
   pub inside : List Bracket
@@ -59,7 +58,7 @@ is_digit b = nat_lt 47 b && nat_lt b 58
 abbrev pub is_hexadecimal : ℕ → Bool
 is_hexadecimal b = is_digit b || (nat_lt 64 b && nat_lt b 71) || (nat_lt 96 b && nat_lt b 103)
 
--- whether a byte after a backslash stands for a character by itself: `"`, `\`, `/`, `b`, `f`, `n`, `r` or `t`
+-- whether a byte after a backslash is an escape on its own: `"`, `\`, `/`, `b`, `f`, `n`, `r` or `t`
 abbrev pub is_escape : ℕ → Bool
 is_escape b = nat_eq b 34 || nat_eq b 92 || nat_eq b 47 || nat_eq b 98 || nat_eq b 102 || nat_eq b 110 || nat_eq b 114
     || nat_eq b 116
@@ -108,7 +107,7 @@ after_letter [] inside b = here wrong []
 after_letter (c ∷ []) inside b = if nat_eq b c then here ended inside else here wrong []
 after_letter (c ∷ (d ∷ more)) inside b = if nat_eq b c then here (word (d ∷ more)) inside else here wrong []
 
--- what is to come after this byte
+-- what may follow this byte
 abbrev pub after_byte : Place → List Bracket → ℕ → State
 after_byte line_start inside b = if nat_eq b 123 then here first_name (object ∷ inside) else here wrong []
 after_byte line_end inside b = if nat_eq b 10 then here line_start inside else here wrong []
@@ -137,7 +136,7 @@ after_byte (word rest) inside b = after_letter rest inside b
 after_byte ended inside b = after_value inside b
 after_byte wrong inside b = here wrong []
 
--- what is to come after these bytes
+-- what may follow these bytes
 abbrev pub after_all : State → List ℕ → State
 after_all s [] = s
 after_all s (b ∷ bytes) = after_all (after_byte s.place s.inside b) bytes
@@ -167,7 +166,7 @@ IsAt InText s = s ≡ here (string false) (object ∷ [])
 abbrev pub Leads : (old : Spot) → List ℕ → (new : Spot) → Type 0
 Leads old bytes new = (s : State) → IsAt old s → IsAt new (after_all s bytes)
 
--- what stands in a string for a byte of it
+-- a byte of a string, or its escape
 abbrev pub escaped_byte : ℕ → List ℕ
 escaped_byte b =
     if nat_lt b 32 then codes "\\u00" ++ hexadecimal b

@@ -52,17 +52,17 @@ abbrev pub blank_numbers : List Number → (rest : List ℕ) → List ℕ
 blank_numbers [] rest = rest
 blank_numbers (n ∷ later) rest = codes " " ++ number_text n (blank_numbers later rest)
 
--- ---- what came before
+-- ---- earlier items
 
--- so many more; a count stops at the greatest number of 64 bits, above every index
+-- `n` more; a count stops at the greatest number of 64 bits, above every index
 abbrev pub more : ℕ → ℕ → ℕ
 more count n = min (count + n) (2 ^ 64 - 1)
 
--- nothing came
+-- no items yet
 abbrev pub no_counts : Counts
 no_counts = record { functions = 0; tables = 0; memories = 0; tags = 0; globals = 0; bodies = 0 }
 
--- how many imports came of an index space; nothing of the others can be imported
+-- how many imports there were of an index space; nothing of the others can be imported
 abbrev pub count_of : Counts → Space → ℕ
 count_of c Functions = c.functions
 count_of c Tables = c.tables
@@ -110,7 +110,7 @@ after_number (Err f) p = p
 abbrev pub imports_in : (count : ℕ) → Window → List Found
 imports_in count w = flattened count (after_number (unsigned_at VarU32 (place w)) (place w))
 
--- what came before what is after this report
+-- the counts after this report
 abbrev pub after : Counts → Report → Counts
 after c (counted id count window) = if nat_eq id import_id then with_imports c (imports_in count window) else c
 after c (code_entry window) = record c { bodies = more c.bodies 1 }
@@ -154,8 +154,8 @@ abbrev pub with_later : (Place → ℕ) → Outcome ℕ → ℕ
 with_later later (Ok x) = x.0 + later x.1
 with_later later (Err f) = 0
 
--- how many numbers the items from a place on have, of so many that are announced, up to the first fault; the reading
--- says of an item how many it has
+-- how many numbers the items from a place on have, of `left` announced ones, up to the first fault; the reading says
+-- how many an item has
 abbrev pub numbers_read : (reading : Place → Outcome ℕ) (left : ℕ) → Place → ℕ
 numbers_read reading zero p = 0
 numbers_read reading (suc left) p = with_later (λ q. numbers_read reading left q) (reading p)
@@ -176,7 +176,7 @@ after_found index (Err e) = index
 abbrev pub AreFrom : Space → (first : ℕ) → List Number → Type 0
 AreFrom space first shown = (count : ℕ) × (shown ≡ numbers_from space first count)
 
--- The same, and this is the next one.
+-- The numbers from the first one up to the next one.
 abbrev pub AreUpTo : Space → (first next : ℕ) → List Number → Type 0
 AreUpTo space first next shown = (count : ℕ) × (shown ≡ numbers_from space first count) × (next ≡ more first count)
 
@@ -208,7 +208,7 @@ item_at id =
 abbrev pub numbers_in : (id count : ℕ) → Window → ℕ
 numbers_in id count w = numbers_read (item_at id) count (after_number (unsigned_at VarU32 (place w)) (place w))
 
--- The numbers are the next ones of this index space, so many of them; of types, some.
+-- The numbers are the next `count` ones of this index space; of types, some.
 abbrev pub AreNext : (why : Option ListError) → Counts → Option Space → (count : ℕ) → List Number → Type 0
 AreNext why c (Some Types) count shown = AreFrom Types 0 shown
 AreNext why c (Some space) count shown = AreShown why shown (numbers_from space (count_of c space) count)

@@ -1,7 +1,7 @@
 -- Rows of bytes that are shown one by one.
 use Rattle.std.specs.Prelude.{◌≡◌, ℕ, ◌<◌, ◌≤◌, List, length, take}
 
--- The bytes of a row are so many, the first of those that are to be shown.
+-- A row has this many bytes, the first of those that are to be shown.
 pub record BeginsWithRow (bytes : List ℕ) (count : ℕ) (unshown : List ℕ) : Type 0 where
   pub some : 0 < count
   pub within : count ≤ length unshown

@@ -31,7 +31,7 @@ pub record HasLine (since : Writing) (text : List ℕ) (now : Writing) : Type 0 
 abbrev pub Says : (text : List ℕ) (old new : Writing) → Type 0
 Says text old new = (since : Writing) (before : List ℕ) → HasLine since before old → HasLine since (before ++ text) new
 
--- The same of these fields.
+-- Like `Says`, for the texts of these fields.
 abbrev pub SaysFields : List Field → (old new : Writing) → Type 0
 SaysFields fields old new = (since : Writing) (before : List ℕ) → HasLine since before old
     → HasLine since (with_fields before fields) new

@@ -280,7 +280,7 @@ abbrev pub AddsNumbers : (allowed : List Number → Type 0) (old new : Writing) 
 AddsNumbers allowed old new = (o : Origin) → IsWritten o old
     → (shown : List Number) × allowed shown × IsWritten (with_numbers o shown) new
 
--- They are all of these, or a beginning where the writer has stopped.
+-- They are all of these, or a prefix if the writer has stopped.
 abbrev pub AddsAll : List Number → (old new : Writing) → Type 0
 AddsAll all old new = AddsNumbers (λ shown. AreShown new.why shown all) old new
 
@@ -291,11 +291,11 @@ AddsItems {T} meaning size space from section old new = (reading : Place → Out
     → ((p : Place) (o : Outcome T) → meaning p o → ReadsAs size reading p o)
     → AddsAll (numbers_from space from (numbers_read reading section.count (place section.reader))) old new
 
--- They are so many of an index space, from this one on.
+-- They are some of an index space, from this one on.
 abbrev pub AddsNext : Space → (from : ℕ) (old new : Writing) → Type 0
 AddsNext space from old new = AddsNumbers (λ shown. AreFrom space from shown) old new
 
--- The same, and this is the next number.
+-- Like `AddsNext`, up to this next number.
 abbrev pub AddsUpTo : Space → (from next : ℕ) (old new : Writing) → Type 0
 AddsUpTo space from next old new = AddsNumbers (λ shown. AreUpTo space from next shown) old new
 
@@ -320,7 +320,7 @@ pub record IsStuck (why : ListError) (old new : Writing) : Type 0 where
   pub spot : new.spot ≡ old.spot
   pub unshown : new.unshown ≡ old.unshown
 
--- what becomes of bytes that are put by a writer, which stops where it is stuck
+-- the effect of bytes that are put by a writer, which stops if it can't go on
 abbrev pub PutsAs : (before after : Option ListError) (bytes : List ℕ) (old new : Writing) → Type 0
 PutsAs (Some why) after bytes old new = new ≡ old
 PutsAs None None bytes old new = IsPushed bytes old new

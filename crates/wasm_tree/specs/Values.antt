@@ -1,4 +1,4 @@
--- What calls of a tree are given.
+-- The arguments of a tree's calls.
 use Rattle.std.specs.Prelude.{Bool, false, codes, List, ℕ}
 use Rattle.wasm_tree.specs.Fields.{Value, flag, nothing, number, quoted, range, signed, word}
 use Rattle.wasm_tree.specs.Tree.{has_line_feed}
@@ -7,7 +7,7 @@ use Rattle.wasm_tree.specs.declared.tree.Value.TheVariants as given
 use Rattle.wasm_tree.specs.declared.tree.Start.{Start}
 use Rattle.wasm_tree.specs.declared.tree.Start.TheVariants as start
 
--- what a field says that is given this value
+-- the value of a field in the terms of `Fields`
 abbrev pub value_of : Given → Value
 value_of (given.Number n) = number n
 value_of (given.Signed z) = signed z

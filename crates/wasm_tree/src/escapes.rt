@@ -14,7 +14,7 @@ pub(crate) fn is_escaped(byte: u8) -> bool
     byte < 32 || byte > 126 || byte == b'"' || byte == b'\\'
 }
 
-/// How many bytes at first stand for themselves in a text in quotes, and in a string of JSON too: at most a page of them.
+/// The number of leading bytes that are plain in a text in quotes, and in a string of JSON too: at most a page of them.
 pub(crate) fn plain_count(bytes: &[u8]) -> usize
     ensures within { result ≤ length bytes.now }
     ensures short { result ≤ 65536 }

@@ -3,7 +3,7 @@ ghost use Rattle.std.specs.Prelude.{◌≡◌, ◌≤◌, ◌+◌, ◌++◌, [],
 
 use std::marker::Model;
 
-/// Bytes that are put together, at most `N` of them. They take no memory from an allocator.
+/// Bytes that are gathered, at most `N` of them, without an allocation.
 #[derive(Drop)]
 pub struct Gathered<const N: usize> {
     bytes: [u8; N],

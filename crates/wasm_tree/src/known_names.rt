@@ -41,7 +41,7 @@ fn rank_of(space: Space) -> u8
 }
 
 impl ItemNames {
-    /// No names. They take no memory.
+    /// No names. Does not allocate.
     pub fn new(alloc: Global) -> ItemNames
         ensures { result ≡ [] }
     {

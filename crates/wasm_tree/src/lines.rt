@@ -162,7 +162,7 @@ impl<W: Sink> Lines<W> {
         }
     }
 
-    // Writes the bytes of a text in quotes: those that stand for themselves as many at once as come together.
+    // Writes the bytes of a text in quotes, plain ones many at once.
     fn quoted_bytes(&mut self, bytes: &[u8])
         ensures adds { Adds (lines self.old) (lines self.new) }
         ensures says { Says (flat_map quoted_byte bytes.now) (lines self.old) (lines self.new) }

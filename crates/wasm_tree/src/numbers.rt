@@ -81,7 +81,7 @@ impl ShortText for ItemNumber {
     }
 }
 
-/// How many items came that may be followed by others of their index space: imports, and bodies, each with its function.
+/// How many items there were of each kind that later items of its index space follow: imports, and bodies, each with its function.
 #[derive(Clone, Copy)]
 pub struct Counts {
     /// Imported functions.
@@ -112,7 +112,7 @@ pub fn import_space(ty: &TypeRef) -> Space
 }
 
 impl Counts {
-    /// Nothing came.
+    /// No items yet.
     pub fn new() -> Counts
         ensures { result ≡ no_counts }
     {

@@ -57,7 +57,7 @@ fn after_last(spot: Spot) -> &'static str
     }
 }
 
-// What stands in a string for a byte that can't stand there itself.
+// The escape of a control character.
 fn control_escape(byte: u8) -> [u8; 6]
     requires { byte < 32 }
     ensures { result ≡ escaped_byte byte }
@@ -136,7 +136,7 @@ impl<W: Sink> Objects<W> {
         self.spot = spot;
     }
 
-    // Puts what stands for a byte of a string.
+    // Puts a byte of a string, escaped if it must be.
     fn put_escaped(&mut self, byte: u8)
         requires in_string { is_in_string self.old.spot ≡ true }
         ensures adds { Adds (objects self.old) (objects self.new) }
@@ -173,7 +173,7 @@ impl<W: Sink> Objects<W> {
         }
     }
 
-    // Begins a member, after which its value is to come. An object is begun if none is.
+    // Begins a member, whose value follows. An object is begun if none is.
     fn begin_member(&mut self, name: &str)
         ensures adds { Adds (objects self.old) (objects self.new) }
         ensures spot { self.new.spot ≡ AtValue }
@@ -184,7 +184,7 @@ impl<W: Sink> Objects<W> {
         self.put(b"\":", Spot::AtValue);
     }
 
-    // Puts a text as the value that is to come. More of it may come.
+    // Puts a text as the value. More of it may follow.
     fn begin_text(&mut self, text: &str)
         requires { self.old.spot ≡ AtValue }
         ensures { Adds (objects self.old) (objects self.new) }
@@ -193,7 +193,7 @@ impl<W: Sink> Objects<W> {
         self.put_string(text.as_bytes());
     }
 
-    // Puts a number as the value that is to come.
+    // Puts a number as the value.
     fn decimal(&mut self, number: u64)
         requires { self.old.spot ≡ AtValue }
         ensures { Adds (objects self.old) (objects self.new) }
@@ -201,7 +201,7 @@ impl<W: Sink> Objects<W> {
         self.short(&number, Spot::Ended);
     }
 
-    // Puts an array of two numbers as the value that is to come.
+    // Puts an array of two numbers as the value.
     fn pair(&mut self, first: u64, second: u64)
         requires { self.old.spot ≡ AtValue }
         ensures { Adds (objects self.old) (objects self.new) }
@@ -209,7 +209,7 @@ impl<W: Sink> Objects<W> {
         self.short(&Two { first, second }, Spot::Ended);
     }
 
-    // Puts the value that is to come.
+    // Puts the value.
     fn value(&mut self, value: Value<'_>)
         requires { self.old.spot ≡ AtValue }
         ensures { Adds (objects self.old) (objects self.new) }

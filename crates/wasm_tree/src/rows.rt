@@ -95,7 +95,7 @@ impl Model for Rows {
 }
 
 impl Rows {
-    /// None. They take no memory.
+    /// No bytes. Does not allocate.
     pub(crate) fn new(alloc: Global) -> Rows
         ensures { result ≡ [] }
     {
@@ -173,7 +173,7 @@ impl Rows {
     }
 }
 
-// The bytes after so many of them.
+// The bytes after the first `shown`.
 fn after(bytes: &[u8], shown: usize) -> &[u8]
     ensures { result.now ≡ drop shown bytes.now }
 {

@@ -17,7 +17,7 @@ pub(crate) fn flag_word(flag: bool) -> &'static str
     if flag { "true" } else { "false" }
 }
 
-/// A number, with its sign where it is below 0.
+/// A number, with its sign if it is below 0.
 #[derive(Drop)]
 pub(crate) struct Signed {
     is_negative: bool,

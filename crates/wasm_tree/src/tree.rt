@@ -16,10 +16,10 @@ use std::alloc::Global;
 use wasm_base::Error;
 use wasm_lines::{ListError, ShortText};
 
-/// How many bytes stand for a byte string.
+/// How many bytes of a byte string are shown.
 const SHOWN: usize = 16;
 
-// The bytes that stand for a byte string: its first ones.
+// The bytes of a byte string that are shown: its first ones.
 fn first_bytes(bytes: &[u8]) -> &[u8]
     ensures { result.now ≡ take 16 bytes.now }
 {
@@ -149,7 +149,7 @@ pub trait Tree {
         ensures says { Says (field_text (named name.now (value_of value.entry)))
             (writing self.old) (writing self.new) };
 
-    /// Writes a word that stands alone, without the name of its field, which an object has.
+    /// Writes a word on its own, without the name of its field, which an object has.
     fn label(&mut self, name: &str, word: &str)
         requires name_line { has_line_feed name.now ≡ false }
         requires word_line { has_line_feed word.now ≡ false }
@@ -226,7 +226,7 @@ pub trait Tree {
         self.text(word);
     }
 
-    /// Writes a number in decimal digits, with a sign where it is below 0.
+    /// Writes a number in decimal digits, with a sign if it is below 0.
     final fn integer(&mut self, number: i64)
         ensures adds { Adds (writing self.old) (writing self.new) }
         ensures some { SaysSome (writing self.old) (writing self.new) }

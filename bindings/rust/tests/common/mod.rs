@@ -12,7 +12,7 @@ pub trait Show {
     fn show(&self) -> String;
 }
 
-/// The bytes of a hexadecimal text, in which `M` stands for the header of a module.
+/// The bytes of a hexadecimal text, in which `M` is the header of a module.
 pub fn bytes(text: &str) -> Vec<u8> {
     let digits = text.replace('M', "0061736d01000000").replace(char::is_whitespace, "");
     (0..digits.len()).step_by(2).map(|at| u8::from_str_radix(&digits[at..at + 2], 16).unwrap()).collect()
@@ -87,7 +87,7 @@ pub fn agree_at(rows: &[(Reader, &str, &str)], offset: u64, features: WasmFeatur
     }
 }
 
-/// The same at offset 0, with all features.
+/// Like the function above, at offset 0 and with all features.
 pub fn agree(rows: &[(Reader, &str, &str)]) {
     agree_at(rows, 0, WasmFeatures::all());
 }

@@ -42,7 +42,7 @@ end 75
 
 // A call with a long contract is in a function without one, which is cheaper to prove over.
 
-// How the dump of what this source gives ends, and the sink.
+// How the dump of this source ends, and the sink.
 fn dumped<R: Source>(
     alloc: Global,
     only: &[Only<'_>],
@@ -155,7 +155,7 @@ fn stops_where_the_sink_is_full(rt: HostRuntime) -> Result<(), Fail> {
     Ok(())
 }
 
-/// A source that gives these bytes, and then fails.
+/// A source that returns these bytes, and then fails.
 #[derive(Drop)]
 struct Cut<'a> {
     bytes: SliceSource<'a>,

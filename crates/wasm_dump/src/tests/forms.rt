@@ -4,7 +4,7 @@ use std::alloc::Global;
 use std::process::Abort;
 use std::test::Fail;
 
-// Names with a quote, a backslash, a line feed, a byte that is no character of text, and one outside of ASCII.
+// Names with a quote, a backslash, a line feed, a control character, and a character outside of ASCII.
 const NAMES: &[u8] = b"\0asm\x01\0\0\0\x07\x0f\x02\x03a\"b\0\x00\x05\\\x0a\x01\xc3\xa9\x03\x00";
 
 // Offsets to be added in relocations, one of them below 0.

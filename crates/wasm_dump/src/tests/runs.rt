@@ -49,7 +49,7 @@ fn run_over<R: Source, W: Write + Drop>(
     Ok((status, errors))
 }
 
-// A run over this stream answers, writes and says this.
+// A run over this stream returns, writes and says this.
 fn answers(
     rt: &impl Abort,
     alloc: Global,
@@ -65,7 +65,7 @@ fn answers(
     Ok(())
 }
 
-// A run with these arguments over this stream answers, writes and says this.
+// A run with these arguments over this stream returns, writes and says this.
 pub(super) fn runs(
     rt: &impl Abort,
     alloc: Global,
@@ -331,7 +331,7 @@ impl Write for Stuck {
     }
 }
 
-// A run over this source and this writer answers 3 and says this.
+// A run over this source and this writer returns 3 and says this.
 fn fails<R: Source, W: Write + Drop>(
     rt: &impl Abort,
     alloc: Global,

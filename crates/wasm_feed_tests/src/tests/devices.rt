@@ -108,7 +108,7 @@ fn sink(rt: &impl Abort, alloc: Global, size: usize) -> BoundedSink {
     BoundedSink::new(alloc, size).expect(rt, "out of memory")
 }
 
-// The listing of what this source gives ends so, with these lines. The source fails where the listing does.
+// The listing of what this source returns ends so, with these lines. The source fails where the listing does.
 fn lists_from(
     rt: &impl Abort,
     alloc: Global,
@@ -304,7 +304,7 @@ fn a_sink_flushes_its_writer(rt: HostRuntime) {
     same(&rt, writer.flushes, 3);
 }
 
-// The size of the largest read of a listing by pieces of this size.
+// The size of the largest read of a listing by chunks of this size.
 fn largest_read(rt: &impl Abort, alloc: Global, piece: usize) -> usize {
     let mut input = Measuring::new(MODULE);
     let mut output = sink(rt, alloc, 64);

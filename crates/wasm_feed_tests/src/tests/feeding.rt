@@ -47,12 +47,12 @@ fn step(feeder: &mut Feeder) -> ReportedAs {
     say(feeder.step())
 }
 
-// The same by `step_with`, of a feeder with any memory.
+// Like `step`, by `step_with`, of a feeder with any memory.
 fn step_with<A: Allocator>(feeder: &mut Feeder<A>) -> ReportedAs {
     feeder.step_with(say)
 }
 
-// Pushes a piece, if the feeder wants more.
+// Pushes a chunk, if the feeder wants more.
 pub(super) fn push<A: Allocator>(feeder: &mut Feeder<A>, piece: &[u8]) -> Result<()> {
     if feeder.wants_more() {
         feeder.push(piece)
@@ -61,7 +61,7 @@ pub(super) fn push<A: Allocator>(feeder: &mut Feeder<A>, piece: &[u8]) -> Result
     }
 }
 
-// Pushes a piece and steps until more is asked for: the last step, and how many bytes are held and stored.
+// Pushes a chunk and steps until more is asked for: the last step, and how many bytes are held and stored.
 fn steps_after(rt: &impl Abort, feeder: &mut Feeder, piece: &[u8]) -> (ReportedAs, usize, usize) {
     assert!(rt; feeder.wants_more());
     same(rt, push(feeder, piece), Ok(()));
@@ -114,7 +114,7 @@ fn imports(step: &Step<'_>, consumed: &[u8]) -> Option<Range<u64>> {
     }
 }
 
-// The same of the next step.
+// Like `imports`, of the next step.
 fn next_imports(feeder: &mut Feeder, consumed: &[u8]) -> Result<Option<Range<u64>>> {
     let step = feeder.open().step()?;
     Ok(imports(&step, consumed))
@@ -197,7 +197,7 @@ fn pieces_of_a_download(rt: HostRuntime) {
 // A feeder whose memory runs out.
 type SparingFeeder<'a> = Feeder<&'a Sparing<Global>>;
 
-// Pushes a piece. A push that is refused leaves the feeder as it was, and is repeated with more memory. Returns whether it was
+// Pushes a chunk. A push that is refused leaves the feeder as it was, and is repeated with more memory. Returns whether it was
 // refused.
 fn push_again(
     rt: &impl Abort,
@@ -251,7 +251,7 @@ fn note_pieces(
     refused
 }
 
-// The steps are these, with so many blocks at first. Returns whether a push was refused.
+// The steps are these, with this many blocks at first. Returns whether a push was refused.
 fn says_which(
     rt: &impl Abort,
     alloc: Global,

@@ -1,4 +1,4 @@
-// Pieces that a feeder lends.
+// Chunks that a feeder borrows.
 ghost use Rattle.wasm_feed.specs.Beside.{MayCome};
 
 use super::feeding::{MODULE, ReportedAs, push, say};
@@ -10,14 +10,14 @@ use wasm_feed::Feeder;
 use wasm_parser::{Error, Fault, Result, WasmFeatures};
 use wasm_testing::Sparing;
 
-// The bytes that may be lent: none after the end of input.
+// The bytes that the feeder may borrow: none after the end of input.
 fn lendable<'a, A: Allocator>(feeder: &Feeder<A>, piece: &'a [u8]) -> &'a [u8]
     ensures { MayCome feeder.now result.now }
 {
     if feeder.is_finished() { b"" } else { piece }
 }
 
-// One step over a piece: what it tells, and what is left of the piece.
+// One step over a chunk: what it reports, and the remaining bytes of the chunk.
 fn over<'a, A: Allocator>(
     feeder: &mut Feeder<A>,
     piece: &'a [u8],
@@ -27,7 +27,7 @@ fn over<'a, A: Allocator>(
     Ok((reported_as, loan.split_at(taken).1))
 }
 
-// What a step over a piece tells, where memory suffices.
+// What a step over a chunk reports, if memory suffices.
 fn reported_over<A: Allocator>(
     rt: &impl Abort,
     feeder: &mut Feeder<A>,
@@ -37,7 +37,7 @@ fn reported_over<A: Allocator>(
     reported_as
 }
 
-// Each call that makes a step tells the same, also over more bytes, and nothing more is held or stored.
+// Each call that makes a step reports this, also over more bytes, and nothing more is held or stored.
 fn stays(rt: &impl Abort, feeder: &mut Feeder, reported_as: ReportedAs) {
     let before = (feeder.held(), feeder.stored());
     for _ in 0..2 {
@@ -54,7 +54,7 @@ fn stays(rt: &impl Abort, feeder: &mut Feeder, reported_as: ReportedAs) {
     }
 }
 
-// The steps over a piece are these, after each of which this many bytes are held and stored.
+// The steps over a chunk are these, after each of which this many bytes are held and stored.
 fn says_which<A: Allocator>(
     rt: &impl Abort,
     feeder: &mut Feeder<A>,
@@ -94,7 +94,7 @@ fn custom_of_605(alloc: Global) -> std::result::Result<Vec<u8>, AllocError> {
     Ok(stream)
 }
 
-// Of the second piece only what the first one misses is stored.
+// Of the second chunk only what the first one misses is stored.
 #[test]
 fn only_what_a_part_misses_is_stored(rt: HostRuntime) {
     let (asks, shows) = (ReportedAs::Asks, ReportedAs::Shows);
@@ -107,7 +107,7 @@ fn only_what_a_part_misses_is_stored(rt: HostRuntime) {
     says_which(&rt, &mut feeder, second, &rows);
 }
 
-// Pushes and steps over pieces take turns.
+// Pushes and steps over chunks take turns.
 #[test]
 fn a_piece_comes_after_what_was_pushed(rt: HostRuntime) {
     let (asks, shows) = (ReportedAs::Asks, ReportedAs::Shows);
@@ -120,7 +120,7 @@ fn a_piece_comes_after_what_was_pushed(rt: HostRuntime) {
     says_which(&rt, &mut feeder, second, &rows);
 }
 
-// Where the growth for a piece is refused, nothing is told, and the same piece can be given again.
+// If the growth for a chunk is refused, nothing is reported, and the same chunk can be given again.
 #[test]
 fn a_refused_piece_is_pushed_again(rt: HostRuntime) {
     let heap = Sparing::new(rt.alloc(), 0);
@@ -162,7 +162,7 @@ fn the_fault_of_a_cut_stays(rt: HostRuntime) {
     stays(&rt, &mut feeder, ReportedAs::Refuses(cut));
 }
 
-// A fault in bytes that were lent is held, so other bytes after it change nothing.
+// A fault in borrowed bytes is held, so other bytes after it change nothing.
 #[test]
 fn a_fault_stays(rt: HostRuntime) {
     let mut feeder = Feeder::new(rt.alloc(), 0, WasmFeatures::all());

@@ -1,4 +1,4 @@
-// Streams that are cut into pieces.
+// Streams that are cut into chunks.
 use super::feeding::push;
 use super::{events, same};
 use bitflags::Flags;
@@ -24,7 +24,7 @@ const AMPLE: u64 = 60;
 // An event: what it is, its offsets, and the bytes that it consumed.
 type Wanted<'a> = (EventKind, Range<u64>, &'a [u8]);
 
-// The bytes in chunks of so many, with empty ones between them or without.
+// The bytes in chunks of this size, with empty ones between them or without.
 fn cut(alloc: Global, bytes: &[u8], size: usize, spaced: bool) -> Result<Vec<&[u8]>, AllocError> {
     let mut pieces = Vec::new(alloc);
     let mut rest = bytes;
@@ -52,7 +52,7 @@ fn is(rt: &impl Abort, event: &Event, wanted: &Wanted<'_>) {
     );
 }
 
-// The events of these pieces are these.
+// The events of these chunks are these.
 fn are(rt: &impl Abort, alloc: Global, start: u64, pieces: &[&[u8]], wanted: &[Wanted<'_>]) {
     let events = events(rt, alloc, start, pieces);
     same(rt, events.len(), wanted.len());
@@ -132,7 +132,7 @@ fn pieces_that_fit_below_the_top(rt: HostRuntime) {
     }
 }
 
-// How many events these pieces have, read with memory from this allocator.
+// How many events these chunks have, read with memory from this allocator.
 fn count_in(heap: &Sparing<Global>, pieces: &[&[u8]]) -> Result<usize, Error> {
     if !fits_pieces(40, pieces) {
         return Ok(0);
@@ -140,7 +140,7 @@ fn count_in(heap: &Sparing<Global>, pieces: &[&[u8]]) -> Result<usize, Error> {
     Ok(read_pieces_in(heap, 40, pieces)?.len())
 }
 
-// Whether so many blocks suffice for a reading of these pieces. If not, the error is `OutOfMemory`.
+// Whether this many blocks suffice for a reading of these chunks. If not, the error is `OutOfMemory`.
 fn suffices(rt: &impl Abort, alloc: Global, blocks: u64, pieces: &[&[u8]], whole: usize) -> bool {
     match count_in(&Sparing::new(alloc, blocks), pieces) {
         Ok(count) => {

@@ -21,7 +21,7 @@ fn read_more(
     true
 }
 
-// How many reads, and how many steps without a request, it takes to read these bytes into room for so many, and how many bytes
+// How many reads, and how many steps without a request, it takes to read these bytes into room for `size` bytes, and how many bytes
 // were stored at most. Bytes are asked for where a step asks, and nowhere else.
 fn read_by(rt: &impl Abort, alloc: Global, bytes: &[u8], size: usize) -> (u32, u32, usize) {
     let mut buffer = vec![in alloc; 0u8; size.max(1)].expect(rt, "out of memory");
@@ -142,7 +142,7 @@ fn refill(
     same(rt, read, Ok(()));
 }
 
-// How many reads and how many steps without a request it takes to read these bytes by chunks of so many, parsed where they are, and what
+// How many reads and how many steps without a request it takes to read these bytes by chunks of this size, parsed in place, and what
 // the last step says.
 fn read_borrowed(
     rt: &impl Abort,

@@ -39,7 +39,7 @@ fn ends_in<R: Source, W: Sink>(
     list_in(heap, input, output, piece.max(1))
 }
 
-// Whether so many blocks suffice to list a stream. If not, the lines that were written are the first ones.
+// Whether this many blocks suffice to list a stream. If not, the lines that were written are the first ones.
 fn suffices(
     rt: &impl Abort,
     alloc: Global,

@@ -6,7 +6,7 @@ use wasm_feed::{strip, strip_in, strip_in_place, strip_to_front};
 use wasm_parser::{Error, Fault, Result};
 use wasm_testing::Sparing;
 
-/// A stream, what is left of it where the names are kept, and what is left elsewhere.
+/// A stream, the stripped stream with the names kept, and the one without.
 type Row = (&'static [u8], &'static [u8], &'static [u8]);
 
 const STRIPPED: [Row; 9] = [
@@ -59,7 +59,7 @@ const STRIPPED: [Row; 9] = [
 type Refused = (&'static [u8], Fault, u64);
 
 const FAULTS: [Refused; 8] = [
-    // A section that stays stands after one that goes, and before the fault.
+    // A section that stays is after one that is dropped, and before the fault.
     (
         b"\0asm\x01\0\0\0\0\x02\x01a\x01\x01\0\x80",
         Fault::MalformedSectionId,
@@ -98,7 +98,7 @@ const FAULTS: [Refused; 8] = [
     ),
 ];
 
-// The rows by a function, since a proof over them is told nothing of their bytes.
+// The rows by a function, since a proof over them knows nothing of their bytes.
 fn rows() -> &'static [Row] {
     &STRIPPED
 }
@@ -107,22 +107,22 @@ fn faults() -> &'static [Refused] {
     &FAULTS
 }
 
-// What is left of a stream.
+// The stripped stream.
 fn left_of(alloc: Global, stream: &[u8], keep_names: bool) -> Result<Vec<u8>> {
     strip(alloc, stream, keep_names)
 }
 
-// The same, in its own memory.
+// Like `left_of`, in the stream's own memory.
 fn take_out(stream: &mut Vec<u8>, keep_names: bool) -> Result<()> {
     strip_in_place(stream, keep_names)
 }
 
-// The same, in the first of its own bytes.
+// Like `left_of`, at the front of the stream's own bytes.
 fn take_to_front(stream: &mut [u8], keep_names: bool) -> Result<usize> {
     strip_to_front(stream, keep_names)
 }
 
-// What is left of a stream, with memory from this allocator.
+// The stripped stream, with memory from this allocator.
 fn left_in<'a>(
     heap: &'a Sparing<Global>,
     stream: &[u8],
@@ -131,7 +131,7 @@ fn left_in<'a>(
     strip_in(heap, stream, keep_names)
 }
 
-// What is left of a stream is this.
+// The stripped stream is this.
 fn leaves(rt: &impl Abort, alloc: Global, stream: &[u8], keep_names: bool, wanted: &[u8]) {
     let left = left_of(alloc, stream, keep_names).expect(rt, "a fault");
     same_at(rt, left.as_slice(), wanted, &(stream, keep_names));
@@ -153,7 +153,7 @@ fn stripping_again_changes_nothing(rt: HostRuntime) {
     }
 }
 
-// The same is left in place.
+// Like `leaves`, in place.
 fn leaves_in_place(rt: &impl Abort, alloc: Global, stream: &[u8], keep_names: bool, wanted: &[u8]) {
     let mut bytes = stream.to_vec(alloc).expect(rt, "out of memory");
     let answer = take_out(&mut bytes, keep_names);
@@ -173,7 +173,7 @@ fn strips_modules_in_place(rt: HostRuntime) {
     }
 }
 
-// The same is left in the first bytes.
+// Like `leaves`, at the front of the bytes.
 fn leaves_at_front(rt: &impl Abort, alloc: Global, stream: &[u8], keep_names: bool, wanted: &[u8]) {
     let mut bytes = stream.to_vec(alloc).expect(rt, "out of memory");
     let size = take_to_front(bytes.as_mut_slice(), keep_names).expect(rt, "a fault");
@@ -220,7 +220,7 @@ fn fault_of(alloc: Global, stream: &[u8], keep_names: bool) -> Option<Error> {
     left_in(&none, stream, keep_names).err()
 }
 
-// The fault of a stream is told whatever memory there is.
+// The fault of a stream is reported whatever memory there is.
 #[test]
 fn strips_only_accepted_streams(rt: HostRuntime) {
     for (stream, fault, offset) in faults() {
@@ -239,7 +239,7 @@ fn stripping_without_memory(rt: HostRuntime) {
     }
 }
 
-// The same is left with one growth.
+// Like `leaves`, with one growth.
 fn leaves_in(rt: &impl Abort, alloc: Global, stream: &[u8], keep_names: bool, wanted: &[u8]) {
     let one = Sparing::new(alloc, 1);
     let left = left_in(&one, stream, keep_names).expect(rt, "a fault");

@@ -33,7 +33,7 @@ fn run_over<R: Source>(
     run(alloc, arguments, input, output, errors)
 }
 
-// A run with these arguments over this source, whose output has room for this many bytes, answers, writes and says this.
+// A run with these arguments over this source, whose output has room for this many bytes, returns, writes and says this.
 fn answers<R: Source>(
     rt: &impl Abort,
     alloc: Global,
@@ -180,7 +180,7 @@ impl Read for Broken {
     }
 }
 
-// A run whose input fails answers 3, having written and said this.
+// A run whose input fails returns 3, having written and said this.
 fn input_fails(
     rt: &impl Abort,
     alloc: Global,
@@ -193,7 +193,7 @@ fn input_fails(
     Ok(())
 }
 
-// A run whose output is full after this answers 3 and says so.
+// A run whose output is full after this returns 3 and says so.
 fn output_fails(
     rt: &impl Abort,
     alloc: Global,
@@ -265,7 +265,7 @@ impl Write for Stuck {
     }
 }
 
-// A run with this status whose output cannot be flushed answers and says this.
+// A run with this status whose output cannot be flushed returns and says this.
 fn flush_fails(
     rt: &impl Abort,
     alloc: Global,
@@ -290,7 +290,7 @@ fn a_flush_that_fails(rt: HostRuntime) -> Result<(), Fail> {
     flush_fails(&rt, rt.alloc(), 3, 3, b"")
 }
 
-// The program's own name, and so many arguments.
+// The program's own name, and this many arguments.
 fn arguments(alloc: Global, count: usize) -> Result<Args, Fail> {
     let mut arguments = vec![in alloc; String::from_str(alloc, "wasm_list")?]?;
     for _ in 0..count {
@@ -309,7 +309,7 @@ fn program_over<W: Write>(
     run_program(alloc, given, input, output, errors)
 }
 
-// The whole program over this source answers, writes and says this.
+// The whole program over this source returns, writes and says this.
 fn program_answers(
     rt: &impl Abort,
     alloc: Global,
@@ -389,7 +389,7 @@ fn an_argument_that_is_no_text(rt: HostRuntime) -> Result<(), Fail> {
     program_answers(&rt, rt.alloc(), given, &mut input, (2, b"", USAGE))
 }
 
-// The program with so many arguments answers and says this where its output cannot be flushed.
+// The program with this many arguments returns and says this if its output cannot be flushed.
 fn program_fails(
     rt: &impl Abort,
     alloc: Global,

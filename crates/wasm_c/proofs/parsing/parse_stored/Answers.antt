@@ -24,7 +24,7 @@ returns-in-Ok-Parsed c =
           (c.put_parsed.ensures ∙ ap (answer_event c.args.base c.offset-offset.result) (sym answers));
     })
 
--- an answer of a parser that has stayed where it was
+-- a result of a parser that has not moved
 unmoved : {base : ℕ} {old new : ParserState} {eof : Bool} {bytes : List ℕ} {answer : Result Chunk Error} {event : PlainEvent} → new ≡ old
     → ParseAnswer old eof bytes answer new → GivesNextEvent old eof bytes answer new → Consumes bytes answer
     → AsksForSome answer → AsksWhereOpen old eof bytes answer → FaultsWithin old bytes answer → event ≡ answer_event base old.offset answer

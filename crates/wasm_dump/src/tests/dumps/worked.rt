@@ -329,7 +329,7 @@ custom 157 158 158
 end 158
 ";
 
-// By functions, since a proof over them is told nothing of their bytes.
+// By functions, since a proof over them knows nothing of their bytes.
 fn sections() -> (&'static [u8], &'static [u8]) {
     (SECTIONS, SECTIONS_DUMP)
 }

@@ -3,7 +3,7 @@ use Rattle.wasm_feed.specs.Cursors.{feed_of}
 use Rattle.wasm_feed.specs.Pieces.{HasCome}
 use Rattle.wasm_feed.proofs.pieces.read_held.Given as goal
 
--- the events that came since the start were added
+-- the events since the start were added
 abbrev pub invariant-steps : goal.invariant-steps
 invariant-steps g l =
     let old = feed_of l.fn.bytes l.initial.cursor in

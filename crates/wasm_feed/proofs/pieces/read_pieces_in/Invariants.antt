@@ -4,7 +4,7 @@ use Rattle.wasm_feed.specs.Pieces.{joined, HasCome}
 use Rattle.wasm_feed.proofs.pieces.read_pieces_in.Given as goal
 use Rattle.wasm_base.specs.Features.{all_features}
 
--- the first pieces were given, and the last event has not come
+-- the first chunks were given, and the last event has not arrived
 abbrev pub invariant-pieces : goal.invariant-pieces
 invariant-pieces g l = record {
   comes : HasCome l.offset all_features (joined (take l.piece-index l.pieces)) (feed_of l.bytes.items l.cursor) l.events.items;

@@ -3,7 +3,7 @@ use Rattle.wasm_feed.specs.Cursors.{feed_of}
 use Rattle.wasm_feed.specs.Strips.{HasKept}
 use Rattle.wasm_feed.proofs.stripping.copy_kept.Given as goal
 
--- what is left of the parts that came was put after the bytes
+-- the kept ones of the parts so far were appended to the bytes
 abbrev pub invariant-parts : goal.invariant-parts
 invariant-parts g l = record {
   comes : (more : List ℕ) × HasKept l.fn.keep_names l.fn.bytes (feed_of l.fn.bytes l.cursor) more

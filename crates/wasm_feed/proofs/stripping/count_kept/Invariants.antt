@@ -3,7 +3,7 @@ use Rattle.wasm_feed.specs.Cursors.{feed_of}
 use Rattle.wasm_feed.specs.Strips.{HasKept}
 use Rattle.wasm_feed.proofs.stripping.count_kept.Given as goal
 
--- what is left of the parts that came was counted
+-- the kept ones of the parts so far were counted
 abbrev pub invariant-parts : goal.invariant-parts
 invariant-parts l = record {
   comes : (kept : List ℕ) × HasKept l.fn.keep_names l.fn.bytes (feed_of l.fn.bytes l.cursor) kept × (l.count ≡ length kept);

@@ -3,7 +3,7 @@ use Rattle.wasm_feed.specs.Cursors.{feed_of}
 use Rattle.wasm_feed.specs.Strips.{HasKept}
 use Rattle.wasm_feed.proofs.stripping.move_kept.Given as goal
 
--- what is left of the parts that came is at the front, and the parts to come are where they were
+-- the kept ones of the parts so far are at the front, and the remaining parts have not moved
 abbrev pub invariant-parts : goal.invariant-parts
 invariant-parts l = record {
   comes : HasKept l.fn.keep_names l.fn.bytes (feed_of l.bytes l.cursor) (take l.kept l.bytes);

@@ -3,7 +3,7 @@ use Rattle.wasm_feed.specs.Cursors.{feed_of}
 use Rattle.wasm_feed.specs.Strips.{HasKept}
 use Rattle.wasm_feed.proofs.stripping.next_kept.Given as goal
 
--- the parts that came so far go
+-- the parts so far are dropped
 abbrev pub invariant-parts : goal.invariant-parts
 invariant-parts l = record {
   comes : (stream kept : List ℕ) → HasKept l.fn.keep_names stream (feed_of l.fn.bytes l.fn.cursor) kept → length stream < 2 ^ 64

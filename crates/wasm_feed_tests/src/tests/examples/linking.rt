@@ -133,7 +133,7 @@ fn relocations_before_the_symbols(rt: HostRuntime) -> Result<(), Fail> {
     Ok(())
 }
 
-// The same with a relocation of type 27, with a symbol of kind 9, and of version 3.
+// Like `RELOC` and `LINKING`, with a relocation of type 27, with a symbol of kind 9, and of version 3.
 const BAD_RELOC: &[u8] = b"\0\x19\x0areloc.CODE\x02\x04\0\x04\0\x1b\x04\0\0\x05\x02\0\x06\x01";
 
 const BAD_SYMBOL: &[u8] = b"\0\x15\x07linking\x02\x08\x0a\x02\0\0\0\x01f\x09\x10\x01d";

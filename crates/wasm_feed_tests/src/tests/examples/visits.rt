@@ -29,7 +29,7 @@ impl Compiler for Places {
     }
 }
 
-// The bytes in chunks of so many.
+// The bytes in chunks of this size.
 fn cut<'a>(
     alloc: Global,
     bytes: &'a [u8],
@@ -42,7 +42,7 @@ fn cut<'a>(
     Ok(pieces)
 }
 
-// What is answered where a compiler sees the bodies of these pieces.
+// What a visit returns if a compiler sees the bodies of these chunks.
 fn compile(alloc: Global, pieces: &[&[u8]], compiler: &mut Compiling<Places>) -> Result<usize> {
     if !wasm_feed::fits_pieces(0, pieces) {
         return Err(Error::new(Fault::SizeMismatch, 0));
@@ -50,7 +50,7 @@ fn compile(alloc: Global, pieces: &[&[u8]], compiler: &mut Compiling<Places>) ->
     compile_pieces(alloc, WasmFeatures::all(), pieces, compiler)
 }
 
-// What a compiler saw of these bytes, cut so, and what was answered.
+// What a compiler saw of these bytes, cut so, and what the visit returned.
 fn compiled(
     alloc: Global,
     bytes: &[u8],

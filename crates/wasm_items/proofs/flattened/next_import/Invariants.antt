@@ -2,7 +2,7 @@ use Rattle.std.proofs.Common.{◌≡◌, ◌++◌}
 use Rattle.wasm_items.specs.Flattened.{imports_of_bundles}
 use Rattle.wasm_items.proofs.flattened.next_import.Given as goal
 
--- what is to come is what was to come at first
+-- the remaining imports are those at the start of the loop
 abbrev pub invariant-left : goal.invariant-left
 invariant-left l = l.bundle ++ imports_of_bundles l.bundles ≡ l.fn.bundle ++ imports_of_bundles l.fn.bundles
 

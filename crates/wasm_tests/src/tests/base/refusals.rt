@@ -24,7 +24,7 @@ fn a_list_with_ample_memory(rt: HostRuntime) {
     same(&rt, list.as_slice(), NUMBERS);
 }
 
-// Whether so many blocks suffice for the list. If not, the error is `OutOfMemory`.
+// Whether this many blocks suffice for the list. If not, the error is `OutOfMemory`.
 fn suffices(rt: &impl Abort, alloc: Global, blocks: u64) -> bool {
     let heap = Sparing::new(alloc, blocks);
     let mut reader = BinaryReader::new(BYTES, 0);
@@ -68,7 +68,7 @@ fn refusal<'a, T: FromReader<'a> + Drop>(alloc: Global, bytes: &'a [u8]) -> Opti
     read_list::<T, _>(&none, &mut window(bytes, 0)).err()
 }
 
-// A count never allocates, nor does an item that is a fault, or a count that is one.
+// A count on its own allocates nothing, nor does an item that is a fault, or a malformed count.
 #[test]
 fn a_count_asks_for_no_memory(rt: HostRuntime) {
     let many = refusal::<u32>(rt.alloc(), b"\xff\xff\xff\xff\x0f");

@@ -71,7 +71,7 @@ fn hint_of_second(bytes: &[u8; 6]) -> Result<Option<usize>> {
 #[test]
 fn hints_of_items(rt: HostRuntime) {
     same(&rt, hint_of_second(b"\x02\x01a\x09bc"), Ok(Some(7)));
-    // A byte that is left has none.
+    // A trailing byte has none.
     same(&rt, hint_of_second(b"\x01\x01abcd"), Ok(None));
 }
 

@@ -32,7 +32,7 @@ fn kind_of<A: Allocator>(known: &KnownCustom<'_, A>) -> (&'static str, usize) {
     }
 }
 
-// What a section is with so many blocks, or `None` where they don't suffice: the error is `OutOfMemory` then.
+// What a section is with this many blocks, or `None` if they don't suffice: the error is `OutOfMemory` then.
 fn kind_with(
     rt: &impl Abort,
     alloc: Global,
@@ -104,7 +104,7 @@ fn sections_whose_memory_runs_out(rt: HostRuntime) {
     runs_out(&rt, rt.alloc(), bytes, ("core stack", 1), 3);
 }
 
-// Whether so many blocks suffice for the list of a subsection. If not, the error is `OutOfMemory`.
+// Whether this many blocks suffice for the list of a subsection. If not, the error is `OutOfMemory`.
 fn suffices(rt: &impl Abort, alloc: Global, id: u8, bytes: &[u8; 13], blocks: u64) -> bool {
     let heap = Sparing::new(alloc, blocks);
     match Dylink0Subsection::from_reader_in(&heap, id, window(bytes, 8)) {

@@ -53,7 +53,7 @@ fn a_copy_goes_its_own_way(rt: HostRuntime) {
     );
 }
 
-// What a parser knows after a function section and the start of a code section whose one body is to come.
+// What a parser knows after a function section and the start of a code section whose one body remains.
 #[test]
 fn a_checkpoint_in_a_code_section(rt: HostRuntime) {
     let mut parser = after_header(&rt, 100);

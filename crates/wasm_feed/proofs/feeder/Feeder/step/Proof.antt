@@ -58,14 +58,14 @@ step_spec 𝓤 𝓛 𝓜 𝓡 wired =
     (fact 𝓤 (feed_of t.bytes.now t.cursor.now ≡ old)))))) (id⊢ 𝓤 _) $
     await ! tt $ pick ! (λ t. split ! $ split ! $ move ! (2 ∷ []) $ pick !
     (λ ws. split ! $ drop ! $ split ! $ move ! (1 ∷ []) $ heard ! _ (λ opens.
-    -- [the lent cursor; the tokens; what is opened]
+    -- [the borrowed cursor; the tokens; what is opened]
     move ! (2 ∷ []) $ peeks ! Tr _ (shows 𝓛 Tr) t (v ∷ []) (λ is.
     let word = (opened-laws.lowers ℓ ℓ).lowered t in let e = (opened-laws.lowers ℓ ℓ).val_is t (v ∷ []) is in
     let y : K.Ghost = (((κ, (κ, tt)), (ql, (qr, tt)), tt, (t, tt), (word ∷ [], tt)), tt) in
     rewrite ! 0 (λ (ws' : List Val). ‵ (Tr.own_val t ws')) e refl $
     lands_as ! (ap only e) refl (((opened-laws.the_row_laws ℓ ℓ).lawful 𝓛).typed t (word ∷ [])
     (subst (λ (ws' : List Val). Is Tr t ws') e is)).0 $
-    -- [what is opened; the lent cursor; the tokens]
+    -- [what is opened; the borrowed cursor; the tokens]
     nothing ! $ move ! (1 ∷ 0 ∷ []) $ join ! $ move ! (2 ∷ []) $ split ! $ use1 𝓛 (‵ (flft κ ql) ⊛ ‵ (flft κ qr)) (𝓛.lfts.lft_split κ q) $
     split ! $
     move ! (1 ∷ 2 ∷ []) $ join ! $ move ! (1 ∷ 0 ∷ []) $ join ! $ join ! $
@@ -77,12 +77,12 @@ step_spec 𝓤 𝓛 𝓜 𝓡 wired =
     (fact 𝓤 (Steps (feed_of t.bytes.now t.cursor.now) x (feed_of t.bytes.now ws'.0.0))))))) (id⊢ 𝓤 _) $
     await ! tt $ pick ! (λ x. split ! $ split ! $ move ! (2 ∷ []) $ pick ! (λ ws'. split ! $
     fsplit ! $ fsplit ! $ fsplit ! $
-    -- [the cursor's last value; its borrow; nothing; nothing; the step; the tokens; the answer; the lent cursor]
+    -- [the cursor's last value; its borrow; nothing; nothing; the step; the tokens; the result; the borrowed cursor]
     let last = feed_of t.bytes.now ws'.0.0 in
     move ! (7 ∷ 0 ∷ []) $ use2 𝓛 (‵ (fres γ (R.coded.code last))) (followed 𝓛 R C (feed_of t.bytes.now) γ t.cursor.ghost_name ws'.0.0) $
     move ! (4 ∷ []) $ heard ! _ (λ said. let made : Steps old x last = steps_from _ old x last opens said in
     move ! (4 ∷ []) $ split ! $ move ! (1 ∷ []) $ split ! $ move ! (2 ∷ 0 ∷ []) $ use2 𝓛 (‵ (flft κ q)) (𝓛.lfts.lft_join κ q) $ join ! $
-    -- [the tokens; the feeder's last value; the borrow; nothing; nothing; the answer]
+    -- [the tokens; the feeder's last value; the borrow; nothing; nothing; the result]
     move ! (5 ∷ 0 ∷ 1 ∷ []) $ peeks ! Rr _ (shows 𝓛 Rr) x (u ∷ []) (λ is'.
     lands_as ! refl refl (((result-laws.the_row_laws (step-row.the_row ℓ) error-row.the_row (step-laws.the_row_laws ℓ)
     error-laws.the_row_laws).lawful 𝓛).typed x (u ∷ []) is').0 $

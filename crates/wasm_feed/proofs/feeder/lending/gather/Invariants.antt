@@ -3,7 +3,7 @@ use Rattle.wasm_grammar.specs.Waiting.{enough, waiting}
 use Rattle.wasm_parser.specs.ParserState.{grammar_of}
 use Rattle.wasm_feed.proofs.feeder.lending.gather.Given as goal
 
--- the first bytes of the piece were put
+-- the first bytes of the chunk were appended
 abbrev pub invariant-parts : goal.invariant-parts
 invariant-parts g l = record {
   within : l.count ≤ length l.piece;

@@ -1,4 +1,4 @@
--- It refuses where no block is left, and otherwise answers what the inner allocator answers.
+-- It refuses if no block remains, and otherwise returns what the inner allocator returns.
 use Rattle.std.proofs.Common.{Bool, ap, ◌≡◌, ℕ, ◌+◌, ◌^◌, ◌<◌, true, false, List, [], ◌∷◌, Ok, Err, refl, w64, Bor}
 use seplogic.Ra.Ura.{Ura}
 use mir.Syntax.{Ty, Args, Fn, a_type, dnil, dcons}
@@ -49,7 +49,7 @@ use Rattle.wasm_testing.specs.contracts.heap.SparingAllocator.allocate.Key as ke
 use Rattle.wasm_testing.proofs.heap.SparingAllocator.allocate.Statement as stated
 use Rattle.wasm_testing.proofs.heap.SparingAllocator.allocate.Code as code
 
--- `is_spent` at a call is handed the cell and a token, and gives the token back with one of the two answers.
+-- `is_spent` receives the cell and a token, and returns the token with one of the two results.
 abbrev Left : RattleType
 Left = CE.the_row u64
 
