@@ -7,8 +7,8 @@ import api_names
 import api_source
 import api_text
 import common
-from api_source import doc_of
-from api_text import anchor, document, escaped, formula, inline, link, rust, span, summary
+from api_source import doc_of, summary
+from api_text import anchor, document, escaped, formula, inline, link, rust, span
 
 # The groups of the items of a crate, with the names of one and of several.
 GROUPS = {

@@ -38,6 +38,14 @@ def given_names(text):
 # ---- a source
 
 
+def summary(lines):
+    """The first sentence of a doc comment."""
+    lines = [line.strip() for line in lines]
+    text = " ".join(lines[: lines.index("")] if "" in lines else lines)
+    found = re.match(r"(.*?[.:])(?= [A-Z`]|$)", text)
+    return (found[1] if found else text).rstrip(":")
+
+
 class Source:
     """The items of a source, the members of each type and trait, and what each type implements."""
 
@@ -62,10 +70,7 @@ class Source:
 
     def doc_before(self, at):
         """The first sentence of the doc comment over a line."""
-        doc = [line.strip() for line in self.doc_lines(at)]
-        text = " ".join(doc[: doc.index("")] if "" in doc else doc)
-        found = re.match(r"(.*?[.:])(?= [A-Z`]|$)", text)
-        return (found[1] if found else text).rstrip(":")
+        return summary(self.doc_lines(at))
 
     def derives_before(self, at):
         found = []

@@ -14,9 +14,9 @@ def escaped(text):
     return html.escape(text, quote=True)
 
 
-def link(href, text, kind=""):
+def link(href, text):
     """A link; the text is HTML already."""
-    return '<a%s href="%s">%s</a>' % (' class="%s"' % kind if kind else "", escaped(href), text)
+    return '<a href="%s">%s</a>' % (escaped(href), text)
 
 
 def span(kind, text):
@@ -165,11 +165,3 @@ def document(lines, level, link_of_code):
     if open_list:
         out.append("</%s>" % open_list)
     return "".join(out)
-
-
-def summary(lines):
-    """The first sentence of a doc comment."""
-    lines = [line.strip() for line in lines]
-    text = " ".join(lines[: lines.index("")] if "" in lines else lines)
-    found = re.match(r"(.*?[.:])(?= [A-Z`]|$)", text)
-    return (found[1] if found else text).rstrip(":")
