@@ -1,0 +1,167 @@
+"""Writes the parts of an HTML reference: doc comments, signatures, clauses and definitions, with links for their names."""
+import html
+import re
+import urllib.parse
+
+import api_names
+
+RUST_WORD = re.compile(r"'\w+|(?:\w+::)+\w+|[^\W\d]\w*|//.*|\s+|[^\w\s]+|\w+")
+RUST_KEYWORDS = frozenset("pub fn struct enum trait impl for where const type mut dyn unsafe self Self ghost".split())
+KEYWORDS = frozenset("abbrev unfoldable pub record data where do if then else λ requires ensures ensures*".split())
+
+
+def escaped(text):
+    return html.escape(text, quote=True)
+
+
+def link(href, text):
+    """A link; the text is HTML already."""
+    return '<a href="%s">%s</a>' % (escaped(href), text)
+
+
+def span(kind, text):
+    return '<span class="%s">%s</span>' % (kind, escaped(text))
+
+
+def anchor(*words):
+    """An id that a link can end with."""
+    return urllib.parse.quote(".".join(words), safe=".-_")
+
+
+# ---- code
+
+
+def rust(text, target, link_of):
+    """Code in Rattle, in which the names of items are links. `target` says what a name stands for, `link_of` where that is."""
+    out = []
+    for word in RUST_WORD.findall(text):
+        if word in RUST_KEYWORDS:
+            out.append(span("k", word))
+        elif word.startswith("//") or word.startswith("'"):
+            out.append(span("c" if word[0] == "/" else "l", word))
+        else:
+            first = word.split("::")[0]
+            found = target(first) if first[:1].isupper() else None
+            href = link_of(found, word.split("::")[1:]) if found else None
+            out.append(link(href, escaped(word)) if href else escaped(word))
+    return "".join(out)
+
+
+def formula(text, scope, link_of):
+    """A definition, or what a clause says, in which the names of definitions and items are links."""
+    out, last, trait = [], "", None
+    for word in api_names.WORD.findall(text):
+        if word in KEYWORDS:
+            out.append(span("k", word))
+        elif word.startswith(("--", "//")) or word[0] == '"':
+            out.append(span("s" if word[0] == '"' else "c", word))
+        elif word[0] == "." and last == "⟧" and trait:
+            href = link_of(trait._replace(path=(*trait.path, word[1:])), [])
+            out.append("." + link(href, escaped(word[1:])) if href else escaped(word))
+        elif word[0] in "(){}[],;." or word.isspace():
+            out.append(escaped(word))
+        else:
+            trait = scope.target(word) if last == "as" else trait
+            trait = trait if trait and trait.kind == "item" else None
+            out.append(linked_word(word, scope, link_of))
+        last = last if word.isspace() else word
+    return "".join(out)
+
+
+def linked_word(word, scope, link_of):
+    """A word as a link. Of `x.field` only `x` is one, but of `module.name` the whole."""
+    target = scope.target(word)
+    href = link_of(target, []) if target else None
+    if not href:
+        return escaped(word)
+    first, dot, rest = word.partition(".")
+    if dot and first not in scope.aliases and word not in scope.names:
+        return link(href, escaped(first)) + escaped(dot + rest)
+    return link(href, escaped(word))
+
+
+# What a clause begins with, its label among it.
+LABELED = re.compile(r"(requires|ensures)(\*?)( \w+)?(?= )|(ghost)()( \w+)")
+
+
+def clause(text, scope, link_of):
+    """A clause, or what a ghost member is. Its label is no name of a definition."""
+    head = LABELED.match(text)
+    word, star, label = (one or "" for one in (head[1] or head[4], head[2] or head[5], head[3] or head[6]))
+    return span("k", word + star) + escaped(label) + formula(text[head.end() :], scope, link_of)
+
+
+def unlabeled(text):
+    return text[LABELED.match(text).end() :]
+
+
+def cited(text, scope, kind="definition"):
+    """The definitions that a clause names, in their order, or what else it names of another kind."""
+    found = {}
+    for word in api_names.WORD.findall(text):
+        target = scope.target(word) if word[:1] not in '".' else None
+        if target and target.kind == kind:
+            found[target] = None
+    return list(found)
+
+
+# ---- doc comments
+
+
+def inline(text, link_of_code):
+    """A text with its code, its links and its emphasis."""
+    out = []
+    for part in re.split(r"(`[^`]+`|\[[^\]]+\]\([^)\s]+\))", text):
+        shown = re.match(r"\[([^\]]+)\]\(([^)\s]+)\)$", part)
+        if part.startswith("`") and part.endswith("`") and len(part) > 2:
+            code, href = "<code>%s</code>" % escaped(part[1:-1]), link_of_code(part[1:-1])
+            out.append(link(href, code) if href else code)
+        elif shown:
+            out.append(link(shown[2], inline(shown[1].replace("`", ""), lambda name: None)))
+        else:
+            out.append(re.sub(r"(?<!\w)\*([^*\s][^*]*)\*(?!\w)", r"<em>\1</em>", escaped(part)))
+    return "".join(out)
+
+
+def blocks(lines):
+    """The blocks of a doc comment, each with its kind: code, a heading, items of a list, or a paragraph."""
+    kind, found, is_code = None, [], False
+    for line in lines + [""]:
+        fence = line.strip().startswith("```")
+        if is_code or fence:
+            if fence and is_code:
+                yield "code", found
+            found, is_code = ([], not is_code) if fence else (found + [line], is_code)
+            continue
+        starts = re.match(r"(#+ |[-*] |\d+\. )", line)
+        if kind and (not line.strip() or starts):
+            yield kind, found
+            kind, found = None, []
+        if starts:
+            kind = {"#": "heading", "-": "list", "*": "list"}.get(line[0], "steps")
+            line = line[starts.end() :]
+        elif line.strip() and not kind:
+            kind = "text"
+        if line.strip():
+            found = found + [line.strip()]
+
+
+def document(lines, level, link_of_code):
+    """A doc comment as HTML; its headings have this level."""
+    out, open_list = [], None
+    for kind, found in blocks(lines):
+        tag = {"list": "ul", "steps": "ol"}.get(kind)
+        if open_list and tag != open_list:
+            out.append("</%s>" % open_list)
+        if tag and tag != open_list:
+            out.append("<%s>" % tag)
+        open_list = tag
+        if kind == "code":
+            out.append("<pre><code>%s</code></pre>" % escaped("\n".join(found)))
+        else:
+            inner = inline(" ".join(found), link_of_code)
+            name = {"heading": "h%d" % level, "text": "p"}.get(kind, "li")
+            out.append("<%s>%s</%s>" % (name, inner, name))
+    if open_list:
+        out.append("</%s>" % open_list)
+    return "".join(out)
