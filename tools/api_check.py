@@ -4,6 +4,7 @@ import os
 import re
 import urllib.parse
 
+import api_listing
 import api_names
 import api_source
 
@@ -73,9 +74,9 @@ def wrong_links(folder, pages):
 
 
 def listed_items():
-    """The items of docs/API.md: of each its crate, its owner if it is a member, its name, and what its clauses name."""
+    """The public items: of each its crate, its owner if it is a member, its name, and what its clauses name."""
     crate = owner = ""
-    for line in api_source.read("docs", "API.md").split("\n"):
+    for line in api_listing.lines():
         if line.startswith("## "):
             crate = line[3:]
         found = re.match(r"( *)- `(?:unsafe |const )?(struct|enum|trait|fn|type|const)? ?(?:fn )?(\w+)", line)
@@ -89,7 +90,7 @@ def listed_items():
 
 
 def without_clause(site):
-    """The definitions that docs/API.md says that an item's clauses name, and that its entry has no clause with."""
+    """The definitions that an item's clauses name, and that its entry has no clause with."""
     for crate, owner, name, names in listed_items():
         key = (crate, owner, name) if owner else (crate, name)
         words = {part for word in site.words.get(key, ()) for part in (word, word.split(".")[0])}
@@ -98,7 +99,7 @@ def without_clause(site):
 
 
 def without_entry(pages):
-    """The items of docs/API.md that have no entry on the page of their crate."""
+    """The public items that have no entry on the page of their crate."""
     ends = {name: {".".join(one.split(".")[1:]) for one in page.ids if "." in one} for name, page in pages.items()}
     for crate, owner, name, _ in listed_items():
         wanted = "%s.%s" % (owner, name) if owner else name
@@ -135,5 +136,5 @@ def counts(files, site, found):
     items = len(list(listed_items()))
     pages = sum(name.endswith(".html") for name in files)
     said = {0: "no faults", 1: "one fault"}.get(len(found), "%d faults" % len(found))
-    rest = "%d items of docs/API.md, %d cited definitions, %d items without a doc comment" % (items, len(site.cited_by), len(site.without_doc))
+    rest = "%d items, %d cited definitions, %d items without a doc comment" % (items, len(site.cited_by), len(site.without_doc))
     return "%s: %d pages, %s" % (said, pages, rest)
