@@ -60,9 +60,12 @@ is_default (flag b) = not b
 is_default nothing = true
 is_default other = false
 
+-- a field whatever its value is
+abbrev pub whole_field_text : (name : List ℕ) → Value → List ℕ
+whole_field_text name value = codes " " ++ (name ++ (codes "=" ++ value_text value))
+
 abbrev pub field_text : Field → List ℕ
-field_text (named name value) =
-    if is_default value then [] else codes " " ++ (name ++ (codes "=" ++ value_text value))
+field_text (named name value) = if is_default value then [] else whole_field_text name value
 field_text (alone text) = codes " " ++ text
 
 -- a text with these fields after it

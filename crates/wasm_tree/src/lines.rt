@@ -2,7 +2,7 @@
 ghost use Rattle.std.specs.Prelude.{◌≡◌, ◌≤◌, ◌++◌, [], None, true, false, codes, length, option_map, decimal};
 ghost use Rattle.std.specs.List.{flat_map};
 ghost use Rattle.std.specs.Option.{is_some};
-ghost use Rattle.wasm_tree.specs.Fields.{alone, field_start, field_text, named, quoted_byte, value_text};
+ghost use Rattle.wasm_tree.specs.Fields.{alone, field_start, field_text, named, quoted_byte, value_text, whole_field_text};
 ghost use Rattle.wasm_tree.specs.Said.{Says, SaysSome};
 ghost use Rattle.wasm_tree.specs.Tree.{Adds, AddsBytes, AddsFirst, IsOut, has_line_feed, name_text, starts};
 ghost use Rattle.wasm_tree.specs.Values.{breaks_line, value_of};
@@ -220,6 +220,18 @@ impl<W: Sink> Lines<W> {
         }
     }
 
+    // Writes a field whatever its value is.
+    fn whole_field(&mut self, name: &str, value: Value<'_>)
+        requires name_line { has_line_feed name.now ≡ false }
+        requires value_line { breaks_line value ≡ false }
+        ensures adds { Adds (lines self.old) (lines self.new) }
+        ensures says { Says (whole_field_text name.now (value_of value.entry))
+            (lines self.old) (lines self.new) }
+    {
+        self.begin_field(name);
+        self.value(value);
+    }
+
     // Begins a line at this level.
     fn indent(&mut self, level: usize)
         ensures { Adds (lines self.old) (lines self.new) }
@@ -349,11 +361,9 @@ impl<W: Sink> Tree for Lines<W> {
         ensures says { Says (field_text (named name.now (value_of value.entry)))
             (lines self.old) (lines self.new) }
     {
-        if is_default(value) {
-            return;
+        if !is_default(value) {
+            self.whole_field(name, value);
         }
-        self.begin_field(name);
-        self.value(value);
     }
 
     fn label(&mut self, _name: &str, word: &str)

@@ -1,7 +1,7 @@
 // Short values.
 ghost use Rattle.std.specs.Prelude.{◌≡◌, ◌++◌, ◌<◌, ◌^◌, [], codes, decimal, false, if◌then◌else◌};
 ghost use Rattle.std.specs.Fmt.{signed_decimal};
-ghost use Rattle.wasm_tree.specs.Fields.{flag as flag_value, word as word_value};
+ghost use Rattle.wasm_tree.specs.Fields.{flag as flag_value, value_text};
 ghost use Rattle.wasm_tree.specs.Json.{Leads};
 ghost use Rattle.wasm_tree.specs.Tree.{has_line_feed};
 ghost use Rattle.wasm_tree.specs.declared.objects.Spot.TheVariants.{AtValue, Ended};
@@ -10,7 +10,7 @@ use wasm_lines::{ShortText, write_number, write_word};
 
 /// `true` or `false`, in lines and in JSON.
 pub(crate) fn flag_word(flag: bool) -> &'static str
-    ensures word { word_value result.now ≡ flag_value flag }
+    ensures word { result.now ≡ value_text (flag_value flag) }
     ensures leads { Leads AtValue result.now Ended }
     ensures one_line { has_line_feed result.now ≡ false }
 {

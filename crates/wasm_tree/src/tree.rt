@@ -73,7 +73,7 @@ pub enum Value<'a> {
 
 /// Whether lines leave out a field with this value: `false`, or no value.
 pub(crate) fn is_default(value: Value<'_>) -> bool
-    ensures { result ≡ is_default_value (value_of value) }
+    ensures { result ≡ is_default_value (value_of value.entry) }
 {
     match value {
         Value::Flag(flag) => !flag,

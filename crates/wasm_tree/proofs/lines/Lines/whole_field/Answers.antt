@@ -1,7 +1,7 @@
 use Rattle.wasm_tree.specs.Fields.{value_text}
 use Rattle.wasm_tree.specs.Values.{value_of}
 use Rattle.wasm_tree.proofs.Saying.{says_value}
-use Rattle.wasm_tree.proofs.lines.LinesTree.field.Goals as goal
+use Rattle.wasm_tree.proofs.lines.Lines.whole_field.Goals as goal
 
 pub returns-clause-says : goal.returns-clause-says
 returns-clause-says g c =
