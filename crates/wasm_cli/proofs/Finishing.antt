@@ -131,7 +131,7 @@ flushed_after runs first second first_errors second_errors forwarded status resu
   first = status;
   follows = (f, fe);
   devices = (refl, refl);
-  runs = ran;
+  ran = ran;
   ends = finish;
 }
 

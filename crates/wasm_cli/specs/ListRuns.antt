@@ -91,7 +91,7 @@ pub record RunsThenFlushes (runs : (output errors : Device) (status : ℕ) → T
   pub first : ℕ
   pub follows : Follows written passes_on × Follows said said_last
   pub devices : (output ≡ over written passes_on) × (errors ≡ over said said_last)
-  pub runs : runs written said first
+  pub ran : runs written said first
   pub ends : Finishes first forwarded passes_on said_last status
 
 -- what the arguments after the program's own name ask for, unless fetching them failed; one that is not UTF-8 is
