@@ -118,7 +118,9 @@ def programs(machine, folder, place):
     for page, text in packages.manuals():
         files["usr/share/man/man1/%s.gz" % page] = (gzip.compress(text, 9, mtime=0), 0o644)
     completions = {"wasm_dump.bash": "usr/share/bash-completion/completions/wasm_dump", "wasm_list.bash": "usr/share/bash-completion/completions/wasm_list"}
-    completions |= {"_wasm_dump.zsh": "usr/share/zsh/vendor-completions/_wasm_dump", "wasm_dump.fish": "usr/share/fish/vendor_completions.d/wasm_dump.fish"}
+    for program in ("wasm_list", "wasm_dump"):
+        completions["_%s.zsh" % program] = "usr/share/zsh/vendor-completions/_" + program
+        completions[program + ".fish"] = "usr/share/fish/vendor_completions.d/%s.fish" % program
     for own, path in completions.items():
         files[path] = (packages.read(packages.source("docs", "completions", own)), 0o644)
     libc = libc_of([packages.prebuilt(program) for program in packages.programs(machine)])
