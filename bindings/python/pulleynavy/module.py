@@ -185,7 +185,7 @@ class Module:
 
     @classmethod
     def read(cls, file: BinaryIO, features: int = ALL_FEATURES) -> Module:
-        """Reads a whole binary file. Raises `Fault` if its sections are malformed.
+        """Reads a whole file, opened in binary mode. Raises `Fault` if the framing is malformed; items are read later.
 
         >>> Module.read(io.BytesIO(b"\\0asm\\1\\0\\0\\0")).sections
         []
