@@ -2,9 +2,10 @@
 # SPDX-License-Identifier: Apache-2.0 OR MIT
 from __future__ import annotations
 
+import os
 import sys
 
-from . import Fault, Module
+from . import Fault, Module, Section
 
 NAMES = ["custom", "type", "import", "function", "table", "memory", "global", "export", "start", "element", "code", "data", "data count", "tag"]
 
@@ -22,10 +23,21 @@ def main(arguments: list[str]) -> int:
     except Fault as fault:
         print(f"{arguments[0]}: {fault}", file=sys.stderr)
         return 1
+    try:
+        show(sections)
+        sys.stdout.flush()
+    except BrokenPipeError:
+        # The reader has closed the pipe, so there is nothing to say. Python flushes standard output once more at its end.
+        os.dup2(os.open(os.devnull, os.O_WRONLY), sys.stdout.fileno())
+        return 3
+    return 0
+
+
+def show(sections: list[Section]) -> None:
+    """Prints a line for each section: its size, its offset, its name, and the number of its items."""
     for section in sections:
         name = section.name if section.name is not None else NAMES[section.id] if section.id < len(NAMES) else f"section {section.id}"
         print(f"{section.size:>12,} {section.start:>#12x}  {name}" + ("" if section.count is None else f" ({section.count})"))
-    return 0
 
 
 if __name__ == "__main__":

@@ -2,8 +2,10 @@
 # SPDX-License-Identifier: Apache-2.0 OR MIT
 from __future__ import annotations
 
+import contextlib
 import dataclasses
 import functools
+import gc
 import io
 from typing import Any, BinaryIO, Iterator, NamedTuple
 
@@ -132,6 +134,18 @@ class _Texts(bytes):
         return super().__getitem__(part).decode()
 
 
+@contextlib.contextmanager
+def _paused_collector() -> Iterator[None]:
+    """Pauses the garbage collector while a list of items is made: they have no cycles, and looking for some takes a third of the time."""
+    was_enabled = gc.isenabled()
+    gc.disable()
+    try:
+        yield
+    finally:
+        if was_enabled:
+            gc.enable()
+
+
 def _text(data: bytes) -> Any:
     """What has the texts of a section as its slices. A section in ASCII is decoded at once, which makes its slices twice as fast."""
     return data.decode("ascii") if data.isascii() else _Texts(data)
@@ -211,7 +225,8 @@ class Module:
     @functools.cached_property
     def imports(self) -> list[Import]:
         """The imports, those of bundles among them."""
-        return [one for items in self._lists(SectionId.IMPORT) for one in _imports(items)]
+        with _paused_collector():
+            return [one for items in self._lists(SectionId.IMPORT) for one in _imports(items)]
 
     @functools.cached_property
     def functions(self) -> list[int]:
@@ -242,12 +257,13 @@ class Module:
     def exports(self) -> list[Export]:
         """The exports."""
         new = tuple.__new__
-        return [
-            new(Export, (text[at : at + size], _EXTERNAL_KINDS[kind], index))
-            for items in self._lists(SectionId.EXPORT)
-            for text in [_text(items.data)]
-            for at, size, kind, index in items.rows("exports", _EXPORT)
-        ]
+        with _paused_collector():
+            return [
+                new(Export, (text[at : at + size], _EXTERNAL_KINDS[kind], index))
+                for items in self._lists(SectionId.EXPORT)
+                for text in [_text(items.data)]
+                for at, size, kind, index in items.rows("exports", _EXPORT)
+            ]
 
     @functools.cached_property
     def elements(self) -> list[Element]:
@@ -261,11 +277,12 @@ class Module:
     @functools.cached_property
     def data(self) -> list[Data]:
         """The data segments."""
-        return [
-            Data(_DATA_KINDS[kind], memory if kind == DataKind.ACTIVE else None, items.data[at : at + size])
-            for items in self._lists(SectionId.DATA)
-            for kind, memory, at, size in items.rows("data", _DATA)
-        ]
+        with _paused_collector():
+            return [
+                Data(_DATA_KINDS[kind], memory if kind == DataKind.ACTIVE else None, items.data[at : at + size])
+                for items in self._lists(SectionId.DATA)
+                for kind, memory, at, size in items.rows("data", _DATA)
+            ]
 
     @functools.cached_property
     def start(self) -> int | None:

@@ -183,6 +183,16 @@ class Program(unittest.TestCase):
             done = self.run_with(file.name)
         self.assertEqual((done.returncode, done.stderr), (1, "%s: unexpected end-of-file (at offset 0x0)\n" % file.name))
 
+    def test_a_closed_pipe_ends_quietly(self):
+        with tempfile.NamedTemporaryFile() as file:
+            file.write(HEADER + b"\0\3\1aZ" * 100_000)
+            file.flush()
+            words = [sys.executable, "-m", "pulleynavy", file.name]
+            with subprocess.Popen(words, stdout=subprocess.PIPE, stderr=subprocess.PIPE) as child:
+                child.stdout.readline()
+                child.stdout.close()
+                self.assertEqual((child.stderr.read(), child.wait()), (b"", 3))
+
 
 if __name__ == "__main__":
     unittest.main()

@@ -15,10 +15,12 @@ use super::command::{Command, chosen_by, command_asked};
 use super::files::run_files;
 use super::options::Options;
 use crate::common::{PIECE, complain, give_up};
+use crate::pipe::{Messages, Piped};
 use std::alloc::Global;
 use std::env::{self, Args};
 use std::io::{self, Write};
 use std::process::ExitCode;
+use std::sync::atomic::AtomicBool;
 use wasm_dumper::{Only, dump};
 use wasm_feed::{Ended, Failed, ListError, ReadSource, Sink, Source, WriteSink, write_all};
 use wasm_tree::{ItemNames, Lines, Objects, Style};
@@ -62,10 +64,12 @@ fn version() -> &'static [u8]
     VERSION
 }
 
-/// The program over files, if some are named, and else over the standard streams.
+/// The program over files, if some are named, and else over the standard streams. It prints no message when the reader of its output
+/// has closed the pipe.
 pub fn run_host(rt: HostRuntime) -> ExitCode {
-    let output = WriteSink::new(rt.stdout());
-    let mut errors = WriteSink::new(rt.stderr());
+    let is_closed = AtomicBool::new(false);
+    let output = WriteSink::new(Piped::new(rt.stdout(), &is_closed));
+    let mut errors = Messages::new(WriteSink::new(rt.stderr()), &is_closed);
     let status = match command_asked(rt.alloc(), env::args(&rt)) {
         Some(Command::Files(named)) => run_files(&rt, named, output, &mut errors),
         Some(command) => {

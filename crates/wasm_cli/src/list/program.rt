@@ -10,10 +10,12 @@ ghost use Rattle.wasm_cli.specs.ListRuns.{help_text, version_text};
 use super::command::{Command, command_asked, command_of};
 use super::stripping::strip_input;
 use crate::common::{PIECE, complain, finish, give_up};
+use crate::pipe::{Messages, Piped};
 use std::alloc::Global;
 use std::env::{self, Args};
 use std::io::{self, Write};
 use std::process::ExitCode;
+use std::sync::atomic::AtomicBool;
 use wasm_feed::{Ended, ListError, ReadSource, Sink, Source, WriteSink, list, write_all};
 
 /// What `--help` prints.
@@ -44,11 +46,12 @@ fn version() -> &'static [u8]
     VERSION
 }
 
-/// The program over the standard streams.
+/// The program over the standard streams. It prints no message when the reader of its output has closed the pipe.
 pub fn run_host(rt: HostRuntime) -> ExitCode {
+    let is_closed = AtomicBool::new(false);
     let mut input = ReadSource::new(rt.stdin());
-    let mut output = WriteSink::new(rt.stdout());
-    let mut errors = WriteSink::new(rt.stderr());
+    let mut output = WriteSink::new(Piped::new(rt.stdout(), &is_closed));
+    let mut errors = Messages::new(WriteSink::new(rt.stderr()), &is_closed);
     run_program(
         rt.alloc(),
         env::args(&rt),

@@ -1,0 +1,65 @@
+// An output that is a pipe: when its reader has closed it, the program ends without a message.
+ghost use Rattle.std.specs.Prelude.{None};
+
+use std::io::{self, ErrorKind, Write};
+use std::sync::atomic::{AtomicBool, Ordering};
+use wasm_feed::{Failed, Sink};
+
+/// A writer that notes when its reader has closed the pipe.
+#[derive(Drop)]
+pub struct Piped<'a, W> {
+    writer: W,
+    is_closed: &'a AtomicBool,
+}
+
+impl<'a, W: Write> Piped<'a, W> {
+    /// Writes to this writer, and sets the flag when the pipe is closed.
+    pub fn new(writer: W, is_closed: &'a AtomicBool) -> Self {
+        Piped { writer, is_closed }
+    }
+}
+
+impl<W: Write> Write for Piped<'_, W> {
+    fn write(&mut self, buf: &[u8]) -> io::Result<usize> {
+        let result = self.writer.write(buf);
+        if let Err(error) = &result {
+            if error.kind() == ErrorKind::BrokenPipe {
+                self.is_closed.store(true, Ordering::Relaxed);
+            }
+        }
+        result
+    }
+
+    fn flush(&mut self) -> io::Result<()> {
+        self.writer.flush()
+    }
+}
+
+/// Messages, which are discarded once the pipe of the output is closed.
+#[derive(Drop)]
+pub struct Messages<'a, E> {
+    sink: E,
+    is_closed: &'a AtomicBool,
+}
+
+impl<'a, E: Sink> Messages<'a, E> {
+    /// Writes messages to this sink until the flag is set.
+    pub fn new(sink: E, is_closed: &'a AtomicBool) -> Self {
+        Messages { sink, is_closed }
+    }
+}
+
+impl<E: Sink> Sink for Messages<'_, E> {
+    ghost has_failed = { λ messages. E.has_failed messages.sink };
+
+    fn write(&mut self, buf: &[u8]) -> Result<usize, Failed> {
+        if self.is_closed.load(Ordering::Relaxed) {
+            return Ok(buf.len());
+        }
+        self.sink.write(buf)
+    }
+
+    fn failed(&self) -> bool {
+        self.sink.failed()
+    }
+}
