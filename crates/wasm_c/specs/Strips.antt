@@ -2,7 +2,7 @@
 use Rattle.std.specs.Prelude.{◌≡◌, ℕ, Bool, List, Result, Ok, Err}
 use Rattle.wasm_base.specs.FaultAt.{fault_at}
 use Rattle.wasm_base.specs.declared.error.Error.{Error}
-use Rattle.wasm_feed.specs.Stripped.{StripsToFront}
+use Rattle.wasm_feed.specs.Stripped.{custom_stays, StripsToFront}
 use Rattle.wasm_c.specs.Faults.{no_fault, plain_fault}
 use Rattle.wasm_c.specs.declared.strip.PlainStripped.{PlainStripped}
 
@@ -12,7 +12,7 @@ plain_strip (Ok size) = record { fault = no_fault; size = size }
 plain_strip (Err e) = record { fault = plain_fault (fault_at e); size = 0 }
 
 -- A stream was stripped in its own bytes, or refused.
-pub record StripsPlain (keep : Bool) (stream : List ℕ) (answer : PlainStripped) (after : List ℕ) : Type 0 where
+pub record StripsPlain (keep_names : Bool) (stream : List ℕ) (answer : PlainStripped) (after : List ℕ) : Type 0 where
   pub result : Result ℕ Error
-  pub strips : StripsToFront keep stream result after
+  pub strips : StripsToFront (custom_stays keep_names) stream result after
   pub answers : answer ≡ plain_strip result

@@ -2,7 +2,7 @@
 ghost use Rattle.wasm_c.specs.Strips.{StripsPlain};
 
 use crate::faults::{NO_FAULT, PlainFault, plain_fault};
-use wasm_feed::strip_to_front;
+use wasm_feed::{Keep, strip_to_front};
 
 /// The result of stripping a stream.
 #[repr(C)]
@@ -21,7 +21,7 @@ pub struct PlainStripped {
 pub extern "C" fn pulleynavy_strip(bytes: &mut [u8], keep_names: bool) -> PlainStripped
     ensures { StripsPlain keep_names bytes.old result bytes.new }
 {
-    match strip_to_front(bytes, keep_names) {
+    match strip_to_front(bytes, Keep::names(keep_names)) {
         Ok(size) => PlainStripped {
             fault: NO_FAULT,
             size,

@@ -51,9 +51,9 @@ pub not_empty : (bytes part : List ℕ) (old new : ℕ) → drop old bytes ≡ p
 not_empty bytes part old new parts fewer = grind (arith, length-append)
 
 -- so the kept bytes go on with it
-pub moves_on : (keep : Bool) (stream bytes items part : List ℕ) (kept old : ℕ) (new : Cursor) → kept ≤ old
+pub moves_on : (keeps : List ℕ → Bool) (stream bytes items part : List ℕ) (kept old : ℕ) (new : Cursor) → kept ≤ old
     → (at : EndsAtMark bytes old part new.mark)
     → items ≡ copy_within bytes (new.mark - length part) (new.mark - length part + length part) kept
-    → HasKept keep stream (feed_of bytes new) (take kept bytes ++ part)
-    → HasKept keep stream (feed_of items new) (take (kept + length part) items)
-moves_on keep stream bytes items part kept old new before at i (events, a, b) = grind (arith, moved_rest, moved_front)
+    → HasKept keeps stream (feed_of bytes new) (take kept bytes ++ part)
+    → HasKept keeps stream (feed_of items new) (take (kept + length part) items)
+moves_on keeps stream bytes items part kept old new before at i (events, a, b) = grind (arith, moved_rest, moved_front)

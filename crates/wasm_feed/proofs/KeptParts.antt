@@ -28,11 +28,11 @@ fewer f g bytes payload s n =
     let c = answers_go_along.consumes f.state g.state f.eof f.held (answer_of (Ok (Parsed bytes payload))) s.parses in
     grind (arith, length-append, nat_tests)
 
-pub part_goes_on : (keep : Bool) (f g : Feed) (bytes : Bor (List ℕ)) (payload : Payload) (fate : Fate)
-    → Steps f (Ok (Parsed bytes payload)) g → IsFateOf keep (report_of payload) fate → IsFewer fate f g
-part_goes_on keep f g bytes payload fate s i = grind (arith, fewer)
+pub part_goes_on : (keeps : List ℕ → Bool) (f g : Feed) (bytes : Bor (List ℕ)) (payload : Payload) (fate : Fate)
+    → Steps f (Ok (Parsed bytes payload)) g → IsFateOf keeps (report_of payload) fate → IsFewer fate f g
+part_goes_on keeps f g bytes payload fate s i = grind (arith, fewer)
 
-module _ (keep : Bool) (stream : List ℕ) (events : List Event) (f g : Feed) (a : Along 0 all_features stream f.state f.held events)
+module _ (keeps : List ℕ → Bool) (stream : List ℕ) (events : List Event) (f g : Feed) (a : Along 0 all_features stream f.state f.held events)
     (l : length stream < 2 ^ 64) (eof : f.eof ≡ true) where
   -- what arrived with a payload
   came : (bytes : Bor (List ℕ)) (payload : Payload) → Steps f (Ok (Parsed bytes payload)) g
@@ -42,7 +42,7 @@ module _ (keep : Bool) (stream : List ℕ) (events : List Event) (f g : Feed) (a
       s.parses s.shows)
 
   pub part_comes : (bytes : Bor (List ℕ)) (payload : Payload) (fate : Fate) → Steps f (Ok (Parsed bytes payload)) g
-      → IsFateOf keep (report_of payload) fate → FateComes keep stream events bytes.now fate g
+      → IsFateOf keeps (report_of payload) fate → FateComes keeps stream events bytes.now fate g
   part_comes bytes payload End s i =
       let u : Came 0 all_features true stream events bytes.now payload g.state g.held = came bytes payload s in
       let (offset, last) = u.last i in
@@ -59,43 +59,43 @@ module _ (keep : Bool) (stream : List ℕ) (events : List Event) (f g : Feed) (a
 -- ---- the bytes that are left
 
 -- nothing is read yet
-pub nothing_left : (keep : Bool) (stream : List ℕ) (f : Feed) → f.state ≡ initial_state 0 all_features → f.held ≡ stream
-    → HasKept keep stream f []
-nothing_left keep stream f s h = (
+pub nothing_left : (keeps : List ℕ → Bool) (stream : List ℕ) (f : Feed) → f.state ≡ initial_state 0 all_features → f.held ≡ stream
+    → HasKept keeps stream f []
+nothing_left keeps stream f s h = (
   [],
   subst₂ (λ (p : ParserState) (held : List ℕ). Along 0 all_features stream p held []) (sym s) (sym h)
       (answers_go_along.more 0 all_features [] (initial_state 0 all_features) [] [] stream (answers_go_along.begins 0 all_features)),
   refl,
 )
 
-one_stays : (keep : Bool) (e : Event) → event_stays keep e ≡ true → kept_bytes keep (e ∷ []) ≡ e.consumed
-one_stays keep e s = rw s (append-nil e.consumed)
+one_stays : (keeps : List ℕ → Bool) (e : Event) → event_stays keeps e ≡ true → kept_bytes keeps (e ∷ []) ≡ e.consumed
+one_stays keeps e s = rw s (append-nil e.consumed)
 
-one_goes : (keep : Bool) (e : Event) → event_stays keep e ≡ false → kept_bytes keep (e ∷ []) ≡ []
-one_goes keep e s = rw s refl
+one_goes : (keeps : List ℕ → Bool) (e : Event) → event_stays keeps e ≡ false → kept_bytes keeps (e ∷ []) ≡ []
+one_goes keeps e s = rw s refl
 
-module _ (keep : Bool) (stream kept : List ℕ) (f g : Feed) (h : HasKept keep stream f kept) where
+module _ (keeps : List ℕ → Bool) (stream kept : List ℕ) (f g : Feed) (h : HasKept keeps stream f kept) where
   -- a part that stays
-  pub stays_kept : (bytes : List ℕ) → FateComes keep stream h.0 bytes Stays g → HasKept keep stream g (kept ++ bytes)
+  pub stays_kept : (bytes : List ℕ) → FateComes keeps stream h.0 bytes Stays g → HasKept keeps stream g (kept ++ bytes)
   stays_kept bytes (e, (s, a), c) = grind (arith, one_stays, kept_more)
 
   -- a part that is dropped
-  pub goes_kept : (bytes : List ℕ) → FateComes keep stream h.0 bytes Goes g → HasKept keep stream g kept
+  pub goes_kept : (bytes : List ℕ) → FateComes keeps stream h.0 bytes Goes g → HasKept keeps stream g kept
   goes_kept bytes (e, (s, a)) = (search (append-nil, one_goes, kept_more))
 
   -- the end
-  pub all_kept : (bytes : List ℕ) → FateComes keep stream h.0 bytes End g → ReadsKept keep stream kept
+  pub all_kept : (bytes : List ℕ) → FateComes keeps stream h.0 bytes End g → ReadsKept keeps stream kept
   all_kept bytes (offset, r) = record { events = h.0; offset = offset; reading = r; bytes = h.2 }
 
-kept_shorter : (keep : Bool) (events : List Event) → length (kept_bytes keep events) ≤ length (consumed_by events)
-kept_shorter keep [] = omega arith
-kept_shorter keep (e ∷ events) = grind (arith, length-append, kept_shorter keep events)
+kept_shorter : (keeps : List ℕ → Bool) (events : List Event) → length (kept_bytes keeps events) ≤ length (consumed_by events)
+kept_shorter keeps [] = omega arith
+kept_shorter keeps (e ∷ events) = grind (arith, length-append, kept_shorter keeps events)
 
 -- the kept bytes are no longer than the stream
-pub no_longer : (keep : Bool) (stream : List ℕ) (f : Feed) (kept : List ℕ) → HasKept keep stream f kept → length kept ≤ length stream
-no_longer keep stream f kept (events, a, e) =
-    let n : length kept ≡ length (kept_bytes keep events) = rw e refl in
+pub no_longer : (keeps : List ℕ → Bool) (stream : List ℕ) (f : Feed) (kept : List ℕ) → HasKept keeps stream f kept → length kept ≤ length stream
+no_longer keeps stream f kept (events, a, e) =
+    let n : length kept ≡ length (kept_bytes keeps events) = rw e refl in
     let w : length stream ≡ length (consumed_by events) + length f.held =
     ap (λ (x : List ℕ). length x) (search answers_go_along.consumed)
     ∙ length-append (consumed_by events) f.held in
-    omega (arith, n, w, kept_shorter keep events)
+    omega (arith, n, w, kept_shorter keeps events)

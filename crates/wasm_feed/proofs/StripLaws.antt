@@ -45,8 +45,8 @@ ends_so : (stream : List ℕ) (events : List Event) (end : Ending) → Reading s
 ends_so stream events end r = grind (arith, push_same, end_same)
 
 -- a stream that is read up to its end is accepted
-accepted_of : (keep : Bool) (stream kept : List ℕ) → Stream stream 0 → ReadsKept keep stream kept → IsAccepted stream
-accepted_of keep stream kept s r =
+accepted_of : (keeps : List ℕ → Bool) (stream kept : List ℕ) → Stream stream 0 → ReadsKept keeps stream kept → IsAccepted stream
+accepted_of keeps stream kept s r =
     let (tiles, reads) = ends_so stream r.events (ended r.offset) r.reading in
     search reads_accepted
 
@@ -58,14 +58,14 @@ not_accepted stream e s (events, r) = let (tiles, reads) = ends_so stream events
 pub refused_fault : (stream : List ℕ) (e : Error) → Stream stream 0 → EndsWithFault stream e → RefusesToStrip stream e
 refused_fault stream e s h = record { memory = λ a. absurd (not_accepted stream e s h a); fault = λ n. h }
 
-pub refused_memory : (keep : Bool) (stream kept : List ℕ) (e : Error) → Stream stream 0 → ReadsKept keep stream kept → fault_at e
+pub refused_memory : (keeps : List ℕ → Bool) (stream kept : List ℕ) (e : Error) → Stream stream 0 → ReadsKept keeps stream kept → fault_at e
     ≡ out_of_memory → RefusesToStrip stream e
-refused_memory keep stream kept e s r m = record { memory = λ a. m; fault = λ n. absurd (n (accepted_of keep stream kept s r)) }
+refused_memory keeps stream kept e s r m = record { memory = λ a. m; fault = λ n. absurd (n (accepted_of keeps stream kept s r)) }
 
-pub refused_copy : (keep : Bool) (stream kept : List ℕ) (e : Error) → Stream stream 0 → ReadsKept keep stream kept → EndsWithFault stream e
+pub refused_copy : (keeps : List ℕ → Bool) (stream kept : List ℕ) (e : Error) → Stream stream 0 → ReadsKept keeps stream kept → EndsWithFault stream e
     ⊎ (fault_at e ≡ out_of_memory) → RefusesToStrip stream e
-refused_copy keep stream kept e s r (inl h) = refused_fault stream e s h
-refused_copy keep stream kept e s r (inr m) = refused_memory keep stream kept e s r m
+refused_copy keeps stream kept e s r (inl h) = refused_fault stream e s h
+refused_copy keeps stream kept e s r (inr m) = refused_memory keeps stream kept e s r m
 
 pub left_as_it_was : (stream after : List ℕ) (e : Error) → Stream stream 0 → EndsWithFault stream e → after ≡ stream
     → LeavesStream stream e after
@@ -98,15 +98,15 @@ length_kept q [] = omega arith
 length_kept q (f ∷ frames) = length_step f frames (filter q frames) (length_kept q frames) (q f)
 
 -- a stripped stream is a stream
-stream_kept : (keep : Bool) (stream : List ℕ) (a : IsAccepted stream) → Stream stream 0 → Stream (stripped keep a.encoding a.frames) 0
-stream_kept keep stream a s =
+stream_kept : (keeps : List ℕ → Bool) (stream : List ℕ) (a : IsAccepted stream) → Stream stream 0 → Stream (stripped keeps a.encoding a.frames) 0
+stream_kept keeps stream a s =
     let h : List ℕ = header_bytes a.encoding in
     let e : All (λ b. b < 256) (h ++ flat_map frame_bytes a.frames) = rw a.whole at s.each in
     let n : length stream ≡ length h + length (flat_map frame_bytes a.frames) = grind (arith, length-append) in
     let f : 0 + length stream < 2 ^ 64 = s.fits in
     record {
       each = search (All-append, bytes_of_frames, all_prefix, all_kept, all_rest);
-      fits = omega (arith, f, n, length_kept (frame_stays keep) a.frames, length-append h (bytes_of_frames keep a.frames));
+      fits = omega (arith, f, n, length_kept (frame_stays keeps) a.frames, length-append h (bytes_of_frames keeps a.frames));
     }
 
 -- a custom section has no rank
@@ -114,13 +114,13 @@ custom_rank : (encoding : Encoding) (f : SectionFrame) → f.id ≡ custom_id �
 custom_rank encoding f z = grind arith
 
 -- a section with a rank stays
-ranked_stays : (keep : Bool) (encoding : Encoding) (f : SectionFrame) → 0 < frame_rank encoding f → frame_stays keep f ≡ true
-ranked_stays keep encoding f r = grind (arith, custom_rank, eqb-true)
+ranked_stays : (keeps : List ℕ → Bool) (encoding : Encoding) (f : SectionFrame) → 0 < frame_rank encoding f → frame_stays keeps f ≡ true
+ranked_stays keeps encoding f r = grind (arith, custom_rank, eqb-true)
 
 -- an accepted stream is accepted when stripped, with the sections that stay
-pub accepted_kept : (keep : Bool) (stream : List ℕ) (a : IsAccepted stream)
-    → (b : IsAccepted (stripped keep a.encoding a.frames)) × (b.encoding ≡ a.encoding) × (b.frames ≡ filter (frame_stays keep) a.frames)
-accepted_kept keep stream a = search (rankless_may_go, each_of, ranked_stays)
+pub accepted_kept : (keeps : List ℕ → Bool) (stream : List ℕ) (a : IsAccepted stream)
+    → (b : IsAccepted (stripped keeps a.encoding a.frames)) × (b.encoding ≡ a.encoding) × (b.frames ≡ filter (frame_stays keeps) a.frames)
+accepted_kept keeps stream a = search (rankless_may_go, each_of, ranked_stays)
 
 -- ---- how it is read
 
@@ -128,77 +128,77 @@ header_stays : (encoding : Encoding) → header_event 0 encoding ≡ shifted_eve
 header_stays encoding = grind arith
 
 -- the end is moved back by all that was dropped
-end_left : (keep : Bool) (encoding : Encoding) (frames : List SectionFrame)
-    → KeptAfter keep (0 + length (header_bytes encoding)) 0 frames
+end_left : (keeps : List ℕ → Bool) (encoding : Encoding) (frames : List SectionFrame)
+    → KeptAfter keeps (0 + length (header_bytes encoding)) 0 frames
     (last_event (ended (0 + length (header_bytes encoding ++ flat_map frame_bytes frames))) ∷ [])
-    (last_event (ended (0 + length (header_bytes encoding ++ bytes_of_frames keep frames))) ∷ [])
-end_left keep encoding frames total e = grind (arith, bytes_of_frames, length-append)
+    (last_event (ended (0 + length (header_bytes encoding ++ bytes_of_frames keeps frames))) ∷ [])
+end_left keeps encoding frames total e = grind (arith, bytes_of_frames, length-append)
 
-kept_here : (keep : Bool) (features : ℕ) (encoding : Encoding) (frames : List SectionFrame) (events : List Event)
+kept_here : (keeps : List ℕ → Bool) (features : ℕ) (encoding : Encoding) (frames : List SectionFrame) (events : List Event)
     → All (IsFrame encoding) frames → (t : TellsFrames 0 features encoding frames events)
-    → KeptOf keep features encoding (0 + length (header_bytes encoding)) 0 frames t.inner
+    → KeptOf keeps features encoding (0 + length (header_bytes encoding)) 0 frames t.inner
     (last_event (ended (0 + length (header_bytes encoding ++ flat_map frame_bytes frames))) ∷ [])
-    (last_event (ended (0 + length (header_bytes encoding ++ bytes_of_frames keep frames))) ∷ [])
-kept_here keep features encoding frames events a t = grind (arith, kept_of, end_left)
+    (last_event (ended (0 + length (header_bytes encoding ++ bytes_of_frames keeps frames))) ∷ [])
+kept_here keeps features encoding frames events a t = grind (arith, kept_of, end_left)
 
 -- it is read as the stream, but for what was dropped
-read_kept : (keep : Bool) (stream : List ℕ) (a : IsAccepted stream) → Stream stream 0 → (features : ℕ) (events : List Event)
+read_kept : (keeps : List ℕ → Bool) (stream : List ℕ) (a : IsAccepted stream) → Stream stream 0 → (features : ℕ) (events : List Event)
     → Reading stream 0 features events
-    → (others : List Event) × Reading (stripped keep a.encoding a.frames) 0 features others × AreKept keep events others
-read_kept keep stream a s features events r =
+    → (others : List Event) × Reading (stripped keeps a.encoding a.frames) 0 features others × AreKept keeps events others
+read_kept keeps stream a s features events r =
     let t : TellsFrames 0 features a.encoding a.frames events = (frames_give_events stream 0 features events s a).0 r in
-    let l = kept_here keep features a.encoding a.frames events a.each t in
+    let l = kept_here keeps features a.encoding a.frames events a.each t in
     let others : List Event = header_event 0 a.encoding ∷ (l.others
-    ++ last_event (ended (0 + length (header_bytes a.encoding ++ bytes_of_frames keep a.frames))) ∷ []) in
-    let (b, e, f) = accepted_kept keep stream a in
-    let reported_as : TellsFrames 0 features a.encoding (filter (frame_stays keep) a.frames) others =
+    ++ last_event (ended (0 + length (header_bytes a.encoding ++ bytes_of_frames keeps a.frames))) ∷ []) in
+    let (b, e, f) = accepted_kept keeps stream a in
+    let reported_as : TellsFrames 0 features a.encoding (filter (frame_stays keeps) a.frames) others =
     grind arith in (
       others,
-      (frames_give_events (stripped keep a.encoding a.frames) 0 features others (stream_kept keep stream a s) b).1
+      (frames_give_events (stripped keeps a.encoding a.frames) 0 features others (stream_kept keeps stream a s) b).1
           (grind arith),
       grind (arith, header_stays),
     )
 
 -- the stream is stripped
-is_stripped : (keep : Bool) (stream : List ℕ) (a : IsAccepted stream) → Stream stream 0
-    → IsStripped keep stream (stripped keep a.encoding a.frames)
-is_stripped keep stream a s = record {
+is_stripped : (keeps : List ℕ → Bool) (stream : List ℕ) (a : IsAccepted stream) → Stream stream 0
+    → IsStripped keeps stream (stripped keeps a.encoding a.frames)
+is_stripped keeps stream a s = record {
   accepted = a;
   bytes = refl;
-  still = (accepted_kept keep stream a).0;
-  reading = read_kept keep stream a s;
+  still = (accepted_kept keeps stream a).0;
+  reading = read_kept keeps stream a s;
 }
 
 -- the bytes of the events that stay are those
-kept_is : (keep : Bool) (stream kept : List ℕ) (a : IsAccepted stream) → Stream stream 0 → ReadsKept keep stream kept → kept
-    ≡ stripped keep a.encoding a.frames
-kept_is keep stream kept a s r =
+kept_is : (keeps : List ℕ → Bool) (stream kept : List ℕ) (a : IsAccepted stream) → Stream stream 0 → ReadsKept keeps stream kept → kept
+    ≡ stripped keeps a.encoding a.frames
+kept_is keeps stream kept a s r =
     let all : List Event = r.events ++ last_event (ended r.offset) ∷ [] in
     let t : TellsFrames 0 all_features a.encoding a.frames all = (frames_give_events stream 0 all_features all s a).0 r.reading in
-    let l = kept_here keep all_features a.encoding a.frames all a.each t in
+    let l = kept_here keeps all_features a.encoding a.frames all a.each t in
     let q : ((r.events ≡ header_event 0 a.encoding ∷ t.inner) × (last_event (ended r.offset)
     ≡ last_event (ended (0 + length (header_bytes a.encoding ++ flat_map frame_bytes a.frames))))) =
     push_same r.events (header_event 0 a.encoding ∷ t.inner) (last_event (ended r.offset))
     (last_event (ended (0 + length (header_bytes a.encoding ++ flat_map frame_bytes a.frames)))) t.whole in
     grind arith
 
-pub strips_so : (keep : Bool) (stream kept : List ℕ) → Stream stream 0 → ReadsKept keep stream kept → IsStripped keep stream kept
-strips_so keep stream kept s r =
-    let a : IsAccepted stream = accepted_of keep stream kept s r in
-    rw (kept_is keep stream kept a s r) (is_stripped keep stream a s)
+pub strips_so : (keeps : List ℕ → Bool) (stream kept : List ℕ) → Stream stream 0 → ReadsKept keeps stream kept → IsStripped keeps stream kept
+strips_so keeps stream kept s r =
+    let a : IsAccepted stream = accepted_of keeps stream kept s r in
+    rw (kept_is keeps stream kept a s r) (is_stripped keeps stream a s)
 
 -- the kept bytes were moved to the front, which cannot end with a fault if the stream is accepted
-pub strips_to_front : (keep : Bool) (stream kept after : List ℕ) (r : Result ℕ Error) → Stream stream 0
-    → ReadsKept keep stream kept → MovesKept keep stream r after → StripsToFront keep stream r after
-strips_to_front keep stream kept after (Ok size) s reads m = (strips_so keep stream (take size after) s m.0, m.1, m.2)
-strips_to_front keep stream kept after (Err e) s reads m = absurd (not_accepted stream e s m (accepted_of keep stream kept s reads))
+pub strips_to_front : (keeps : List ℕ → Bool) (stream kept after : List ℕ) (r : Result ℕ Error) → Stream stream 0
+    → ReadsKept keeps stream kept → MovesKept keeps stream r after → StripsToFront keeps stream r after
+strips_to_front keeps stream kept after (Ok size) s reads m = (strips_so keeps stream (take size after) s m.0, m.1, m.2)
+strips_to_front keeps stream kept after (Err e) s reads m = absurd (not_accepted stream e s m (accepted_of keeps stream kept s reads))
 
 -- ---- twice
 
 pub stripping_twice : StrippingTwiceIsOnce
-stripping_twice keep stream once twice o t =
+stripping_twice keeps stream once twice o t =
     let a : IsAccepted stream = o.accepted in
-    let (b, e, f) = accepted_kept keep stream a in
+    let (b, e, f) = accepted_kept keeps stream a in
     let c : IsAccepted once = record {
       encoding = b.encoding;
       frames = b.frames;

@@ -2,7 +2,8 @@
 use Rattle.std.specs.Prelude.{◌≡◌, ◌≤◌, ℕ, ◌+◌, Bool, true, false, ◌&&◌, ◌||◌, not, List, [], ◌∷◌, ◌++◌, length, take}
 use Rattle.std.specs.Prelude.{filter}
 use Rattle.std.specs.Prelude.{flat_map, codes, bytes_eq, nat_eq, Vec, Some, Result, Ok, Err, if◌then◌else◌}
-use Rattle.std.specs.List.{AllZip}
+use Rattle.std.specs.Borrow.{Bor}
+use Rattle.std.specs.List.{AllZip, list_any}
 use Rattle.wasm_base.specs.FaultAt.{fault_at}
 use Rattle.wasm_base.specs.Name.{Name, named, refused, name_limit, name}
 use Rattle.wasm_base.specs.Owned.{out_of_memory}
@@ -15,42 +16,58 @@ use Rattle.wasm_grammar.specs.Shifted.{shifted_event}
 use Rattle.wasm_grammar.specs.declared.encoding.Encoding.{Encoding}
 use Rattle.wasm_base.specs.Features.{all_features}
 use Rattle.wasm_grammar.specs.Ids.{custom_id}
+use Rattle.wasm_feed.specs.declared.stripping.Keep.{Keep}
 
--- whether a custom section with this name stays: the one with the names of functions does, if those are kept
-abbrev pub custom_stays : (keep : Bool) → (text : List ℕ) → Bool
-custom_stays keep text = keep && bytes_eq text (codes "name")
+-- whether a custom section with this name stays where the one named `name` is kept, or none is
+abbrev pub custom_stays : (keep_names : Bool) → (text : List ℕ) → Bool
+custom_stays keep_names text = keep_names && bytes_eq text (codes "name")
 
-abbrev pub name_stays : (keep : Bool) → Name → Bool
-name_stays keep (named text used) = custom_stays keep text
-name_stays keep (refused f place) = false
+-- whether a text is one of these
+abbrev pub is_among : (text : List ℕ) → List (Bor (List ℕ)) → Bool
+is_among text names = list_any (λ name. bytes_eq text name.now) names
+
+-- whether a custom section with a name that these choose between stays: there are none, and others do if there are some
+abbrev pub others_stay : List (Bor (List ℕ)) → (text : List ℕ) → Bool
+others_stay [] text = false
+others_stay (name ∷ names) text = not (is_among text (name ∷ names))
+
+-- whether a custom section with this name stays by such a choice: one that is kept does, and if some are to be removed,
+-- each other one
+abbrev pub stays_by : Keep → (text : List ℕ) → Bool
+stays_by keep text =
+    is_among text keep.kept.now || (others_stay keep.removed.now text || custom_stays keep.names text)
+
+abbrev pub name_stays : (keeps : List ℕ → Bool) → Name → Bool
+name_stays keeps (named text used) = keeps text
+name_stays keeps (refused f place) = false
 
 -- whether a section stays: each does that isn't custom
-abbrev pub frame_stays : (keep : Bool) → SectionFrame → Bool
-frame_stays keep f = not (nat_eq f.id custom_id) || name_stays keep (name (Some name_limit) f.sized.content)
+abbrev pub frame_stays : (keeps : List ℕ → Bool) → SectionFrame → Bool
+frame_stays keeps f = not (nat_eq f.id custom_id) || name_stays keeps (name (Some name_limit) f.sized.content)
 
 -- a header and these sections after stripping: the header, and the sections that stay, each with all its bytes
-abbrev pub stripped : (keep : Bool) → Encoding → List SectionFrame → List ℕ
-stripped keep encoding frames = header_bytes encoding ++ flat_map frame_bytes (filter (frame_stays keep) frames)
+abbrev pub stripped : (keeps : List ℕ → Bool) → Encoding → List SectionFrame → List ℕ
+stripped keeps encoding frames = header_bytes encoding ++ flat_map frame_bytes (filter (frame_stays keeps) frames)
 
 -- whether what is reported stays
-abbrev pub report_stays : (keep : Bool) → Report → Bool
-report_stays keep (custom_section text data_offset window) = custom_stays keep text
-report_stays keep other = true
+abbrev pub report_stays : (keeps : List ℕ → Bool) → Report → Bool
+report_stays keeps (custom_section text data_offset window) = keeps text
+report_stays keeps other = true
 
-abbrev pub event_stays : (keep : Bool) → Event → Bool
-event_stays keep e = report_stays keep e.report
+abbrev pub event_stays : (keeps : List ℕ → Bool) → Event → Bool
+event_stays keeps e = report_stays keeps e.report
 
 -- the bytes that the events that stay consumed, joined
-abbrev pub kept_bytes : (keep : Bool) → List Event → List ℕ
-kept_bytes keep events = consumed_by (filter (event_stays keep) events)
+abbrev pub kept_bytes : (keeps : List ℕ → Bool) → List Event → List ℕ
+kept_bytes keeps events = consumed_by (filter (event_stays keeps) events)
 
 -- the events that stay, each with the number of bytes that were dropped before it, which is `dropped` before the first
 -- event
-abbrev pub staying : (keep : Bool) (dropped : ℕ) → List Event → List (ℕ × Event)
-staying keep dropped [] = []
-staying keep dropped (e ∷ events) =
-    if event_stays keep e then (dropped, e) ∷ staying keep dropped events else
-    staying keep (dropped + length e.consumed) events
+abbrev pub staying : (keeps : List ℕ → Bool) (dropped : ℕ) → List Event → List (ℕ × Event)
+staying keeps dropped [] = []
+staying keeps dropped (e ∷ events) =
+    if event_stays keeps e then (dropped, e) ∷ staying keeps dropped events else
+    staying keeps (dropped + length e.consumed) events
 
 -- The second event is the first one, with the same numbers and bytes and at offsets that are less by these bytes.
 abbrev pub IsMovedBack : ℕ × Event → Event → Type 0
@@ -58,17 +75,17 @@ IsMovedBack s e = s.1 ≡ shifted_event s.0 e
 
 -- The events on the right are those on the left that stay, each at offsets that are less by the bytes dropped before
 -- it.
-abbrev pub AreKept : (keep : Bool) → List Event → List Event → Type 0
-AreKept keep events kept = AllZip IsMovedBack (staying keep 0 events) kept
+abbrev pub AreKept : (keeps : List ℕ → Bool) → List Event → List Event → Type 0
+AreKept keeps events kept = AllZip IsMovedBack (staying keeps 0 events) kept
 
 -- The stream is accepted, and these are its bytes after stripping: they are accepted too, and are read like the stream,
 -- except for the events that were dropped.
-pub record IsStripped (keep : Bool) (stream kept : List ℕ) : Type 0 where
+pub record IsStripped (keeps : List ℕ → Bool) (stream kept : List ℕ) : Type 0 where
   pub accepted : IsAccepted stream
-  pub bytes : kept ≡ stripped keep accepted.encoding accepted.frames
+  pub bytes : kept ≡ stripped keeps accepted.encoding accepted.frames
   pub still : IsAccepted kept
   pub reading : (features : ℕ) (events : List Event) → Reading stream 0 features events
-      → (others : List Event) × Reading kept 0 features others × AreKept keep events others
+      → (others : List Event) × Reading kept 0 features others × AreKept keeps events others
 
 -- The reading of the stream ends with this fault.
 abbrev pub EndsWithFault : (stream : List ℕ) → Error → Type 0
@@ -81,9 +98,9 @@ pub record RefusesToStrip (stream : List ℕ) (e : Error) : Type 0 where
   pub fault : ¬ IsAccepted stream → EndsWithFault stream e
 
 -- The stream was stripped, or refused.
-abbrev pub Strips : {A : Type 0} → (keep : Bool) (stream : List ℕ) → Result (Vec ℕ A) Error → Type 0
-Strips keep stream (Ok kept) = IsStripped keep stream kept.items
-Strips keep stream (Err e) = RefusesToStrip stream e
+abbrev pub Strips : {A : Type 0} → (keeps : List ℕ → Bool) (stream : List ℕ) → Result (Vec ℕ A) Error → Type 0
+Strips keeps stream (Ok kept) = IsStripped keeps stream kept.items
+Strips keeps stream (Err e) = RefusesToStrip stream e
 
 -- The stream is not accepted, ends with this fault, and was left as it was.
 pub record LeavesStream (stream : List ℕ) (e : Error) (after : List ℕ) : Type 0 where
@@ -92,17 +109,17 @@ pub record LeavesStream (stream : List ℕ) (e : Error) (after : List ℕ) : Typ
   pub unchanged : after ≡ stream
 
 -- Like `Strips`, in the stream's own bytes: the stripped bytes are the first ones, and their number is returned.
-abbrev pub StripsToFront : (keep : Bool) (stream : List ℕ) → Result ℕ Error → (after : List ℕ) → Type 0
-StripsToFront keep stream (Ok size) after = IsStripped keep stream (take size after) × (size ≤ length after)
+abbrev pub StripsToFront : (keeps : List ℕ → Bool) (stream : List ℕ) → Result ℕ Error → (after : List ℕ) → Type 0
+StripsToFront keeps stream (Ok size) after = IsStripped keeps stream (take size after) × (size ≤ length after)
     × (length after ≡ length stream)
-StripsToFront keep stream (Err e) after = LeavesStream stream e after
+StripsToFront keeps stream (Err e) after = LeavesStream stream e after
 
 -- Like `Strips`, in the stream's own memory.
-abbrev pub StripsInPlace : (keep : Bool) (stream : List ℕ) → Result (Unit {0}) Error → (after : List ℕ) → Type 0
-StripsInPlace keep stream (Ok done) after = IsStripped keep stream after
-StripsInPlace keep stream (Err e) after = LeavesStream stream e after
+abbrev pub StripsInPlace : (keeps : List ℕ → Bool) (stream : List ℕ) → Result (Unit {0}) Error → (after : List ℕ) → Type 0
+StripsInPlace keeps stream (Ok done) after = IsStripped keeps stream after
+StripsInPlace keeps stream (Err e) after = LeavesStream stream e after
 
 -- stripping a second time changes nothing
 abbrev pub StrippingTwiceIsOnce : Type 0
 StrippingTwiceIsOnce =
-    (keep : Bool) (stream once twice : List ℕ) → IsStripped keep stream once → IsStripped keep once twice → twice ≡ once
+    (keeps : List ℕ → Bool) (stream once twice : List ℕ) → IsStripped keeps stream once → IsStripped keeps once twice → twice ≡ once

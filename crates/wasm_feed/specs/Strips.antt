@@ -21,34 +21,34 @@ abbrev pub custom_fate : (stays : Bool) → Fate
 custom_fate stays = if stays then Stays else Goes
 
 -- This becomes of what is reported.
-abbrev pub IsFateOf : (keep : Bool) → Report → Fate → Type 0
-IsFateOf keep report Stays = (is_end report ≡ false) × (report_stays keep report ≡ true)
-IsFateOf keep report Goes = (is_end report ≡ false) × (report_stays keep report ≡ false)
-IsFateOf keep report End = is_end report ≡ true
+abbrev pub IsFateOf : (keeps : List ℕ → Bool) → Report → Fate → Type 0
+IsFateOf keeps report Stays = (is_end report ≡ false) × (report_stays keeps report ≡ true)
+IsFateOf keeps report Goes = (is_end report ≡ false) × (report_stays keeps report ≡ false)
+IsFateOf keeps report End = is_end report ≡ true
 
 -- An event arrived after these, and this is whether it stays.
-abbrev pub Comes : (keep : Bool) (stream : List ℕ) → List Event → (stays : Bool) → Event → Feed → Type 0
-Comes keep stream events stays e new = (event_stays keep e ≡ stays)
+abbrev pub Comes : (keeps : List ℕ → Bool) (stream : List ℕ) → List Event → (stays : Bool) → Event → Feed → Type 0
+Comes keeps stream events stays e new = (event_stays keeps e ≡ stays)
     × Along 0 all_features stream new.state new.held (events ++ e ∷ [])
 
 -- What is next in a stream after these events: an event that stays, with these bytes; one that is dropped; or the
 -- end.
-abbrev pub FateComes : (keep : Bool) (stream : List ℕ) → List Event → (bytes : List ℕ) → Fate → Feed → Type 0
-FateComes keep stream events bytes Stays new = (e : Event) × Comes keep stream events true e new × (e.consumed ≡ bytes)
-FateComes keep stream events bytes Goes new = (e : Event) × Comes keep stream events false e new
-FateComes keep stream events bytes End new = (offset : ℕ)
+abbrev pub FateComes : (keeps : List ℕ → Bool) (stream : List ℕ) → List Event → (bytes : List ℕ) → Fate → Feed → Type 0
+FateComes keeps stream events bytes Stays new = (e : Event) × Comes keeps stream events true e new × (e.consumed ≡ bytes)
+FateComes keeps stream events bytes Goes new = (e : Event) × Comes keeps stream events false e new
+FateComes keeps stream events bytes End new = (offset : ℕ)
     × Reading stream 0 all_features (events ++ last_event (ended offset) ∷ [])
 
 -- the same, or a fault
-abbrev pub PartComes : (keep : Bool) (stream : List ℕ) → List Event → Result Part Error → Feed → Type 0
-PartComes keep stream events (Ok part) new = FateComes keep stream events part.bytes.now part.fate new
-PartComes keep stream events (Err e) new = EndsWithFault stream e
+abbrev pub PartComes : (keeps : List ℕ → Bool) (stream : List ℕ) → List Event → Result Part Error → Feed → Type 0
+PartComes keeps stream events (Ok part) new = FateComes keeps stream events part.bytes.now part.fate new
+PartComes keeps stream events (Err e) new = EndsWithFault stream e
 
 -- the same wherever the feeder was
-abbrev pub TakesPart : (keep : Bool) → (old : Feed) → Result Part Error → (new : Feed) → Type 0
-TakesPart keep old result new = (stream : List ℕ) (events : List Event)
+abbrev pub TakesPart : (keeps : List ℕ → Bool) → (old : Feed) → Result Part Error → (new : Feed) → Type 0
+TakesPart keeps old result new = (stream : List ℕ) (events : List Event)
     → Along 0 all_features stream old.state old.held events → length stream < 2 ^ 64
-    → PartComes keep stream events result new
+    → PartComes keeps stream events result new
 
 -- whether fewer bytes are held after a part: not at the end
 abbrev pub IsFewer : Fate → (old new : Feed) → Type 0
@@ -60,32 +60,32 @@ GoesOn old (Ok part) new = IsFewer part.fate old new
 GoesOn old (Err e) new = Unit {0}
 
 -- A stream was read so far, and these are the bytes of the events that stay.
-abbrev pub HasKept : (keep : Bool) (stream : List ℕ) → Feed → (kept : List ℕ) → Type 0
-HasKept keep stream feed kept =
-    (events : List Event) × Along 0 all_features stream feed.state feed.held events × (kept ≡ kept_bytes keep events)
+abbrev pub HasKept : (keeps : List ℕ → Bool) (stream : List ℕ) → Feed → (kept : List ℕ) → Type 0
+HasKept keeps stream feed kept =
+    (events : List Event) × Along 0 all_features stream feed.state feed.held events × (kept ≡ kept_bytes keeps events)
 
 -- The stream is read up to its end, and these are the bytes of its events that stay.
-pub record ReadsKept (keep : Bool) (stream kept : List ℕ) : Type 0 where
+pub record ReadsKept (keeps : List ℕ → Bool) (stream kept : List ℕ) : Type 0 where
   pub events : List Event
   pub offset : ℕ
   pub reading : Reading stream 0 all_features (events ++ last_event (ended offset) ∷ [])
-  pub bytes : kept ≡ kept_bytes keep events
+  pub bytes : kept ≡ kept_bytes keeps events
 
 -- the number of them, if the stream has no fault
-abbrev pub CountsKept : (keep : Bool) (stream : List ℕ) → Result ℕ Error → Type 0
-CountsKept keep stream (Ok count) = (kept : List ℕ) × ReadsKept keep stream kept × (count ≡ length kept)
-CountsKept keep stream (Err e) = EndsWithFault stream e
+abbrev pub CountsKept : (keeps : List ℕ → Bool) (stream : List ℕ) → Result ℕ Error → Type 0
+CountsKept keeps stream (Ok count) = (kept : List ℕ) × ReadsKept keeps stream kept × (count ≡ length kept)
+CountsKept keeps stream (Err e) = EndsWithFault stream e
 
 -- they were put after others, if the stream has no fault and memory was there
-abbrev pub CopiesKept : (keep : Bool) (stream before : List ℕ) → Result (Unit {0}) Error → (after : List ℕ) → Type 0
-CopiesKept keep stream before (Ok done) after = (kept : List ℕ) × ReadsKept keep stream kept × (after ≡ before ++ kept)
-CopiesKept keep stream before (Err e) after = EndsWithFault stream e ⊎ (fault_at e ≡ out_of_memory)
+abbrev pub CopiesKept : (keeps : List ℕ → Bool) (stream before : List ℕ) → Result (Unit {0}) Error → (after : List ℕ) → Type 0
+CopiesKept keeps stream before (Ok done) after = (kept : List ℕ) × ReadsKept keeps stream kept × (after ≡ before ++ kept)
+CopiesKept keeps stream before (Err e) after = EndsWithFault stream e ⊎ (fault_at e ≡ out_of_memory)
 
 -- the kept bytes of a stream were moved to its front, and are this many, if it has no fault
-abbrev pub MovesKept : (keep : Bool) (stream : List ℕ) → Result ℕ Error → (after : List ℕ) → Type 0
-MovesKept keep stream (Ok size) after = ReadsKept keep stream (take size after) × (size ≤ length after)
+abbrev pub MovesKept : (keeps : List ℕ → Bool) (stream : List ℕ) → Result ℕ Error → (after : List ℕ) → Type 0
+MovesKept keeps stream (Ok size) after = ReadsKept keeps stream (take size after) × (size ≤ length after)
     × (length after ≡ length stream)
-MovesKept keep stream (Err e) after = EndsWithFault stream e
+MovesKept keeps stream (Err e) after = EndsWithFault stream e
 
 -- a part is the bytes between two marks
 abbrev pub Passes : (bytes : List ℕ) (old : ℕ) → Result Part Error → (new : ℕ) → Type 0
@@ -94,15 +94,15 @@ Passes bytes old (Ok part) new = (new ≡ old + length part.bytes.now)
 Passes bytes old (Err e) new = Unit {0}
 
 -- These bytes were kept of a stream, and this is next: a part that stays, which is kept too; the end; or a fault.
-abbrev pub KeptComes : (keep : Bool) (stream kept : List ℕ) → Result (Option (Bor (List ℕ))) Error → Feed → Type 0
-KeptComes keep stream kept (Ok (Some part)) new = HasKept keep stream new (kept ++ part.now)
-KeptComes keep stream kept (Ok None) new = ReadsKept keep stream kept
-KeptComes keep stream kept (Err e) new = EndsWithFault stream e
+abbrev pub KeptComes : (keeps : List ℕ → Bool) (stream kept : List ℕ) → Result (Option (Bor (List ℕ))) Error → Feed → Type 0
+KeptComes keeps stream kept (Ok (Some part)) new = HasKept keeps stream new (kept ++ part.now)
+KeptComes keeps stream kept (Ok None) new = ReadsKept keeps stream kept
+KeptComes keeps stream kept (Err e) new = EndsWithFault stream e
 
 -- the same wherever the feeder was
-abbrev pub TakesKept : (keep : Bool) → (old : Feed) → Result (Option (Bor (List ℕ))) Error → (new : Feed) → Type 0
-TakesKept keep old result new = (stream kept : List ℕ) → HasKept keep stream old kept → length stream < 2 ^ 64
-    → KeptComes keep stream kept result new
+abbrev pub TakesKept : (keeps : List ℕ → Bool) → (old : Feed) → Result (Option (Bor (List ℕ))) Error → (new : Feed) → Type 0
+TakesKept keeps old result new = (stream kept : List ℕ) → HasKept keeps stream old kept → length stream < 2 ^ 64
+    → KeptComes keeps stream kept result new
 
 -- A part of some bytes ends at the second mark, and begins at the first one or after it.
 pub record EndsAtMark (bytes : List ℕ) (old : ℕ) (part : List ℕ) (new : ℕ) : Type 0 where

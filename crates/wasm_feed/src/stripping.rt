@@ -2,7 +2,7 @@
 ghost use Rattle.std.specs.Prelude.{◌≡◌, ◌+◌, ◌<◌, ◌≤◌, ◌^◌, true, length};
 ghost use Rattle.std.specs.List.{copy_within};
 ghost use Rattle.wasm_feed.specs.Cursors.{feed_of};
-ghost use Rattle.wasm_feed.specs.Stripped.{custom_stays, Strips, StripsInPlace, StripsToFront};
+ghost use Rattle.wasm_feed.specs.Stripped.{custom_stays, is_among as is_one_of, others_stay, stays_by, Strips, StripsInPlace, StripsToFront};
 ghost use Rattle.wasm_feed.specs.Strips.{CountsKept, CopiesKept, custom_fate, GoesOn, IsFateOf, MovesKept, Passes, PassesKept, TakesKept, TakesPart};
 ghost use Rattle.wasm_parser.specs.ParseAnswer.{report_of};
 ghost use Rattle.wasm_grammar.specs.Reading.{Stream};
@@ -11,6 +11,32 @@ use crate::feeder::{Cursor, Step, parse_next};
 use std::alloc::{Allocator, Global};
 use wasm_lines::list_of_capacity;
 use wasm_parser::{Error, Fault, Parser, Payload, Result};
+
+/// Which custom sections stay in a stream that is stripped (core specification, Binary format, Modules, Custom Section).
+///
+/// By default all are removed. The sections with names in `kept` stay. If `removed` has names, the sections with other names stay too.
+#[derive(Clone, Copy)]
+pub struct Keep<'a> {
+    /// Whether the sections named `name` stay, which have the names of functions.
+    pub names: bool,
+    /// Sections with these names stay.
+    pub kept: &'a [&'a str],
+    /// If there are any, sections with other names stay.
+    pub removed: &'a [&'a str],
+}
+
+impl Keep<'_> {
+    /// Keeps no custom section, or only those named `name`.
+    pub fn names(names: bool) -> Keep<'static>
+        ensures { stays_by result ≡ custom_stays names }
+    {
+        Keep {
+            names,
+            kept: &[],
+            removed: &[],
+        }
+    }
+}
 
 /// What becomes of a part of a stream that is stripped.
 #[derive(Clone, Copy)]
@@ -30,11 +56,38 @@ pub(crate) struct Part<'a> {
     fate: Fate,
 }
 
-// What becomes of a custom section with this name.
-fn fate_of_custom(name: &str, keep_names: bool) -> Fate
-    ensures { result ≡ custom_fate (custom_stays keep_names name.now) }
+// Whether a name is one of these.
+#[tactic(auto, using(std::proofs::lemmas::List::Folds::list_any_more, std::proofs::lemmas::List::Folds::list_any_at))]
+fn is_among(name: &str, names: &[&str]) -> bool
+    ensures { result ≡ is_one_of name.now names.now }
 {
-    if keep_names && name == "name" {
+    for one in names {
+        if name == *one {
+            return true;
+        }
+    }
+    false
+}
+
+// Whether a custom section stays because others are to be removed.
+fn is_other(name: &str, removed: &[&str]) -> bool
+    ensures { result ≡ others_stay removed.now name.now }
+{
+    !removed.is_empty() && !is_among(name, removed)
+}
+
+// Whether a custom section with this name stays.
+fn stays(name: &str, keep: Keep<'_>) -> bool
+    ensures { result ≡ stays_by keep name.now }
+{
+    is_among(name, keep.kept) || is_other(name, keep.removed) || keep.names && name == "name"
+}
+
+// What becomes of a custom section with this name.
+fn fate_of_custom(name: &str, keep: Keep<'_>) -> Fate
+    ensures { result ≡ custom_fate (stays_by keep name.now) }
+{
+    if stays(name, keep) {
         Fate::Stays
     } else {
         Fate::Goes
@@ -42,20 +95,20 @@ fn fate_of_custom(name: &str, keep_names: bool) -> Fate
 }
 
 // What becomes of a part that is read as this.
-fn fate_of(payload: &Payload, keep_names: bool) -> Fate
-    ensures { IsFateOf keep_names (report_of payload.now) result }
+fn fate_of(payload: &Payload, keep: Keep<'_>) -> Fate
+    ensures { IsFateOf (stays_by keep) (report_of payload.now) result }
 {
     match payload {
         Payload::End(_) => Fate::End,
-        Payload::CustomSection(section) => fate_of_custom(section.name(), keep_names),
+        Payload::CustomSection(section) => fate_of_custom(section.name(), keep),
         _ => Fate::Stays,
     }
 }
 
 // The next part of these bytes, which are all of the stream.
-fn next_part<'a>(cursor: &mut Cursor, bytes: &'a [u8], keep_names: bool) -> Result<Part<'a>>
+fn next_part<'a>(cursor: &mut Cursor, bytes: &'a [u8], keep: Keep<'_>) -> Result<Part<'a>>
     requires { cursor.old.is_finished ≡ true }
-    ensures takes { TakesPart keep_names (feed_of bytes.now cursor.old) result
+    ensures takes { TakesPart (stays_by keep) (feed_of bytes.now cursor.old) result
         (feed_of bytes.now cursor.new) }
     ensures goes_on { GoesOn (feed_of bytes.now cursor.old) result
         (feed_of bytes.now cursor.new) }
@@ -66,21 +119,21 @@ fn next_part<'a>(cursor: &mut Cursor, bytes: &'a [u8], keep_names: bool) -> Resu
         Step::NeedMoreData(_) => unreachable!(),
         Step::Parsed { bytes, payload } => Ok(Part {
             bytes,
-            fate: fate_of(&payload, keep_names),
+            fate: fate_of(&payload, keep),
         }),
     }
 }
 
 // The next part of these bytes that stays, after those that go; none at the end of the stream, which they are all of.
-fn next_kept<'a>(cursor: &mut Cursor, bytes: &'a [u8], keep_names: bool) -> Result<Option<&'a [u8]>>
+fn next_kept<'a>(cursor: &mut Cursor, bytes: &'a [u8], keep: Keep<'_>) -> Result<Option<&'a [u8]>>
     requires { cursor.old.is_finished ≡ true }
-    ensures takes { TakesKept keep_names (feed_of bytes.now cursor.old) result
+    ensures takes { TakesKept (stays_by keep) (feed_of bytes.now cursor.old) result
         (feed_of bytes.now cursor.new) }
     ensures finished { cursor.new.is_finished ≡ true }
     ensures passes { PassesKept bytes.now cursor.old.mark result cursor.new.mark }
 {
     'parts: loop {
-        let part = next_part(cursor, bytes, keep_names)?;
+        let part = next_part(cursor, bytes, keep)?;
         match part.fate {
             Fate::Stays => return Ok(Some(part.bytes)),
             Fate::Goes => {}
@@ -90,26 +143,26 @@ fn next_kept<'a>(cursor: &mut Cursor, bytes: &'a [u8], keep_names: bool) -> Resu
 }
 
 // How many bytes are left of a stream.
-fn count_kept(bytes: &[u8], keep_names: bool) -> Result<usize>
+fn count_kept(bytes: &[u8], keep: Keep<'_>) -> Result<usize>
     requires { length bytes.now < 2 ^ 64 }
-    ensures counts { CountsKept keep_names bytes.now result }
+    ensures counts { CountsKept (stays_by keep) bytes.now result }
     ensures stream { Stream bytes.now 0 }
 {
     let mut cursor = Cursor::over_all(Parser::new(0));
     let mut count = 0;
-    'parts: while let Some(part) = next_kept(&mut cursor, bytes, keep_names)? {
+    'parts: while let Some(part) = next_kept(&mut cursor, bytes, keep)? {
         count += part.len();
     }
     Ok(count)
 }
 
 // Appends a stream without the dropped sections to these bytes.
-fn copy_kept<A: Allocator>(bytes: &[u8], keep_names: bool, kept: &mut Vec<u8, A>) -> Result<()>
+fn copy_kept<A: Allocator>(bytes: &[u8], keep: Keep<'_>, kept: &mut Vec<u8, A>) -> Result<()>
     requires { length bytes.now < 2 ^ 64 }
-    ensures { CopiesKept keep_names bytes.now kept.old.items result kept.new.items }
+    ensures { CopiesKept (stays_by keep) bytes.now kept.old.items result kept.new.items }
 {
     let mut cursor = Cursor::over_all(Parser::new(0));
-    'parts: while let Some(part) = next_kept(&mut cursor, bytes, keep_names)? {
+    'parts: while let Some(part) = next_kept(&mut cursor, bytes, keep)? {
         if kept.extend_from_slice(part).is_err() {
             return Err(Error::new(Fault::OutOfMemory, 0));
         }
@@ -130,13 +183,13 @@ fn move_down(bytes: &mut [u8], start: usize, size: usize, to: usize)
 }
 
 // Moves the stripped stream to the front of its bytes, and returns its length in bytes.
-fn move_kept(bytes: &mut [u8], keep_names: bool) -> Result<usize>
+fn move_kept(bytes: &mut [u8], keep: Keep<'_>) -> Result<usize>
     requires { length bytes.old < 2 ^ 64 }
-    ensures { MovesKept keep_names bytes.old result bytes.new }
+    ensures { MovesKept (stays_by keep) bytes.old result bytes.new }
 {
     let mut cursor = Cursor::over_all(Parser::new(0));
     let mut kept = 0;
-    'parts: while let Some(part) = next_kept(&mut cursor, bytes, keep_names)? {
+    'parts: while let Some(part) = next_kept(&mut cursor, bytes, keep)? {
         let size = part.len();
         move_down(bytes, cursor.mark() - size, size, kept);
         kept += size;
@@ -144,38 +197,39 @@ fn move_kept(bytes: &mut [u8], keep_names: bool) -> Result<usize>
     Ok(kept)
 }
 
-/// Strips a stream as `strip` does, in its own bytes: the stripped stream is then at the front, and its length in bytes is returned. The
+/// Strips a stream of its custom sections, but for those that stay, in its own bytes: the stripped stream is then at the front, and its length in bytes is returned. The
 /// bytes after it are unspecified. It never allocates, and the only error is the fault of a stream that isn't accepted, which is left
 /// unchanged.
-pub fn strip_to_front(bytes: &mut [u8], keep_names: bool) -> Result<usize>
-    ensures { StripsToFront keep_names bytes.old result bytes.new }
+pub fn strip_to_front(bytes: &mut [u8], keep: Keep<'_>) -> Result<usize>
+    ensures { StripsToFront (stays_by keep) bytes.old result bytes.new }
 {
     // A slice is shorter than 2^64 bytes, which the functions below want to know.
     let _length = bytes.len();
-    count_kept(bytes, keep_names)?;
-    move_kept(bytes, keep_names)
+    count_kept(bytes, keep)?;
+    move_kept(bytes, keep)
 }
 
 /// Like `strip_to_front`, for a vector, which is truncated to the stripped stream.
-pub fn strip_in_place<A: Allocator>(bytes: &mut Vec<u8, A>, keep_names: bool) -> Result<()>
-    ensures { StripsInPlace keep_names bytes.old.items result bytes.new.items }
+pub fn strip_in_place<A: Allocator>(bytes: &mut Vec<u8, A>, keep: Keep<'_>) -> Result<()>
+    ensures { StripsInPlace (stays_by keep) bytes.old.items result bytes.new.items }
 {
-    let kept = strip_to_front(bytes.as_mut_slice(), keep_names)?;
+    let kept = strip_to_front(bytes.as_mut_slice(), keep)?;
     bytes.truncate(kept);
     Ok(())
 }
 
-/// Like `strip`, with memory from any allocator: `OutOfMemory` at offset 0 if its one allocation fails, for an accepted stream only.
-pub fn strip_in<A: Allocator>(alloc: A, bytes: &[u8], keep_names: bool) -> Result<Vec<u8, A>>
-    ensures { Strips keep_names bytes.now result }
+/// Like `strip`, with any choice of custom sections and memory from any allocator: `OutOfMemory` at offset 0 if its one allocation
+/// fails, for an accepted stream only.
+pub fn strip_in<A: Allocator>(alloc: A, bytes: &[u8], keep: Keep<'_>) -> Result<Vec<u8, A>>
+    ensures { Strips (stays_by keep) bytes.now result }
 {
     // A slice is shorter than 2^64 bytes, which the functions below want to know.
     let _length = bytes.len();
-    let count = count_kept(bytes, keep_names)?;
+    let count = count_kept(bytes, keep)?;
     let Ok(mut kept) = list_of_capacity(alloc, count) else {
         return Err(Error::new(Fault::OutOfMemory, 0));
     };
-    copy_kept(bytes, keep_names, &mut kept)?;
+    copy_kept(bytes, keep, &mut kept)?;
     Ok(kept)
 }
 
@@ -189,7 +243,7 @@ pub fn strip_in<A: Allocator>(alloc: A, bytes: &[u8], keep_names: bool) -> Resul
 /// If the stream isn't accepted, returns the fault at which its reading ends, with its offset in bytes from the start of the stream;
 /// otherwise `OutOfMemory` at offset 0 if the allocation fails. It allocates once, for as many bytes as the copy has.
 pub fn strip(alloc: Global, bytes: &[u8], keep_names: bool) -> Result<Vec<u8>>
-    ensures { Strips keep_names bytes.now result }
+    ensures { Strips (custom_stays keep_names) bytes.now result }
 {
-    strip_in(alloc, bytes, keep_names)
+    strip_in(alloc, bytes, Keep::names(keep_names))
 }

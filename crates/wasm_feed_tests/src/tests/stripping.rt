@@ -2,7 +2,7 @@
 use super::same_at;
 use std::alloc::Global;
 use std::process::Abort;
-use wasm_feed::{strip, strip_in, strip_in_place, strip_to_front};
+use wasm_feed::{Keep, strip, strip_in, strip_in_place, strip_to_front};
 use wasm_parser::{Error, Fault, Result};
 use wasm_testing::Sparing;
 
@@ -114,12 +114,12 @@ fn left_of(alloc: Global, stream: &[u8], keep_names: bool) -> Result<Vec<u8>> {
 
 // Like `left_of`, in the stream's own memory.
 fn take_out(stream: &mut Vec<u8>, keep_names: bool) -> Result<()> {
-    strip_in_place(stream, keep_names)
+    strip_in_place(stream, Keep::names(keep_names))
 }
 
 // Like `left_of`, at the front of the stream's own bytes.
 fn take_to_front(stream: &mut [u8], keep_names: bool) -> Result<usize> {
-    strip_to_front(stream, keep_names)
+    strip_to_front(stream, Keep::names(keep_names))
 }
 
 // The stripped stream, with memory from this allocator.
@@ -128,7 +128,7 @@ fn left_in<'a>(
     stream: &[u8],
     keep_names: bool,
 ) -> Result<Vec<u8, &'a Sparing<Global>>> {
-    strip_in(heap, stream, keep_names)
+    strip_in(heap, stream, Keep::names(keep_names))
 }
 
 // The stripped stream is this.
@@ -251,5 +251,61 @@ fn stripping_with_one_growth(rt: HostRuntime) {
     for (stream, with_names, without) in rows() {
         leaves_in(&rt, rt.alloc(), stream, true, with_names);
         leaves_in(&rt, rt.alloc(), stream, false, without);
+    }
+}
+
+// A stream with the custom sections a, name and b.
+const CUSTOM: &[u8] = b"\0asm\x01\0\0\0\0\x02\x01a\0\x05\x04name\0\x02\x01b";
+
+// What is kept of it: the sections named name, those of the first list, and if there is a second list, those that are not in it.
+const CHOICES: [(bool, &[&str], &[&str], &[u8]); 6] = [
+    (false, &["b"], &[], b"\0asm\x01\0\0\0\0\x02\x01b"),
+    (
+        true,
+        &["c", "a"],
+        &[],
+        b"\0asm\x01\0\0\0\0\x02\x01a\0\x05\x04name",
+    ),
+    (
+        false,
+        &[],
+        &["b"],
+        b"\0asm\x01\0\0\0\0\x02\x01a\0\x05\x04name",
+    ),
+    (
+        false,
+        &["b"],
+        &["a", "b"],
+        b"\0asm\x01\0\0\0\0\x05\x04name\0\x02\x01b",
+    ),
+    (
+        true,
+        &[],
+        &["name", "a"],
+        b"\0asm\x01\0\0\0\0\x05\x04name\0\x02\x01b",
+    ),
+    (false, &[], &["nam", "names"], CUSTOM),
+];
+
+// The choices by a function, since a proof over them knows nothing of their names.
+fn choices() -> &'static [(
+    bool,
+    &'static [&'static str],
+    &'static [&'static str],
+    &'static [u8],
+)] {
+    &CHOICES
+}
+
+#[test]
+fn keeps_what_is_chosen(rt: HostRuntime) {
+    for (names, kept, removed, wanted) in choices() {
+        let keep = Keep {
+            names: *names,
+            kept,
+            removed,
+        };
+        let left = strip_in(rt.alloc(), CUSTOM, keep).expect(&rt, "a fault");
+        same_at(&rt, left.as_slice(), *wanted, wanted);
     }
 }

@@ -2,6 +2,7 @@ use Rattle.std.proofs.Common.{◌≡◌, ℕ, List, [], ◌++◌, ◌∙◌, inl
 use Rattle.std.proofs.lemmas.Result.{err_from_is_err_and}
 use Rattle.std.proofs.lemmas.Grind.{common_steps}
 use Rattle.wasm_feed.specs.Cursors.{feed_of}
+use Rattle.wasm_feed.specs.Stripped.{stays_by}
 use Rattle.wasm_feed.proofs.KeptParts.{nothing_left}
 use Rattle.wasm_feed.proofs.stripping.copy_kept.Goals as goal
 
@@ -12,7 +13,7 @@ parts-init g c =
     record {
       comes = (
         [],
-        nothing_left c.args.keep_names bytes (feed_of bytes cursor) (c.over_all-cursor.ensures.parser ∙ c.new.ensures)
+        nothing_left (stays_by c.args.keep) bytes (feed_of bytes cursor) (c.over_all-cursor.ensures.parser ∙ c.new.ensures)
             (ap (λ (n : ℕ). drop n bytes) c.over_all-cursor.ensures.mark),
         sym (append-nil c.args.kept.now.items),
       );

@@ -1,5 +1,6 @@
 use Rattle.std.proofs.Common.{refl}
 use Rattle.std.proofs.lemmas.Result.{err_from_is_err_and}
+use Rattle.wasm_feed.specs.Stripped.{stays_by}
 use Rattle.wasm_feed.proofs.StripLaws.{left_as_it_was, strips_to_front}
 use Rattle.wasm_feed.proofs.stripping.strip_to_front.Goals as goal
 
@@ -14,5 +15,5 @@ pub returns : goal.returns
 returns c =
     let counted = c.in_ok-count_kept.ensures in
     let (kept, reads, count) = counted.counts in
-    strips_to_front c.args.keep_names c.args.bytes.now kept c.move_kept.new.bytes c.move_kept.result counted.stream reads
+    strips_to_front (stays_by c.args.keep) c.args.bytes.now kept c.move_kept.new.bytes c.move_kept.result counted.stream reads
     c.move_kept.ensures
