@@ -9,6 +9,8 @@ import common
 LIBRARIES = ("wasm_base", "wasm_grammar", "wasm_items", "wasm_custom", "wasm_parser", "wasm_lines", "wasm_feed", "wasm_tree", "wasm_show",
              "wasm_dumper")
 CLAUSE = re.compile(r"^\s+(requires|ensures|within|decreases)\b")
+# A comment over clauses.
+COMMENT = re.compile(r"^\s+// ")
 ITEM = re.compile(r"^pub (struct|enum|trait|fn|const fn|const|type|unsafe fn) (\w+)")
 
 # What a source declares, and the line that it begins at. `owner` is the type or the trait of a member.
@@ -85,7 +87,7 @@ class Source:
         words = []
         while at < len(self.lines):
             line = self.lines[at]
-            if CLAUSE.match(line) or line.strip() in ("{", "where {"):
+            if CLAUSE.match(line) or COMMENT.match(line) or line.strip() in ("{", "where {"):
                 break
             text = line.strip()
             if re.search(r" \{.*\}$", text):
@@ -118,6 +120,8 @@ class Source:
 
     def call(self, at):
         signature, after = self.signature(at)
+        while after < len(self.lines) and COMMENT.match(self.lines[after]):
+            after += 1
         has_clauses = after < len(self.lines) and CLAUSE.match(self.lines[after])
         return signature, self.doc_before(at), self.definitions(after) if has_clauses else []
 
@@ -268,7 +272,10 @@ def block_at(lines, at):
 def clauses(source, at):
     """The clauses of the function that is declared from this line on, each as its lines."""
     found, at = [], source.signature(at)[1]
-    while at < len(source.lines) and CLAUSE.match(source.lines[at]):
+    while at < len(source.lines) and (CLAUSE.match(source.lines[at]) or COMMENT.match(source.lines[at])):
+        if COMMENT.match(source.lines[at]):
+            at += 1
+            continue
         lines, at = block_at(source.lines, at)
         found.append(dedented(lines).rstrip(";"))
     return found

@@ -7,13 +7,23 @@ use crate::fault::{Fault, Lead};
 use std::alloc::AllocFailed;
 use std::fmt;
 
-/// The result of a read: a value, or the error at which it ended.
+/// The result of a read: a value, or the `Error` at which the read ended.
 pub type Result<T, E = Error> = std::result::Result<T, E>;
 
-/// An error: a fault, its offset in the whole stream, and the number that belongs to it.
+/// An error: a fault, its offset in bytes from the start of the stream, and its number if it has one.
 ///
-/// Two errors are equal if these are: the hint is not compared.
-// Its small fields lie together, where an `Ok` beside it has a tag: so an error takes no word of a payload apart.
+/// Two errors are equal if these three are equal. The hint is not compared. `Display` writes the message, the number if
+/// there is one, and the offset in hexadecimal.
+///
+/// ```rattle
+/// let mut reader = BinaryReader::new(&[7], 16);
+/// let error = reader.read_u32().err().ok_or("no error")?;
+/// assert_eq!(rt; error, Error::new(Fault::UnexpectedEof, 16));
+/// assert_eq!(rt; error.needed_hint(), Some(3));
+/// let text = format!(in alloc; "{error}")?;
+/// assert_eq!(rt; text.as_str(), "unexpected end-of-file (at offset 0x10)");
+/// ```
+// The small fields lie together, where an `Ok` has its tag, so that an error adds no word to a `Result`.
 #[derive(Clone, Copy)]
 pub struct Error {
     fault: Fault,
@@ -30,7 +40,7 @@ impl Error {
     ghost use Rattle.wasm_base.specs.Message.{message_of};
     ghost use Rattle.wasm_base.specs.FaultAt.{fault_at, at_offset, hint_of};
 
-    /// A fault at an offset, with no number and no hint.
+    /// Returns an error with this fault and this offset, without a number or a hint.
     pub fn new(fault: Fault, offset: u64) -> Self
         ensures report { fault_at result ≡ at_offset fault offset }
         ensures hint { hint_of result ≡ None }
@@ -45,7 +55,7 @@ impl Error {
         }
     }
 
-    /// Returns the error with this number.
+    /// Returns the error with this number instead of its own.
     pub fn with_number(self, number: u64) -> Self
         ensures report { fault_at result ≡ record (fault_at self) { number = Some number } }
         ensures hint { hint_of result ≡ hint_of self }
@@ -57,7 +67,7 @@ impl Error {
         }
     }
 
-    /// Returns the error with this hint.
+    /// Returns the error with this hint instead of its own.
     pub(crate) fn with_hint(self, hint: usize) -> Self
         ensures report { fault_at result ≡ fault_at self }
         ensures hint { hint_of result ≡ Some hint }
@@ -69,7 +79,7 @@ impl Error {
         }
     }
 
-    /// Returns the error without its hint.
+    /// Returns the error without its hint. Fault, offset and number stay.
     pub fn without_needed_hint(self) -> Self
         ensures report { fault_at result ≡ fault_at self }
         ensures hint { hint_of result ≡ None }
@@ -81,28 +91,31 @@ impl Error {
         }
     }
 
-    /// What is wrong.
+    /// Returns the fault.
     pub fn fault(&self) -> Fault
         ensures { result ≡ (fault_at self.now).fault }
     {
         self.fault
     }
 
-    /// The fixed text of the fault.
+    /// Returns the message of the fault, which has neither the offset nor the number.
     pub fn message(&self) -> &'static str
         ensures { result.now ≡ message_of (fault_at self.now).fault }
     {
         self.fault.message()
     }
 
-    /// Where the fault is, in the whole stream.
+    /// Returns the offset of the fault, in bytes from the start of the stream.
     pub fn offset(&self) -> u64
         ensures { result ≡ (fault_at self.now).offset }
     {
         self.offset
     }
 
-    /// The number that belongs to the fault, where it has one: a version, a length, or the byte that was read.
+    /// Returns the number of the fault, if it has one.
+    ///
+    /// It is the version of `UnknownVersion` and `LinkingVersion`, the length of `SectionTooLarge`, and the byte of
+    /// `LeadingByte`.
     pub fn number(&self) -> Option<u64>
         ensures { result ≡ (fault_at self.now).number }
     {
@@ -113,7 +126,10 @@ impl Error {
         }
     }
 
-    /// How many more bytes the read needed, if the error says so.
+    /// Returns how many bytes the read lacked, if the window was too short for it.
+    ///
+    /// Inside a LEB128 number it is 1, because its length is unknown. Bytes that are wrong, and not missing, give no
+    /// hint.
     pub fn needed_hint(&self) -> Option<usize>
         ensures { result ≡ hint_of self.now }
     {
@@ -151,7 +167,9 @@ impl fmt::Debug for Error {
     }
 }
 
-/// Returns the error that nothing of this kind begins with this byte, which is at this offset.
+/// Returns the error `LeadingByte(lead)` at this offset, with the byte as its number.
+///
+/// Use it in your own items, when a byte at `offset` begins nothing of the kind `lead`.
 pub fn leading_byte_error(lead: Lead, byte: u8, offset: u64) -> Error
     ensures report { fault_at result ≡ leading_byte lead byte offset }
     ensures hint { hint_of result ≡ None }

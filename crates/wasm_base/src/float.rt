@@ -2,12 +2,12 @@
 ghost use Rattle.std.specs.Prelude.{◌≡◌};
 ghost use Rattle.wasm_base.specs.Float.{bits_of_32, bits_of_64};
 
-/// A float of 32 bits, as its bits (core specification, Binary format, Values, Floating-Point).
+/// A 32-bit float, as its bits (core specification, Binary format, Values, Floating-Point).
 #[derive(Clone, Copy, Debug, PartialEq, Eq, Hash)]
 pub struct Ieee32(pub(crate) u32);
 
 impl Ieee32 {
-    /// The bits of the float, in IEEE 754's layout.
+    /// Returns the bits of the float in the layout of IEEE 754. They keep the payload of a NaN.
     pub fn bits(self) -> u32
         ensures { result ≡ bits_of_32 self }
     {
@@ -15,12 +15,12 @@ impl Ieee32 {
     }
 }
 
-/// A float of 64 bits, as its bits (core specification, Binary format, Values, Floating-Point).
+/// A 64-bit float, as its bits (core specification, Binary format, Values, Floating-Point).
 #[derive(Clone, Copy, Debug, PartialEq, Eq, Hash)]
 pub struct Ieee64(pub(crate) u64);
 
 impl Ieee64 {
-    /// The bits of the float, in IEEE 754's layout.
+    /// Returns the bits of the float in the layout of IEEE 754. They keep the payload of a NaN.
     pub fn bits(self) -> u64
         ensures { result ≡ bits_of_64 self }
     {

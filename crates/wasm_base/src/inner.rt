@@ -13,21 +13,34 @@ use crate::item::FromReader;
 use crate::reader::BinaryReader;
 use crate::section::SectionLimited;
 
-/// An element of a list inside an item: it can be skipped, and read later.
+/// An item of an inner list, which can be skipped now and read later.
+///
+/// An inner list is part of an item that does not own it, such as the elements of a segment: `read_inner` skips it and
+/// returns it as a section.
+///
+/// ```rattle
+/// let mut reader = BinaryReader::new(b"\x02\x01a\x01b\xff", 0);
+/// let names = read_inner::<&str>(&mut reader)?;
+/// assert_eq!(rt; reader.original_position(), 5);
+/// assert_eq!(rt; names.into_iter().next(), Some(Ok("a")));
+/// ```
 pub trait SkipItem<'a>: FromReader<'a> {
     /// The place after the skipped bytes, or the fault.
     ghost passed_at: { Place → Outcome (Unit {0}) };
 
-    /// Skips an item.
+    /// Skips an item: consumes the bytes that reading it consumes. It may check less of them.
     ///
-    /// After an error the reader is in its window, at or after its previous position. The error is never `OutOfMemory`.
+    /// # Errors
+    ///
+    /// Those of the item, as its `impl` says. The reader is then in its window, at or after its previous position. The
+    /// fault is never `OutOfMemory`.
     fn skip_item(reader: &mut BinaryReader<'a>) -> Result<()>
         ensures gives { GivesBy (λ nothing. nothing) result reader.old reader.new passed_at }
         ensures keeps { KeepsWindow reader.old reader.new }
         ensures memory { TakesNoMemory result };
 }
 
-/// A name of at most 100,000 bytes, which need not be UTF-8.
+/// Skips a name of at most 100,000 bytes, as `skip_string` does: the bytes need not be UTF-8.
 impl<'a> SkipItem<'a> for &'a str {
     ghost passed_at = { skipped_name_at };
 
@@ -36,7 +49,16 @@ impl<'a> SkipItem<'a> for &'a str {
     }
 }
 
-/// Returns the bytes consumed between two states of a reader, as a window with its features.
+/// Returns the bytes between two states of a reader, as a window of its own with the same features.
+///
+/// `after` must be a later state of `before`: the same window, and no position before that of `before`.
+///
+/// ```rattle
+/// let mut reader = BinaryReader::new(&[1, 2, 3], 10);
+/// let before = reader.clone()?;
+/// reader.read_bytes(2)?;
+/// assert_eq!(rt; passed_since(&before, &reader).range(), 10..12);
+/// ```
 pub fn passed_since<'a>(before: &BinaryReader<'a>, after: &BinaryReader<'a>) -> BinaryReader<'a>
     requires { KeepsWindow before.now after.now }
     ensures { result ≡ window_between (place before.now) (place after.now) }
@@ -61,7 +83,9 @@ fn pass_items<'a, T: SkipItem<'a>>(count: u32, reader: &mut BinaryReader<'a>) ->
 
 /// Skips a list, a count and that many items, and returns it as a section whose window begins at the count.
 ///
-/// The errors are those of the count, a u32, and of skipping the items.
+/// # Errors
+///
+/// Those of `read_var_u32` for the count, then those of `skip_item` for each item.
 #[tactic(auto, unfolding(crate::specs::Inner::inner_section_at))]
 pub fn read_inner<'a, T: SkipItem<'a>>(
     reader: &mut BinaryReader<'a>,
@@ -78,6 +102,10 @@ pub fn read_inner<'a, T: SkipItem<'a>>(
 }
 
 /// Like `read_inner`, for a list of LEB128 `u32`s, which `skip_var_u32s` skips 32 bytes at a time.
+///
+/// # Errors
+///
+/// Those of `read_var_u32`, for the count and for each number.
 #[tactic(auto, unfolding(crate::specs::Inner::inner_section_at))]
 pub fn read_inner_u32s<'a>(reader: &mut BinaryReader<'a>) -> Result<SectionLimited<'a, u32>>
     ensures gives { GivesBy (λ section. section) result reader.old reader.new

@@ -9,24 +9,38 @@ use crate::error::{Error, Result};
 use crate::fault::Fault;
 use crate::reader::BinaryReader;
 
-/// A type that can be read from a reader without allocating.
+/// A type that a reader can read without allocating.
 ///
-/// Sections require only that `from_reader` keeps to the meaning of the type. A meaning may allow several outcomes, and
-/// an item may consume no bytes.
+/// `SectionLimited` requires only that `from_reader` keeps to the meaning of the type. A meaning may allow several
+/// outcomes, and an item may consume no bytes.
+///
+/// ```rattle
+/// let mut reader = BinaryReader::new(b"\x05\x01a", 0);
+/// let index = u32::from_reader(&mut reader)?;
+/// let name: &str = reader.read()?;
+/// assert_eq!(rt; (index, name), (5, "a"));
+/// ```
 pub trait FromReader<'a>: Sized + Drop {
     /// What reading at a place may result in: a value and the place after it, or a fault.
     ghost meaning: { Place → Outcome Self → Type 0 };
 
-    /// Reads an item.
+    /// Reads an item from the front of the reader's remaining bytes.
     ///
-    /// After an error the reader is in its window, at or after its previous position. The error is never `OutOfMemory`.
+    /// # Errors
+    ///
+    /// Those of the type, as its `impl` says. The reader is then in its window, at or after its previous position. The
+    /// fault is never `OutOfMemory`.
     fn from_reader(reader: &mut BinaryReader<'a>) -> Result<Self>
         ensures means { Means meaning (place reader.old) result (place reader.new) }
         ensures keeps { KeepsWindow reader.old reader.new }
         ensures memory { TakesNoMemory result };
 }
 
-/// A byte that is 0 or 1, else `InvalidBool` at it.
+/// Reads a byte that is 0 or 1.
+///
+/// # Errors
+///
+/// `UnexpectedEof` at the current offset if no byte remains; `InvalidBool` at any other byte.
 impl<'a> FromReader<'a> for bool {
     ghost meaning = { ReadsAs (λ truth. truth) bool_at };
 
@@ -46,7 +60,7 @@ impl<'a> FromReader<'a> for bool {
     }
 }
 
-/// A u32 in LEB128, with the faults of `read_var_u32`.
+/// Reads a LEB128 `u32`, with the errors of `read_var_u32`.
 impl<'a> FromReader<'a> for u32 {
     ghost use Rattle.wasm_base.specs.declared.fault.NumberKind.TheVariants.{VarU32};
 
@@ -63,7 +77,7 @@ impl<'a> FromReader<'a> for u32 {
     }
 }
 
-/// A name of at most 100,000 bytes, with the faults of `read_string`.
+/// Reads a name of at most 100,000 bytes, with the errors of `read_string`. The name borrows from the stream.
 impl<'a> FromReader<'a> for &'a str {
     ghost meaning = { ReadsName (λ text. text.now) };
 
@@ -77,7 +91,7 @@ impl<'a> FromReader<'a> for &'a str {
     }
 }
 
-/// One item and then another.
+/// Reads two items, one after the other, with the errors of each.
 impl<'a, T: FromReader<'a>, U: FromReader<'a>> FromReader<'a> for (T, U) {
     ghost meaning = { BothInTurn T.meaning U.meaning };
 

@@ -8,11 +8,12 @@ use crate::error::{Result, leading_byte_error};
 use crate::fault::Lead;
 use crate::reader::BinaryReader;
 
-/// Reads a byte that is 0 for `false`, or 1 for `true`.
+/// Reads a byte that is 0 for `false` or 1 for `true`.
 ///
 /// # Errors
 ///
-/// `LeadingByte(lead)` at any other byte, with the byte as its number; `UnexpectedEof` where there is no byte.
+/// `UnexpectedEof` at the current offset if no byte remains; `LeadingByte(lead)` at any other byte, with the byte as
+/// its number.
 #[tactic(auto, unfolding(crate::specs::Leading::in_table))]
 pub fn read_flag(lead: Lead, reader: &mut BinaryReader<'_>) -> Result<bool>
     ensures gives { GivesBy (λ flag. flag) result reader.old reader.new (flag_at lead) }

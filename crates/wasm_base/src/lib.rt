@@ -1,5 +1,9 @@
-//! A reader of WebAssembly bytes: errors with their offsets in the stream, and a reader of numbers, names and windows
-//! that tracks its offset.
+//! The reader that everything else is built on: numbers, names and windows of a WebAssembly stream, and errors with
+//! their offsets.
+//!
+//! `BinaryReader` reads. `SectionLimited` and `Subsections` iterate over items, which are types with `FromReader`,
+//! `FromReaderIn` or `Subsection`. Parsing a stream is the task of `wasm_parser`, which re-exports most names of this
+//! crate.
 #![tactic(auto)]
 
 mod error;

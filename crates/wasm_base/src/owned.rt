@@ -12,16 +12,26 @@ use crate::item::FromReader;
 use crate::reader::BinaryReader;
 use std::alloc::{Allocator, Global};
 
-/// A type that can be read from a reader and owns lists.
+/// A type that a reader can read, and that owns lists, which it allocates.
 ///
-/// Like `FromReader`, but a read ends with `OutOfMemory`, at offset 0, when an allocation fails.
+/// It is `FromReader` with an allocator. Types of the type section are such items.
+///
+/// ```rattle
+/// use wasm_items::RecGroup;
+/// let mut reader = BinaryReader::new(&[0x60, 1, 0x7f, 0], 0);
+/// let group = RecGroup::from_reader(alloc, &mut reader)?;
+/// assert_eq!(rt; group.types.len(), 1);
+/// ```
 pub trait FromReaderIn<'a>: Sized + Drop {
     /// What reading at a place may result in, memory aside: a value and the place after it, or a fault.
     ghost meaning: { Place → Outcome Self → Type 0 };
 
-    /// Reads an item, and allocates its lists with this allocator.
+    /// Reads an item from the front of the reader's remaining bytes, and allocates its lists with `alloc`.
     ///
-    /// After an error the reader is in its window, at or after its previous position.
+    /// # Errors
+    ///
+    /// Those of the type, as its `impl` says, and `OutOfMemory` at offset 0 when an allocation fails. The reader is
+    /// then in its window, at or after its previous position.
     fn from_reader(alloc: Global, reader: &mut BinaryReader<'a>) -> Result<Self>
         ensures means { Means (UnlessMemory meaning) (place reader.old) result (place reader.new) }
         ensures keeps { KeepsWindow reader.old reader.new };
@@ -79,10 +89,22 @@ fn read_items_in<'a, T: FromReaderIn<'a>>(
     Ok(items)
 }
 
-/// Reads a list: a count, a u32, and that many items (core specification, Binary format, Conventions, Lists).
+/// Reads a list: a count, which is a LEB128 `u32`, and that many items (core specification, Binary format, Conventions,
+/// Lists).
 ///
-/// The count alone allocates nothing: the list grows as its items are read. Returns `OutOfMemory`, at offset 0, when an
-/// allocation fails, and otherwise the errors of the count and of the items.
+/// The list grows as its items are read, so a large count alone allocates nothing.
+///
+/// # Errors
+///
+/// Those of `read_var_u32` for the count, then those of the items; `OutOfMemory` at offset 0 when an allocation fails.
+///
+/// # Example
+///
+/// ```rattle
+/// let mut reader = BinaryReader::new(&[2, 5, 7], 0);
+/// let numbers = read_list::<u32, _>(alloc, &mut reader)?;
+/// assert_eq!(rt; numbers.as_slice(), [5, 7].as_slice());
+/// ```
 pub fn read_list<'a, T: FromReader<'a>, A: Allocator>(
     alloc: A,
     reader: &mut BinaryReader<'a>,
@@ -96,6 +118,10 @@ pub fn read_list<'a, T: FromReader<'a>, A: Allocator>(
 }
 
 /// Like `read_list`, for items that own lists.
+///
+/// # Errors
+///
+/// Those of `read_list`.
 pub fn read_list_in<'a, T: FromReaderIn<'a>>(
     alloc: Global,
     reader: &mut BinaryReader<'a>,

@@ -33,13 +33,29 @@ use std::marker::Model;
 use std::ops::Range;
 use std::simd::prelude::*;
 
-/// A window of the stream, and a place in it.
+/// A window of the stream and the current position in it.
 ///
-/// Each read moves the place after what it read. After a fault of `read_bytes`, `read_u8`, `read_u32`, of a number in LEB128
-/// or of a float the place is where it was; after that of another read it lies in the window, and not before where it was.
-/// Offsets count bytes from the start of the whole stream.
+/// Each read consumes bytes from the front of the remaining bytes. A read borrows what it returns from the stream, and
+/// never allocates. Offsets count bytes from the start of the stream, so an error in a nested window says where it is
+/// in the file.
 ///
-/// Where bytes are missing, the error's `needed_hint` says how many: 1 in a number. No other fault of a read has one.
+/// # Errors
+///
+/// After an error of `read_bytes`, `read_u8`, `read_u32`, a float or a LEB128 number, the reader is unchanged. After an
+/// error of another read, it is in its window, at or after its previous position.
+///
+/// If bytes are missing, `needed_hint` of the error returns how many: 1 inside a LEB128 number. No other fault of a
+/// read has a hint.
+///
+/// # Example
+///
+/// ```rattle
+/// let mut reader = BinaryReader::new(b"\x03\x01a\x00\x00", 100);
+/// assert_eq!(rt; reader.read_var_u32()?, 3);
+/// assert_eq!(rt; reader.read_string()?, "a");
+/// assert_eq!(rt; reader.original_position(), 103);
+/// assert_eq!(rt; reader.bytes_remaining(), 2);
+/// ```
 #[derive(Debug, Drop)]
 pub struct BinaryReader<'a> {
     bytes: &'a [u8],
@@ -81,7 +97,14 @@ impl<'a> Clone for BinaryReader<'a> {
     }
 }
 
-/// Whether `len` bytes at this offset stay within the offsets of a stream, so that a reader over them can be made.
+/// Returns whether `len` bytes at this offset end within the offsets of a stream, of which 2^64 - 1 is the largest.
+///
+/// If so, a reader over them can be made.
+///
+/// ```rattle
+/// assert!(rt; fits(0, 1_000));
+/// assert!(rt; !fits(18_446_744_073_709_551_615, 1));
+/// ```
 pub fn fits(offset: u64, len: usize) -> bool
     ensures { IsTrue result ↔ (offset + len < 2 ^ 64) }
 {
@@ -89,7 +112,9 @@ pub fn fits(offset: u64, len: usize) -> bool
 }
 
 impl<'a> BinaryReader<'a> {
-    /// A reader of bytes that begin at this offset of the stream, with all features. `fits` says whether they may.
+    /// Returns a reader of these bytes, which begin at this offset of the stream, with all features.
+    ///
+    /// The bytes must end within the offsets of a stream: see `fits`.
     pub fn new(bytes: &'a [u8], offset: u64) -> Self
         requires { offset + length bytes.now < 2 ^ 64 }
         ensures { result ≡ window_over all_features offset bytes.now }
@@ -97,7 +122,9 @@ impl<'a> BinaryReader<'a> {
         BinaryReader::new_features(bytes, offset, WasmFeatures::all())
     }
 
-    /// A reader of bytes that begin at this offset of the stream. `fits` says whether they may.
+    /// Returns a reader of these bytes, which begin at this offset of the stream, with these features.
+    ///
+    /// The bytes must end within the offsets of a stream: see `fits`.
     pub fn new_features(bytes: &'a [u8], offset: u64, features: WasmFeatures) -> Self
         requires { offset + length bytes.now < 2 ^ 64 }
         ensures { result ≡ window_over (feature_bits features) offset bytes.now }
@@ -110,7 +137,7 @@ impl<'a> BinaryReader<'a> {
         }
     }
 
-    /// The place as an offset in the whole stream.
+    /// Returns the offset of the next byte, from the start of the stream.
     pub fn original_position(&self) -> u64
         ensures offset { result ≡ (place self.now).offset }
         ensures fits { result + length (place self.now).rest < 2 ^ 64 }
@@ -118,7 +145,7 @@ impl<'a> BinaryReader<'a> {
         self.start + self.position as u64
     }
 
-    /// The place within the window, in bytes from its start.
+    /// Returns the position in the window, in bytes from its start.
     pub fn current_position(&self) -> usize
         ensures position { result ≡ self.now.position }
         ensures within { result ≤ length self.now.bytes }
@@ -126,42 +153,49 @@ impl<'a> BinaryReader<'a> {
         self.position
     }
 
-    /// The offsets of the whole window.
+    /// Returns the offsets of the whole window, including the bytes already consumed.
     pub fn range(&self) -> Range<u64>
         ensures { result ≡ range_of self.now }
     {
         self.start..self.start + self.bytes.len() as u64
     }
 
-    /// The offsets of the bytes that are left.
+    /// Returns the offsets of the remaining bytes.
     pub fn remaining_range(&self) -> Range<u64>
         ensures { result ≡ rest_range self.now }
     {
         self.original_position()..self.start + self.bytes.len() as u64
     }
 
-    /// The bytes that are left.
+    /// Returns the remaining bytes, without consuming them.
     pub fn remaining_buffer(&self) -> &'a [u8]
         ensures { result.now ≡ (place self.now).rest }
     {
         &self.bytes[self.position..]
     }
 
-    /// How many bytes are left.
+    /// Returns the number of remaining bytes.
     pub fn bytes_remaining(&self) -> usize
         ensures { result ≡ length (place self.now).rest }
     {
         self.bytes.len() - self.position
     }
 
-    /// Whether no bytes are left.
+    /// Returns whether no bytes remain in the window.
     pub fn eof(&self) -> bool
         ensures { result ≡ (length (place self.now).rest == 0) }
     {
         self.position >= self.bytes.len()
     }
 
-    /// The bytes that are left as a window of its own.
+    /// Returns the remaining bytes as a window of its own, with the same features.
+    ///
+    /// ```rattle
+    /// let mut reader = BinaryReader::new(&[1, 2, 3], 10);
+    /// reader.read_u8()?;
+    /// assert_eq!(rt; reader.range(), 10..13);
+    /// assert_eq!(rt; reader.shrink().range(), 11..13);
+    /// ```
     pub fn shrink(&self) -> Self
         ensures { result ≡ whole_window (place self.now) }
     {
@@ -173,14 +207,14 @@ impl<'a> BinaryReader<'a> {
         }
     }
 
-    /// The features that its reads take.
+    /// Returns the features of the reader.
     pub fn features(&self) -> WasmFeatures
         ensures { feature_bits result ≡ self.now.features }
     {
         self.features
     }
 
-    /// Whether limits are 64-bit numbers.
+    /// Returns whether limits of memories and tables are 64-bit numbers: whether the features contain `MEMORY64`.
     pub fn memory64(&self) -> bool
         ensures { result ≡ takes_wide_limits self.now.features }
     {
@@ -188,7 +222,7 @@ impl<'a> BinaryReader<'a> {
         features.contains(WasmFeatures::MEMORY64)
     }
 
-    // Passes over bytes that are there.
+    // Advances by `len` bytes.
     fn move_past(&mut self, len: usize)
         requires { len ≤ length (place self.old).rest }
         ensures place { place self.new ≡ advanced len (place self.old) }
@@ -213,7 +247,11 @@ impl<'a> BinaryReader<'a> {
         self.original_position() - 1
     }
 
-    /// Returns the next byte without consuming it, or `UnexpectedEof` at the current offset if none remains.
+    /// Returns the next byte without consuming it.
+    ///
+    /// # Errors
+    ///
+    /// `UnexpectedEof` at the current offset if no byte remains.
     pub fn peek(&self) -> Result<u8>
         ensures gives { Gives (λ b. b) result (place self.now) (peeked_byte_at (place self.now)) }
         ensures hints { Hints 1 result }
@@ -225,8 +263,11 @@ impl<'a> BinaryReader<'a> {
         }
     }
 
-    /// Returns the next `len` bytes without consuming them, or `UnexpectedEof` at the current offset if some are
-    /// missing.
+    /// Returns the next `len` bytes without consuming them.
+    ///
+    /// # Errors
+    ///
+    /// `UnexpectedEof` at the current offset if fewer than `len` bytes remain.
     pub fn peek_bytes(&self, len: usize) -> Result<&'a [u8]>
         ensures gives { Gives (λ bytes. bytes.now) result (place self.now) (peeked_at len (place self.now)) }
         ensures hints { Hints (missing_at len (place self.now)) result }
@@ -239,13 +280,19 @@ impl<'a> BinaryReader<'a> {
         Ok(&rest[..len])
     }
 
-    /// Reads `len` bytes. Returns `UnexpectedEof` at their start if some are missing.
+    /// Reads `len` bytes and returns them.
+    ///
+    /// # Errors
+    ///
+    /// `UnexpectedEof` at the current offset if fewer than `len` bytes remain. The reader is then unchanged.
     #[inline(always)]
     pub fn read_bytes(&mut self, len: usize) -> Result<&'a [u8]>
+        // On every outcome.
         ensures gives { GivesBy (λ bytes. bytes.now) result self.old self.new (bytes_at len) }
         ensures keeps { KeepsWindow self.old self.new }
         ensures hints { Hints (missing_at len (place self.old)) result }
         ensures memory { TakesNoMemory result }
+        // On an error.
         ensures unmoved { OnErr result (self.new ≡ self.old) }
     {
         let bytes = self.peek_bytes(len)?;
@@ -253,13 +300,19 @@ impl<'a> BinaryReader<'a> {
         Ok(bytes)
     }
 
-    /// Reads a byte. Returns `UnexpectedEof` at the current offset if none remains.
+    /// Reads a byte and returns it.
+    ///
+    /// # Errors
+    ///
+    /// `UnexpectedEof` at the current offset if no byte remains. The reader is then unchanged.
     #[inline(always)]
     pub fn read_u8(&mut self) -> Result<u8>
+        // On every outcome.
         ensures gives { GivesBy (λ b. b) result self.old self.new byte_at }
         ensures keeps { KeepsWindow self.old self.new }
         ensures hints { Hints 1 result }
         ensures memory { TakesNoMemory result }
+        // On an error.
         ensures unmoved { OnErr result (self.new ≡ self.old) }
     {
         let byte = self.peek()?;
@@ -267,14 +320,19 @@ impl<'a> BinaryReader<'a> {
         Ok(byte)
     }
 
-    /// Reads a byte below 128. Returns `UnexpectedEof` at the current offset if none remains, and `InvalidU7` at any
-    /// other byte, which is consumed.
+    /// Reads a byte below 128 and returns it.
+    ///
+    /// # Errors
+    ///
+    /// `UnexpectedEof` at the current offset if no byte remains; `InvalidU7` at any other byte, which is consumed.
     #[tactic(auto, unfolding(crate::specs::Name::u7_at))]
     pub fn read_u7(&mut self) -> Result<u8>
+        // On every outcome.
         ensures gives { GivesBy (λ b. b) result self.old self.new u7_at }
         ensures keeps { KeepsWindow self.old self.new }
         ensures hints { Hints 1 result }
         ensures memory { TakesNoMemory result }
+        // If a byte remains.
         ensures moves { 0 < length (place self.old).rest → self.old.position < self.new.position }
         ensures passes { 0 < length (place self.old).rest → place self.new ≡ advanced 1 (place self.old) }
     {
@@ -285,38 +343,58 @@ impl<'a> BinaryReader<'a> {
         Ok(byte)
     }
 
-    /// Reads four bytes as a little-endian number. Returns `UnexpectedEof` at their start if some are missing.
+    /// Reads four bytes as a little-endian number. For a LEB128 number, call `read_var_u32`.
+    ///
+    /// # Errors
+    ///
+    /// `UnexpectedEof` at the current offset if fewer than 4 bytes remain. The reader is then unchanged.
     #[tactic(auto, unfolding(crate::specs::Name::u32_at))]
     pub fn read_u32(&mut self) -> Result<u32>
+        // On every outcome.
         ensures gives { GivesBy (λ n. n) result self.old self.new u32_at }
         ensures keeps { KeepsWindow self.old self.new }
         ensures hints { Hints (missing_at 4 (place self.old)) result }
         ensures memory { TakesNoMemory result }
+        // On an error.
         ensures unmoved { OnErr result (self.new ≡ self.old) }
     {
         Ok(of_four(self.read_bytes(4)?))
     }
 
-    /// Reads a 32-bit float, four bytes in little-endian order (core specification, Binary format, Values,
-    /// Floating-Point). Returns `UnexpectedEof` at their start if some are missing.
+    /// Reads a 32-bit float, four bytes in little-endian order.
+    ///
+    /// # Errors
+    ///
+    /// `UnexpectedEof` at the current offset if fewer than 4 bytes remain. The reader is then unchanged.
+    ///
+    /// (Core specification, Binary format, Values, Floating-Point.)
     pub fn read_f32(&mut self) -> Result<Ieee32>
+        // On every outcome.
         ensures gives { GivesBy (λ float. bits_of_32 float) result self.old self.new u32_at }
         ensures keeps { KeepsWindow self.old self.new }
         ensures hints { Hints (missing_at 4 (place self.old)) result }
         ensures memory { TakesNoMemory result }
+        // On an error.
         ensures unmoved { OnErr result (self.new ≡ self.old) }
     {
         Ok(Ieee32(self.read_u32()?))
     }
 
-    /// Reads a 64-bit float, eight bytes in little-endian order (core specification, Binary format, Values,
-    /// Floating-Point). Returns `UnexpectedEof` at their start if some are missing.
+    /// Reads a 64-bit float, eight bytes in little-endian order.
+    ///
+    /// # Errors
+    ///
+    /// `UnexpectedEof` at the current offset if fewer than 8 bytes remain. The reader is then unchanged.
+    ///
+    /// (Core specification, Binary format, Values, Floating-Point.)
     #[tactic(auto, unfolding(crate::specs::Float::u64_at))]
     pub fn read_f64(&mut self) -> Result<Ieee64>
+        // On every outcome.
         ensures gives { GivesBy (λ float. bits_of_64 float) result self.old self.new u64_at }
         ensures keeps { KeepsWindow self.old self.new }
         ensures hints { Hints (missing_at 8 (place self.old)) result }
         ensures memory { TakesNoMemory result }
+        // On an error.
         ensures unmoved { OnErr result (self.new ≡ self.old) }
     {
         let bytes = self.read_bytes(8)?;
@@ -352,23 +430,41 @@ impl<'a> BinaryReader<'a> {
         }
     }
 
-    /// Reads a u32 in LEB128 (core specification, Binary format, Integers).
+    /// Reads a LEB128 `u32`, of at most 5 bytes. Longer encodings of a value than necessary are accepted.
     ///
-    /// `NumberTooLong` and `NumberTooLarge` are at the last byte that it may take, `UnexpectedEof` where its next
-    /// byte would be.
+    /// # Errors
+    ///
+    /// The reader is unchanged after an error.
+    ///
+    /// - `UnexpectedEof` at the end of the window if the number is truncated.
+    /// - `NumberTooLong(VarU32)` at the fifth byte if its top bit is set.
+    /// - `NumberTooLarge(VarU32)` at the fifth byte if one of its unused bits is set.
+    ///
+    /// # Example
+    ///
+    /// ```rattle
+    /// let mut reader = BinaryReader::new(&[0x80, 0x80, 0x80, 0x80, 0x10], 100);
+    /// let error = Error::new(Fault::NumberTooLarge(NumberKind::VarU32), 104);
+    /// assert_eq!(rt; reader.read_var_u32(), Err(error));
+    /// ```
+    ///
+    /// (Core specification, Binary format, Values, Integers.)
     #[inline(always)]
     pub fn read_var_u32(&mut self) -> Result<u32>
+        // On every outcome.
         ensures gives { GivesBy (λ n. n) result self.old self.new (unsigned_at VarU32) }
         ensures keeps { KeepsWindow self.old self.new }
         ensures hints { Hints 1 result }
         ensures memory { TakesNoMemory result }
+        // On an error.
         ensures unmoved { OnErr result (self.new ≡ self.old) }
+        // On success.
         ensures moves { OnOk result ((place self.old).offset < (place self.new).offset) }
     {
         Ok(self.read_septets(NumberKind::VarU32)? as u32)
     }
 
-    // How many bytes reading a number of this kind takes, whatever they say.
+    // How many bytes reading a number of this kind consumes, malformed or not.
     fn bytes_of_number(&self, kind: NumberKind) -> usize
         ensures length { result ≡ bytes_read (place self.now).rest (number kind (place self.now).rest) }
         ensures within { result ≤ length (place self.now).rest }
@@ -381,8 +477,11 @@ impl<'a> BinaryReader<'a> {
         }
     }
 
-    /// Reads a u32 in LEB128, with the faults of `read_var_u32`. After a fault too it is passed: up to the byte that is
-    /// wrong, or to the end.
+    /// Reads a LEB128 `u32` and consumes its bytes even if they are malformed: up to the wrong byte, or to the end.
+    ///
+    /// # Errors
+    ///
+    /// Those of `read_var_u32`.
     #[tactic(auto, unfolding(crate::specs::Number::after_number), using(crate::proofs::NumberPlaces::read_is_passed))]
     pub(crate) fn pass_var_u32(&mut self) -> Result<u32>
         ensures gives { GivesBy (λ n. n) result self.old self.new (unsigned_at VarU32) }
@@ -399,7 +498,7 @@ impl<'a> BinaryReader<'a> {
         }
     }
 
-    // Passes over numbers of one byte, 32 at once, up to the first longer one. Answers how many numbers are left.
+    // Skips single-byte numbers, 32 at a time, up to the first longer one. Returns how many numbers remain.
     #[tactic(auto, using(crate::proofs::PassedNumbers::pass_run))]
     fn skip_small(&mut self, count: usize) -> usize
         ensures passed { numbers_passed_at result (place self.new)
@@ -425,8 +524,12 @@ impl<'a> BinaryReader<'a> {
         left
     }
 
-    /// Skips `count` LEB128 `u32`s, as reading them one after the other does: the error is that of the first malformed
-    /// number, as `read_var_u32` returns it, and the reader is then in its window.
+    /// Skips `count` LEB128 `u32`s, with the outcome of reading them one after the other.
+    ///
+    /// # Errors
+    ///
+    /// Those of `read_var_u32`, for the first malformed number. The reader is then in its window, at or after its
+    /// previous position.
     #[tactic(auto, using(crate::proofs::PassedNumbers::passing))]
     pub fn skip_var_u32s(&mut self, count: u32) -> Result<()>
         ensures gives { GivesBy (λ nothing. nothing) result self.old self.new
@@ -446,14 +549,23 @@ impl<'a> BinaryReader<'a> {
         Ok(())
     }
 
-    /// Reads a u64 in LEB128, with the faults of `read_var_u32` (core specification, Binary format, Values, Integers).
+    /// Reads a LEB128 `u64`, of at most 10 bytes.
+    ///
+    /// # Errors
+    ///
+    /// Those of `read_var_u32`, with the kind `VarU64` and the tenth byte in place of the fifth.
+    ///
+    /// (Core specification, Binary format, Values, Integers.)
     #[inline(always)]
     pub fn read_var_u64(&mut self) -> Result<u64>
+        // On every outcome.
         ensures gives { GivesBy (λ n. n) result self.old self.new (unsigned_at VarU64) }
         ensures keeps { KeepsWindow self.old self.new }
         ensures hints { Hints 1 result }
         ensures memory { TakesNoMemory result }
+        // On an error.
         ensures unmoved { OnErr result (self.new ≡ self.old) }
+        // On success.
         ensures moves { OnOk result ((place self.old).offset < (place self.new).offset) }
     {
         Ok(self.read_septets(NumberKind::VarU64)? as u64)
@@ -476,40 +588,70 @@ impl<'a> BinaryReader<'a> {
         Ok(signed_of(sum, self.original_position() - start))
     }
 
-    /// Reads an s32 in LEB128, with the faults of `read_var_u32` (core specification, Binary format, Values, Integers).
+    /// Reads a signed LEB128 number of 32 bits, of at most 5 bytes.
+    ///
+    /// # Errors
+    ///
+    /// Those of `read_var_u32`, with the kind `VarI32`. The unused bits of the fifth byte must be copies of the sign
+    /// bit.
+    ///
+    /// (Core specification, Binary format, Values, Integers.)
     #[inline(always)]
     pub fn read_var_i32(&mut self) -> Result<i32>
+        // On every outcome.
         ensures gives { GivesBy (λ n. n) result self.old self.new (signed_at VarI32) }
         ensures keeps { KeepsWindow self.old self.new }
         ensures hints { Hints 1 result }
         ensures memory { TakesNoMemory result }
+        // On an error.
         ensures unmoved { OnErr result (self.new ≡ self.old) }
+        // On success.
         ensures moves { OnOk result ((place self.old).offset < (place self.new).offset) }
     {
         Ok(self.read_signed(NumberKind::VarI32)? as i32)
     }
 
-    /// Reads an s64 in LEB128, with the faults of `read_var_u32` (core specification, Binary format, Values, Integers).
+    /// Reads a signed LEB128 number of 64 bits, of at most 10 bytes.
+    ///
+    /// # Errors
+    ///
+    /// Those of `read_var_u32`, with the kind `VarI64` and the tenth byte in place of the fifth. Its unused bits must
+    /// be copies of the sign bit.
+    ///
+    /// (Core specification, Binary format, Values, Integers.)
     #[inline(always)]
     pub fn read_var_i64(&mut self) -> Result<i64>
+        // On every outcome.
         ensures gives { GivesBy (λ n. n) result self.old self.new (signed_at VarI64) }
         ensures keeps { KeepsWindow self.old self.new }
         ensures hints { Hints 1 result }
         ensures memory { TakesNoMemory result }
+        // On an error.
         ensures unmoved { OnErr result (self.new ≡ self.old) }
+        // On success.
         ensures moves { OnOk result ((place self.old).offset < (place self.new).offset) }
     {
         self.read_signed(NumberKind::VarI64)
     }
 
-    /// Reads an s33 in LEB128, with the faults of `read_var_u32` (core specification, Binary format, Values, Integers).
+    /// Reads a signed LEB128 number of 33 bits, of at most 5 bytes: a heap type, or the type index of a block type.
+    ///
+    /// # Errors
+    ///
+    /// Those of `read_var_u32`, with the kind `VarS33`. The unused bits of the fifth byte must be copies of the sign
+    /// bit.
+    ///
+    /// (Core specification, Binary format, Values, Integers.)
     #[inline(always)]
     pub fn read_var_s33(&mut self) -> Result<i64>
+        // On every outcome.
         ensures gives { GivesBy (λ n. n) result self.old self.new (signed_at VarS33) }
         ensures keeps { KeepsWindow self.old self.new }
         ensures hints { Hints 1 result }
         ensures memory { TakesNoMemory result }
+        // On an error.
         ensures unmoved { OnErr result (self.new ≡ self.old) }
+        // On success.
         ensures moves { OnOk result ((place self.old).offset < (place self.new).offset) }
         ensures fits { IfOk result (λ n. FitsBits (bits_of VarS33) n) }
     {
@@ -532,10 +674,15 @@ impl<'a> BinaryReader<'a> {
         }
     }
 
-    /// Reads a text: a size and that many bytes of UTF-8 (core specification, Binary format, Names).
+    /// Reads a text of any size: a LEB128 `u32` and that many bytes of UTF-8.
     ///
-    /// After the errors of the size: `UnexpectedEof` after it, if bytes are missing; `MalformedUtf8` at the text's last
-    /// byte.
+    /// # Errors
+    ///
+    /// - Those of `read_var_u32` for the size.
+    /// - `UnexpectedEof` at the offset after the size if bytes of the text are missing.
+    /// - `MalformedUtf8` at the last byte of the text.
+    ///
+    /// (Core specification, Binary format, Values, Names.)
     #[tactic(auto, using(crate::proofs::Texts::text_steps))]
     #[inline(always)]
     pub fn read_unlimited_string(&mut self) -> Result<&'a str>
@@ -548,8 +695,16 @@ impl<'a> BinaryReader<'a> {
         self.read_text(size as usize)
     }
 
-    /// Reads a name: a text of at most 100,000 bytes. A larger size is `StringSize` at the size's last byte, before
-    /// its bytes are looked at.
+    /// Reads a name: a text of at most 100,000 bytes, a LEB128 `u32` and that many bytes of UTF-8.
+    ///
+    /// # Errors
+    ///
+    /// - Those of `read_var_u32` for the size.
+    /// - `StringSize` at the last byte of the size if it is above 100,000, whether or not the bytes are present.
+    /// - `UnexpectedEof` at the offset after the size if bytes of the name are missing.
+    /// - `MalformedUtf8` at the last byte of the name.
+    ///
+    /// (Core specification, Binary format, Values, Names.)
     #[tactic(auto, using(crate::proofs::Texts::text_steps))]
     #[inline(always)]
     pub fn read_string(&mut self) -> Result<&'a str>
@@ -567,8 +722,9 @@ impl<'a> BinaryReader<'a> {
 
     /// Skips a name: a size of at most 100,000 and that many bytes, which need not be UTF-8.
     ///
-    /// After the errors of the size: `StringSize` at the size's last byte, for a larger one; `UnexpectedEof` after it,
-    /// if bytes are missing.
+    /// # Errors
+    ///
+    /// Those of `read_string`, except `MalformedUtf8`.
     #[tactic(auto, unfolding(crate::specs::Skip::skipped_name_at))]
     pub fn skip_string(&mut self) -> Result<()>
         ensures gives { GivesBy (λ nothing. nothing) result self.old self.new skipped_name_at }
@@ -597,9 +753,22 @@ impl<'a> BinaryReader<'a> {
         }
     }
 
-    /// Returns the window of the bytes that a closure consumes, or the closure's error.
+    /// Returns the bytes that a closure consumes, as a window of their own.
     ///
     /// The closure must keep the reader's window and never move back, as every read of a reader does.
+    ///
+    /// # Errors
+    ///
+    /// Those of the closure. The reader is then where the closure left it.
+    ///
+    /// # Example
+    ///
+    /// ```rattle
+    /// let mut reader = BinaryReader::new(&[5, 7, 9], 0);
+    /// let two = reader.skip(|reader| reader.skip_var_u32s(2))?;
+    /// assert_eq!(rt; two.range(), 0..2);
+    /// assert_eq!(rt; reader.original_position(), 2);
+    /// ```
     pub fn skip<F: FnOnce(&mut BinaryReader<'a>) -> Result<()>>(
         &mut self,
         f: F,
@@ -615,8 +784,20 @@ impl<'a> BinaryReader<'a> {
         Ok(before.window_of(self.position - before.position))
     }
 
-    /// Reads a size, a u32, and a window of that many bytes, with the same features. Returns `UnexpectedEof` after the
-    /// size if bytes are missing.
+    /// Reads a size, a LEB128 `u32`, and returns that many bytes as a window with the same features.
+    ///
+    /// # Errors
+    ///
+    /// Those of `read_var_u32` for the size; `UnexpectedEof` at the offset after the size if bytes are missing.
+    ///
+    /// # Example
+    ///
+    /// ```rattle
+    /// let mut reader = BinaryReader::new(&[2, 5, 7, 9], 0);
+    /// let window = reader.read_reader()?;
+    /// assert_eq!(rt; window.range(), 1..3);
+    /// assert_eq!(rt; reader.original_position(), 3);
+    /// ```
     #[tactic(auto, unfolding(crate::specs::Name::window_at))]
     pub fn read_reader(&mut self) -> Result<BinaryReader<'a>>
         ensures gives { GivesBy (λ window. window) result self.old self.new window_at }
@@ -630,7 +811,11 @@ impl<'a> BinaryReader<'a> {
         Ok(BinaryReader::new_features(bytes, start, self.features))
     }
 
-    /// Reads an item, with the faults of its type.
+    /// Reads an item of any type that implements `FromReader`.
+    ///
+    /// # Errors
+    ///
+    /// Those of the type.
     pub fn read<T: FromReader<'a>>(&mut self) -> Result<T>
         ensures means { Means T.meaning (place self.old) result (place self.new) }
         ensures keeps { KeepsWindow self.old self.new }
@@ -639,8 +824,18 @@ impl<'a> BinaryReader<'a> {
         T::from_reader(self)
     }
 
-    /// Reads the magic and the 32 bits after it, of which the lower 16 are the version and the upper 16 the kind
-    /// (core specification, Binary format, Modules). Four other bytes are `BadMagic` where they begin.
+    /// Reads a header: the magic, and a 32-bit number whose lower 16 bits are the version and whose upper 16 bits are
+    /// the kind.
+    ///
+    /// The number is not checked: `CORE_HEADER` of `wasm_grammar` has 1, `COMPONENT_HEADER` has 65,549.
+    ///
+    /// # Errors
+    ///
+    /// - `UnexpectedEof` at the current offset if fewer than 4 bytes remain, and after the magic if fewer than 4 follow
+    ///   it.
+    /// - `BadMagic` at the current offset if the first four bytes are not the magic.
+    ///
+    /// (Core specification, Binary format, Modules.)
     #[tactic(auto, unfolding(crate::specs::Header::header_version_at))]
     pub fn read_header_version(&mut self) -> Result<u32>
         ensures gives { GivesBy (λ n. n) result self.old self.new header_version_at }
@@ -668,7 +863,7 @@ fn of_four(bytes: &[u8]) -> u32
         + 16777216 * u32::from(bytes[3])
 }
 
-/// The four bytes that begin a header (core specification, Binary format, Modules).
+/// The magic: the four bytes that begin a header (core specification, Binary format, Modules).
 pub const MAGIC: [u8; 4] = *b"\0asm";
 
 // Whether four bytes begin a header.

@@ -19,9 +19,10 @@ use std::fmt;
 use std::marker::{Model, PhantomData};
 use std::ops::Range;
 
-/// A window that begins with a count of items (core specification, Binary format, Modules, Sections).
+/// A counted section or list: a window that begins with a count, and then has that many items.
 ///
-/// `new` reads only the count. An iterator reads each item when it reaches it, and returns the first fault in place of the items after it.
+/// `new` reads only the count. An iterator reads each item when it reaches it. It returns the first error in place of
+/// the item, and then ends.
 ///
 /// ```rattle
 /// let numbers = SectionLimited::<u32>::new(BinaryReader::new(&[2, 5, 7], 100))?;
@@ -32,6 +33,8 @@ use std::ops::Range;
 /// }
 /// assert_eq!(rt; sum, 12);
 /// ```
+///
+/// (Core specification, Binary format, Modules, Sections.)
 pub struct SectionLimited<'a, T> {
     reader: BinaryReader<'a>,
     count: u32,
@@ -81,7 +84,11 @@ impl<'a, T> Clone for SectionLimited<'a, T> {
 }
 
 impl<'a, T> SectionLimited<'a, T> {
-    /// Reads the count, a u32, with the faults of `read_var_u32`. No item is looked at.
+    /// Reads the count, a LEB128 `u32`, and returns the section. No item is read.
+    ///
+    /// # Errors
+    ///
+    /// Those of `read_var_u32`.
     #[tactic(auto, unfolding(crate::specs::Section::section_in))]
     pub fn new(mut reader: BinaryReader<'a>) -> Result<Self>
         ensures gives { ReadsSection (place reader.entry) result }
@@ -98,15 +105,16 @@ impl<'a, T> SectionLimited<'a, T> {
         })
     }
 
-    /// How many items are announced.
+    /// Returns the number of items that the section announces, which may be more than it has.
     pub fn count(&self) -> u32
         ensures { result ≡ self.now.count }
     {
         self.count
     }
 
-    /// The offset in the whole stream from which the items are read: after the count. Of a section that was made from an
-    /// iterator it is where that iterator was.
+    /// Returns the offset of the first item, after the count, from the start of the stream.
+    ///
+    /// If the section was made from an iterator, it is the offset at which the iterator was.
     pub fn original_position(&self) -> u64
         ensures offset { result ≡ (place self.now.reader).offset }
         ensures fits { result + length (place self.now.reader).rest < 2 ^ 64 }
@@ -114,14 +122,22 @@ impl<'a, T> SectionLimited<'a, T> {
         self.reader.original_position()
     }
 
-    /// The offsets of the whole window, the count among them.
+    /// Returns the offsets of the whole window, including the count.
     pub fn range(&self) -> Range<u64>
         ensures { result ≡ range_of self.now.reader }
     {
         self.reader.range()
     }
 
-    /// The items, each with the offset in the whole stream at which its bytes begin.
+    /// Returns an iterator over the items, each with the offset of its first byte in the stream.
+    ///
+    /// ```rattle
+    /// let numbers = SectionLimited::<u32>::new(BinaryReader::new(&[2, 0x80, 1, 7], 100))?;
+    /// let mut items = numbers.into_iter_with_offsets();
+    /// assert_eq!(rt; items.next(), Some(Ok((101, 128))));
+    /// assert_eq!(rt; items.next(), Some(Ok((103, 7))));
+    /// assert_eq!(rt; items.next(), None);
+    /// ```
     pub fn into_iter_with_offsets(self) -> SectionLimitedIntoIterWithOffsets<'a, T>
     where
         T: FromReader<'a>,
@@ -133,7 +149,15 @@ impl<'a, T> SectionLimited<'a, T> {
         }
     }
 
-    /// The items, which own lists: these grow by the allocator.
+    /// Returns an iterator over items that own lists, which it allocates with `alloc`.
+    ///
+    /// ```rattle
+    /// use wasm_items::RecGroup;
+    /// let window = BinaryReader::new(&[1, 0x60, 0, 0], 0);
+    /// for group in SectionLimited::<RecGroup>::new(window)?.into_iter_in(alloc) {
+    ///     assert_eq!(rt; group?.types.len(), 1);
+    /// }
+    /// ```
     pub fn into_iter_in(self, alloc: Global) -> SectionLimitedIntoIterIn<'a, T>
     where
         T: FromReaderIn<'a>,
@@ -171,17 +195,27 @@ impl<'a, T: FromReader<'a>> IntoIterator for SectionLimited<'a, T> {
 impl<'a, T> From<SectionLimitedIntoIter<'a, T>> for SectionLimited<'a, T> {
     ghost from_gives = { λ items section. section ≡ record { reader = items.reader; count = items.count } };
 
-    /// Returns the section, with the announced count; its items are read from the iterator's position. If the iterator
-    /// has yielded items, the count is above the number of the remaining ones.
+    /// Returns the section of an iterator. Its count is the announced one, and its items are read from the iterator's
+    /// position on.
+    ///
+    /// If the iterator has yielded items, the count is above the number of the remaining ones.
     fn from(items: SectionLimitedIntoIter<'a, T>) -> Self {
         items.into_section()
     }
 }
 
-/// The items of a section.
+/// An iterator over the items of a section, in order.
 ///
-/// Yields the announced items, up to the first error. If bytes remain after the last item, it yields one `SizeMismatch`
-/// at the first of them. After that, and after an item's error, it yields nothing.
+/// It yields as many items as the section announces. An item's error ends the iteration. If bytes remain after the last
+/// item, it yields the error `SizeMismatch` at the first of them, and then ends.
+///
+/// ```rattle
+/// let numbers = SectionLimited::<u32>::new(BinaryReader::new(&[1, 5, 7], 100))?;
+/// let mut items = numbers.into_iter();
+/// assert_eq!(rt; items.next(), Some(Ok(5)));
+/// assert_eq!(rt; items.next(), Some(Err(Error::new(Fault::SizeMismatch, 102))));
+/// assert_eq!(rt; items.next(), None);
+/// ```
 #[derive(Debug)]
 pub struct SectionLimitedIntoIter<'a, T> {
     section: SectionLimited<'a, T>,
@@ -223,7 +257,7 @@ impl<'a, T: Clone> Clone for SectionLimitedIntoIter<'a, T> {
 }
 
 impl<'a, T> SectionLimitedIntoIter<'a, T> {
-    /// The offset in the whole stream where the iterator is.
+    /// Returns the offset of the next item, from the start of the stream.
     pub fn original_position(&self) -> u64
         ensures offset { result ≡ (place self.now.reader).offset }
         ensures fits { result + length (place self.now.reader).rest < 2 ^ 64 }
@@ -280,9 +314,9 @@ impl<'a, T: FromReader<'a>> Iterator for SectionLimitedIntoIter<'a, T> {
     }
 }
 
-/// The items of a section, each with the offset in the whole stream at which its bytes begin.
+/// An iterator over the items of a section, each with the offset of its first byte in the stream.
 ///
-/// They come, and end, as those of `SectionLimitedIntoIter`.
+/// It ends, and yields errors, as `SectionLimitedIntoIter` does. Errors have no offset beside them.
 pub struct SectionLimitedIntoIterWithOffsets<'a, T> {
     items: SectionLimitedIntoIter<'a, T>,
 }
@@ -326,10 +360,10 @@ impl<'a, T: FromReader<'a>> Iterator for SectionLimitedIntoIterWithOffsets<'a, T
     }
 }
 
-/// The items of a section that own lists.
+/// An iterator over the items of a section that own lists.
 ///
-/// They come, and end, as those of `SectionLimitedIntoIter`; `OutOfMemory`, when the allocation of an item's list
-/// fails, is an item's fault like any other.
+/// It ends, and yields errors, as `SectionLimitedIntoIter` does. `OutOfMemory`, at offset 0, ends the iteration like an
+/// item's error.
 pub struct SectionLimitedIntoIterIn<'a, T> {
     alloc: Global,
     items: SectionLimitedIntoIter<'a, T>,
@@ -350,7 +384,7 @@ impl<'a, T> Drop for SectionLimitedIntoIterIn<'a, T> {
 }
 
 impl<'a, T> SectionLimitedIntoIterIn<'a, T> {
-    /// The offset in the whole stream where the iterator is.
+    /// Returns the offset of the next item, from the start of the stream.
     pub fn original_position(&self) -> u64
         ensures offset { result ≡ (place self.now.reader).offset }
         ensures fits { result + length (place self.now.reader).rest < 2 ^ 64 }
@@ -359,7 +393,7 @@ impl<'a, T> SectionLimitedIntoIterIn<'a, T> {
     }
 }
 
-// Reads the next item of those that are left.
+// Reads the next of the remaining items.
 fn read_in<'a, T: FromReaderIn<'a>>(
     alloc: Global,
     items: &mut SectionLimitedIntoIter<'a, T>,

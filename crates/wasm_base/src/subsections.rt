@@ -17,15 +17,15 @@ use std::fmt;
 use std::marker::{Model, PhantomData};
 use std::ops::Range;
 
-/// Whether reading may allocate. If not, no call returns `OutOfMemory`.
+/// Whether reading a subsection may allocate: `NeverAllocates` or `MayAllocate`. If not, no call returns `OutOfMemory`.
 pub trait Allocation {
     ghost ALLOCATES: { Bool };
 
-    /// Whether it may.
+    /// Whether reading may allocate.
     const ALLOCATES: bool;
 }
 
-/// Reading never allocates.
+/// The `Allocation` of subsections that never allocate.
 pub struct NeverAllocates;
 
 impl Allocation for NeverAllocates {
@@ -36,7 +36,7 @@ impl Allocation for NeverAllocates {
     const ALLOCATES: bool = false;
 }
 
-/// Reading may allocate.
+/// The `Allocation` of subsections that may allocate.
 pub struct MayAllocate;
 
 impl Allocation for MayAllocate {
@@ -47,9 +47,16 @@ impl Allocation for MayAllocate {
     const ALLOCATES: bool = true;
 }
 
-/// What the subsections of a window can be read as.
+/// A type that the subsections of a window can be read as.
 ///
 /// `Subsections` requires only that `from_reader` keeps to the meaning of the type.
+///
+/// ```rattle
+/// use wasm_custom::Dylink0Subsection;
+/// let window = BinaryReader::new(&[16, 2, 1, 0], 0);
+/// let info = Dylink0Subsection::from_reader(alloc, 1, window)?;
+/// assert!(rt; matches!(info, Dylink0Subsection::MemInfo(_)));
+/// ```
 pub trait Subsection<'a>: Sized + Drop {
     /// What a subsection with this id and this window may result in: a value, or a fault.
     ghost meaning: { ℕ → Window → Result Self FaultAt → Type 0 };
@@ -57,21 +64,40 @@ pub trait Subsection<'a>: Sized + Drop {
     /// Whether reading may allocate: `NeverAllocates` or `MayAllocate`.
     type Allocation: Allocation;
 
-    /// Reads the subsection with this id, which is the reader's window.
+    /// Reads the subsection with this id, whose content is the reader's window. Lists are allocated with `alloc`.
     ///
-    /// Returns `OutOfMemory`, at offset 0, when an allocation fails.
+    /// # Errors
+    ///
+    /// Those of the type, as its `impl` says, and `OutOfMemory` at offset 0 when an allocation fails.
     fn from_reader(alloc: Global, id: u8, reader: BinaryReader<'a>) -> Result<Self>
         ensures means { MeansSubsection meaning Self.Allocation.ALLOCATES id reader.entry result }
         ensures memory { Self.Allocation.ALLOCATES ≡ false → TakesNoMemory result };
 }
 
-/// The subsections of a window: each is an id, a byte below 128, a size, a u32, and that many bytes.
+/// The subsections of a window, and an iterator over them, each read as a `T`.
 ///
-/// Yields the subsections in order, each read as a `T`, up to the end of the window. Iteration continues after a
-/// subsection's own error, including `OutOfMemory`. An id can be malformed too, `InvalidU7`, and a size can have the
-/// errors of `read_reader`. After `InvalidU7` the next subsection begins after the id; after the other errors it begins
-/// after the bytes that reading the size consumes, up to a wrong one or to the end. So each call consumes at least one
-/// byte, and the iteration always ends. Offsets count bytes from the start of the whole stream.
+/// A subsection is an id, which is a byte below 128, a size, which is a LEB128 `u32`, and that many bytes.
+///
+/// # Errors
+///
+/// Iteration continues after an error. Each call consumes at least one byte, so it always ends.
+///
+/// - A subsection's own error, or `OutOfMemory`: the next subsection begins after this one.
+/// - `InvalidU7` at an id above 127: the next subsection begins after the id.
+/// - An error of `read_reader`: the next subsection begins after the bytes of the size, up to the wrong byte or to the
+///   end.
+///
+/// # Example
+///
+/// ```rattle
+/// use wasm_custom::Dylink0Subsection;
+/// let window = BinaryReader::new(&[1, 4, 16, 2, 1, 0, 99, 1, 0], 0);
+/// let mut subsections = Subsections::<Dylink0Subsection>::new(alloc, window);
+/// assert!(rt; matches!(subsections.next(), Some(Ok(Dylink0Subsection::MemInfo(_)))));
+/// assert_eq!(rt; subsections.original_position(), 6);
+/// assert!(rt; matches!(subsections.next(), Some(Ok(Dylink0Subsection::Unknown { ty: 99, .. }))));
+/// assert!(rt; subsections.next().is_none());
+/// ```
 pub struct Subsections<'a, T> {
     alloc: Global,
     reader: BinaryReader<'a>,
@@ -120,7 +146,7 @@ impl<'a, T> Clone for Subsections<'a, T> {
 }
 
 impl<'a, T> Subsections<'a, T> {
-    /// Returns the subsections in the remaining bytes of a reader. Those that allocate use this allocator.
+    /// Returns the subsections in the remaining bytes of a reader. Lists are allocated with `alloc`.
     pub fn new(alloc: Global, reader: BinaryReader<'a>) -> Self
         ensures { result ≡ reader.entry }
     {
@@ -131,14 +157,14 @@ impl<'a, T> Subsections<'a, T> {
         }
     }
 
-    /// The offset where the next subsection begins, in the whole stream.
+    /// Returns the offset of the next subsection, from the start of the stream.
     pub fn original_position(&self) -> u64
         ensures { result ≡ (place self.now).offset }
     {
         self.reader.original_position()
     }
 
-    /// The offsets of the whole window.
+    /// Returns the offsets of the whole window, including the subsections already read.
     pub fn range(&self) -> Range<u64>
         ensures { result ≡ range_of self.now }
     {
@@ -146,8 +172,8 @@ impl<'a, T> Subsections<'a, T> {
     }
 }
 
-// Reads a size and a window of that many bytes. After an error the reader is after the size, or after the bytes of it
-// that are there.
+// Reads a size and a window of that many bytes. After an error the reader is after the size, or after those of its bytes
+// that are present.
 #[tactic(auto, unfolding(crate::specs::Name::window_at))]
 fn read_window<'a>(reader: &mut BinaryReader<'a>) -> Result<BinaryReader<'a>>
     ensures gives { GivesBy (λ window. window) result reader.old reader.new window_at }
@@ -163,8 +189,21 @@ fn read_window<'a>(reader: &mut BinaryReader<'a>) -> Result<BinaryReader<'a>>
 
 /// Reads the id and the window of the next subsection, whatever its kind.
 ///
-/// After a fault the reader is where the next subsection begins: after the id if it is `InvalidU7`, otherwise after the bytes that
-/// reading the size takes. `UnexpectedEof` at the end of the window, which moves nothing.
+/// Use it to walk subsections that `Subsections` does not know, without allocating.
+///
+/// # Errors
+///
+/// - `UnexpectedEof` at the current offset if no byte remains. The reader is then unchanged.
+/// - `InvalidU7` at an id above 127. The reader is then after the id.
+/// - Those of `read_reader`. The reader is then after the bytes of the size, up to the wrong byte or to the end.
+///
+/// # Example
+///
+/// ```rattle
+/// let mut reader = BinaryReader::new(&[4, 2, 5, 7], 0);
+/// let (id, window) = read_subsection(&mut reader)?;
+/// assert_eq!(rt; (id, window.range()), (4, 2..4));
+/// ```
 #[tactic(auto, unfolding(crate::specs::Subsections::subsection_at, crate::specs::Subsections::after_refused))]
 pub fn read_subsection<'a>(reader: &mut BinaryReader<'a>) -> Result<(u8, BinaryReader<'a>)>
     ensures gives { GivesBy (λ x. (x.0, x.1)) result reader.old reader.new subsection_at }

@@ -1,10 +1,11 @@
 // What a header announces.
-/// What a header announces (core specification, Binary format, Modules; the component's header is the component
-/// model's).
+/// The encoding that a header announces: a core module or a component.
+///
+/// (Core specification, Binary format, Modules; the component's header is defined by the component model.)
 #[derive(Clone, Copy, Debug, PartialEq, Eq)]
 pub enum Encoding {
-    /// A core module.
+    /// A core module: version 1, kind 0.
     Module,
-    /// A component.
+    /// A component: version 13, kind 1. Its sections are not decoded, except custom sections.
     Component,
 }

@@ -1,5 +1,7 @@
-//! What a WebAssembly stream is: the table of sections, the grammar of modules and of components' headers, and the laws of
-//! their readings.
+//! The grammar of a WebAssembly stream: the table of sections, the headers, and the laws of readings.
+//!
+//! The grammar itself is a definition, in `specs`. The code here is its tables: `section_kind` and `section_rank` drive
+//! the parser, and `section_name` the listing. The laws in `laws` show that the definitions are the right ones.
 #![tactic(auto)]
 
 mod encoding;

@@ -9,7 +9,7 @@ ghost use Rattle.wasm_grammar.specs.declared.encoding.Encoding.TheVariants.{Comp
 
 use crate::encoding::Encoding;
 
-/// The id of custom sections (core specification, Binary format, Modules, Sections).
+/// The id of a custom section (core specification, Binary format, Modules, Sections).
 pub const CUSTOM_SECTION: u8 = 0;
 
 /// The id of the type section.
@@ -54,22 +54,30 @@ pub const TAG_SECTION: u8 = 13;
 /// The form of a section's content (core specification, Binary format, Modules, Sections).
 #[derive(Clone, Copy)]
 pub enum SectionKind {
-    /// A name, then any bytes.
+    /// A name, then any bytes: a custom section.
     Custom,
     /// A count, then that many items.
     Items,
-    /// One index.
+    /// A single index: the start section.
     Index,
-    /// One count.
+    /// A single count: the data count section.
     DataCount,
-    /// A count, then that many bodies, which are read one by one.
+    /// A count, then that many bodies, which the parser returns one by one.
     Code,
-    /// Any bytes.
+    /// Any bytes: a section with an unknown id, or a component's section.
     Unknown,
 }
 
-/// Returns the word for a module's section with this id in listings, if the id is known: its name in the core specification
-/// without "section", and `datacount` for the data count section (Binary format, Modules, Sections).
+/// Returns the word for a module's section in listings, or `None` for an unknown id.
+///
+/// It is the section's name in the core specification without "section", and `datacount` for the data count section.
+///
+/// ```rattle
+/// assert_eq!(rt; section_name(DATA_COUNT_SECTION), Some("datacount"));
+/// assert_eq!(rt; section_name(14), None);
+/// ```
+///
+/// (Core specification, Binary format, Modules, Sections.)
 pub fn section_name(id: u8) -> Option<&'static str>
     ensures { option_map (λ name. name.now) result ≡ name_of id }
 {
@@ -92,7 +100,7 @@ pub fn section_name(id: u8) -> Option<&'static str>
     }
 }
 
-/// Returns the id of a module's section with this word in listings, if there is one.
+/// Returns the id of a module's section from its word in listings, or `None` for an unknown word.
 pub fn section_named(name: &str) -> Option<u8>
     ensures { result ≡ id_named name.now }
 {
@@ -138,7 +146,16 @@ fn kind_in_module(id: u8) -> SectionKind
     }
 }
 
-/// The form of the section with this id. A component's sections, but custom ones, are read as bytes.
+/// Returns the form of the section with this id.
+///
+/// In a component every section except custom ones is `Unknown`: its content is any bytes.
+///
+/// ```rattle
+/// let kind = section_kind(Encoding::Module, IMPORT_SECTION);
+/// assert!(rt; matches!(kind, SectionKind::Items));
+/// let kind = section_kind(Encoding::Component, IMPORT_SECTION);
+/// assert!(rt; matches!(kind, SectionKind::Unknown));
+/// ```
 pub fn section_kind(encoding: Encoding, id: u8) -> SectionKind
     ensures { kind_is result ≡ kind_of encoding id }
 {
@@ -152,7 +169,14 @@ pub fn section_kind(encoding: Encoding, id: u8) -> SectionKind
     }
 }
 
-/// The place of a module's section with this id in the order of sections, counted from 1, or 0: it may come anywhere.
+/// Returns the place of a module's section in the order of sections, from 1, or 0 if it may come anywhere.
+///
+/// The order is that of the standard: tags come after memories, and the data count section before the code section.
+///
+/// ```rattle
+/// assert!(rt; section_place(TAG_SECTION) < section_place(GLOBAL_SECTION));
+/// assert_eq!(rt; section_place(CUSTOM_SECTION), 0);
+/// ```
 pub fn section_place(id: u8) -> u8
     ensures { result ≡ place_of id }
 {
@@ -174,7 +198,9 @@ pub fn section_place(id: u8) -> u8
     }
 }
 
-/// The rank of a section of this form, which is its place, or 0: it may come anywhere.
+/// Returns the rank of a section of this form: its place, or 0 if it may come anywhere.
+///
+/// Ranks of a stream's sections must ascend. Custom sections and sections of the form `Unknown` have rank 0.
 pub fn section_rank(kind: SectionKind, id: u8) -> u8
     ensures { result ≡ rank_of (kind_is kind) id }
 {
