@@ -21,13 +21,16 @@ use std::ops::Range;
 
 /// A window that begins with a count of items (core specification, Binary format, Modules, Sections).
 ///
-/// `new` reads the count alone: each item is read when an iterator comes to it. A loop takes the items, and the first
-/// fault in their place:
+/// `new` reads only the count. An iterator reads each item when it reaches it, and returns the first fault in place of the items after it.
 ///
-/// ```text
-/// for item in section {
-///     let item = item?;
+/// ```rattle
+/// let numbers = SectionLimited::<u32>::new(BinaryReader::new(&[2, 5, 7], 100))?;
+/// assert_eq!(rt; numbers.count(), 2);
+/// let mut sum = 0;
+/// for number in numbers {
+///     sum += number?;
 /// }
+/// assert_eq!(rt; sum, 12);
 /// ```
 pub struct SectionLimited<'a, T> {
     reader: BinaryReader<'a>,

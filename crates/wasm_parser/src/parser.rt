@@ -126,13 +126,14 @@ impl Parser {
 
     /// The payloads of the stream that these bytes are, up to its end or its first fault.
     ///
-    /// ```text
-    /// for payload in Parser::new(0).parse_all(bytes) {
-    ///     match payload? {
-    ///         Payload::CustomSection(section) => ..,
-    ///         _ => {}
+    /// ```rattle
+    /// let mut names = Vec::new(alloc);
+    /// for payload in Parser::new(0).parse_all(b"\0asm\x01\0\0\0\0\x02\x01a") {
+    ///     if let Payload::CustomSection(section) = payload? {
+    ///         names.push(section.name())?;
     ///     }
     /// }
+    /// assert_eq!(rt; names.as_slice(), ["a"].as_slice());
     /// ```
     pub fn parse_all<'a>(self, bytes: &'a [u8]) -> ParseAll<'a>
         ensures walks { result ≡ walk_over self bytes.now }
