@@ -64,10 +64,16 @@ enum Left<'a> {
     Names(NamesLeft<'a>),
 }
 
-/// An iterator over the imports of an item of an import section, each with its offset in the whole stream: that of the item
-/// for a single import, its own for an import in a bundle.
+/// An iterator over the imports of one item of an import section, each with its offset.
 ///
-/// It ends after the first error. Trailing bytes after the last import of a bundle are one `SizeMismatch` at the first of them.
+/// The offset is in bytes from the start of the stream. It is that of the item for a single import, and that of the
+/// import itself in a bundle. `Imports::into_iter` creates the iterator.
+///
+/// # Errors
+///
+/// `next` returns the error of an import of a bundle (a malformed name or type), and then only `None`. A bundle with
+/// bytes after its last import ends with `SizeMismatch` at the first of them. A single import was read already and
+/// yields no error.
 #[derive(Drop)]
 pub struct ImportsIter<'a> {
     left: Left<'a>,
@@ -154,10 +160,16 @@ fn next_import<'a>(
     }
 }
 
-/// An iterator over the imports of an import section, single or in bundles, each with its own offset in the whole stream.
+/// An iterator over all imports of an import section, single or in bundles, each with its offset.
 ///
-/// After an error inside a bundle, the next bundle follows. After an error in an item of the section itself, the iterator
-/// ends. Trailing bytes after the last item are a `SizeMismatch`.
+/// The offset is in bytes from the start of the stream. It is that of the item for a single import, and that of the
+/// import itself in a bundle. `ImportSection::into_imports_with_offsets` creates the iterator.
+///
+/// # Errors
+///
+/// * After an error inside a bundle, the next item of the section follows.
+/// * After an error of an item of the section itself, the iterator ends.
+/// * If bytes follow the last item, the iterator ends with `SizeMismatch` at the first of them.
 #[derive(Drop)]
 pub struct IntoImportsWithOffsets<'a> {
     bundle: ImportsIter<'a>,
@@ -187,7 +199,10 @@ impl<'a> Iterator for IntoImportsWithOffsets<'a> {
     }
 }
 
-/// An iterator over the imports of an import section, like `IntoImportsWithOffsets` without the offsets.
+/// An iterator over all imports of an import section, single or in bundles.
+///
+/// It yields the imports and errors of `IntoImportsWithOffsets`, without the offsets. `ImportSection::into_imports`
+/// creates it.
 #[derive(Drop)]
 pub struct IntoImports<'a> {
     imports: IntoImportsWithOffsets<'a>,
@@ -222,16 +237,14 @@ impl<'a> Iterator for IntoImports<'a> {
 
 /// Extends import sections with iterators over their imports, whether single or in bundles.
 ///
-/// ```text
-/// for import in section.into_imports() {
-///     let import = import?;
-/// }
-/// ```
+/// Bring this trait into scope to list imports one by one. Without it, an import section yields its items (`Imports`),
+/// each of which may be a bundle.
 pub trait ImportSection<'a> {
-    /// Returns an iterator over the imports, in order.
+    /// Returns an iterator over all imports of the section, in order.
     fn into_imports(self) -> IntoImports<'a>;
 
-    /// Returns an iterator over the imports, in order, each with its offset in the whole stream.
+    /// Returns an iterator over all imports of the section, in order, each with its offset in bytes from the start of
+    /// the stream.
     fn into_imports_with_offsets(self) -> IntoImportsWithOffsets<'a>;
 }
 

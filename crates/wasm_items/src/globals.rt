@@ -7,22 +7,26 @@ use crate::limits::{IS_SHARED, has_flag};
 use crate::types::{GlobalType, ValType};
 use wasm_base::{BinaryReader, Error, Fault, FromReader, Result, SectionLimited};
 
-/// The global section: its globals (core specification, Binary format, Modules, Global Section).
+/// The global section, whose items are globals (core specification, Binary format, Modules, Global Section).
 pub type GlobalSectionReader<'a> = SectionLimited<'a, Global<'a>>;
 
 /// A global (core specification, Binary format, Modules, Global Section).
 #[derive(Clone, Debug, Drop)]
 pub struct Global<'a> {
-    /// Its type.
+    /// The type of the global.
     pub ty: GlobalType,
-    /// The expression of its initial value.
+    /// The expression of the initial value.
     pub init_expr: ConstExpr<'a>,
 }
 
 // The flag of a mutable global.
 const IS_MUTABLE: u8 = 1;
 
-/// The type of the value, and flags. Flags above 3 are `GlobalFlags` at the flags.
+/// Reads the type of the value and a byte of flags: bit 0 for a mutable global, bit 1 for a shared one.
+///
+/// # Errors
+///
+/// `GlobalFlags` at flags above 3; `UnexpectedEof` if they are missing; and the errors of the type (`ValType`).
 impl<'a> FromReader<'a> for GlobalType {
     ghost use Rattle.wasm_items.specs.Globals.{global_type_at};
 
@@ -44,7 +48,7 @@ impl<'a> FromReader<'a> for GlobalType {
     }
 }
 
-/// A global type and an expression.
+/// Reads a global type and an expression, with the errors of both.
 impl<'a> FromReader<'a> for Global<'a> {
     ghost use Rattle.wasm_items.specs.Globals.{global_at};
 

@@ -14,16 +14,20 @@ use wasm_base::{BinaryReader, Result};
 /// An instruction of a constant expression (core specification, Binary format, Instructions).
 #[derive(Clone, Copy, Debug, PartialEq, Eq)]
 pub struct ConstInstruction {
-    /// The offset of its opcode in the whole stream, in bytes.
+    /// The offset of the opcode, in bytes from the start of the stream.
     pub offset: u64,
-    /// Its operator, with its operands.
+    /// The operator, with its operands.
     pub operator: ConstOperator,
 }
 
-/// An iterator over the instructions of a constant expression, up to and including `end` or the first error.
+/// An iterator over the instructions of a constant expression, up to and including `end`.
 ///
-/// An expression that was read has no errors. One that was created from other bytes ends at the first `NotConstant`, at the
-/// offset of that instruction, or at the first error of an operand. Bytes after `end` are ignored.
+/// `ConstExpr::instructions` creates it. Bytes after `end` are ignored.
+///
+/// # Errors
+///
+/// The iterator yields the first error of `read_instruction` and then ends. If the expression was read with
+/// `ConstExpr::from_reader`, it yields no error; only `ConstExpr::new` accepts unchecked bytes.
 #[derive(Drop)]
 pub struct ConstInstructions<'a> {
     reader: BinaryReader<'a>,
@@ -87,9 +91,17 @@ fn read_operator(start: u64, opcode: u8, reader: &mut BinaryReader<'_>) -> Resul
     read_operands(start, opcode, reader)
 }
 
-/// Reads one instruction of a constant expression, which may be `end` (core specification, Binary format, Instructions).
+/// Reads the next instruction of a constant expression, which may be `end`.
 ///
-/// Errors are `NotConstant` at the opcode of any other instruction, and those of operands.
+/// # Errors
+///
+/// * `NotConstant` at the opcode of an instruction that is not constant. For opcode 0xFB or 0xFD, the number after it
+///   counts too.
+/// * `UnexpectedEof` if no byte remains.
+/// * The errors of the operands: those of `read_var_u32`, `read_var_i32`, `read_var_i64`, `HeapType`, and
+///   `UnexpectedEof` where a float or vector should have started.
+///
+/// (Core specification, Binary format, Instructions.)
 #[tactic(auto, unfolding(crate::specs::Instructions::instruction_at))]
 pub fn read_instruction(reader: &mut BinaryReader<'_>) -> Result<ConstInstruction>
     ensures gives { GivesBy (λ instruction. instruction) result reader.old reader.new instruction_at }
