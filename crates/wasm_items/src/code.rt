@@ -9,6 +9,13 @@ use wasm_base::BinaryReader;
 /// `parse` returns bodies without decoding their locals and instructions. `get_binary_reader` gives a decoder their
 /// bytes.
 ///
+/// ```rattle
+/// let body = FunctionBody::new(BinaryReader::new(&[0x00, 0x0b], 16));
+/// let mut reader = body.get_binary_reader();
+/// assert_eq!(rt; reader.read_var_u32()?, 0);
+/// assert_eq!(rt; body.range().end, 18);
+/// ```
+///
 /// (Core specification, Binary format, Modules, Code Section.)
 #[derive(Clone, Debug, Drop)]
 pub struct FunctionBody<'a> {

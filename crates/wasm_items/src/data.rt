@@ -10,10 +10,29 @@ use crate::init::ConstExpr;
 use std::ops::Range;
 use wasm_base::{BinaryReader, Error, Fault, FromReader, Result, SectionLimited};
 
-/// The data section, whose items are data segments (core specification, Binary format, Modules, Data Section).
+/// The data section, whose items are data segments.
+///
+/// ```rattle
+/// let section = DataSectionReader::new(BinaryReader::new(b"\x01\x01\x02hi", 0))?;
+/// for segment in section {
+///     assert_eq!(rt; segment?.bytes, b"hi".as_slice());
+/// }
+/// ```
+///
+/// (Core specification, Binary format, Modules, Data Section.)
 pub type DataSectionReader<'a> = SectionLimited<'a, Data<'a>>;
 
-/// A data segment (core specification, Binary format, Modules, Data Section).
+/// A data segment.
+///
+/// ```rattle
+/// // Active, in memory 0 at address 8, with two bytes.
+/// let mut reader = BinaryReader::new(b"\x00\x41\x08\x0b\x02hi", 0);
+/// let segment = Data::from_reader(&mut reader)?;
+/// assert_eq!(rt; segment.bytes, b"hi".as_slice());
+/// assert_eq!(rt; segment.range.end, 7);
+/// ```
+///
+/// (Core specification, Binary format, Modules, Data Section.)
 #[derive(Clone, Debug, Drop)]
 pub struct Data<'a> {
     /// The kind of the segment: passive or active.
@@ -24,7 +43,18 @@ pub struct Data<'a> {
     pub range: Range<u64>,
 }
 
-/// The kind of a data segment (core specification, Binary format, Modules, Data Section).
+/// The kind of a data segment.
+///
+/// ```rattle
+/// let mut reader = BinaryReader::new(b"\x00\x41\x08\x0b\x02hi", 0);
+/// let segment = Data::from_reader(&mut reader)?;
+/// if let DataKind::Active { memory_index, offset_expr } = segment.kind {
+///     assert_eq!(rt; memory_index, 0);
+///     assert_eq!(rt; offset_expr.range().start, 1);
+/// }
+/// ```
+///
+/// (Core specification, Binary format, Modules, Data Section.)
 #[derive(Clone, Debug, Drop)]
 pub enum DataKind<'a> {
     /// A passive segment, which instructions such as `memory.init` copy to a memory.

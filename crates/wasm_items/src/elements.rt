@@ -15,10 +15,34 @@ use wasm_base::{
     BinaryReader, Error, Fault, FromReader, Result, SectionLimited, read_inner, read_inner_u32s,
 };
 
-/// The element section, whose items are element segments (core specification, Binary format, Modules, Element Section).
+/// The element section, whose items are element segments.
+///
+/// ```rattle
+/// let bytes = b"\x01\x00\x41\x00\x0b\x02\x00\x01";
+/// for segment in ElementSectionReader::new(BinaryReader::new(bytes, 0))? {
+///     assert_eq!(rt; segment?.range.end, 8);
+/// }
+/// ```
+///
+/// (Core specification, Binary format, Modules, Element Section.)
 pub type ElementSectionReader<'a> = SectionLimited<'a, Element<'a>>;
 
-/// An element segment (core specification, Binary format, Modules, Element Section).
+/// An element segment.
+///
+/// ```rattle
+/// // Active, in table 0 at index 0, with the functions 5 and 6.
+/// let mut reader = BinaryReader::new(&[0, 0x41, 0, 0x0b, 2, 5, 6], 0);
+/// let segment = Element::from_reader(&mut reader)?;
+/// let mut sum = 0;
+/// if let ElementItems::Functions(functions) = segment.items {
+///     for function in functions {
+///         sum += function?;
+///     }
+/// }
+/// assert_eq!(rt; sum, 11);
+/// ```
+///
+/// (Core specification, Binary format, Modules, Element Section.)
 #[derive(Clone, Drop)]
 pub struct Element<'a> {
     /// The kind of the segment: passive, active or declared.
@@ -29,7 +53,17 @@ pub struct Element<'a> {
     pub range: Range<u64>,
 }
 
-/// The kind of an element segment (core specification, Binary format, Modules, Element Section).
+/// The kind of an element segment.
+///
+/// ```rattle
+/// let mut reader = BinaryReader::new(&[0, 0x41, 0, 0x0b, 1, 5], 0);
+/// match Element::from_reader(&mut reader)?.kind {
+///     ElementKind::Active { table_index, .. } => assert_eq!(rt; table_index, None),
+///     ElementKind::Passive | ElementKind::Declared => assert!(rt; false),
+/// }
+/// ```
+///
+/// (Core specification, Binary format, Modules, Element Section.)
 #[derive(Clone, Drop)]
 pub enum ElementKind<'a> {
     /// A passive segment, which instructions such as `table.init` copy to a table.
@@ -45,10 +79,21 @@ pub enum ElementKind<'a> {
     Declared,
 }
 
-/// The elements of a segment (core specification, Binary format, Modules, Element Section).
+/// The elements of a segment.
 ///
 /// The list is read lazily. If it comes from a segment that was read, iterating over it yields as many elements as
 /// announced and no error, because reading the segment checked them.
+///
+/// ```rattle
+/// // Passive, of `funcref`, with one expression: `ref.func 5`.
+/// let mut reader = BinaryReader::new(&[5, 0x70, 1, 0xd2, 5, 0x0b], 0);
+/// if let ElementItems::Expressions(ty, expressions) = Element::from_reader(&mut reader)?.items {
+///     assert_eq!(rt; ty, RefType::FUNCREF);
+///     assert_eq!(rt; expressions.count(), 1);
+/// }
+/// ```
+///
+/// (Core specification, Binary format, Modules, Element Section.)
 #[derive(Clone, Drop)]
 pub enum ElementItems<'a> {
     /// Function indices.

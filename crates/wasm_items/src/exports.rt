@@ -6,10 +6,29 @@ use wasm_base::{
     BinaryReader, Error, Fault, FromReader, Lead, Result, SectionLimited, leading_byte_error,
 };
 
-/// The export section, whose items are exports (core specification, Binary format, Modules, Export Section).
+/// The export section, whose items are exports.
+///
+/// ```rattle
+/// let bytes = b"\x02\x01f\x00\x05\x01m\x02\x00";
+/// for export in ExportSectionReader::new(BinaryReader::new(bytes, 0))? {
+///     let export = export?;
+///     if export.name == "m" {
+///         assert_eq!(rt; export.kind, ExternalKind::Memory);
+///     }
+/// }
+/// ```
+///
+/// (Core specification, Binary format, Modules, Export Section.)
 pub type ExportSectionReader<'a> = SectionLimited<'a, Export<'a>>;
 
-/// The kind of an import or export (core specification, Binary format, Modules, Export Section).
+/// The kind of an import or export.
+///
+/// ```rattle
+/// let mut reader = BinaryReader::new(&[2], 0);
+/// assert_eq!(rt; ExternalKind::from_reader(&mut reader)?, ExternalKind::Memory);
+/// ```
+///
+/// (Core specification, Binary format, Modules, Export Section.)
 #[derive(Clone, Copy, Debug, PartialEq, Eq)]
 pub enum ExternalKind {
     /// A function.
@@ -26,7 +45,16 @@ pub enum ExternalKind {
     FuncExact,
 }
 
-/// An export (core specification, Binary format, Modules, Export Section).
+/// An export.
+///
+/// ```rattle
+/// let mut reader = BinaryReader::new(b"\x03add\x00\x05", 0);
+/// let export = Export::from_reader(&mut reader)?;
+/// assert_eq!(rt; export.name, "add");
+/// assert_eq!(rt; export.index, 5);
+/// ```
+///
+/// (Core specification, Binary format, Modules, Export Section.)
 #[derive(Clone, Copy, Debug, PartialEq, Eq)]
 pub struct Export<'a> {
     /// The name of the export.

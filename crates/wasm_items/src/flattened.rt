@@ -74,6 +74,15 @@ enum Left<'a> {
 /// `next` returns the error of an import of a bundle (a malformed name or type), and then only `None`. A bundle with
 /// bytes after its last import ends with `SizeMismatch` at the first of them. A single import was read already and
 /// yields no error.
+///
+/// ```rattle
+/// let mut reader = BinaryReader::new(b"\x01m\x01f\x00\x05", 100);
+/// for import in Imports::from_reader(&mut reader)? {
+///     let (offset, import) = import?;
+///     assert_eq!(rt; offset, 100);
+///     assert_eq!(rt; import.ty, TypeRef::Func(5));
+/// }
+/// ```
 #[derive(Drop)]
 pub struct ImportsIter<'a> {
     left: Left<'a>,
@@ -170,6 +179,16 @@ fn next_import<'a>(
 /// * After an error inside a bundle, the next item of the section follows.
 /// * After an error of an item of the section itself, the iterator ends.
 /// * If bytes follow the last item, the iterator ends with `SizeMismatch` at the first of them.
+///
+/// ```rattle
+/// let bytes = b"\x01\x01m\x01f\x00\x05";
+/// let section = ImportSectionReader::new(BinaryReader::new(bytes, 100))?;
+/// for import in section.into_imports_with_offsets() {
+///     let (offset, import) = import?;
+///     assert_eq!(rt; offset, 101);
+///     assert_eq!(rt; import.name, "f");
+/// }
+/// ```
 #[derive(Drop)]
 pub struct IntoImportsWithOffsets<'a> {
     bundle: ImportsIter<'a>,
@@ -203,6 +222,15 @@ impl<'a> Iterator for IntoImportsWithOffsets<'a> {
 ///
 /// It yields the imports and errors of `IntoImportsWithOffsets`, without the offsets. `ImportSection::into_imports`
 /// creates it.
+///
+/// ```rattle
+/// let bytes = b"\x01\x01m\x01f\x00\x05";
+/// let mut imports = ImportSectionReader::new(BinaryReader::new(bytes, 0))?.into_imports();
+/// if let Some(import) = imports.next() {
+///     assert_eq!(rt; import?.name, "f");
+/// }
+/// assert!(rt; imports.next().is_none());
+/// ```
 #[derive(Drop)]
 pub struct IntoImports<'a> {
     imports: IntoImportsWithOffsets<'a>,
@@ -239,6 +267,17 @@ impl<'a> Iterator for IntoImports<'a> {
 ///
 /// Bring this trait into scope to list imports one by one. Without it, an import section yields its items (`Imports`),
 /// each of which may be a bundle.
+///
+/// ```rattle
+/// // A bundle of the module "m" with two functions of type 5, "f" and "g".
+/// let bytes = b"\x01\x01m\x00\x7e\x00\x05\x02\x01f\x01g";
+/// let section = ImportSectionReader::new(BinaryReader::new(bytes, 0))?;
+/// let mut names = Vec::new(alloc);
+/// for import in section.into_imports() {
+///     names.push(import?.name)?;
+/// }
+/// assert_eq!(rt; names.as_slice(), ["f", "g"].as_slice());
+/// ```
 pub trait ImportSection<'a> {
     /// Returns an iterator over all imports of the section, in order.
     fn into_imports(self) -> IntoImports<'a>;

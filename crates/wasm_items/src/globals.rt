@@ -7,10 +7,29 @@ use crate::limits::{IS_SHARED, has_flag};
 use crate::types::{GlobalType, ValType};
 use wasm_base::{BinaryReader, Error, Fault, FromReader, Result, SectionLimited};
 
-/// The global section, whose items are globals (core specification, Binary format, Modules, Global Section).
+/// The global section, whose items are globals.
+///
+/// ```rattle
+/// let bytes = &[1, 0x7f, 0x01, 0x41, 5, 0x0b];
+/// for global in GlobalSectionReader::new(BinaryReader::new(bytes, 0))? {
+///     assert!(rt; global?.ty.mutable);
+/// }
+/// ```
+///
+/// (Core specification, Binary format, Modules, Global Section.)
 pub type GlobalSectionReader<'a> = SectionLimited<'a, Global<'a>>;
 
-/// A global (core specification, Binary format, Modules, Global Section).
+/// A global.
+///
+/// ```rattle
+/// // A mutable `i32` with the initial value 5.
+/// let mut reader = BinaryReader::new(&[0x7f, 0x01, 0x41, 5, 0x0b], 0);
+/// let global = Global::from_reader(&mut reader)?;
+/// assert_eq!(rt; global.ty.content_type, ValType::I32);
+/// assert_eq!(rt; global.init_expr.range().start, 2);
+/// ```
+///
+/// (Core specification, Binary format, Modules, Global Section.)
 #[derive(Clone, Debug, Drop)]
 pub struct Global<'a> {
     /// The type of the global.

@@ -19,10 +19,28 @@ use wasm_base::{
 ///
 /// Use `ImportSection::into_imports` to iterate over the imports one by one.
 ///
+/// ```rattle
+/// let bytes = b"\x01\x01m\x01f\x00\x05";
+/// let section = ImportSectionReader::new(BinaryReader::new(bytes, 0))?;
+/// for import in section.into_imports() {
+///     assert_eq!(rt; import?.module, "m");
+/// }
+/// ```
+///
 /// (Core specification, Binary format, Modules, Import Section.)
 pub type ImportSectionReader<'a> = SectionLimited<'a, Imports<'a>>;
 
-/// The kind and type of an import (core specification, Binary format, Types, External Types).
+/// The kind and type of an import.
+///
+/// ```rattle
+/// let mut reader = BinaryReader::new(&[0x02, 0x00, 0x01], 0);
+/// match TypeRef::from_reader(&mut reader)? {
+///     TypeRef::Memory(memory) => assert_eq!(rt; memory.initial, 1),
+///     _ => assert!(rt; false),
+/// }
+/// ```
+///
+/// (Core specification, Binary format, Types, External Types.)
 #[derive(Clone, Copy, Debug, PartialEq, Eq)]
 pub enum TypeRef {
     /// A function, with the index of its type.
@@ -39,7 +57,16 @@ pub enum TypeRef {
     FuncExact(u32),
 }
 
-/// An import (core specification, Binary format, Modules, Import Section).
+/// An import.
+///
+/// ```rattle
+/// let mut reader = BinaryReader::new(b"\x01m\x01f\x00\x05", 0);
+/// let import = Import::from_reader(&mut reader)?;
+/// assert_eq!(rt; import.name, "f");
+/// assert_eq!(rt; import.ty, TypeRef::Func(5));
+/// ```
+///
+/// (Core specification, Binary format, Modules, Import Section.)
 #[derive(Clone, Copy, Debug, PartialEq, Eq)]
 pub struct Import<'a> {
     /// The name of the module to import from.
@@ -51,6 +78,12 @@ pub struct Import<'a> {
 }
 
 /// An import in a bundle, which names the module for all of its imports (a proposal, not in the core specification).
+///
+/// ```rattle
+/// let mut reader = BinaryReader::new(b"\x01f\x00\x05", 0);
+/// let import = ImportItemCompact::from_reader(&mut reader)?;
+/// assert_eq!(rt; import.name, "f");
+/// ```
 #[derive(Clone, Copy, Debug, PartialEq, Eq)]
 pub struct ImportItemCompact<'a> {
     /// The name of the import in the bundle's module.
@@ -65,6 +98,15 @@ pub struct ImportItemCompact<'a> {
 ///
 /// The single import is that of the core specification (Binary format, Modules, Import Section); the bundles are those
 /// of the proposal for compact imports.
+///
+/// ```rattle
+/// let mut reader = BinaryReader::new(b"\x01m\x00\x7e\x00\x05\x02\x01f\x01g", 0);
+/// match Imports::from_reader(&mut reader)? {
+///     Imports::Single(_offset, import) => assert_eq!(rt; import.module, "m"),
+///     Imports::Compact1 { items, .. } => assert_eq!(rt; items.count(), 2),
+///     Imports::Compact2 { names, .. } => assert_eq!(rt; names.count(), 2),
+/// }
+/// ```
 #[derive(Clone, Debug, Drop)]
 pub enum Imports<'a> {
     /// A single import, after its offset in bytes from the start of the stream.

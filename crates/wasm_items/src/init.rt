@@ -19,6 +19,13 @@ use wasm_base::{
 /// Reading an expression checks that it consists of constant instructions, but not their types. `instructions` decodes
 /// them.
 ///
+/// ```rattle
+/// // `i32.const 5` and `end`, followed by another byte.
+/// let mut reader = BinaryReader::new(&[0x41, 5, 0x0b, 0], 100);
+/// let expression = ConstExpr::from_reader(&mut reader)?;
+/// assert_eq!(rt; expression.range().end, 103);
+/// ```
+///
 /// (Core specification, Binary format, Instructions, Expressions.)
 #[derive(Clone, Debug, Drop)]
 pub struct ConstExpr<'a> {
@@ -50,8 +57,18 @@ impl<'a> ConstExpr<'a> {
     }
 }
 
-/// A 128-bit vector, as the 16 bytes that encode it (core specification, Binary format, Instructions, Vector
-/// Instructions).
+/// A 128-bit vector, as the 16 bytes that encode it.
+///
+/// ```rattle
+/// // `v128.const` with 16 bytes, of which the last is 7.
+/// let bytes = b"\xfd\x0c\0\0\0\0\0\0\0\0\0\0\0\0\0\0\0\x07\x0b";
+/// let instruction = read_instruction(&mut BinaryReader::new(bytes, 0))?;
+/// if let ConstOperator::V128Const { value } = instruction.operator {
+///     assert_eq!(rt; value.bytes()[15], 7);
+/// }
+/// ```
+///
+/// (Core specification, Binary format, Instructions, Vector Instructions.)
 #[derive(Clone, Copy, Debug, PartialEq, Eq)]
 pub struct V128(pub(crate) [u8; 16]);
 
@@ -67,6 +84,14 @@ impl V128 {
 /// The operator of a constant instruction, with its operands.
 ///
 /// The variants have the names that these operators have among all of those of `wasmparser`.
+///
+/// ```rattle
+/// let mut reader = BinaryReader::new(&[0xd2, 3, 0x0b], 0);
+/// match read_instruction(&mut reader)?.operator {
+///     ConstOperator::RefFunc { function_index } => assert_eq!(rt; function_index, 3),
+///     _ => assert!(rt; false),
+/// }
+/// ```
 ///
 /// (Core specification, Validation, Instructions, Constant Expressions.)
 #[derive(Clone, Copy, Debug, PartialEq, Eq)]

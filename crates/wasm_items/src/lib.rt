@@ -15,6 +15,16 @@
 //!
 //! After an error the reader is in its window, at or after its previous position. `OutOfMemory` is returned only by
 //! calls that take an allocator.
+//!
+//! ```rattle
+//! let bytes = b"\x01\x03add\x00\x02";
+//! for export in ExportSectionReader::new(BinaryReader::new(bytes, 0))? {
+//!     let export = export?;
+//!     assert_eq!(rt; export.name, "add");
+//!     assert_eq!(rt; export.kind, ExternalKind::Func);
+//!     assert_eq!(rt; export.index, 2);
+//! }
+//! ```
 #![tactic(auto)]
 
 mod code;

@@ -10,7 +10,17 @@ use crate::limits::{HAS_PAGE_SIZE, IS_SHARED, IS_WIDE, has_flag, read_limits};
 use crate::types::MemoryType;
 use wasm_base::{BinaryReader, Error, Fault, FromReader, Result, SectionLimited};
 
-/// The memory section, whose items are memory types (core specification, Binary format, Modules, Memory Section).
+/// The memory section, whose items are memory types.
+///
+/// ```rattle
+/// // One memory of 1 to 16 pages.
+/// let section = MemorySectionReader::new(BinaryReader::new(&[1, 0x01, 1, 16], 0))?;
+/// for memory in section {
+///     assert_eq!(rt; memory?.maximum, Some(16));
+/// }
+/// ```
+///
+/// (Core specification, Binary format, Modules, Memory Section.)
 pub type MemorySectionReader<'a> = SectionLimited<'a, MemoryType>;
 
 // Reads the page size, if its flag is set, of a memory type that begins at this offset.

@@ -11,10 +11,29 @@ use crate::limits::{IS_SHARED, IS_WIDE, has_flag, read_limits};
 use crate::types::{RefType, TableType};
 use wasm_base::{BinaryReader, Error, Fault, FromReader, Result, SectionLimited};
 
-/// The table section, whose items are tables (core specification, Binary format, Modules, Table Section).
+/// The table section, whose items are tables.
+///
+/// ```rattle
+/// let section = TableSectionReader::new(BinaryReader::new(&[1, 0x70, 0x00, 10], 0))?;
+/// for table in section {
+///     assert_eq!(rt; table?.ty.initial, 10);
+/// }
+/// ```
+///
+/// (Core specification, Binary format, Modules, Table Section.)
 pub type TableSectionReader<'a> = SectionLimited<'a, Table<'a>>;
 
-/// A table (core specification, Binary format, Modules, Table Section).
+/// A table.
+///
+/// ```rattle
+/// // A table of 10 function references.
+/// let mut reader = BinaryReader::new(&[0x70, 0x00, 10], 0);
+/// let table = Table::from_reader(&mut reader)?;
+/// assert_eq!(rt; table.ty.element_type, RefType::FUNCREF);
+/// assert_eq!(rt; table.ty.maximum, None);
+/// ```
+///
+/// (Core specification, Binary format, Modules, Table Section.)
 #[derive(Clone, Debug, Drop)]
 pub struct Table<'a> {
     /// The type of the table.
@@ -23,7 +42,18 @@ pub struct Table<'a> {
     pub init: TableInit<'a>,
 }
 
-/// The initial value of a table's elements (core specification, Binary format, Modules, Table Section).
+/// The initial value of a table's elements.
+///
+/// ```rattle
+/// // A table of one function reference, which is initialized with function 3.
+/// let mut reader = BinaryReader::new(&[0x40, 0, 0x70, 0, 1, 0xd2, 3, 0x0b], 0);
+/// match Table::from_reader(&mut reader)?.init {
+///     TableInit::RefNull => assert!(rt; false),
+///     TableInit::Expr(expression) => assert_eq!(rt; expression.range().start, 5),
+/// }
+/// ```
+///
+/// (Core specification, Binary format, Modules, Table Section.)
 #[derive(Clone, Debug, Drop)]
 pub enum TableInit<'a> {
     /// A null reference: the table was encoded without an expression.

@@ -5,7 +5,16 @@ ghost use Rattle.wasm_base.specs.Item.{ReadsAs};
 use crate::types::{TagKind, TagType};
 use wasm_base::{BinaryReader, Error, Fault, FromReader, Result, SectionLimited};
 
-/// The tag section, whose items are tag types (core specification, Binary format, Modules, Tag Section).
+/// The tag section, whose items are tag types.
+///
+/// ```rattle
+/// let section = TagSectionReader::new(BinaryReader::new(&[1, 0, 4], 0))?;
+/// for tag in section {
+///     assert_eq!(rt; tag?.func_type_idx, 4);
+/// }
+/// ```
+///
+/// (Core specification, Binary format, Modules, Tag Section.)
 pub type TagSectionReader<'a> = SectionLimited<'a, TagType>;
 
 /// Reads a byte that must be 0, and the index of a function type, a u32.

@@ -1,12 +1,30 @@
 // Types.
 use wasm_base::SectionLimited;
 
-/// The type section, whose items are groups of types (core specification, Binary format, Modules, Type Section).
+/// The type section, whose items are groups of types.
 ///
 /// Groups own lists, so iterating takes an allocator: `into_iter_in(alloc)`.
+///
+/// ```rattle
+/// // One function type: from an `i32` to an `i64`.
+/// let bytes = &[1, 0x60, 1, 0x7f, 1, 0x7e];
+/// let section = TypeSectionReader::new(BinaryReader::new(bytes, 0))?;
+/// for group in section.into_iter_in(alloc) {
+///     assert_eq!(rt; group?.types.len(), 1);
+/// }
+/// ```
+///
+/// (Core specification, Binary format, Modules, Type Section.)
 pub type TypeSectionReader<'a> = SectionLimited<'a, RecGroup>;
 
-/// The type of a value: a number, a vector or a reference (core specification, Binary format, Types, Value Types).
+/// The type of a value: a number, a vector or a reference.
+///
+/// ```rattle
+/// let mut reader = BinaryReader::new(&[0x7e], 0);
+/// assert_eq!(rt; ValType::from_reader(&mut reader)?, ValType::I64);
+/// ```
+///
+/// (Core specification, Binary format, Types, Value Types.)
 #[derive(Clone, Copy, Debug, PartialEq, Eq, Hash)]
 pub enum ValType {
     /// A 32-bit integer.
@@ -23,7 +41,17 @@ pub enum ValType {
     Ref(RefType),
 }
 
-/// The type of a reference (core specification, Binary format, Types, Reference Types).
+/// The type of a reference.
+///
+/// ```rattle
+/// // A reference to type 5 that is never null.
+/// let mut reader = BinaryReader::new(&[0x64, 5], 0);
+/// let ty = RefType::from_reader(&mut reader)?;
+/// assert_eq!(rt; ty.nullable, false);
+/// assert_eq!(rt; ty.heap, HeapType::Concrete(5));
+/// ```
+///
+/// (Core specification, Binary format, Types, Reference Types.)
 #[derive(Clone, Copy, Debug, PartialEq, Eq, Hash)]
 pub struct RefType {
     /// Whether the reference may be null.
@@ -40,7 +68,15 @@ impl RefType {
     };
 }
 
-/// The type of what a reference refers to (core specification, Binary format, Types, Heap Types).
+/// The type of what a reference refers to.
+///
+/// ```rattle
+/// let mut reader = BinaryReader::new(&[0x6f, 5], 0);
+/// assert_eq!(rt; HeapType::from_reader(&mut reader)?, HeapType::Extern);
+/// assert_eq!(rt; HeapType::from_reader(&mut reader)?, HeapType::Concrete(5));
+/// ```
+///
+/// (Core specification, Binary format, Types, Heap Types.)
 #[derive(Clone, Copy, Debug, PartialEq, Eq, Hash)]
 pub enum HeapType {
     /// `func`: any function.
@@ -71,10 +107,18 @@ pub enum HeapType {
     Concrete(u32),
 }
 
-/// A recursive group of types, which may refer to each other (core specification, Binary format, Types, Recursive
-/// Types).
+/// A recursive group of types, which may refer to each other.
 ///
 /// A group owns its lists. Reading it allocates, so it implements `FromReaderIn`.
+///
+/// ```rattle
+/// let mut reader = BinaryReader::new(&[0x4e, 2, 0x5f, 0, 0x60, 0, 0], 0);
+/// let group = RecGroup::from_reader(alloc, &mut reader)?;
+/// assert!(rt; group.explicit);
+/// assert_eq!(rt; group.types.len(), 2);
+/// ```
+///
+/// (Core specification, Binary format, Types, Recursive Types.)
 #[derive(Debug, PartialEq, Eq, Drop)]
 pub struct RecGroup {
     /// Whether the group is encoded as a group. Otherwise it is a single type, encoded without a group.
@@ -83,7 +127,17 @@ pub struct RecGroup {
     pub types: Vec<SubType>,
 }
 
-/// A composite type and the type that it extends, if any (core specification, Binary format, Types, Recursive Types).
+/// A composite type and the type that it extends, if any.
+///
+/// ```rattle
+/// // Not final, and extends type 3: a structure without fields.
+/// let mut reader = BinaryReader::new(&[0x50, 1, 3, 0x5f, 0], 0);
+/// let ty = SubType::from_reader(alloc, &mut reader)?;
+/// assert_eq!(rt; ty.is_final, false);
+/// assert_eq!(rt; ty.supertype, Some(3));
+/// ```
+///
+/// (Core specification, Binary format, Types, Recursive Types.)
 #[derive(Debug, PartialEq, Eq, Drop)]
 pub struct SubType {
     /// Whether no type may extend this one.
@@ -94,7 +148,17 @@ pub struct SubType {
     pub composite: CompositeType,
 }
 
-/// The type of functions, arrays or structures (core specification, Binary format, Types, Composite Types).
+/// The type of functions, arrays or structures.
+///
+/// ```rattle
+/// let mut reader = BinaryReader::new(&[0x5e, 0x78, 1], 0);
+/// match CompositeType::from_reader(alloc, &mut reader)? {
+///     CompositeType::Array(element) => assert_eq!(rt; element.storage, StorageType::I8),
+///     CompositeType::Func(_) | CompositeType::Struct(_) => assert!(rt; false),
+/// }
+/// ```
+///
+/// (Core specification, Binary format, Types, Composite Types.)
 #[derive(Debug, PartialEq, Eq, Drop)]
 pub enum CompositeType {
     /// The type of functions with these parameters and results.
@@ -105,7 +169,16 @@ pub enum CompositeType {
     Struct(Vec<FieldType>),
 }
 
-/// The type of a function (core specification, Binary format, Types, Composite Types).
+/// The type of a function.
+///
+/// ```rattle
+/// let mut reader = BinaryReader::new(&[1, 0x7f, 1, 0x7e], 0);
+/// let ty = FuncType::from_reader(alloc, &mut reader)?;
+/// assert_eq!(rt; ty.params.as_slice(), [ValType::I32].as_slice());
+/// assert_eq!(rt; ty.results.as_slice(), [ValType::I64].as_slice());
+/// ```
+///
+/// (Core specification, Binary format, Types, Composite Types.)
 #[derive(Debug, PartialEq, Eq, Drop)]
 pub struct FuncType {
     /// The types of the parameters.
@@ -114,7 +187,16 @@ pub struct FuncType {
     pub results: Vec<ValType>,
 }
 
-/// The type of a structure's field or an array's elements (core specification, Binary format, Types, Composite Types).
+/// The type of a structure's field or an array's elements.
+///
+/// ```rattle
+/// let mut reader = BinaryReader::new(&[0x7f, 1], 0);
+/// let field = FieldType::from_reader(&mut reader)?;
+/// assert_eq!(rt; field.storage, StorageType::Val(ValType::I32));
+/// assert!(rt; field.mutable);
+/// ```
+///
+/// (Core specification, Binary format, Types, Composite Types.)
 #[derive(Clone, Copy, Debug, PartialEq, Eq, Hash)]
 pub struct FieldType {
     /// The type of the stored values.
@@ -134,7 +216,17 @@ pub enum StorageType {
     Val(ValType),
 }
 
-/// The type of a table (core specification, Binary format, Types, Table Types).
+/// The type of a table.
+///
+/// ```rattle
+/// // A table of 10 to 20 function references.
+/// let mut reader = BinaryReader::new(&[0x70, 0x01, 10, 20], 0);
+/// let ty = TableType::from_reader(&mut reader)?;
+/// assert_eq!(rt; ty.initial, 10);
+/// assert_eq!(rt; ty.maximum, Some(20));
+/// ```
+///
+/// (Core specification, Binary format, Types, Table Types.)
 #[derive(Clone, Copy, Debug, PartialEq, Eq, Hash)]
 pub struct TableType {
     /// The type of the elements.
@@ -149,7 +241,17 @@ pub struct TableType {
     pub shared: bool,
 }
 
-/// The type of a memory (core specification, Binary format, Types, Memory Types).
+/// The type of a memory.
+///
+/// ```rattle
+/// // A memory of at least one page of 2^0 bytes.
+/// let mut reader = BinaryReader::new(&[0x08, 1, 0], 0);
+/// let ty = MemoryType::from_reader(&mut reader)?;
+/// assert_eq!(rt; ty.maximum, None);
+/// assert_eq!(rt; ty.page_size_log2, Some(0));
+/// ```
+///
+/// (Core specification, Binary format, Types, Memory Types.)
 #[derive(Clone, Copy, Debug, PartialEq, Eq, Hash)]
 pub struct MemoryType {
     /// Whether the addresses have 64 bits.
@@ -164,7 +266,16 @@ pub struct MemoryType {
     pub page_size_log2: Option<u32>,
 }
 
-/// The type of a global (core specification, Binary format, Types, Global Types).
+/// The type of a global.
+///
+/// ```rattle
+/// let mut reader = BinaryReader::new(&[0x7f, 0x01], 0);
+/// let ty = GlobalType::from_reader(&mut reader)?;
+/// assert_eq!(rt; ty.content_type, ValType::I32);
+/// assert!(rt; ty.mutable);
+/// ```
+///
+/// (Core specification, Binary format, Types, Global Types.)
 #[derive(Clone, Copy, Debug, PartialEq, Eq, Hash)]
 pub struct GlobalType {
     /// The type of the value.
@@ -175,7 +286,16 @@ pub struct GlobalType {
     pub shared: bool,
 }
 
-/// The type of a tag (core specification, Binary format, Types, Tag Types).
+/// The type of a tag.
+///
+/// ```rattle
+/// let mut reader = BinaryReader::new(&[0, 4], 0);
+/// let ty = TagType::from_reader(&mut reader)?;
+/// assert_eq!(rt; ty.kind, TagKind::Exception);
+/// assert_eq!(rt; ty.func_type_idx, 4);
+/// ```
+///
+/// (Core specification, Binary format, Types, Tag Types.)
 #[derive(Clone, Copy, Debug, PartialEq, Eq, Hash)]
 pub struct TagType {
     /// The use of the tag.
