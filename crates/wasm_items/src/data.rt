@@ -10,30 +10,60 @@ use crate::init::ConstExpr;
 use std::ops::Range;
 use wasm_base::{BinaryReader, Error, Fault, FromReader, Result, SectionLimited};
 
-/// The data section: its segments (core specification, Binary format, Modules, Data Section).
+/// The data section, whose items are data segments.
+///
+/// ```rattle
+/// let section = DataSectionReader::new(BinaryReader::new(b"\x01\x01\x02hi", 0))?;
+/// for segment in section {
+///     assert_eq!(rt; segment?.bytes, b"hi".as_slice());
+/// }
+/// ```
+///
+/// (Core specification, Binary format, Modules, Data Section.)
 pub type DataSectionReader<'a> = SectionLimited<'a, Data<'a>>;
 
-/// A data segment (core specification, Binary format, Modules, Data Section).
+/// A data segment.
+///
+/// ```rattle
+/// // Active, in memory 0 at address 8, with two bytes.
+/// let mut reader = BinaryReader::new(b"\x00\x41\x08\x0b\x02hi", 0);
+/// let segment = Data::from_reader(&mut reader)?;
+/// assert_eq!(rt; segment.bytes, b"hi".as_slice());
+/// assert_eq!(rt; segment.range.end, 7);
+/// ```
+///
+/// (Core specification, Binary format, Modules, Data Section.)
 #[derive(Clone, Debug, Drop)]
 pub struct Data<'a> {
-    /// Its kind: passive or active.
+    /// The kind of the segment: passive or active.
     pub kind: DataKind<'a>,
-    /// Its bytes.
+    /// The bytes to copy to memory, borrowed from the input.
     pub bytes: &'a [u8],
-    /// The offsets of the whole segment, in bytes from the start of the whole stream.
+    /// The offsets of the whole segment, from its flags to its last byte, in bytes from the start of the stream.
     pub range: Range<u64>,
 }
 
-/// The kind of a data segment (core specification, Binary format, Modules, Data Section).
+/// The kind of a data segment.
+///
+/// ```rattle
+/// let mut reader = BinaryReader::new(b"\x00\x41\x08\x0b\x02hi", 0);
+/// let segment = Data::from_reader(&mut reader)?;
+/// if let DataKind::Active { memory_index, offset_expr } = segment.kind {
+///     assert_eq!(rt; memory_index, 0);
+///     assert_eq!(rt; offset_expr.range().start, 1);
+/// }
+/// ```
+///
+/// (Core specification, Binary format, Modules, Data Section.)
 #[derive(Clone, Debug, Drop)]
 pub enum DataKind<'a> {
-    /// Copied to memories by instructions.
+    /// A passive segment, which instructions such as `memory.init` copy to a memory.
     Passive,
-    /// Copied to a memory at instantiation.
+    /// An active segment, which is copied to a memory at instantiation.
     Active {
-        /// The memory's index.
+        /// The index of the memory.
         memory_index: u32,
-        /// The address of its first byte in the memory.
+        /// The expression of the address to copy the first byte to.
         offset_expr: ConstExpr<'a>,
     },
 }
@@ -70,8 +100,15 @@ fn read_kind<'a>(reader: &mut BinaryReader<'a>) -> Result<DataKind<'a>>
     }
 }
 
-/// Flags, a u32: 0 and an offset expression for memory 0, 1 for a passive segment, or 2, a memory index and an offset
-/// expression; then a size and as many bytes. Other flags are `DataFlags` at the start of the segment.
+/// Reads a segment: flags, a u32; for an active segment the memory index if the flags are 2, and the offset expression;
+/// then a size, a u32, and that many bytes.
+///
+/// The flags are 0 (active, in memory 0), 1 (passive) or 2 (active, with a memory index).
+///
+/// # Errors
+///
+/// `DataFlags` at the start of the segment for other flags; `UnexpectedEof` after the size if fewer bytes remain; and
+/// the errors of `read_var_u32` and of the expression.
 impl<'a> FromReader<'a> for Data<'a> {
     ghost use Rattle.wasm_items.specs.Data.{data_parts, data_at};
 

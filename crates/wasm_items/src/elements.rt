@@ -15,42 +15,90 @@ use wasm_base::{
     BinaryReader, Error, Fault, FromReader, Result, SectionLimited, read_inner, read_inner_u32s,
 };
 
-/// The element section: its segments (core specification, Binary format, Modules, Element Section).
+/// The element section, whose items are element segments.
+///
+/// ```rattle
+/// let bytes = b"\x01\x00\x41\x00\x0b\x02\x00\x01";
+/// for segment in ElementSectionReader::new(BinaryReader::new(bytes, 0))? {
+///     assert_eq!(rt; segment?.range.end, 8);
+/// }
+/// ```
+///
+/// (Core specification, Binary format, Modules, Element Section.)
 pub type ElementSectionReader<'a> = SectionLimited<'a, Element<'a>>;
 
-/// An element segment (core specification, Binary format, Modules, Element Section).
+/// An element segment.
+///
+/// ```rattle
+/// // Active, in table 0 at index 0, with the functions 5 and 6.
+/// let mut reader = BinaryReader::new(&[0, 0x41, 0, 0x0b, 2, 5, 6], 0);
+/// let segment = Element::from_reader(&mut reader)?;
+/// let mut sum = 0;
+/// if let ElementItems::Functions(functions) = segment.items {
+///     for function in functions {
+///         sum += function?;
+///     }
+/// }
+/// assert_eq!(rt; sum, 11);
+/// ```
+///
+/// (Core specification, Binary format, Modules, Element Section.)
 #[derive(Clone, Drop)]
 pub struct Element<'a> {
-    /// Its kind: passive, active or declared.
+    /// The kind of the segment: passive, active or declared.
     pub kind: ElementKind<'a>,
-    /// Its elements.
+    /// The elements: function indices or expressions.
     pub items: ElementItems<'a>,
-    /// The offsets of the whole segment, in bytes from the start of the whole stream.
+    /// The offsets of the whole segment, from its flags to its last element, in bytes from the start of the stream.
     pub range: Range<u64>,
 }
 
-/// The kind of an element segment (core specification, Binary format, Modules, Element Section).
+/// The kind of an element segment.
+///
+/// ```rattle
+/// let mut reader = BinaryReader::new(&[0, 0x41, 0, 0x0b, 1, 5], 0);
+/// match Element::from_reader(&mut reader)?.kind {
+///     ElementKind::Active { table_index, .. } => assert_eq!(rt; table_index, None),
+///     ElementKind::Passive | ElementKind::Declared => assert!(rt; false),
+/// }
+/// ```
+///
+/// (Core specification, Binary format, Modules, Element Section.)
 #[derive(Clone, Drop)]
 pub enum ElementKind<'a> {
-    /// Copied to tables by instructions.
+    /// A passive segment, which instructions such as `table.init` copy to a table.
     Passive,
-    /// Copied to a table at instantiation.
+    /// An active segment, which is copied to a table at instantiation.
     Active {
-        /// The table's index, if present; without one it is table 0.
+        /// The index of the table, if encoded; otherwise the segment is for table 0.
         table_index: Option<u32>,
-        /// The index of its first element in the table.
+        /// The expression of the table index to copy the first element to.
         offset_expr: ConstExpr<'a>,
     },
-    /// Only declares functions that are referred to.
+    /// A declarative segment, which only makes functions available to `ref.func`.
     Declared,
 }
 
-/// The elements of a segment (core specification, Binary format, Modules, Element Section).
+/// The elements of a segment.
+///
+/// The list is read lazily. If it comes from a segment that was read, iterating over it yields as many elements as
+/// announced and no error, because reading the segment checked them.
+///
+/// ```rattle
+/// // Passive, of `funcref`, with one expression: `ref.func 5`.
+/// let mut reader = BinaryReader::new(&[5, 0x70, 1, 0xd2, 5, 0x0b], 0);
+/// if let ElementItems::Expressions(ty, expressions) = Element::from_reader(&mut reader)?.items {
+///     assert_eq!(rt; ty, RefType::FUNCREF);
+///     assert_eq!(rt; expressions.count(), 1);
+/// }
+/// ```
+///
+/// (Core specification, Binary format, Modules, Element Section.)
 #[derive(Clone, Drop)]
 pub enum ElementItems<'a> {
-    /// The indices of functions.
+    /// Function indices.
     Functions(SectionLimited<'a, u32>),
-    /// The type of the elements, and an expression for each.
+    /// The type of the elements, and a constant expression for each of them.
     Expressions(RefType, SectionLimited<'a, ConstExpr<'a>>),
 }
 
@@ -184,11 +232,17 @@ fn read_items<'a>(flags: u8, reader: &mut BinaryReader<'a>) -> Result<ElementIte
     read_functions(flags, reader)
 }
 
-/// Flags, a u32 below 8; a table index and an offset expression, as the flags say; the kind or the type of the elements,
-/// if present; then a list of function indices or of expressions.
+/// Reads a segment: flags, a u32; for an active segment a table index, if flagged, and an offset expression; the kind
+/// or type of the elements, if flagged; then the list of elements, function indices or expressions.
 ///
-/// Larger flags are `ElementFlags` at their last byte; any other kind than that of functions is `ElementFunctionOnly` at the
-/// kind. The elements are skipped and their errors returned, so those of a segment that was read have none.
+/// The elements are skipped and their errors returned here, so that iterating over them later can't fail.
+///
+/// # Errors
+///
+/// * `ElementFlags` at the last byte of flags above 7.
+/// * `ElementFunctionOnly` at an element kind other than that of functions; `LeadingByte(External)` at a byte that is
+///   no kind.
+/// * The errors of `read_var_u32`, of the type (`RefType`) and of the expressions (`ConstExpr`).
 impl<'a> FromReader<'a> for Element<'a> {
     ghost use Rattle.wasm_items.specs.Elements.{element_at};
 

@@ -6,10 +6,29 @@ use wasm_base::{
     BinaryReader, Error, Fault, FromReader, Lead, Result, SectionLimited, leading_byte_error,
 };
 
-/// The export section: its exports (core specification, Binary format, Modules, Export Section).
+/// The export section, whose items are exports.
+///
+/// ```rattle
+/// let bytes = b"\x02\x01f\x00\x05\x01m\x02\x00";
+/// for export in ExportSectionReader::new(BinaryReader::new(bytes, 0))? {
+///     let export = export?;
+///     if export.name == "m" {
+///         assert_eq!(rt; export.kind, ExternalKind::Memory);
+///     }
+/// }
+/// ```
+///
+/// (Core specification, Binary format, Modules, Export Section.)
 pub type ExportSectionReader<'a> = SectionLimited<'a, Export<'a>>;
 
-/// What can be imported or exported (core specification, Binary format, Modules, Export Section).
+/// The kind of an import or export.
+///
+/// ```rattle
+/// let mut reader = BinaryReader::new(&[2], 0);
+/// assert_eq!(rt; ExternalKind::from_reader(&mut reader)?, ExternalKind::Memory);
+/// ```
+///
+/// (Core specification, Binary format, Modules, Export Section.)
 #[derive(Clone, Copy, Debug, PartialEq, Eq)]
 pub enum ExternalKind {
     /// A function.
@@ -26,18 +45,32 @@ pub enum ExternalKind {
     FuncExact,
 }
 
-/// An export (core specification, Binary format, Modules, Export Section).
+/// An export.
+///
+/// ```rattle
+/// let mut reader = BinaryReader::new(b"\x03add\x00\x05", 0);
+/// let export = Export::from_reader(&mut reader)?;
+/// assert_eq!(rt; export.name, "add");
+/// assert_eq!(rt; export.index, 5);
+/// ```
+///
+/// (Core specification, Binary format, Modules, Export Section.)
 #[derive(Clone, Copy, Debug, PartialEq, Eq)]
 pub struct Export<'a> {
-    /// Its name.
+    /// The name of the export.
     pub name: &'a str,
-    /// What it is.
+    /// The kind of what is exported.
     pub kind: ExternalKind,
-    /// Its index in the index space of its kind.
+    /// The index of what is exported, in the index space of the kind.
     pub index: u32,
 }
 
-/// A byte. One that isn't a kind is `LeadingByte(External)` at it, with the byte as its number.
+/// Reads a byte: 0 for a function, 1 a table, 2 a memory, 3 a global, 4 a tag, 0x20 a function of exactly the given
+/// type.
+///
+/// # Errors
+///
+/// `UnexpectedEof` if no byte remains; `LeadingByte(External)` at any other byte, which is its number.
 impl<'a> FromReader<'a> for ExternalKind {
     ghost use Rattle.wasm_items.specs.Externals.{kind_at};
 
@@ -60,7 +93,12 @@ impl<'a> FromReader<'a> for ExternalKind {
     }
 }
 
-/// A name, a kind and an index, a u32. The kind of exact functions is `ExactExport` at the offset after the kind.
+/// Reads a name of at most 100,000 bytes, a kind and an index, a u32.
+///
+/// # Errors
+///
+/// `ExactExport` at the offset after the kind if it is `FuncExact`; and the errors of `read_string`, the kind and
+/// `read_var_u32`.
 impl<'a> FromReader<'a> for Export<'a> {
     ghost use Rattle.wasm_items.specs.Exports.{export_parts, export_at};
 

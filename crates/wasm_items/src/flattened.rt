@@ -64,10 +64,25 @@ enum Left<'a> {
     Names(NamesLeft<'a>),
 }
 
-/// An iterator over the imports of an item of an import section, each with its offset in the whole stream: that of the item
-/// for a single import, its own for an import in a bundle.
+/// An iterator over the imports of one item of an import section, each with its offset.
 ///
-/// It ends after the first error. Trailing bytes after the last import of a bundle are one `SizeMismatch` at the first of them.
+/// The offset is in bytes from the start of the stream. It is that of the item for a single import, and that of the
+/// import itself in a bundle. `Imports::into_iter` creates the iterator.
+///
+/// # Errors
+///
+/// `next` returns the error of an import of a bundle (a malformed name or type), and then only `None`. A bundle with
+/// bytes after its last import ends with `SizeMismatch` at the first of them. A single import was read already and
+/// yields no error.
+///
+/// ```rattle
+/// let mut reader = BinaryReader::new(b"\x01m\x01f\x00\x05", 100);
+/// for import in Imports::from_reader(&mut reader)? {
+///     let (offset, import) = import?;
+///     assert_eq!(rt; offset, 100);
+///     assert_eq!(rt; import.ty, TypeRef::Func(5));
+/// }
+/// ```
 #[derive(Drop)]
 pub struct ImportsIter<'a> {
     left: Left<'a>,
@@ -154,10 +169,26 @@ fn next_import<'a>(
     }
 }
 
-/// An iterator over the imports of an import section, single or in bundles, each with its own offset in the whole stream.
+/// An iterator over all imports of an import section, single or in bundles, each with its offset.
 ///
-/// After an error inside a bundle, the next bundle follows. After an error in an item of the section itself, the iterator
-/// ends. Trailing bytes after the last item are a `SizeMismatch`.
+/// The offset is in bytes from the start of the stream. It is that of the item for a single import, and that of the
+/// import itself in a bundle. `ImportSection::into_imports_with_offsets` creates the iterator.
+///
+/// # Errors
+///
+/// * After an error inside a bundle, the next item of the section follows.
+/// * After an error of an item of the section itself, the iterator ends.
+/// * If bytes follow the last item, the iterator ends with `SizeMismatch` at the first of them.
+///
+/// ```rattle
+/// let bytes = b"\x01\x01m\x01f\x00\x05";
+/// let section = ImportSectionReader::new(BinaryReader::new(bytes, 100))?;
+/// for import in section.into_imports_with_offsets() {
+///     let (offset, import) = import?;
+///     assert_eq!(rt; offset, 101);
+///     assert_eq!(rt; import.name, "f");
+/// }
+/// ```
 #[derive(Drop)]
 pub struct IntoImportsWithOffsets<'a> {
     bundle: ImportsIter<'a>,
@@ -187,7 +218,19 @@ impl<'a> Iterator for IntoImportsWithOffsets<'a> {
     }
 }
 
-/// An iterator over the imports of an import section, like `IntoImportsWithOffsets` without the offsets.
+/// An iterator over all imports of an import section, single or in bundles.
+///
+/// It yields the imports and errors of `IntoImportsWithOffsets`, without the offsets. `ImportSection::into_imports`
+/// creates it.
+///
+/// ```rattle
+/// let bytes = b"\x01\x01m\x01f\x00\x05";
+/// let mut imports = ImportSectionReader::new(BinaryReader::new(bytes, 0))?.into_imports();
+/// if let Some(import) = imports.next() {
+///     assert_eq!(rt; import?.name, "f");
+/// }
+/// assert!(rt; imports.next().is_none());
+/// ```
 #[derive(Drop)]
 pub struct IntoImports<'a> {
     imports: IntoImportsWithOffsets<'a>,
@@ -222,16 +265,25 @@ impl<'a> Iterator for IntoImports<'a> {
 
 /// Extends import sections with iterators over their imports, whether single or in bundles.
 ///
-/// ```text
+/// Bring this trait into scope to list imports one by one. Without it, an import section yields its items (`Imports`),
+/// each of which may be a bundle.
+///
+/// ```rattle
+/// // A bundle of the module "m" with two functions of type 5, "f" and "g".
+/// let bytes = b"\x01\x01m\x00\x7e\x00\x05\x02\x01f\x01g";
+/// let section = ImportSectionReader::new(BinaryReader::new(bytes, 0))?;
+/// let mut names = Vec::new(alloc);
 /// for import in section.into_imports() {
-///     let import = import?;
+///     names.push(import?.name)?;
 /// }
+/// assert_eq!(rt; names.as_slice(), ["f", "g"].as_slice());
 /// ```
 pub trait ImportSection<'a> {
-    /// Returns an iterator over the imports, in order.
+    /// Returns an iterator over all imports of the section, in order.
     fn into_imports(self) -> IntoImports<'a>;
 
-    /// Returns an iterator over the imports, in order, each with its offset in the whole stream.
+    /// Returns an iterator over all imports of the section, in order, each with its offset in bytes from the start of
+    /// the stream.
     fn into_imports_with_offsets(self) -> IntoImportsWithOffsets<'a>;
 }
 

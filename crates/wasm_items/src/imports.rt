@@ -15,73 +15,125 @@ use wasm_base::{
     read_inner,
 };
 
-/// The import section: its imports and bundles of imports (core specification, Binary format, Modules, Import Section).
+/// The import section, whose items are imports or bundles of imports.
+///
+/// Use `ImportSection::into_imports` to iterate over the imports one by one.
+///
+/// ```rattle
+/// let bytes = b"\x01\x01m\x01f\x00\x05";
+/// let section = ImportSectionReader::new(BinaryReader::new(bytes, 0))?;
+/// for import in section.into_imports() {
+///     assert_eq!(rt; import?.module, "m");
+/// }
+/// ```
+///
+/// (Core specification, Binary format, Modules, Import Section.)
 pub type ImportSectionReader<'a> = SectionLimited<'a, Imports<'a>>;
 
-/// What is imported, with its type (core specification, Binary format, Types, External Types).
+/// The kind and type of an import.
+///
+/// ```rattle
+/// let mut reader = BinaryReader::new(&[0x02, 0x00, 0x01], 0);
+/// match TypeRef::from_reader(&mut reader)? {
+///     TypeRef::Memory(memory) => assert_eq!(rt; memory.initial, 1),
+///     _ => assert!(rt; false),
+/// }
+/// ```
+///
+/// (Core specification, Binary format, Types, External Types.)
 #[derive(Clone, Copy, Debug, PartialEq, Eq)]
 pub enum TypeRef {
     /// A function, with the index of its type.
     Func(u32),
-    /// A table.
+    /// A table, with its type.
     Table(TableType),
-    /// A memory.
+    /// A memory, with its type.
     Memory(MemoryType),
-    /// A global.
+    /// A global, with its type.
     Global(GlobalType),
-    /// A tag.
+    /// A tag, with its type.
     Tag(TagType),
     /// A function of exactly the type with this index (a proposal, not in the core specification).
     FuncExact(u32),
 }
 
-/// An import (core specification, Binary format, Modules, Import Section).
+/// An import.
+///
+/// ```rattle
+/// let mut reader = BinaryReader::new(b"\x01m\x01f\x00\x05", 0);
+/// let import = Import::from_reader(&mut reader)?;
+/// assert_eq!(rt; import.name, "f");
+/// assert_eq!(rt; import.ty, TypeRef::Func(5));
+/// ```
+///
+/// (Core specification, Binary format, Modules, Import Section.)
 #[derive(Clone, Copy, Debug, PartialEq, Eq)]
 pub struct Import<'a> {
-    /// The module that it comes from.
+    /// The name of the module to import from.
     pub module: &'a str,
-    /// Its name in that module.
+    /// The name of the import in that module.
     pub name: &'a str,
-    /// What it is.
+    /// The kind and type of the import.
     pub ty: TypeRef,
 }
 
-/// An import whose module is that of its bundle (a proposal, not in the core specification).
+/// An import in a bundle, which names the module for all of its imports (a proposal, not in the core specification).
+///
+/// ```rattle
+/// let mut reader = BinaryReader::new(b"\x01f\x00\x05", 0);
+/// let import = ImportItemCompact::from_reader(&mut reader)?;
+/// assert_eq!(rt; import.name, "f");
+/// ```
 #[derive(Clone, Copy, Debug, PartialEq, Eq)]
 pub struct ImportItemCompact<'a> {
-    /// The import's name in the bundle's module.
+    /// The name of the import in the bundle's module.
     pub name: &'a str,
-    /// What it is.
+    /// The kind and type of the import.
     pub ty: TypeRef,
 }
 
 /// An item of an import section: an import, or a bundle of imports from one module.
 ///
+/// `into_iter` iterates over the imports of an item. To iterate over those of the whole section, use `ImportSection`.
+///
 /// The single import is that of the core specification (Binary format, Modules, Import Section); the bundles are those
 /// of the proposal for compact imports.
+///
+/// ```rattle
+/// let mut reader = BinaryReader::new(b"\x01m\x00\x7e\x00\x05\x02\x01f\x01g", 0);
+/// match Imports::from_reader(&mut reader)? {
+///     Imports::Single(_offset, import) => assert_eq!(rt; import.module, "m"),
+///     Imports::Compact1 { items, .. } => assert_eq!(rt; items.count(), 2),
+///     Imports::Compact2 { names, .. } => assert_eq!(rt; names.count(), 2),
+/// }
+/// ```
 #[derive(Clone, Debug, Drop)]
 pub enum Imports<'a> {
-    /// One import, and its offset in bytes from the start of the whole stream.
+    /// A single import, after its offset in bytes from the start of the stream.
     Single(u64, Import<'a>),
-    /// Imports of one module.
+    /// A bundle of imports from the same module.
     Compact1 {
-        /// The module that they come from.
+        /// The name of the module.
         module: &'a str,
-        /// Their names and types.
+        /// The name and type of each import, read lazily.
         items: SectionLimited<'a, ImportItemCompact<'a>>,
     },
-    /// Imports of one module and one type.
+    /// A bundle of imports from the same module, of the same type.
     Compact2 {
-        /// The module that they come from.
+        /// The name of the module.
         module: &'a str,
-        /// What each of them is.
+        /// The kind and type of every import of the bundle.
         ty: TypeRef,
-        /// Their names.
+        /// The name of each import, read lazily.
         names: SectionLimited<'a, &'a str>,
     },
 }
 
-/// A kind, and its type: for a function a type index, a u32.
+/// Reads a kind and the type that belongs to it: for a function the index of its type, a u32.
+///
+/// # Errors
+///
+/// `LeadingByte(External)` at a byte that is no kind, and the errors of the type.
 impl<'a> FromReader<'a> for TypeRef {
     ghost use Rattle.wasm_items.specs.Imports.{type_ref_at};
 
@@ -100,7 +152,7 @@ impl<'a> FromReader<'a> for TypeRef {
     }
 }
 
-/// The name of a module, a name in it, and the type of the import.
+/// Reads the name of a module, the name of the import and its type, with the errors of `read_string` and of `TypeRef`.
 impl<'a> FromReader<'a> for Import<'a> {
     ghost use Rattle.wasm_items.specs.Imports.{import_parts, import_at};
 
@@ -115,7 +167,7 @@ impl<'a> FromReader<'a> for Import<'a> {
     }
 }
 
-/// A name, and the type of the import.
+/// Reads the name of the import and its type, with the errors of `read_string` and of `TypeRef`.
 impl<'a> FromReader<'a> for ImportItemCompact<'a> {
     ghost use Rattle.wasm_items.specs.Imports.{item_parts, item_at};
 
@@ -129,7 +181,7 @@ impl<'a> FromReader<'a> for ImportItemCompact<'a> {
     }
 }
 
-/// Skipping doesn't check that the name is UTF-8; reading does.
+/// Skips an import of a bundle, with the errors of `skip_string` and of `TypeRef`. The name may be invalid UTF-8.
 impl<'a> SkipItem<'a> for ImportItemCompact<'a> {
     ghost use Rattle.wasm_items.specs.Imports.{passed_item_at};
 
@@ -209,11 +261,17 @@ fn read_single<'a>(
     Ok(Imports::Single(start, Import { module, name, ty }))
 }
 
-/// The name of a module, a name in it, and the type of the import; or, if the second name is empty, the byte 0x7F or 0x7E and
-/// a bundle.
+/// Reads an import: the name of a module, the name of the import and its type. If the second name is empty, the byte
+/// 0x7F or 0x7E begins a bundle instead.
 ///
-/// Without the feature `COMPACT_IMPORTS`, this byte is `Compact7F` or `Compact7E` at it. The items of a bundle are skipped,
-/// with the errors of a skipped name and of a type; reading them checks that their names are UTF-8.
+/// The imports of a bundle are skipped. Iterating over them also checks that their names are UTF-8.
+///
+/// # Errors
+///
+/// * `Compact7F` or `Compact7E` at the byte that begins a bundle, if the reader is without the feature
+///   `COMPACT_IMPORTS`.
+/// * The errors of `read_string` and of `TypeRef`.
+/// * Inside a bundle, the errors of `skip_string`, of `TypeRef` and of the count (`read_var_u32`).
 impl<'a> FromReader<'a> for Imports<'a> {
     ghost use Rattle.wasm_items.specs.Imports.{bundle_parts, bundle_at};
 

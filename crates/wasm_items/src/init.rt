@@ -14,8 +14,19 @@ use wasm_base::{
     BinaryReader, Error, Fault, FromReader, Ieee32, Ieee64, Result, SkipItem, passed_since,
 };
 
-/// The window of a constant expression, including its `end` instruction (core specification, Binary format, Instructions,
-/// Expressions).
+/// A constant expression, as the window of its instructions up to and including `end`.
+///
+/// Reading an expression checks that it consists of constant instructions, but not their types. `instructions` decodes
+/// them.
+///
+/// ```rattle
+/// // `i32.const 5` and `end`, followed by another byte.
+/// let mut reader = BinaryReader::new(&[0x41, 5, 0x0b, 0], 100);
+/// let expression = ConstExpr::from_reader(&mut reader)?;
+/// assert_eq!(rt; expression.range().end, 103);
+/// ```
+///
+/// (Core specification, Binary format, Instructions, Expressions.)
 #[derive(Clone, Debug, Drop)]
 pub struct ConstExpr<'a> {
     reader: BinaryReader<'a>,
@@ -24,21 +35,21 @@ pub struct ConstExpr<'a> {
 impl<'a> ConstExpr<'a> {
     ghost use Rattle.wasm_items.specs.Windows.{expression_window};
 
-    /// Creates the expression from a reader's window, without reading any of it.
+    /// Creates an expression from a window, without reading or checking it.
     pub fn new(reader: BinaryReader<'a>) -> Self
         ensures { expression_window result ≡ reader.entry }
     {
         ConstExpr { reader }
     }
 
-    /// Returns the reader that the expression was created from, at its original position.
+    /// Returns a reader over the instructions, including `end`.
     pub fn get_binary_reader(&self) -> BinaryReader<'a>
         ensures { result ≡ expression_window self.now }
     {
         self.reader.clone().unwrap()
     }
 
-    /// Returns the offsets of the expression, in bytes from the start of the whole stream.
+    /// Returns the offsets of the expression, including `end`, in bytes from the start of the stream.
     pub fn range(&self) -> Range<u64>
         ensures { result ≡ range_of (expression_window self.now) }
     {
@@ -46,12 +57,23 @@ impl<'a> ConstExpr<'a> {
     }
 }
 
-/// A vector of 128 bits, as its bytes (core specification, Binary format, Instructions, Vector Instructions).
+/// A 128-bit vector, as the 16 bytes that encode it.
+///
+/// ```rattle
+/// // `v128.const` with 16 bytes, of which the last is 7.
+/// let bytes = b"\xfd\x0c\0\0\0\0\0\0\0\0\0\0\0\0\0\0\0\x07\x0b";
+/// let instruction = read_instruction(&mut BinaryReader::new(bytes, 0))?;
+/// if let ConstOperator::V128Const { value } = instruction.operator {
+///     assert_eq!(rt; value.bytes()[15], 7);
+/// }
+/// ```
+///
+/// (Core specification, Binary format, Instructions, Vector Instructions.)
 #[derive(Clone, Copy, Debug, PartialEq, Eq)]
 pub struct V128(pub(crate) [u8; 16]);
 
 impl V128 {
-    /// Returns its bytes in little-endian order.
+    /// Returns the bytes of the vector, in little-endian order as encoded.
     pub fn bytes(&self) -> &[u8; 16]
         ensures { result.now ≡ bytes_of_vector self.now }
     {
@@ -59,96 +81,107 @@ impl V128 {
     }
 }
 
-/// The operator of a constant instruction, with its operands (core specification, Validation, Instructions, Constant
-/// Expressions). Each has the name that it has among all operators.
+/// The operator of a constant instruction, with its operands.
+///
+/// The variants have the names that these operators have among all of those of `wasmparser`.
+///
+/// ```rattle
+/// let mut reader = BinaryReader::new(&[0xd2, 3, 0x0b], 0);
+/// match read_instruction(&mut reader)?.operator {
+///     ConstOperator::RefFunc { function_index } => assert_eq!(rt; function_index, 3),
+///     _ => assert!(rt; false),
+/// }
+/// ```
+///
+/// (Core specification, Validation, Instructions, Constant Expressions.)
 #[derive(Clone, Copy, Debug, PartialEq, Eq)]
 pub enum ConstOperator {
-    /// `end`: the expression has no more instructions.
+    /// `end`: marks the end of the expression.
     End,
-    /// `global.get`: the value of a global.
+    /// `global.get`: pushes the value of a global.
     GlobalGet {
         /// The index of the global.
         global_index: u32,
     },
-    /// `i32.const`: an integer of 32 bits.
+    /// `i32.const`: pushes a 32-bit integer.
     I32Const {
-        /// The signed integer.
+        /// The value, as a signed integer.
         value: i32,
     },
-    /// `i64.const`: an integer of 64 bits.
+    /// `i64.const`: pushes a 64-bit integer.
     I64Const {
-        /// The signed integer.
+        /// The value, as a signed integer.
         value: i64,
     },
-    /// `f32.const`: a float of 32 bits.
+    /// `f32.const`: pushes a 32-bit float.
     F32Const {
-        /// The float.
+        /// The value, as the bits that encode it.
         value: Ieee32,
     },
-    /// `f64.const`: a float of 64 bits.
+    /// `f64.const`: pushes a 64-bit float.
     F64Const {
-        /// The float.
+        /// The value, as the bits that encode it.
         value: Ieee64,
     },
-    /// `v128.const`: a vector of 128 bits.
+    /// `v128.const`: pushes a 128-bit vector.
     V128Const {
-        /// The vector.
+        /// The value, as the bytes that encode it.
         value: V128,
     },
-    /// `i32.add`: a sum of 32 bits.
+    /// `i32.add`: adds two 32-bit integers.
     I32Add,
-    /// `i32.sub`: a difference of 32 bits.
+    /// `i32.sub`: subtracts two 32-bit integers.
     I32Sub,
-    /// `i32.mul`: a product of 32 bits.
+    /// `i32.mul`: multiplies two 32-bit integers.
     I32Mul,
-    /// `i64.add`: a sum of 64 bits.
+    /// `i64.add`: adds two 64-bit integers.
     I64Add,
-    /// `i64.sub`: a difference of 64 bits.
+    /// `i64.sub`: subtracts two 64-bit integers.
     I64Sub,
-    /// `i64.mul`: a product of 64 bits.
+    /// `i64.mul`: multiplies two 64-bit integers.
     I64Mul,
-    /// `ref.null`: a null reference.
+    /// `ref.null`: pushes a null reference.
     RefNull {
-        /// What it would refer to.
+        /// The heap type of the reference.
         hty: HeapType,
     },
-    /// `ref.func`: a reference to a function.
+    /// `ref.func`: pushes a reference to a function.
     RefFunc {
         /// The index of the function.
         function_index: u32,
     },
-    /// `struct.new`: a structure of values taken from the stack.
+    /// `struct.new`: allocates a structure, with field values from the stack.
     StructNew {
-        /// The index of its type.
+        /// The index of the structure type.
         struct_type_index: u32,
     },
-    /// `struct.new_default`: a structure of default values.
+    /// `struct.new_default`: allocates a structure of default values.
     StructNewDefault {
-        /// The index of its type.
+        /// The index of the structure type.
         struct_type_index: u32,
     },
-    /// `array.new`: an array of *n* copies of a value; both are taken from the stack.
+    /// `array.new`: allocates an array of copies of a value. The value and the length come from the stack.
     ArrayNew {
-        /// The index of its type.
+        /// The index of the array type.
         array_type_index: u32,
     },
-    /// `array.new_default`: an array of *n* default values; *n* is taken from the stack.
+    /// `array.new_default`: allocates an array of default values. The length comes from the stack.
     ArrayNewDefault {
-        /// The index of its type.
+        /// The index of the array type.
         array_type_index: u32,
     },
-    /// `array.new_fixed`: an array of values taken from the stack.
+    /// `array.new_fixed`: allocates an array of a fixed length, with elements from the stack.
     ArrayNewFixed {
-        /// The index of its type.
+        /// The index of the array type.
         array_type_index: u32,
-        /// The number of values.
+        /// The number of elements.
         array_size: u32,
     },
-    /// `any.convert_extern`: a value of the host as one of the module.
+    /// `any.convert_extern`: converts a reference of the host to one of the module.
     AnyConvertExtern,
-    /// `extern.convert_any`: a value of the module as one of the host.
+    /// `extern.convert_any`: converts a reference of the module to one of the host.
     ExternConvertAny,
-    /// `ref.i31`: an integer of 31 bits.
+    /// `ref.i31`: converts a 32-bit integer to an unboxed 31-bit reference.
     RefI31,
 }
 
@@ -271,7 +304,13 @@ fn pass_expression(reader: &mut BinaryReader<'_>) -> Result<()>
     }
 }
 
-/// Constant instructions up to and including `end`, as their window. Any other instruction is `NotConstant` at its first byte.
+/// Reads constant instructions up to and including `end`, and returns their window.
+///
+/// # Errors
+///
+/// * `NotConstant` at the first byte of any other instruction.
+/// * `UnexpectedEof` where an instruction or its operands are truncated.
+/// * The errors of operands: those of `read_var_u32`, `read_var_i32`, `read_var_i64` and `HeapType`.
 impl<'a> FromReader<'a> for ConstExpr<'a> {
     ghost use Rattle.wasm_items.specs.Init.{expression_at};
     ghost use Rattle.wasm_items.specs.Windows.{expression_window};
@@ -286,6 +325,7 @@ impl<'a> FromReader<'a> for ConstExpr<'a> {
     }
 }
 
+/// Skips an expression, with the errors of reading it.
 impl<'a> SkipItem<'a> for ConstExpr<'a> {
     ghost passed_at = { end_of_expression };
 

@@ -11,19 +11,42 @@ use crate::init::{ConstExpr, ConstOperator, read_operands};
 use std::marker::Model;
 use wasm_base::{BinaryReader, Result};
 
-/// An instruction of a constant expression (core specification, Binary format, Instructions).
+/// An instruction of a constant expression.
+///
+/// ```rattle
+/// let mut reader = BinaryReader::new(&[0x41, 5, 0x0b], 100);
+/// let instruction = read_instruction(&mut reader)?;
+/// assert_eq!(rt; instruction.offset, 100);
+/// assert_eq!(rt; instruction.operator, ConstOperator::I32Const { value: 5 });
+/// ```
+///
+/// (Core specification, Binary format, Instructions.)
 #[derive(Clone, Copy, Debug, PartialEq, Eq)]
 pub struct ConstInstruction {
-    /// The offset of its opcode in the whole stream, in bytes.
+    /// The offset of the opcode, in bytes from the start of the stream.
     pub offset: u64,
-    /// Its operator, with its operands.
+    /// The operator, with its operands.
     pub operator: ConstOperator,
 }
 
-/// An iterator over the instructions of a constant expression, up to and including `end` or the first error.
+/// An iterator over the instructions of a constant expression, up to and including `end`.
 ///
-/// An expression that was read has no errors. One that was created from other bytes ends at the first `NotConstant`, at the
-/// offset of that instruction, or at the first error of an operand. Bytes after `end` are ignored.
+/// `ConstExpr::instructions` creates it. Bytes after `end` are ignored.
+///
+/// # Errors
+///
+/// The iterator yields the first error of `read_instruction` and then ends. If the expression was read with
+/// `ConstExpr::from_reader`, it yields no error; only `ConstExpr::new` accepts unchecked bytes.
+///
+/// ```rattle
+/// let mut reader = BinaryReader::new(&[0x41, 5, 0x0b], 0);
+/// let mut operators = Vec::new(alloc);
+/// for instruction in ConstExpr::from_reader(&mut reader)?.instructions() {
+///     operators.push(instruction?.operator)?;
+/// }
+/// let wanted = [ConstOperator::I32Const { value: 5 }, ConstOperator::End];
+/// assert_eq!(rt; operators.as_slice(), wanted.as_slice());
+/// ```
 #[derive(Drop)]
 pub struct ConstInstructions<'a> {
     reader: BinaryReader<'a>,
@@ -87,9 +110,26 @@ fn read_operator(start: u64, opcode: u8, reader: &mut BinaryReader<'_>) -> Resul
     read_operands(start, opcode, reader)
 }
 
-/// Reads one instruction of a constant expression, which may be `end` (core specification, Binary format, Instructions).
+/// Reads the next instruction of a constant expression, which may be `end`.
 ///
-/// Errors are `NotConstant` at the opcode of any other instruction, and those of operands.
+/// # Errors
+///
+/// * `NotConstant` at the opcode of an instruction that is not constant. For opcode 0xFB or 0xFD, the number after it
+///   counts too.
+/// * `UnexpectedEof` if no byte remains.
+/// * The errors of the operands: those of `read_var_u32`, `read_var_i32`, `read_var_i64`, `HeapType`, and
+///   `UnexpectedEof` where a float or vector should have started.
+///
+/// ```rattle
+/// // `nop` is not a constant instruction.
+/// let mut reader = BinaryReader::new(&[0x01], 8);
+/// if let Err(error) = read_instruction(&mut reader) {
+///     assert_eq!(rt; error.fault(), Fault::NotConstant);
+///     assert_eq!(rt; error.offset(), 8);
+/// }
+/// ```
+///
+/// (Core specification, Binary format, Instructions.)
 #[tactic(auto, unfolding(crate::specs::Instructions::instruction_at))]
 pub fn read_instruction(reader: &mut BinaryReader<'_>) -> Result<ConstInstruction>
     ensures gives { GivesBy (λ instruction. instruction) result reader.old reader.new instruction_at }

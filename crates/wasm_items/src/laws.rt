@@ -44,7 +44,8 @@ pub fn equal_types_are_the_same()
     ensures external { DecidesSame ⟦<TypeRef as PartialEq>⟧.eq }
 {}
 
-/// A type is hashed as its fields, one after the other, and one of several cases as the number of the case and what it holds.
+/// A type is hashed as its fields, one after the other, and one of several cases as the number of the case and what it
+/// holds.
 pub fn types_are_hashed_as_their_fields()
     ensures value { (ty : ValType) → ⟦<ValType as Hash>⟧.hash_input ty ≡ hash_of_value ty }
     ensures reference { (ty : RefType) → ⟦<RefType as Hash>⟧.hash_input ty ≡ hash_of_reference ty }
@@ -129,8 +130,8 @@ pub fn copies_are_the_same<'a>()
     ensures export { IsCopy ⟦<Export<'a> as Clone>⟧.is_clone ⟦<Export<'a> as Clone>⟧.is_infallible }
 {}
 
-/// `next` returns all remaining imports in order, and then only `None`: those of an item of an import section, and those of a
-/// section, with offsets or without.
+/// `next` returns all remaining imports in order, and then only `None`: those of an item of an import section, and
+/// those of a section, with offsets or without.
 pub fn all_imports_come<'a>()
     ensures of_an_item { GivesAll found_at ⟦<ImportsIter<'a> as Iterator>⟧.next_gives }
     ensures with_offsets { GivesAll found_at ⟦<IntoImportsWithOffsets<'a> as Iterator>⟧.next_gives }
@@ -168,8 +169,8 @@ pub fn items_allow_one_outcome<'a>()
     ensures global_type { AllowsOne ⟦<GlobalType as FromReader<'a>>⟧.meaning }
 {}
 
-/// Each of these items is determined by its bytes, so the iterators over a section of them, and clones of these, yield equal
-/// items.
+/// Each of these items is determined by its bytes, so the iterators over a section of them, and clones of these, yield
+/// equal items.
 pub fn items_are_determined<'a>()
     ensures kind { Determines ⟦<ExternalKind as FromReader<'a>>⟧.meaning }
     ensures external { Determines ⟦<TypeRef as FromReader<'a>>⟧.meaning }
@@ -208,14 +209,14 @@ pub fn segments_and_types_allow_one_outcome<'a>()
     ensures group { AllowsOne ⟦<RecGroup as FromReaderIn<'a>>⟧.meaning }
 {}
 
-/// A constant expression is `end`, or an instruction followed by an expression: its definition counts instructions, but sets
-/// no limit on their number.
+/// A constant expression is `end`, or an instruction followed by an expression: its definition counts instructions, but
+/// sets no limit on their number.
 pub fn expressions_are_instructions_and_the_end()
     ensures { (p : Place) → IsEndOrInstruction p }
 {}
 
-/// The instructions of an expression that was read have no errors. They tile its window, each beginning where the previous one
-/// ends, and only the last one is `end`.
+/// The instructions of an expression that was read have no errors. They tile its window, each beginning where the
+/// previous one ends, and only the last one is `end`.
 pub fn instructions_tile_their_expression<'a>()
     ensures { (before after : Place) (expression : ConstExpr) →
         ⟦<ConstExpr<'a> as FromReader<'a>>⟧.meaning before (Ok (expression, after)) →

@@ -10,7 +10,17 @@ use crate::limits::{HAS_PAGE_SIZE, IS_SHARED, IS_WIDE, has_flag, read_limits};
 use crate::types::MemoryType;
 use wasm_base::{BinaryReader, Error, Fault, FromReader, Result, SectionLimited};
 
-/// The memory section: the types of its memories (core specification, Binary format, Modules, Memory Section).
+/// The memory section, whose items are memory types.
+///
+/// ```rattle
+/// // One memory of 1 to 16 pages.
+/// let section = MemorySectionReader::new(BinaryReader::new(&[1, 0x01, 1, 16], 0))?;
+/// for memory in section {
+///     assert_eq!(rt; memory?.maximum, Some(16));
+/// }
+/// ```
+///
+/// (Core specification, Binary format, Modules, Memory Section.)
 pub type MemorySectionReader<'a> = SectionLimited<'a, MemoryType>;
 
 // Reads the page size, if its flag is set, of a memory type that begins at this offset.
@@ -30,10 +40,17 @@ fn read_page_size(start: u64, flags: u8, reader: &mut BinaryReader<'_>) -> Resul
     Ok(Some(size))
 }
 
-/// Flags, limits, and the page size if its flag is set.
+/// Reads a byte of flags, the initial number of pages, the maximum if flagged, and the logarithm of the page size if
+/// flagged.
 ///
-/// Flags above 15 are `MemoryFlags`, and a page of 2^64 bytes or more is `PageSize`, both at the flags. The limits are
-/// 64-bit numbers if the reader has the feature `MEMORY64`, whatever the flags are.
+/// The flags are bit 0 for a maximum, bit 1 for a shared memory, bit 2 for 64-bit addresses and bit 3 for a page size.
+/// The limits are read as u64 if the reader has the feature `MEMORY64`, and as u32 otherwise, whatever the flags are.
+///
+/// # Errors
+///
+/// * `MemoryFlags` at flags above 15.
+/// * `PageSize` at the flags, for a page of 2^64 bytes or more.
+/// * `UnexpectedEof` if the flags are missing, and the errors of `read_var_u64` and `read_var_u32`.
 impl<'a> FromReader<'a> for MemoryType {
     ghost use Rattle.wasm_items.specs.Memories.{memory_type_at};
 

@@ -15,7 +15,7 @@ use wasm_base::{
     read_flag, read_list, read_list_in,
 };
 
-/// A byte for 8 or 16 bits, or a value type, with its errors.
+/// Reads the byte 0x78 for `I8` or 0x77 for `I16`, or a value type, with the errors of `ValType`.
 impl<'a> FromReader<'a> for StorageType {
     ghost use Rattle.wasm_items.specs.RecGroups.{storage_type_at};
 
@@ -37,9 +37,12 @@ impl<'a> FromReader<'a> for StorageType {
     }
 }
 
-/// The storage type, and a byte: 0 for an immutable field, 1 for a mutable one.
+/// Reads the storage type, and a byte that is 0 for an immutable or 1 for a mutable field.
 ///
-/// Another byte is `LeadingByte(Mutability)` at it, with the byte as its number.
+/// # Errors
+///
+/// `LeadingByte(Mutability)` at any other second byte, which is its number; `UnexpectedEof` if it is missing; and the
+/// errors of `StorageType`.
 impl<'a> FromReader<'a> for FieldType {
     ghost meaning = { ReadsAs (λ field. field) field_type_at };
 
@@ -78,7 +81,11 @@ fn read_subtypes(alloc: Global, reader: &mut BinaryReader<'_>) -> Result<Vec<Sub
     read_list_in(alloc, reader)
 }
 
-/// The list of parameter types, and the list of result types.
+/// Reads the list of parameter types and the list of result types, after the byte 0x60.
+///
+/// # Errors
+///
+/// The errors of `read_var_u32` for the counts and of `ValType`; `OutOfMemory`, at offset 0, when an allocation fails.
 impl<'a> FromReaderIn<'a> for FuncType {
     ghost use Rattle.wasm_items.specs.RecGroups.{function_parts, func_type_at};
 
@@ -92,9 +99,12 @@ impl<'a> FromReaderIn<'a> for FuncType {
     }
 }
 
-/// A byte, and a function type, a list of fields, or a field.
+/// Reads the byte 0x60 and a function type, 0x5F and a list of fields, or 0x5E and the type of an array's elements.
 ///
-/// Another byte is `LeadingByte(Composite)` at it, with the byte as its number.
+/// # Errors
+///
+/// `LeadingByte(Composite)` at any other byte, which is its number; `UnexpectedEof` if no byte remains; the errors of
+/// the parts; and `OutOfMemory`, at offset 0, when an allocation fails.
 impl<'a> FromReaderIn<'a> for CompositeType {
     ghost use Rattle.wasm_items.specs.RecGroups.{composite_parts, composite_type_at};
 
@@ -144,10 +154,13 @@ fn read_extending(alloc: Global, is_final: bool, reader: &mut BinaryReader<'_>) 
     })
 }
 
-/// A byte that says whether the type is final, the list of its supertypes and a composite type; or a composite type alone,
-/// which is final.
+/// Reads the byte 0x50 or, for a final type, 0x4F, the list of supertypes and a composite type; or a composite type
+/// alone, which is final.
 ///
-/// More than one supertype is `Supertypes` at their count.
+/// # Errors
+///
+/// `Supertypes` at the count of supertypes if it is above 1; `UnexpectedEof` if no byte remains; the errors of
+/// `read_var_u32` and `CompositeType`; and `OutOfMemory`, at offset 0, when an allocation fails.
 impl<'a> FromReaderIn<'a> for SubType {
     ghost meaning = { ReadsAs subtype_parts subtype_at };
 
@@ -172,7 +185,12 @@ impl<'a> FromReaderIn<'a> for SubType {
     }
 }
 
-/// A byte and a list of subtypes, for an explicit group; or a subtype alone.
+/// Reads the byte 0x4E and a list of subtypes, for an explicit group; or a subtype alone.
+///
+/// # Errors
+///
+/// `UnexpectedEof` if no byte remains; the errors of `read_var_u32` for the count and of `SubType`; and `OutOfMemory`,
+/// at offset 0, when an allocation fails.
 impl<'a> FromReaderIn<'a> for RecGroup {
     ghost use Rattle.wasm_items.specs.RecGroups.{rec_group_parts, rec_group_at};
 

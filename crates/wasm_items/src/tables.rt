@@ -11,30 +11,66 @@ use crate::limits::{IS_SHARED, IS_WIDE, has_flag, read_limits};
 use crate::types::{RefType, TableType};
 use wasm_base::{BinaryReader, Error, Fault, FromReader, Result, SectionLimited};
 
-/// The table section: its tables (core specification, Binary format, Modules, Table Section).
+/// The table section, whose items are tables.
+///
+/// ```rattle
+/// let section = TableSectionReader::new(BinaryReader::new(&[1, 0x70, 0x00, 10], 0))?;
+/// for table in section {
+///     assert_eq!(rt; table?.ty.initial, 10);
+/// }
+/// ```
+///
+/// (Core specification, Binary format, Modules, Table Section.)
 pub type TableSectionReader<'a> = SectionLimited<'a, Table<'a>>;
 
-/// A table (core specification, Binary format, Modules, Table Section).
+/// A table.
+///
+/// ```rattle
+/// // A table of 10 function references.
+/// let mut reader = BinaryReader::new(&[0x70, 0x00, 10], 0);
+/// let table = Table::from_reader(&mut reader)?;
+/// assert_eq!(rt; table.ty.element_type, RefType::FUNCREF);
+/// assert_eq!(rt; table.ty.maximum, None);
+/// ```
+///
+/// (Core specification, Binary format, Modules, Table Section.)
 #[derive(Clone, Debug, Drop)]
 pub struct Table<'a> {
-    /// Its type.
+    /// The type of the table.
     pub ty: TableType,
-    /// The initial value of its elements.
+    /// The initial value of the elements.
     pub init: TableInit<'a>,
 }
 
-/// The initial value of a table's elements (core specification, Binary format, Modules, Table Section).
+/// The initial value of a table's elements.
+///
+/// ```rattle
+/// // A table of one function reference, which is initialized with function 3.
+/// let mut reader = BinaryReader::new(&[0x40, 0, 0x70, 0, 1, 0xd2, 3, 0x0b], 0);
+/// match Table::from_reader(&mut reader)?.init {
+///     TableInit::RefNull => assert!(rt; false),
+///     TableInit::Expr(expression) => assert_eq!(rt; expression.range().start, 5),
+/// }
+/// ```
+///
+/// (Core specification, Binary format, Modules, Table Section.)
 #[derive(Clone, Debug, Drop)]
 pub enum TableInit<'a> {
-    /// A null reference.
+    /// A null reference: the table was encoded without an expression.
     RefNull,
-    /// The value of this expression.
+    /// The value of this constant expression.
     Expr(ConstExpr<'a>),
 }
 
-/// The type of the elements, flags, and limits. Flags above 7 are `TableFlags` at the flags.
+/// Reads the type of the elements, a byte of flags, the initial number of elements, and the maximum if flagged.
 ///
-/// The limits are 64-bit numbers if the reader has the feature `MEMORY64`, whatever the flags are.
+/// The flags are bit 0 for a maximum, bit 1 for a shared table and bit 2 for 64-bit indices. The limits are read as u64
+/// if the reader has the feature `MEMORY64`, and as u32 otherwise, whatever the flags are.
+///
+/// # Errors
+///
+/// `TableFlags` at flags above 7; `UnexpectedEof` if they are missing; and the errors of the type (`RefType`),
+/// `read_var_u64` and `read_var_u32`.
 impl<'a> FromReader<'a> for TableType {
     ghost use Rattle.wasm_items.specs.Tables.{table_type_at};
 
@@ -75,9 +111,12 @@ fn read_filled<'a>(reader: &mut BinaryReader<'a>) -> Result<Table<'a>>
     Ok(Table { ty, init })
 }
 
-/// A table type, or the bytes 0x40 and 0x00, a table type and an expression.
+/// Reads a table type; or the bytes 0x40 and 0x00, a table type and the expression of the initial value.
 ///
-/// A byte after 0x40 that is not 0 is `TableEncoding` at it.
+/// # Errors
+///
+/// `TableEncoding` at a byte after 0x40 that is not 0; `UnexpectedEof` if a byte is missing; and the errors of the type
+/// (`TableType`) and of the expression (`ConstExpr`).
 impl<'a> FromReader<'a> for Table<'a> {
     ghost use Rattle.wasm_items.specs.Tables.{table_at};
 

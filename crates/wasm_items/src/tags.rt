@@ -5,10 +5,23 @@ ghost use Rattle.wasm_base.specs.Item.{ReadsAs};
 use crate::types::{TagKind, TagType};
 use wasm_base::{BinaryReader, Error, Fault, FromReader, Result, SectionLimited};
 
-/// The tag section: the types of its tags (core specification, Binary format, Modules, Tag Section).
+/// The tag section, whose items are tag types.
+///
+/// ```rattle
+/// let section = TagSectionReader::new(BinaryReader::new(&[1, 0, 4], 0))?;
+/// for tag in section {
+///     assert_eq!(rt; tag?.func_type_idx, 4);
+/// }
+/// ```
+///
+/// (Core specification, Binary format, Modules, Tag Section.)
 pub type TagSectionReader<'a> = SectionLimited<'a, TagType>;
 
-/// A byte that is 0, else `TagAttributes` at it, and the index of a type, a u32.
+/// Reads a byte that must be 0, and the index of a function type, a u32.
+///
+/// # Errors
+///
+/// `TagAttributes` at a first byte other than 0; `UnexpectedEof` if it is missing; and the errors of `read_var_u32`.
 impl<'a> FromReader<'a> for TagType {
     ghost use Rattle.wasm_items.specs.Tags.{tag_type_at};
 

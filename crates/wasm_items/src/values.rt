@@ -30,9 +30,12 @@ fn abstract_heap(byte: u8) -> Option<HeapType>
     }
 }
 
-/// A byte that is an abstract heap type, or the index of a type as a signed 33-bit number.
+/// Reads a byte that encodes an abstract heap type, or the index of a type as a signed 33-bit number.
 ///
-/// A negative number is `LeadingByte(Heap)` at its first byte, with that byte as its number.
+/// # Errors
+///
+/// `LeadingByte(Heap)` at the first byte of a negative number, with that byte as the number of the error; and the
+/// errors of `read_var_s33`.
 impl<'a> FromReader<'a> for HeapType {
     ghost use Rattle.wasm_items.specs.Values.{heap_type_at};
 
@@ -82,9 +85,13 @@ fn read_ref_type(lead: Lead, reader: &mut BinaryReader<'_>) -> Result<RefType>
     }
 }
 
-/// An abstract heap type for a reference that may be null, or a byte that says whether it may be, and a heap type.
+/// Reads the byte of an abstract heap type, for a nullable reference to it; or the byte 0x63 (nullable) or 0x64 (not
+/// nullable) and a heap type.
 ///
-/// Another first byte is `LeadingByte(Reference)` at it, with the byte as its number.
+/// # Errors
+///
+/// `LeadingByte(Reference)` at any other first byte, which is its number; `UnexpectedEof` if no byte remains; and the
+/// errors of `HeapType`.
 impl<'a> FromReader<'a> for RefType {
     ghost use Rattle.wasm_items.specs.Values.{ref_type_at};
 
@@ -109,9 +116,12 @@ fn plain_type(byte: u8) -> Option<ValType>
     }
 }
 
-/// A byte that is a number type or a vector type, or a reference type.
+/// Reads the byte of a number type or vector type, or a reference type.
 ///
-/// Another first byte is `LeadingByte(Value)` at it, with the byte as its number.
+/// # Errors
+///
+/// `LeadingByte(Value)` at any other first byte, which is its number; `UnexpectedEof` if no byte remains; and the
+/// errors of `HeapType`.
 impl<'a> FromReader<'a> for ValType {
     ghost use Rattle.wasm_items.specs.Values.{val_type_at};
 
