@@ -5,9 +5,9 @@ use Rattle.std.specs.Prelude.{map}
 use Rattle.std.proofs.lemmas.List.{drop-take}
 use Rattle.wasm_base.proofs.OwnBytes.{cut, OwnAt, Own, own_nothing, own_both, own_number}
 use Rattle.wasm_base.proofs.Runs.{runs_give_items}
-use Rattle.wasm_base.specs.Announced.{AreSoMany, GivesAnnounced}
+use Rattle.wasm_base.specs.Announced.{AreCounted, GivesAnnounced}
 use Rattle.wasm_base.specs.FaultAt.{FaultAt}
-use Rattle.wasm_base.specs.Inner.{all_passed_at, section_between, inner_section_at, after_reading}
+use Rattle.wasm_base.specs.Inner.{all_skipped_at, section_between, inner_section_at, after_reading}
 use Rattle.wasm_base.specs.Item.{ReadsAs}
 use Rattle.wasm_base.specs.Number.{unsigned_at}
 use Rattle.wasm_base.specs.Outcome.{Outcome, ◌>>=◌}
@@ -34,9 +34,9 @@ read_as x y e = cc
 pub record Follows {B : Type 0} (pass : Place → Outcome (Unit {0})) (reading : Place → Outcome B) : Type 0 where
   pub reads : (p q : Place) → pass p ≡ Ok (tt, q) → (x : B) × (reading p ≡ Ok (x, q))
 
-pub own_all : (pass : Place → Outcome (Unit {0})) → Own pass → (count : ℕ) → Own (all_passed_at pass count)
+pub own_all : (pass : Place → Outcome (Unit {0})) → Own pass → (count : ℕ) → Own (all_skipped_at pass count)
 own_all pass own zero = own_nothing tt
-own_all pass own (suc count) = own_both pass (λ a p. all_passed_at pass count p) own (λ a. own_all pass own count)
+own_all pass own (suc count) = own_both pass (λ a p. all_skipped_at pass count p) own (λ a. own_all pass own count)
 
 ends : {T : Type 0} (features offset : ℕ) (rest : List ℕ) (given : List (Result T FaultAt)) → length rest ≡ 0 → given
     ≡ at_the_end (record { features = features; offset = offset; rest = rest }) → given ≡ []
@@ -64,8 +64,8 @@ window_place p c e k m is at end =
 module _ {T B : Type 0} (pass : Place → Outcome (Unit {0})) (own : Own pass) (view : T → B) (reading : Place → Outcome B)
     (follows : Follows pass reading) where
   -- The items of a window that ends where passing over them does.
-  all_read : (count m : ℕ) (p e : Place) (given : List (Result T FaultAt)) → all_passed_at pass count p ≡ Ok (tt, e) → e.offset
-      ≡ p.offset + m → ItemsOf (ReadsAs view reading) count (cut m p) given → AreSoMany count given
+  all_read : (count m : ℕ) (p e : Place) (given : List (Result T FaultAt)) → all_skipped_at pass count p ≡ Ok (tt, e) → e.offset
+      ≡ p.offset + m → ItemsOf (ReadsAs view reading) count (cut m p) given → AreCounted count given
   all_read zero m p e given passed moved items =
       let same : p ≡ e = ap (λ (r : Unit {0} × Place). r.1) (read_as (tt, p) (tt, e) passed) in
       let z : m ≡ 0 = omega (arith, moved, ap (λ (w : Place). w.offset) same) in
@@ -75,13 +75,13 @@ module _ {T B : Type 0} (pass : Place → Outcome (Unit {0})) (own : Own pass) (
   all_read (suc count) m p e (x ∷ given) passed moved items = by
       x given items (all_read count later.used steps.between.1 e given steps.other (ap (λ (w : Place). w.offset) later.after))
     where
-      steps : InSteps (pass p) (λ r. all_passed_at pass count r.1) (tt, e)
-      steps = in_steps (pass p) (λ r. all_passed_at pass count r.1) (tt, e) passed
+      steps : InSteps (pass p) (λ r. all_skipped_at pass count r.1) (tt, e)
+      steps = in_steps (pass p) (λ r. all_skipped_at pass count r.1) (tt, e) passed
 
       one : OwnAt pass p tt steps.between.1
       one = own.at p tt steps.between.1 steps.one
 
-      later : OwnAt (all_passed_at pass count) steps.between.1 tt e
+      later : OwnAt (all_skipped_at pass count) steps.between.1 tt e
       later = (own_all pass own count).at steps.between.1 tt e steps.other
 
       used : m ≡ one.used + later.used
@@ -91,8 +91,8 @@ module _ {T B : Type 0} (pass : Place → Outcome (Unit {0})) (own : Own pass) (
       here = follows.reads (cut m p) (cut later.used steps.between.1) (one.alone m later.used used)
 
       by : (x : Result T FaultAt) (given : List (Result T FaultAt)) → ItemsOf (ReadsAs view reading) (suc count) (cut m p) (x ∷ given)
-          → (ItemsOf (ReadsAs view reading) count (cut later.used steps.between.1) given → AreSoMany count given)
-          → AreSoMany (suc count) (x ∷ given)
+          → (ItemsOf (ReadsAs view reading) count (cut later.used steps.between.1) given → AreCounted count given)
+          → AreCounted (suc count) (x ∷ given)
       by (Err f) given items again = absurd (let z = sym here.1 ∙ items.0 in cc)
       by (Ok x) given items again =
           let left : B × Place = (here.0, cut later.used steps.between.1) in
@@ -102,13 +102,13 @@ module _ {T B : Type 0} (pass : Place → Outcome (Unit {0})) (own : Own pass) (
 
   -- The items of the section that a list is.
   inner_read : (p q : Place) (s : Section) (given : List (Result T FaultAt)) → inner_section_at pass p ≡ Ok (s, q)
-      → ItemsOf (ReadsAs view reading) s.count (place s.reader) given → AreSoMany s.count given
+      → ItemsOf (ReadsAs view reading) s.count (place s.reader) given → AreCounted s.count given
   unfolding inner_section_at
   inner_read p q s given e items =
-      let counted = in_steps (unsigned_at VarU32 p) (λ c. all_passed_at pass c.0 c.1 >>= λ end.
+      let counted = in_steps (unsigned_at VarU32 p) (λ c. all_skipped_at pass c.0 c.1 >>= λ end.
       let o : Outcome Section = Ok (section_between p c end.1, end.1) in o) (s, q) e in
       let count : ℕ × Place = counted.between in
-      let passed = in_steps (all_passed_at pass count.0 count.1)
+      let passed = in_steps (all_skipped_at pass count.0 count.1)
       (λ end. let o : Outcome Section = Ok (section_between p count end.1, end.1) in o) (s, q) counted.other in
       let end : Place = passed.between.1 in
       let both : (section_between p count end, end) ≡ (s, q) = read_as (section_between p count end, end) (s, q) passed.other in
@@ -122,10 +122,10 @@ module _ {T B : Type 0} (pass : Place → Outcome (Unit {0})) (own : Own pass) (
       let moved : ItemsOf (ReadsAs view reading) count.0 (cut all.used count.1) given =
       subst (λ (w : Place). ItemsOf (ReadsAs view reading) count.0 w given) there
       (subst (λ (z : Section). ItemsOf (ReadsAs view reading) z.count (place z.reader) given) (sym same) items) in
-      let exactly_n : AreSoMany count.0 given = all_read count.0 all.used count.1 end given passed.one last moved in
-      subst (λ (z : Section). AreSoMany z.count given) same exactly_n
+      let as_counted : AreCounted count.0 given = all_read count.0 all.used count.1 end given passed.one last moved in
+      subst (λ (z : Section). AreCounted z.count given) same as_counted
 
-  unmapped : (count : ℕ) (given : List (Result T Error)) → AreSoMany count (map item_or_fault given) → AreSoMany count given
+  unmapped : (count : ℕ) (given : List (Result T Error)) → AreCounted count (map item_or_fault given) → AreCounted count given
   unmapped zero [] h = h
   unmapped zero (x ∷ given) h = h
   unmapped (suc count) [] h = h

@@ -8,23 +8,23 @@ use Rattle.wasm_base.specs.Section.{Section, ReadsSection}
 use Rattle.wasm_base.specs.Window.{Window, Place, place, advanced, window_between, KeepsWindow}
 use Rattle.wasm_base.specs.declared.error.Error.{Error}
 use Rattle.wasm_base.specs.declared.fault.NumberKind.TheVariants.{VarU32}
-use Rattle.wasm_base.specs.Inner.{all_passed_at, section_between, inner_section_at}
+use Rattle.wasm_base.specs.Inner.{all_skipped_at, section_between, inner_section_at}
 
 module _ (pass : Place → Outcome (Unit {0})) where
   -- one more was passed
-  pub one_passed : (count i : ℕ) (p next : Place) (whole : Outcome (Unit {0})) → i < count → all_passed_at pass (count - i) p ≡ whole
-      → pass p ≡ Ok (tt, next) → all_passed_at pass (count - (i + 1)) next ≡ whole
+  pub one_passed : (count i : ℕ) (p next : Place) (whole : Outcome (Unit {0})) → i < count → all_skipped_at pass (count - i) p ≡ whole
+      → pass p ≡ Ok (tt, next) → all_skipped_at pass (count - (i + 1)) next ≡ whole
   one_passed count i p next whole lt so_far one =
       let k : count - i ≡ suc (count - (i + 1)) = omega arith in
-      let step : all_passed_at pass (suc (count - (i + 1))) p ≡ whole = rw k at so_far in
+      let step : all_skipped_at pass (suc (count - (i + 1))) p ≡ whole = rw k at so_far in
       rw one at step
 
   -- one could not be passed
-  pub not_passed : (count i : ℕ) (p : Place) (whole : Outcome (Unit {0})) (e : FaultAt) → i < count → all_passed_at pass (count - i) p
+  pub not_passed : (count i : ℕ) (p : Place) (whole : Outcome (Unit {0})) (e : FaultAt) → i < count → all_skipped_at pass (count - i) p
       ≡ whole → pass p ≡ Err e → whole ≡ Err e
   not_passed count i p whole e lt so_far one =
       let k : count - i ≡ suc (count - (i + 1)) = omega arith in
-      let step : all_passed_at pass (suc (count - (i + 1))) p ≡ whole = rw k at so_far in
+      let step : all_skipped_at pass (suc (count - (i + 1))) p ≡ whole = rw k at so_far in
       sym (rw one at step)
 
 -- a window by its parts
@@ -103,7 +103,7 @@ module _ (p q : Place) (count : ℕ × Place) (counts : unsigned_at VarU32 p ≡
 
 -- A section that is made of the window of a count and the items after it is what passing over them says.
 pub inner_read : (pass : Place → Outcome (Unit {0})) (p q : Place) (count : ℕ × Place) (result : Result Section Error)
-    → unsigned_at VarU32 p ≡ Ok count → all_passed_at pass count.0 count.1 ≡ Ok (tt, q) → count.1.offset ≤ q.offset
+    → unsigned_at VarU32 p ≡ Ok count → all_skipped_at pass count.0 count.1 ≡ Ok (tt, q) → count.1.offset ≤ q.offset
     → ReadsSection (place (window_between p q)) result → IfOk result (λ (s : Section). KeepsWindow (window_between p q) s.reader)
     → Gives {X = Section} (λ s. s) result q (inner_section_at pass p)
 unfolding inner_section_at

@@ -8,7 +8,7 @@ use Rattle.wasm_base.specs.FaultAt.{at_offset}
 use Rattle.wasm_base.specs.Name.{bytes_at, is_above, name_limit, text_at}
 use Rattle.wasm_base.specs.Number.{unsigned_at}
 use Rattle.wasm_base.specs.Outcome.{Outcome, ◌>>=◌}
-use Rattle.wasm_base.specs.Skip.{passed_at, skipped_name_at}
+use Rattle.wasm_base.specs.Skip.{skipped_at, skipped_name_at}
 use Rattle.wasm_base.specs.TextOf.{text_of}
 use Rattle.wasm_base.specs.Window.{Place, advanced}
 use Rattle.wasm_base.specs.declared.fault.Fault.TheVariants.{StringSize, UnexpectedEof, MalformedUtf8}
@@ -21,12 +21,12 @@ value_or other (Err e) = other
 
 -- a size, and then its bytes, which are skipped
 abbrev after_skip : ℕ × Place → Outcome (Unit {0})
-after_skip size = cond (is_above (Some name_limit) size.0) (Err (at_offset StringSize (size.1.offset - 1))) (passed_at size.0 size.1)
+after_skip size = cond (is_above (Some name_limit) size.0) (Err (at_offset StringSize (size.1.offset - 1))) (skipped_at size.0 size.1)
 
 module _ (text : List ℕ) (q : Place) where
   -- The bytes of a text that was read are there, and are skipped.
   bytes_taken : (b c : Bool) (n : ℕ) (p : Place) → nat_lt (length p.rest) n ≡ b → is_utf8 (take n p.rest) ≡ c → text_of n p ≡ Ok (text, q)
-      → (take n p.rest ≡ text) × (passed_at n p ≡ Ok (tt, q)) × (nat_lt (length p.rest) n ≡ false)
+      → (take n p.rest ≡ text) × (skipped_at n p ≡ Ok (tt, q)) × (nat_lt (length p.rest) n ≡ false)
   unfolding text_of
   bytes_taken true c n p b_is c_is h = let z = rw b_is at h in absurd (cc)
   bytes_taken false false n p b_is c_is h = let z = rw (b_is, c_is) at h in absurd (cc)
@@ -37,7 +37,7 @@ module _ (text : List ℕ) (q : Place) where
 
 module _ (limit : Option ℕ) (text : List ℕ) (q : Place) where
   size_step : (b : Bool) (size : ℕ × Place) → is_above limit size.0 ≡ b → after_read limit size ≡ Ok (text, q)
-      → (take size.0 size.1.rest ≡ text) × (passed_at size.0 size.1 ≡ Ok (tt, q)) × (nat_lt (length size.1.rest) size.0 ≡ false)
+      → (take size.0 size.1.rest ≡ text) × (skipped_at size.0 size.1 ≡ Ok (tt, q)) × (nat_lt (length size.1.rest) size.0 ≡ false)
   size_step true size e h = let z = rw e at h in absurd (cc)
   size_step false size e h = let z = rw e at h in bytes_taken text q (nat_lt (length size.1.rest) size.0)
       (is_utf8 (take size.0 size.1.rest)) size.0 size.1 refl refl z

@@ -64,10 +64,10 @@ module _ {T : Type 0} (meaning : Place → Outcome T → Type 0) (next : Items �
   one_less true s t x ended went = absurd (let e = ((steps _ _ _ went).over ended).0 in cc)
   one_less false s t x going went = going_on s.left s t x going refl went
 
-  exactly_n : (s t : Items) (given : List (Result T Error)) → Yields next s given t → length given ≤ most_items s
-  exactly_n s t [] run = omega arith
-  exactly_n s t (x ∷ given) run =
-      let rest = exactly_n run.0 t given run.2 in
+  no_more : (s t : Items) (given : List (Result T Error)) → Yields next s given t → length given ≤ most_items s
+  no_more s t [] run = omega arith
+  no_more s t (x ∷ given) run =
+      let rest = no_more run.0 t given run.2 in
       let less = one_less s.ended s run.0 x refl run.1 in
       omega (arith, rest, less)
 
@@ -81,7 +81,7 @@ module _ {T : Type 0} (meaning : Place → Outcome T → Type 0) (next : Items �
   runs_give s = record {
     items = λ going given run. run_is_items s.left s run.1.0 run.0 given going refl run.1.1 run.1.2;
     over = λ ended given run. over_gives_nothing s run.1.0 given ended run.1.1;
-    at_most = λ given run. exactly_n s run.1.0 given run.1.1;
+    at_most = λ given run. no_more s run.1.0 given run.1.1;
     after = λ t u given none went. ((steps _ _ _ went).over (none_ends s.ended s.left s t refl refl none)).0;
   }
 

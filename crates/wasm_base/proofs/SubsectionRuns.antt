@@ -43,11 +43,11 @@ module _ {T : Type 0} (meaning : ℕ → Window → Result T FaultAt → Type 0)
       let there : length (drop t.position t.bytes) ≡ length s.bytes - t.position = rw kept.bytes (length-drop t.position s.bytes) in
       omega (arith, here, there, moves, some)
 
-  exactly_n : (s t : Window) (given : List (Result T Error)) → Yields (NextSubsection meaning takes) s given t
+  no_more : (s t : Window) (given : List (Result T Error)) → Yields (NextSubsection meaning takes) s given t
       → length given ≤ length (place s).rest
-  exactly_n s t [] run = omega arith
-  exactly_n s t (x ∷ given) run =
-      let rest = exactly_n run.0 t given run.2 in
+  no_more s t [] run = omega arith
+  no_more s t (x ∷ given) run =
+      let rest = no_more run.0 t given run.2 in
       let less = fewer s run.0 run.1.1 run.1.2 run.1.3 in
       omega (arith, rest, less)
 
@@ -60,6 +60,6 @@ module _ {T : Type 0} (meaning : ℕ → Window → Result T FaultAt → Type 0)
   pub runs_give_subsections : (s : Window) → GivesSubsections (NextSubsection meaning takes) (UnlessTaken meaning takes) s
   runs_give_subsections s = record {
     subsections = λ given run. run_is_subsections s run.1.0 run.0 given run.1.1 run.1.2;
-    at_most = λ given run. exactly_n s run.1.0 given run.1.1;
+    at_most = λ given run. no_more s run.1.0 given run.1.1;
     after = nothing_after s;
   }

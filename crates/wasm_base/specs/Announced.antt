@@ -5,14 +5,14 @@ use Rattle.wasm_base.specs.Section.{Section, Items, all_items}
 use Rattle.wasm_base.specs.declared.error.Error.{Error}
 
 -- These are exactly this many items, and no fault.
-abbrev pub AreSoMany : {T E : Type 0} → ℕ → List (Result T E) → Type 0
-AreSoMany zero [] = Unit {0}
-AreSoMany zero (x ∷ given) = ⊥
-AreSoMany (suc count) [] = ⊥
-AreSoMany (suc count) (Ok x ∷ given) = AreSoMany count given
-AreSoMany (suc count) (Err e ∷ given) = ⊥
+abbrev pub AreCounted : {T E : Type 0} → ℕ → List (Result T E) → Type 0
+AreCounted zero [] = Unit {0}
+AreCounted zero (x ∷ given) = ⊥
+AreCounted (suc count) [] = ⊥
+AreCounted (suc count) (Ok x ∷ given) = AreCounted count given
+AreCounted (suc count) (Err e ∷ given) = ⊥
 
 -- Calls of `next` up to the first `None` return as many items as the section announces, and no fault.
 abbrev pub GivesAnnounced : {T : Type 0} → (Items → Option (Result T Error) → Items → Type 0) → Section → Type 0
 GivesAnnounced {T} next section = (given : List (Result T Error)) → Drains next (all_items section) given
-    → AreSoMany section.count given
+    → AreCounted section.count given

@@ -16,9 +16,9 @@ is_out_of_memory OutOfMemory = true
 is_out_of_memory fault = false
 
 -- What a call returned is not out of memory.
-abbrev pub TakesNoMemory : {X : Type 0} → Result X Error → Type 0
-TakesNoMemory (Ok x) = Unit {0}
-TakesNoMemory (Err e) = is_out_of_memory (fault_at e).fault ≡ false
+abbrev pub NotOutOfMemory : {X : Type 0} → Result X Error → Type 0
+NotOutOfMemory (Ok x) = Unit {0}
+NotOutOfMemory (Err e) = is_out_of_memory (fault_at e).fault ≡ false
 
 -- what an error hints at: the number of missing bytes if bytes are missing, nothing at any other fault
 abbrev pub hint_at : ℕ → Fault → Option ℕ

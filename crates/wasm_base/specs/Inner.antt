@@ -14,11 +14,11 @@ after_reading reading p = do
   Ok (tt, item.1)
 
 -- the place after this many items, one after the other
-abbrev pub all_passed_at : (Place → Outcome (Unit {0})) → (count : ℕ) → Place → Outcome (Unit {0})
-all_passed_at pass zero p = Ok (tt, p)
-all_passed_at pass (suc count) p = do
+abbrev pub all_skipped_at : (Place → Outcome (Unit {0})) → (count : ℕ) → Place → Outcome (Unit {0})
+all_skipped_at pass zero p = Ok (tt, p)
+all_skipped_at pass (suc count) p = do
   one ← pass p
-  all_passed_at pass count one.1
+  all_skipped_at pass count one.1
 
 -- The section of a count and that many skipped items: its window begins at the count, at p, and its reader is after the
 -- count.
@@ -32,14 +32,14 @@ section_between p count q = record {
 unfoldable pub inner_section_at : (Place → Outcome (Unit {0})) → Place → Outcome Section
 inner_section_at pass p = do
   count ← unsigned_at VarU32 p
-  end ← all_passed_at pass count.0 count.1
+  end ← all_skipped_at pass count.0 count.1
   Ok (section_between p count end.1, end.1)
 
 -- Wherever such an item is read, skipping it consumes the same bytes as reading it.
-abbrev pub PassesIfSuch : {T : Type 0} → (T → Type 0) → (Place → Outcome T → Type 0) → (Place → Outcome (Unit {0}))
+abbrev pub SkipsIfSuch : {T : Type 0} → (T → Type 0) → (Place → Outcome T → Type 0) → (Place → Outcome (Unit {0}))
     → Type 0
-PassesIfSuch {T} Such meaning pass = (p q : Place) (x : T) → Such x → meaning p (Ok (x, q)) → pass p ≡ Ok (tt, q)
+SkipsIfSuch {T} Such meaning pass = (p q : Place) (x : T) → Such x → meaning p (Ok (x, q)) → pass p ≡ Ok (tt, q)
 
 -- Wherever an item is read, skipping it consumes the same bytes as reading it.
-abbrev pub PassesAsRead : {T : Type 0} → (Place → Outcome T → Type 0) → (Place → Outcome (Unit {0})) → Type 0
-PassesAsRead meaning pass = PassesIfSuch (λ x. Unit {0}) meaning pass
+abbrev pub SkipsAsRead : {T : Type 0} → (Place → Outcome T → Type 0) → (Place → Outcome (Unit {0})) → Type 0
+SkipsAsRead meaning pass = SkipsIfSuch (λ x. Unit {0}) meaning pass

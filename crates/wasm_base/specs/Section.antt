@@ -3,7 +3,7 @@ use Rattle.std.specs.Prelude.{◌≡◌, ℕ, zero, suc, ◌+◌, ◌-◌, ◌<�
 use Rattle.std.specs.Prelude.{length, Option, Some, None, IfSome, Result, Ok, Err, nat_lt, if◌then◌else◌, map}
 use Rattle.std.specs.Iterator.{Drains}
 use Rattle.wasm_base.specs.FaultAt.{FaultAt, fault_at, at_offset}
-use Rattle.wasm_base.specs.Hints.{TakesNoMemory, HintsNothing}
+use Rattle.wasm_base.specs.Hints.{NotOutOfMemory, HintsNothing}
 use Rattle.wasm_base.specs.Item.{Alike}
 use Rattle.wasm_base.specs.Number.{unsigned_at}
 use Rattle.wasm_base.specs.Outcome.{Outcome, ◌>>=◌}
@@ -63,7 +63,7 @@ pub record NextItem {T : Type 0} (meaning : Place → Outcome T → Type 0) (s :
   pub last : s.ended ≡ false → s.left ≡ 0 → ReadsEnd s given t
   pub count : t.count ≡ s.count
   pub keeps : KeepsWindow s.reader t.reader
-  pub memory : IfSome given TakesNoMemory
+  pub memory : IfSome given NotOutOfMemory
   pub no_hint : s.left ≡ 0 → IfSome given HintsNothing
 
 -- An iterator is over exactly if its item was a fault.
@@ -79,7 +79,7 @@ pub record NextItemIn {T : Type 0} (meaning : Place → Outcome T → Type 0) (s
   pub last : s.ended ≡ false → s.left ≡ 0 → ReadsEnd s given t
   pub count : t.count ≡ s.count
   pub keeps : KeepsWindow s.reader t.reader
-  pub memory : s.left ≡ 0 → IfSome given TakesNoMemory
+  pub memory : s.left ≡ 0 → IfSome given NotOutOfMemory
   pub no_hint : s.left ≡ 0 → IfSome given HintsNothing
 
 -- the most results that may still come: one more than the remaining items, for a fault at the end

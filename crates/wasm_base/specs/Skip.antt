@@ -1,7 +1,7 @@
 -- Bytes that are skipped.
 use Rattle.std.specs.Prelude.{◌≡◌, ℕ, ◌-◌, take, Some, Result, Ok, Err, if◌then◌else◌}
 use Rattle.wasm_base.specs.FaultAt.{at_offset}
-use Rattle.wasm_base.specs.Inner.{after_reading, all_passed_at}
+use Rattle.wasm_base.specs.Inner.{after_reading, all_skipped_at}
 use Rattle.wasm_base.specs.Name.{bytes_at, is_above, name_limit}
 use Rattle.wasm_base.specs.Number.{unsigned_at}
 use Rattle.wasm_base.specs.Outcome.{Outcome, ◌>>=◌}
@@ -11,8 +11,8 @@ use Rattle.wasm_base.specs.declared.fault.Fault.TheVariants.{StringSize}
 use Rattle.wasm_base.specs.declared.fault.NumberKind.TheVariants.{VarU32}
 
 -- n bytes, whatever they are
-abbrev pub passed_at : ℕ → Place → Outcome (Unit {0})
-passed_at n p = do
+abbrev pub skipped_at : ℕ → Place → Outcome (Unit {0})
+skipped_at n p = do
   bytes ← bytes_at n p
   Ok (tt, bytes.1)
 
@@ -20,11 +20,11 @@ passed_at n p = do
 unfoldable pub skipped_name_at : Place → Outcome (Unit {0})
 skipped_name_at p = do
   size ← unsigned_at VarU32 p
-  if is_above (Some name_limit) size.0 then Err (at_offset StringSize (size.1.offset - 1)) else passed_at size.0 size.1
+  if is_above (Some name_limit) size.0 then Err (at_offset StringSize (size.1.offset - 1)) else skipped_at size.0 size.1
 
 -- `count` u32 numbers, one after the other, whatever their values are
-abbrev pub numbers_passed_at : (count : ℕ) → Place → Outcome (Unit {0})
-numbers_passed_at count = all_passed_at (after_reading (unsigned_at VarU32)) count
+abbrev pub skipped_numbers_at : (count : ℕ) → Place → Outcome (Unit {0})
+skipped_numbers_at count = all_skipped_at (after_reading (unsigned_at VarU32)) count
 
 -- the window of the next n bytes
 abbrev pub window_of : ℕ → Place → Window
@@ -35,8 +35,8 @@ abbrev pub NeverGoesBack : (Window → Result (Unit {0}) Error → Window → Ty
 NeverGoesBack calls = (old new : Window) (given : Result (Unit {0}) Error) → calls old given new → KeepsWindow old new
 
 -- The call skipped these bytes of the window, which are the window that is returned; or it returned this error.
-abbrev pub PassesOver : (Window → Result (Unit {0}) Error → Window → Type 0) → Window → Result Window Error → Window
+abbrev pub Skips : (Window → Result (Unit {0}) Error → Window → Type 0) → Window → Result Window Error → Window
     → Type 0
-PassesOver calls old (Ok window) new = calls old (Ok tt) new
+Skips calls old (Ok window) new = calls old (Ok tt) new
     × (window ≡ window_of (new.position - old.position) (place old))
-PassesOver calls old (Err e) new = calls old (Err e) new
+Skips calls old (Err e) new = calls old (Err e) new

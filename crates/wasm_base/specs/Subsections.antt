@@ -4,7 +4,7 @@ use Rattle.std.specs.Prelude.{◌≡◌, ℕ, ◌<◌, ◌≤◌, ◌⊎◌, Boo
 use Rattle.std.specs.Prelude.{Result, Ok, Err, map}
 use Rattle.std.specs.Iterator.{Drains}
 use Rattle.wasm_base.specs.FaultAt.{FaultAt}
-use Rattle.wasm_base.specs.Hints.{TakesNoMemory}
+use Rattle.wasm_base.specs.Hints.{NotOutOfMemory}
 use Rattle.wasm_base.specs.Name.{u7_at, window_at}
 use Rattle.wasm_base.specs.Number.{after_number}
 use Rattle.wasm_base.specs.Outcome.{Outcome, ◌>>=◌}
@@ -56,7 +56,7 @@ abbrev pub NextSubsection : {T : Type 0} → (ℕ → Window → Result T FaultA
 NextSubsection meaning takes s None t = (length (place s).rest ≡ 0) × (t ≡ s)
 NextSubsection meaning takes s (Some given) t = ReadsSubsection meaning takes (place s) (subsection_at (place s)) given
     (place t) × KeepsWindow s t × (s.position < t.position) × (0 < length (place s).rest)
-    × (takes ≡ false → TakesNoMemory given)
+    × (takes ≡ false → NotOutOfMemory given)
 
 -- What comes first of the subsections of a window: what the first one means, and the others are those after it. After
 -- the fault of an id or a size the others are those after the bytes that reading these takes.

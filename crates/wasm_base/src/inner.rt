@@ -1,7 +1,7 @@
 // Lists inside an item that are not owned: they are skipped, and become sections of their own.
 ghost use Rattle.std.specs.Prelude.{◌≡◌};
-ghost use Rattle.wasm_base.specs.Hints.{TakesNoMemory};
-ghost use Rattle.wasm_base.specs.Inner.{all_passed_at, inner_section_at, after_reading};
+ghost use Rattle.wasm_base.specs.Hints.{NotOutOfMemory};
+ghost use Rattle.wasm_base.specs.Inner.{all_skipped_at, inner_section_at, after_reading};
 ghost use Rattle.wasm_base.specs.Number.{unsigned_at};
 ghost use Rattle.wasm_base.specs.Outcome.{Outcome, GivesBy};
 ghost use Rattle.wasm_base.specs.Skip.{skipped_name_at};
@@ -26,7 +26,7 @@ use crate::section::SectionLimited;
 /// ```
 pub trait SkipItem<'a>: FromReader<'a> {
     /// The place after the skipped bytes, or the fault.
-    ghost passed_at: { Place → Outcome (Unit {0}) };
+    ghost skipped_at: { Place → Outcome (Unit {0}) };
 
     /// Skips an item: consumes the bytes that reading it consumes. It may check less of them.
     ///
@@ -35,14 +35,14 @@ pub trait SkipItem<'a>: FromReader<'a> {
     /// Those of the item, as its `impl` says. The reader is then in its window, at or after its previous position. The
     /// fault is never `OutOfMemory`.
     fn skip_item(reader: &mut BinaryReader<'a>) -> Result<()>
-        ensures gives { GivesBy (λ nothing. nothing) result reader.old reader.new passed_at }
+        ensures gives { GivesBy (λ nothing. nothing) result reader.old reader.new skipped_at }
         ensures keeps { KeepsWindow reader.old reader.new }
-        ensures memory { TakesNoMemory result };
+        ensures memory { NotOutOfMemory result };
 }
 
 /// Skips a name of at most 100,000 bytes, as `skip_string` does: the bytes need not be UTF-8.
 impl<'a> SkipItem<'a> for &'a str {
-    ghost passed_at = { skipped_name_at };
+    ghost skipped_at = { skipped_name_at };
 
     fn skip_item(reader: &mut BinaryReader<'a>) -> Result<()> {
         reader.skip_string()
@@ -69,11 +69,11 @@ pub fn passed_since<'a>(before: &BinaryReader<'a>, after: &BinaryReader<'a>) -> 
 }
 
 // Skips `count` items, one after the other.
-fn pass_items<'a, T: SkipItem<'a>>(count: u32, reader: &mut BinaryReader<'a>) -> Result<()>
+fn skip_items<'a, T: SkipItem<'a>>(count: u32, reader: &mut BinaryReader<'a>) -> Result<()>
     ensures gives { GivesBy (λ nothing. nothing) result reader.old reader.new
-        (all_passed_at T.passed_at count) }
+        (all_skipped_at T.skipped_at count) }
     ensures keeps { KeepsWindow reader.old reader.new }
-    ensures memory { TakesNoMemory result }
+    ensures memory { NotOutOfMemory result }
 {
     'items: for _ in 0..count {
         T::skip_item(reader)?;
@@ -91,13 +91,13 @@ pub fn read_inner<'a, T: SkipItem<'a>>(
     reader: &mut BinaryReader<'a>,
 ) -> Result<SectionLimited<'a, T>>
     ensures gives { GivesBy (λ section. section) result reader.old reader.new
-        (inner_section_at T.passed_at) }
+        (inner_section_at T.skipped_at) }
     ensures keeps { KeepsWindow reader.old reader.new }
-    ensures memory { TakesNoMemory result }
+    ensures memory { NotOutOfMemory result }
 {
     let before = reader.clone().unwrap();
     let count = reader.read_var_u32()?;
-    pass_items::<T>(count, reader)?;
+    skip_items::<T>(count, reader)?;
     SectionLimited::new(passed_since(&before, reader))
 }
 
@@ -111,7 +111,7 @@ pub fn read_inner_u32s<'a>(reader: &mut BinaryReader<'a>) -> Result<SectionLimit
     ensures gives { GivesBy (λ section. section) result reader.old reader.new
         (inner_section_at (after_reading (unsigned_at VarU32))) }
     ensures keeps { KeepsWindow reader.old reader.new }
-    ensures memory { TakesNoMemory result }
+    ensures memory { NotOutOfMemory result }
 {
     let before = reader.clone().unwrap();
     let count = reader.read_var_u32()?;

@@ -1,5 +1,5 @@
 // What can be read from a reader.
-ghost use Rattle.wasm_base.specs.Hints.{TakesNoMemory, Hints, missing_of_sized};
+ghost use Rattle.wasm_base.specs.Hints.{NotOutOfMemory, Hints, missing_of_sized};
 ghost use Rattle.wasm_base.specs.Item.{Means, ReadsAs, ReadsName, BothInTurn, bool_at};
 ghost use Rattle.wasm_base.specs.Number.{unsigned_at};
 ghost use Rattle.wasm_base.specs.Outcome.{Outcome};
@@ -33,7 +33,7 @@ pub trait FromReader<'a>: Sized + Drop {
     fn from_reader(reader: &mut BinaryReader<'a>) -> Result<Self>
         ensures means { Means meaning (place reader.old) result (place reader.new) }
         ensures keeps { KeepsWindow reader.old reader.new }
-        ensures memory { TakesNoMemory result };
+        ensures memory { NotOutOfMemory result };
 }
 
 /// Reads a byte that is 0 or 1.
@@ -49,7 +49,7 @@ impl<'a> FromReader<'a> for bool {
         ensures means { Means (ReadsAs (λ truth. truth) bool_at) (place reader.old) result
             (place reader.new) }
         ensures keeps { KeepsWindow reader.old reader.new }
-        ensures memory { TakesNoMemory result }
+        ensures memory { NotOutOfMemory result }
         ensures hints { Hints 1 result }
     {
         match reader.read_u8()? {
@@ -70,7 +70,7 @@ impl<'a> FromReader<'a> for u32 {
         ensures means { Means (ReadsAs (λ n. n) (unsigned_at VarU32)) (place reader.old) result
             (place reader.new) }
         ensures keeps { KeepsWindow reader.old reader.new }
-        ensures memory { TakesNoMemory result }
+        ensures memory { NotOutOfMemory result }
         ensures hints { Hints 1 result }
     {
         reader.read_var_u32()
@@ -84,7 +84,7 @@ impl<'a> FromReader<'a> for &'a str {
     fn from_reader(reader: &mut BinaryReader<'a>) -> Result<Self>
         ensures means { Means (ReadsName (λ text. text.now)) (place reader.old) result (place reader.new) }
         ensures keeps { KeepsWindow reader.old reader.new }
-        ensures memory { TakesNoMemory result }
+        ensures memory { NotOutOfMemory result }
         ensures hints { Hints (missing_of_sized (place reader.old)) result }
     {
         reader.read_string()

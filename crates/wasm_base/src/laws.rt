@@ -6,7 +6,7 @@ ghost use Rattle.wasm_base.specs.Comparing.{DecidesWhether, DecidesSame, IsCopy}
 ghost use Rattle.wasm_base.specs.FaultAt.{fault_at};
 ghost use Rattle.wasm_base.specs.Features.{feature_bits};
 ghost use Rattle.wasm_base.specs.Float.{bits_of_32, bits_of_64};
-ghost use Rattle.wasm_base.specs.Inner.{PassesAsRead};
+ghost use Rattle.wasm_base.specs.Inner.{SkipsAsRead};
 ghost use Rattle.wasm_base.specs.Item.{AllowsOne, Determines};
 ghost use Rattle.wasm_base.specs.Owned.{UnlessMemory};
 ghost use Rattle.wasm_base.specs.Section.{Section, Items, AtItsOffset, GivesItems, GivesTheSame, GivesEqual, SameRuns, EqualRuns, OfCopies};
@@ -127,8 +127,8 @@ pub fn these_allow_one_outcome<'a, T: FromReader<'a>, U: FromReader<'a>>()
 {}
 
 /// Wherever a name is read, skipping it as an item of an inner list consumes the same bytes as reading it.
-pub fn passing_over_a_name_takes_its_bytes<'a>()
-    ensures { PassesAsRead ⟦<&'a str as FromReader<'a>>⟧.meaning ⟦<&'a str as SkipItem<'a>>⟧.passed_at }
+pub fn skipping_a_name_consumes_its_bytes<'a>()
+    ensures { SkipsAsRead ⟦<&'a str as FromReader<'a>>⟧.meaning ⟦<&'a str as SkipItem<'a>>⟧.skipped_at }
 {}
 
 /// How many bytes a number takes at most, which unused bits its last byte may have, and how large the sum of its

@@ -1,5 +1,5 @@
 // Bytes that say what follows them.
-ghost use Rattle.wasm_base.specs.Hints.{TakesNoMemory};
+ghost use Rattle.wasm_base.specs.Hints.{NotOutOfMemory};
 ghost use Rattle.wasm_base.specs.Leading.{flag_at};
 ghost use Rattle.wasm_base.specs.Outcome.{GivesBy};
 ghost use Rattle.wasm_base.specs.Window.{KeepsWindow};
@@ -18,7 +18,7 @@ use crate::reader::BinaryReader;
 pub fn read_flag(lead: Lead, reader: &mut BinaryReader<'_>) -> Result<bool>
     ensures gives { GivesBy (λ flag. flag) result reader.old reader.new (flag_at lead) }
     ensures keeps { KeepsWindow reader.old reader.new }
-    ensures memory { TakesNoMemory result }
+    ensures memory { NotOutOfMemory result }
 {
     match reader.read_u8()? {
         0 => Ok(false),

@@ -6,14 +6,14 @@ ghost use Rattle.wasm_base.specs.Features.{feature_bits, takes_wide_limits, all_
 ghost use Rattle.wasm_base.specs.Float.{bits_of_32, bits_of_64, u64_at};
 ghost use Rattle.wasm_base.specs.Septets.{sum_bound};
 ghost use Rattle.wasm_base.specs.Header.{agree, magic, header_version_at};
-ghost use Rattle.wasm_base.specs.Hints.{TakesNoMemory, Hints, missing_at, missing_of_sized, missing_of_header};
+ghost use Rattle.wasm_base.specs.Hints.{NotOutOfMemory, Hints, missing_at, missing_of_sized, missing_of_header};
 ghost use Rattle.wasm_base.specs.Item.{Means};
 ghost use Rattle.wasm_base.specs.Name.{bytes_at, byte_at, peeked_at, peeked_byte_at, of_four, u32_at, u7_at, name_limit, text_at, window_at};
 ghost use Rattle.wasm_base.specs.TextOf.{text_of};
 ghost use Rattle.wasm_base.specs.Number.{after_number, bits_of, bytes_read, number, unsigned_at};
 ghost use Rattle.wasm_base.specs.Outcome.{Gives, GivesBy};
 ghost use Rattle.wasm_base.specs.Signed.{signed_at, FitsBits};
-ghost use Rattle.wasm_base.specs.Skip.{skipped_name_at, numbers_passed_at, window_of, NeverGoesBack, PassesOver};
+ghost use Rattle.wasm_base.specs.Skip.{skipped_name_at, skipped_numbers_at, window_of, NeverGoesBack, Skips};
 ghost use Rattle.wasm_base.specs.Widths.{is_signed};
 ghost use Rattle.wasm_base.specs.Window.{place, advanced, whole_window, KeepsWindow, window_over, range_of, rest_range};
 ghost use Rattle.wasm_base.specs.declared.fault.Fault.TheVariants.{UnexpectedEof};
@@ -255,7 +255,7 @@ impl<'a> BinaryReader<'a> {
     pub fn peek(&self) -> Result<u8>
         ensures gives { Gives (λ b. b) result (place self.now) (peeked_byte_at (place self.now)) }
         ensures hints { Hints 1 result }
-        ensures memory { TakesNoMemory result }
+        ensures memory { NotOutOfMemory result }
     {
         match self.remaining_buffer() {
             [byte, ..] => Ok(*byte),
@@ -271,7 +271,7 @@ impl<'a> BinaryReader<'a> {
     pub fn peek_bytes(&self, len: usize) -> Result<&'a [u8]>
         ensures gives { Gives (λ bytes. bytes.now) result (place self.now) (peeked_at len (place self.now)) }
         ensures hints { Hints (missing_at len (place self.now)) result }
-        ensures memory { TakesNoMemory result }
+        ensures memory { NotOutOfMemory result }
     {
         let rest = self.remaining_buffer();
         if rest.len() < len {
@@ -291,7 +291,7 @@ impl<'a> BinaryReader<'a> {
         ensures gives { GivesBy (λ bytes. bytes.now) result self.old self.new (bytes_at len) }
         ensures keeps { KeepsWindow self.old self.new }
         ensures hints { Hints (missing_at len (place self.old)) result }
-        ensures memory { TakesNoMemory result }
+        ensures memory { NotOutOfMemory result }
         // On an error.
         ensures unmoved { OnErr result (self.new ≡ self.old) }
     {
@@ -311,7 +311,7 @@ impl<'a> BinaryReader<'a> {
         ensures gives { GivesBy (λ b. b) result self.old self.new byte_at }
         ensures keeps { KeepsWindow self.old self.new }
         ensures hints { Hints 1 result }
-        ensures memory { TakesNoMemory result }
+        ensures memory { NotOutOfMemory result }
         // On an error.
         ensures unmoved { OnErr result (self.new ≡ self.old) }
     {
@@ -331,7 +331,7 @@ impl<'a> BinaryReader<'a> {
         ensures gives { GivesBy (λ b. b) result self.old self.new u7_at }
         ensures keeps { KeepsWindow self.old self.new }
         ensures hints { Hints 1 result }
-        ensures memory { TakesNoMemory result }
+        ensures memory { NotOutOfMemory result }
         // If a byte remains.
         ensures moves { 0 < length (place self.old).rest → self.old.position < self.new.position }
         ensures passes { 0 < length (place self.old).rest → place self.new ≡ advanced 1 (place self.old) }
@@ -354,7 +354,7 @@ impl<'a> BinaryReader<'a> {
         ensures gives { GivesBy (λ n. n) result self.old self.new u32_at }
         ensures keeps { KeepsWindow self.old self.new }
         ensures hints { Hints (missing_at 4 (place self.old)) result }
-        ensures memory { TakesNoMemory result }
+        ensures memory { NotOutOfMemory result }
         // On an error.
         ensures unmoved { OnErr result (self.new ≡ self.old) }
     {
@@ -373,7 +373,7 @@ impl<'a> BinaryReader<'a> {
         ensures gives { GivesBy (λ float. bits_of_32 float) result self.old self.new u32_at }
         ensures keeps { KeepsWindow self.old self.new }
         ensures hints { Hints (missing_at 4 (place self.old)) result }
-        ensures memory { TakesNoMemory result }
+        ensures memory { NotOutOfMemory result }
         // On an error.
         ensures unmoved { OnErr result (self.new ≡ self.old) }
     {
@@ -393,7 +393,7 @@ impl<'a> BinaryReader<'a> {
         ensures gives { GivesBy (λ float. bits_of_64 float) result self.old self.new u64_at }
         ensures keeps { KeepsWindow self.old self.new }
         ensures hints { Hints (missing_at 8 (place self.old)) result }
-        ensures memory { TakesNoMemory result }
+        ensures memory { NotOutOfMemory result }
         // On an error.
         ensures unmoved { OnErr result (self.new ≡ self.old) }
     {
@@ -408,7 +408,7 @@ impl<'a> BinaryReader<'a> {
         ensures gives { GivesBy (λ n. n) result self.old self.new (unsigned_at kind) }
         ensures keeps { KeepsWindow self.old self.new }
         ensures hints { Hints 1 result }
-        ensures memory { TakesNoMemory result }
+        ensures memory { NotOutOfMemory result }
         ensures unmoved { OnErr result (self.new ≡ self.old) }
         ensures below { IfOk result (λ n. n < sum_bound kind) }
         ensures moves { OnOk result ((place self.old).offset < (place self.new).offset) }
@@ -455,7 +455,7 @@ impl<'a> BinaryReader<'a> {
         ensures gives { GivesBy (λ n. n) result self.old self.new (unsigned_at VarU32) }
         ensures keeps { KeepsWindow self.old self.new }
         ensures hints { Hints 1 result }
-        ensures memory { TakesNoMemory result }
+        ensures memory { NotOutOfMemory result }
         // On an error.
         ensures unmoved { OnErr result (self.new ≡ self.old) }
         // On success.
@@ -483,10 +483,10 @@ impl<'a> BinaryReader<'a> {
     ///
     /// Those of `read_var_u32`.
     #[tactic(auto, unfolding(crate::specs::Number::after_number), using(crate::proofs::NumberPlaces::read_is_passed))]
-    pub(crate) fn pass_var_u32(&mut self) -> Result<u32>
+    pub(crate) fn skip_var_u32(&mut self) -> Result<u32>
         ensures gives { GivesBy (λ n. n) result self.old self.new (unsigned_at VarU32) }
         ensures keeps { KeepsWindow self.old self.new }
-        ensures memory { TakesNoMemory result }
+        ensures memory { NotOutOfMemory result }
         ensures after { place self.new ≡ after_number VarU32 (place self.old) }
     {
         match self.read_var_u32() {
@@ -499,10 +499,10 @@ impl<'a> BinaryReader<'a> {
     }
 
     // Skips single-byte numbers, 32 at a time, up to the first longer one. Returns how many numbers remain.
-    #[tactic(auto, using(crate::proofs::PassedNumbers::pass_run))]
+    #[tactic(auto, using(crate::proofs::PassedNumbers::skip_run))]
     fn skip_small(&mut self, count: usize) -> usize
-        ensures passed { numbers_passed_at result (place self.new)
-            ≡ numbers_passed_at count (place self.old) }
+        ensures passed { skipped_numbers_at result (place self.new)
+            ≡ skipped_numbers_at count (place self.old) }
         ensures fewer { result ≤ count }
         ensures keeps { KeepsWindow self.old self.new }
     {
@@ -533,10 +533,10 @@ impl<'a> BinaryReader<'a> {
     #[tactic(auto, using(crate::proofs::PassedNumbers::passing))]
     pub fn skip_var_u32s(&mut self, count: u32) -> Result<()>
         ensures gives { GivesBy (λ nothing. nothing) result self.old self.new
-            (numbers_passed_at count) }
+            (skipped_numbers_at count) }
         ensures keeps { KeepsWindow self.old self.new }
         ensures hints { Hints 1 result }
-        ensures memory { TakesNoMemory result }
+        ensures memory { NotOutOfMemory result }
     {
         let mut left = count as usize;
         while left > 0 {
@@ -562,7 +562,7 @@ impl<'a> BinaryReader<'a> {
         ensures gives { GivesBy (λ n. n) result self.old self.new (unsigned_at VarU64) }
         ensures keeps { KeepsWindow self.old self.new }
         ensures hints { Hints 1 result }
-        ensures memory { TakesNoMemory result }
+        ensures memory { NotOutOfMemory result }
         // On an error.
         ensures unmoved { OnErr result (self.new ≡ self.old) }
         // On success.
@@ -578,7 +578,7 @@ impl<'a> BinaryReader<'a> {
         ensures gives { GivesBy (λ n. n) result self.old self.new (signed_at kind) }
         ensures keeps { KeepsWindow self.old self.new }
         ensures hints { Hints 1 result }
-        ensures memory { TakesNoMemory result }
+        ensures memory { NotOutOfMemory result }
         ensures unmoved { OnErr result (self.new ≡ self.old) }
         ensures moves { OnOk result ((place self.old).offset < (place self.new).offset) }
         ensures fits { IfOk result (λ n. FitsBits (bits_of kind) n) }
@@ -602,7 +602,7 @@ impl<'a> BinaryReader<'a> {
         ensures gives { GivesBy (λ n. n) result self.old self.new (signed_at VarI32) }
         ensures keeps { KeepsWindow self.old self.new }
         ensures hints { Hints 1 result }
-        ensures memory { TakesNoMemory result }
+        ensures memory { NotOutOfMemory result }
         // On an error.
         ensures unmoved { OnErr result (self.new ≡ self.old) }
         // On success.
@@ -625,7 +625,7 @@ impl<'a> BinaryReader<'a> {
         ensures gives { GivesBy (λ n. n) result self.old self.new (signed_at VarI64) }
         ensures keeps { KeepsWindow self.old self.new }
         ensures hints { Hints 1 result }
-        ensures memory { TakesNoMemory result }
+        ensures memory { NotOutOfMemory result }
         // On an error.
         ensures unmoved { OnErr result (self.new ≡ self.old) }
         // On success.
@@ -648,7 +648,7 @@ impl<'a> BinaryReader<'a> {
         ensures gives { GivesBy (λ n. n) result self.old self.new (signed_at VarS33) }
         ensures keeps { KeepsWindow self.old self.new }
         ensures hints { Hints 1 result }
-        ensures memory { TakesNoMemory result }
+        ensures memory { NotOutOfMemory result }
         // On an error.
         ensures unmoved { OnErr result (self.new ≡ self.old) }
         // On success.
@@ -665,7 +665,7 @@ impl<'a> BinaryReader<'a> {
         ensures gives { GivesBy (λ text. text.now) result self.old self.new (text_of len) }
         ensures keeps { KeepsWindow self.old self.new }
         ensures hints { Hints (missing_at len (place self.old)) result }
-        ensures memory { TakesNoMemory result }
+        ensures memory { NotOutOfMemory result }
     {
         let bytes = self.read_bytes(len)?;
         match std::str::from_utf8(bytes) {
@@ -689,7 +689,7 @@ impl<'a> BinaryReader<'a> {
         ensures gives { GivesBy (λ text. text.now) result self.old self.new (text_at None) }
         ensures keeps { KeepsWindow self.old self.new }
         ensures hints { Hints (missing_of_sized (place self.old)) result }
-        ensures memory { TakesNoMemory result }
+        ensures memory { NotOutOfMemory result }
     {
         let size = self.read_var_u32()?;
         self.read_text(size as usize)
@@ -711,7 +711,7 @@ impl<'a> BinaryReader<'a> {
         ensures gives { GivesBy (λ text. text.now) result self.old self.new (text_at (Some name_limit)) }
         ensures keeps { KeepsWindow self.old self.new }
         ensures hints { Hints (missing_of_sized (place self.old)) result }
-        ensures memory { TakesNoMemory result }
+        ensures memory { NotOutOfMemory result }
     {
         let size = self.read_var_u32()? as usize;
         if size > MAX_WASM_STRING_SIZE {
@@ -730,7 +730,7 @@ impl<'a> BinaryReader<'a> {
         ensures gives { GivesBy (λ nothing. nothing) result self.old self.new skipped_name_at }
         ensures keeps { KeepsWindow self.old self.new }
         ensures hints { Hints (missing_of_sized (place self.old)) result }
-        ensures memory { TakesNoMemory result }
+        ensures memory { NotOutOfMemory result }
     {
         let size = self.read_var_u32()? as usize;
         if size > MAX_WASM_STRING_SIZE {
@@ -775,7 +775,7 @@ impl<'a> BinaryReader<'a> {
     ) -> Result<BinaryReader<'a>>
         requires callable { F.IsAlwaysCallable f }
         requires forward { NeverGoesBack (λ old given new. FnOnceReturnsAtMut F.FnOnce f old given new) }
-        ensures passes { PassesOver (λ old given new. FnOnceReturnsAtMut F.FnOnce f old given new)
+        ensures passes { Skips (λ old given new. FnOnceReturnsAtMut F.FnOnce f old given new)
             self.old result self.new }
         ensures keeps { KeepsWindow self.old self.new }
     {
@@ -803,7 +803,7 @@ impl<'a> BinaryReader<'a> {
         ensures gives { GivesBy (λ window. window) result self.old self.new window_at }
         ensures keeps { KeepsWindow self.old self.new }
         ensures hints { Hints (missing_of_sized (place self.old)) result }
-        ensures memory { TakesNoMemory result }
+        ensures memory { NotOutOfMemory result }
     {
         let size = self.read_var_u32()?;
         let start = self.original_position();
@@ -819,7 +819,7 @@ impl<'a> BinaryReader<'a> {
     pub fn read<T: FromReader<'a>>(&mut self) -> Result<T>
         ensures means { Means T.meaning (place self.old) result (place self.new) }
         ensures keeps { KeepsWindow self.old self.new }
-        ensures memory { TakesNoMemory result }
+        ensures memory { NotOutOfMemory result }
     {
         T::from_reader(self)
     }
@@ -841,7 +841,7 @@ impl<'a> BinaryReader<'a> {
         ensures gives { GivesBy (λ n. n) result self.old self.new header_version_at }
         ensures keeps { KeepsWindow self.old self.new }
         ensures hints { Hints (missing_of_header (place self.old)) result }
-        ensures memory { TakesNoMemory result }
+        ensures memory { NotOutOfMemory result }
     {
         let start = self.original_position();
         let prefix = self.read_bytes(4)?;

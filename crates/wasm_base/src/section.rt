@@ -2,7 +2,7 @@
 ghost use Rattle.std.specs.Prelude.{⊤, ◌≡◌, ◌+◌, ◌<◌, ◌^◌, Some, IfSome, IfOk, length};
 ghost use Rattle.std.specs.Iterator.{at_most, UpTo};
 ghost use Rattle.std.specs.Iterator.SizeHint.{IsWithinCount};
-ghost use Rattle.wasm_base.specs.Hints.{TakesNoMemory, Hints};
+ghost use Rattle.wasm_base.specs.Hints.{NotOutOfMemory, Hints};
 ghost use Rattle.wasm_base.specs.Item.{Means};
 ghost use Rattle.wasm_base.specs.Outcome.{GivesResult};
 ghost use Rattle.wasm_base.specs.Owned.{UnlessMemory};
@@ -95,7 +95,7 @@ impl<'a, T> SectionLimited<'a, T> {
         ensures whole { GivesResult (λ section. section) result (section_in reader.entry) }
         ensures keeps { IfOk result (λ section. KeepsWindow reader.entry section.reader) }
         ensures hints { Hints 1 result }
-        ensures memory { TakesNoMemory result }
+        ensures memory { NotOutOfMemory result }
     {
         let count = reader.read_var_u32()?;
         Ok(SectionLimited {

@@ -2,7 +2,7 @@
 ghost use Rattle.std.specs.Prelude.{⊤, ◌≡◌, ◌<◌, ℕ, Bool, false, OnErr, Result, length};
 ghost use Rattle.std.specs.Iterator.{at_most};
 ghost use Rattle.wasm_base.specs.FaultAt.{FaultAt};
-ghost use Rattle.wasm_base.specs.Hints.{TakesNoMemory};
+ghost use Rattle.wasm_base.specs.Hints.{NotOutOfMemory};
 ghost use Rattle.wasm_base.specs.Name.{window_at};
 ghost use Rattle.wasm_base.specs.Number.{after_number};
 ghost use Rattle.wasm_base.specs.Outcome.{GivesBy};
@@ -71,7 +71,7 @@ pub trait Subsection<'a>: Sized + Drop {
     /// Those of the type, as its `impl` says, and `OutOfMemory` at offset 0 when an allocation fails.
     fn from_reader(alloc: Global, id: u8, reader: BinaryReader<'a>) -> Result<Self>
         ensures means { MeansSubsection meaning Self.Allocation.ALLOCATES id reader.entry result }
-        ensures memory { Self.Allocation.ALLOCATES ≡ false → TakesNoMemory result };
+        ensures memory { Self.Allocation.ALLOCATES ≡ false → NotOutOfMemory result };
 }
 
 /// The subsections of a window, and an iterator over them, each read as a `T`.
@@ -178,10 +178,10 @@ impl<'a, T> Subsections<'a, T> {
 fn read_window<'a>(reader: &mut BinaryReader<'a>) -> Result<BinaryReader<'a>>
     ensures gives { GivesBy (λ window. window) result reader.old reader.new window_at }
     ensures keeps { KeepsWindow reader.old reader.new }
-    ensures memory { TakesNoMemory result }
+    ensures memory { NotOutOfMemory result }
     ensures after { OnErr result (place reader.new ≡ after_number VarU32 (place reader.old)) }
 {
-    let size = reader.pass_var_u32()?;
+    let size = reader.skip_var_u32()?;
     let start = reader.original_position();
     let bytes = reader.read_bytes(size as usize)?;
     Ok(BinaryReader::new_features(bytes, start, reader.features()))
@@ -210,7 +210,7 @@ pub fn read_subsection<'a>(reader: &mut BinaryReader<'a>) -> Result<(u8, BinaryR
     ensures keeps { KeepsWindow reader.old reader.new }
     ensures moves { 0 < length (place reader.old).rest
         → reader.old.position < reader.new.position }
-    ensures memory { TakesNoMemory result }
+    ensures memory { NotOutOfMemory result }
     ensures after { 0 < length (place reader.old).rest
         → OnErr result (place reader.new ≡ after_refused (place reader.old)) }
 {
@@ -226,7 +226,7 @@ fn read_as<'a, T: Subsection<'a>>(alloc: Global, reader: &mut BinaryReader<'a>) 
         (subsection_at (place reader.old)) result (place reader.new) }
     ensures keeps { KeepsWindow reader.old reader.new }
     ensures moves { reader.old.position < reader.new.position }
-    ensures memory { T.Allocation.ALLOCATES ≡ false → TakesNoMemory result }
+    ensures memory { T.Allocation.ALLOCATES ≡ false → NotOutOfMemory result }
 {
     let (id, window) = read_subsection(reader)?;
     T::from_reader(alloc, id, window)

@@ -7,8 +7,8 @@ use Rattle.wasm_base.specs.Outcome.{Outcome, ◌>>=◌}
 use Rattle.wasm_base.specs.Skip.{skipped_name_at}
 use Rattle.wasm_base.specs.Window.{Place}
 use Rattle.wasm_base.specs.declared.fault.NumberKind.TheVariants.{VarU32}
-use Rattle.wasm_custom.specs.Names.{NamingParts, naming_at, passed_naming_at}
-use Rattle.wasm_custom.specs.Producers.{ValueParts, field_value_at, passed_value_at}
+use Rattle.wasm_custom.specs.Names.{NamingParts, naming_at, skipped_naming_at}
+use Rattle.wasm_custom.specs.Producers.{ValueParts, field_value_at, skipped_value_at}
 
 -- the naming after its index and its name
 abbrev with_index : ℕ × Place → List ℕ × Place → Outcome NamingParts
@@ -44,8 +44,8 @@ module _ (q : Place) where
     index_step (Err e) h = cc
     index_step (Ok index) h = name_step index (text_at None index.1) refl h
 
-    pub naming_passed : (p : Place) → naming_at p ≡ Ok (parts, q) → passed_naming_at p ≡ Ok (tt, q)
-    unfolding naming_at passed_naming_at
+    pub naming_passed : (p : Place) → naming_at p ≡ Ok (parts, q) → skipped_naming_at p ≡ Ok (tt, q)
+    unfolding naming_at skipped_naming_at
     naming_passed p h = index_step (unsigned_at VarU32 p) h
 
   module _ (parts : ValueParts) (short : (length parts.name ≤ name_limit) × (length parts.version ≤ name_limit)) where
@@ -67,6 +67,6 @@ module _ (q : Place) where
         let le : length name.0 ≤ name_limit = rw s.0 short.0 in
         rw (text_passed p name.1 name.0 le is) s.1
 
-    pub value_passed : (p : Place) → field_value_at p ≡ Ok (parts, q) → passed_value_at p ≡ Ok (tt, q)
-    unfolding field_value_at passed_value_at
+    pub value_passed : (p : Place) → field_value_at p ≡ Ok (parts, q) → skipped_value_at p ≡ Ok (tt, q)
+    unfolding field_value_at skipped_value_at
     value_passed p h = first_step p (text_at None p) refl h

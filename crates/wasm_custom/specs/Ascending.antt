@@ -4,7 +4,7 @@ use Rattle.std.specs.Prelude.{◌≡◌, ℕ, ◌⊎◌, Bool, true, false, ◌&
 use Rattle.std.specs.Prelude.{Result, Ok, Err, map, nat_lt, if◌then◌else◌}
 use Rattle.std.specs.Iterator.{Drains}
 use Rattle.wasm_base.specs.FaultAt.{FaultAt, fault_at, at_offset}
-use Rattle.wasm_base.specs.Hints.{TakesNoMemory}
+use Rattle.wasm_base.specs.Hints.{NotOutOfMemory}
 use Rattle.wasm_base.specs.Section.{item_or_fault}
 use Rattle.wasm_base.specs.declared.error.Error.{Error}
 use Rattle.wasm_base.specs.declared.fault.Fault.{Fault}
@@ -52,7 +52,7 @@ NextInOrder next start index fault s (Some (Err e)) t =
 pub record NextAscending {S T : Type 0} (next : S → Option (Result T Error) → S → Type 0) (start : S → ℕ)
     (index : T → ℕ) (fault : Fault) (s : Ascending S) (given : Option (Result T Error)) (t : Ascending S) : Type 0 where
   pub order : NextInOrder next start index fault s given t
-  pub memory : IfSome given TakesNoMemory
+  pub memory : IfSome given NotOutOfMemory
 
 -- one call of `next`, with the offset at which the returned entry begins
 abbrev pub NextAt : {S T : Type 0} → (S → Option (Result T Error) → S → Type 0) → (S → ℕ) → S

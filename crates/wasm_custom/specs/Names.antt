@@ -42,8 +42,8 @@ naming_at p = do
   Ok (record { index = index.0; name = name.0 }, name.1)
 
 -- the place after an index and its skipped name, which isn't checked to be UTF-8
-unfoldable pub passed_naming_at : Place → Outcome (Unit {0})
-passed_naming_at p = do
+unfoldable pub skipped_naming_at : Place → Outcome (Unit {0})
+skipped_naming_at p = do
   index ← unsigned_at VarU32 p
   skipped_name_at index.1
 
@@ -55,7 +55,7 @@ IsShortNaming naming = length naming.name.now ≤ name_limit
 unfoldable pub indirect_naming_at : Place → Outcome IndirectNaming
 indirect_naming_at p = do
   index ← unsigned_at VarU32 p
-  names ← inner_section_at passed_naming_at index.1
+  names ← inner_section_at skipped_naming_at index.1
   Ok (record { index = index.0; names = none_given (all_items names.0) }, names.1)
 
 -- the names of a window, direct or indirect: a count and as many names, none of them returned yet

@@ -38,8 +38,8 @@ field_value_at p = do
   Ok (record { name = name.0; version = version.0 }, version.1)
 
 -- the place after a value, whose texts are skipped as names
-unfoldable pub passed_value_at : Place → Outcome (Unit {0})
-passed_value_at p = do
+unfoldable pub skipped_value_at : Place → Outcome (Unit {0})
+skipped_value_at p = do
   name ← skipped_name_at p
   skipped_name_at name.1
 
@@ -59,5 +59,5 @@ field_parts field = record { name = field.name.now; values = field.values }
 unfoldable pub field_at : Place → Outcome FieldParts
 field_at p = do
   name ← field_name_at p
-  values ← inner_section_at passed_value_at name.1
+  values ← inner_section_at skipped_value_at name.1
   Ok (record { name = name.0; values = values.0 }, values.1)

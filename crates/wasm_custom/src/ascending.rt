@@ -1,6 +1,6 @@
 // Entries whose indices ascend.
 ghost use Rattle.std.specs.Prelude.{◌≡◌, false};
-ghost use Rattle.wasm_base.specs.Hints.{TakesNoMemory, is_out_of_memory};
+ghost use Rattle.wasm_base.specs.Hints.{NotOutOfMemory, is_out_of_memory};
 ghost use Rattle.wasm_custom.specs.Ascending.{InOrder, is_above};
 
 use wasm_base::{Error, Fault, Result};
@@ -26,7 +26,7 @@ pub(crate) fn in_order<T: Drop>(
 ) -> Result<T>
     requires { is_out_of_memory fault ≡ false }
     ensures order { InOrder last.old index fault start entry result last.new }
-    ensures memory { TakesNoMemory result }
+    ensures memory { NotOutOfMemory result }
 {
     if is_above(*last, index) {
         *last = Some(index);

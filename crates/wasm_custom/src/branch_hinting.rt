@@ -1,6 +1,6 @@
 // Branch hints.
 ghost use Rattle.std.specs.Prelude.{◌≡◌};
-ghost use Rattle.wasm_base.specs.Hints.{TakesNoMemory};
+ghost use Rattle.wasm_base.specs.Hints.{NotOutOfMemory};
 ghost use Rattle.wasm_base.specs.Inner.{after_reading};
 ghost use Rattle.wasm_base.specs.Item.{ReadsAs};
 ghost use Rattle.wasm_base.specs.Outcome.{GivesBy};
@@ -39,7 +39,7 @@ pub struct BranchHint {
 fn read_hint_size(reader: &mut BinaryReader<'_>) -> Result<()>
     ensures gives { GivesBy (λ nothing. nothing) result reader.old reader.new hint_size_at }
     ensures keeps { KeepsWindow reader.old reader.new }
-    ensures memory { TakesNoMemory result }
+    ensures memory { NotOutOfMemory result }
 {
     match reader.read_u8()? {
         1 => Ok(()),
@@ -67,7 +67,7 @@ impl<'a> FromReader<'a> for BranchHint {
 }
 
 impl<'a> SkipItem<'a> for BranchHint {
-    ghost passed_at = { after_reading branch_hint_at };
+    ghost skipped_at = { after_reading branch_hint_at };
 
     fn skip_item(reader: &mut BinaryReader<'a>) -> Result<()> {
         BranchHint::from_reader(reader)?;

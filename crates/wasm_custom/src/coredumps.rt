@@ -1,6 +1,6 @@
 // Core dumps.
 ghost use Rattle.std.specs.Prelude.{◌≡◌, ℕ, map};
-ghost use Rattle.wasm_base.specs.Hints.{TakesNoMemory};
+ghost use Rattle.wasm_base.specs.Hints.{NotOutOfMemory};
 ghost use Rattle.wasm_base.specs.Item.{Means, ReadsAs};
 ghost use Rattle.wasm_base.specs.Number.{unsigned_at};
 ghost use Rattle.wasm_base.specs.Outcome.{Outcome, GivesBy, GivesResult};
@@ -100,7 +100,7 @@ trait Listed<'a, A: Allocator>: Sized + Drop {
 fn read_start(what: CoreStart, offset: u64, reader: &mut BinaryReader<'_>) -> Result<()>
     ensures gives { GivesBy (λ nothing. nothing) result reader.old reader.new (start_at what offset) }
     ensures keeps { KeepsWindow reader.old reader.new }
-    ensures memory { TakesNoMemory result }
+    ensures memory { NotOutOfMemory result }
 {
     if reader.read_u8()? != 0 {
         return Err(Error::new(Fault::CoreStartByte(what), offset));
@@ -112,7 +112,7 @@ fn read_start(what: CoreStart, offset: u64, reader: &mut BinaryReader<'_>) -> Re
 #[tactic(auto, unfolding(crate::specs::Coredumps::end_at))]
 fn read_end(reader: &BinaryReader<'_>) -> Result<()>
     ensures gives { GivesResult (λ nothing. nothing) result (end_at (place reader.now)) }
-    ensures memory { TakesNoMemory result }
+    ensures memory { NotOutOfMemory result }
 {
     if !reader.eof() {
         return Err(Error::new(Fault::CustomTrailing, reader.original_position()));
@@ -298,7 +298,7 @@ impl<'a> CoreDumpSection<'a> {
     pub fn new(mut reader: BinaryReader<'a>) -> Result<CoreDumpSection<'a>>
         ensures gives { GivesResult (λ section. section.name.now)
             result (name_section_in (place reader.entry)) }
-        ensures memory { TakesNoMemory result }
+        ensures memory { NotOutOfMemory result }
     {
         let start = reader.original_position();
         read_start(CoreStart::Name, start, &mut reader)?;

@@ -1,6 +1,6 @@
 // Custom sections.
 ghost use Rattle.std.specs.Prelude.{⊤, ◌≡◌, ◌+◌, length};
-ghost use Rattle.wasm_base.specs.Hints.{Hints, TakesNoMemory, missing_of_sized};
+ghost use Rattle.wasm_base.specs.Hints.{Hints, NotOutOfMemory, missing_of_sized};
 ghost use Rattle.wasm_base.specs.Window.{place, whole_window, range_of, rest_range};
 
 use std::alloc::AllocError;
@@ -50,7 +50,7 @@ impl<'a> CustomSectionReader<'a> {
     pub fn new(mut reader: BinaryReader<'a>) -> Result<Self>
         ensures reads { ReadsCustom reader.entry result }
         ensures hints { Hints (missing_of_sized (place reader.entry)) result }
-        ensures memory { TakesNoMemory result }
+        ensures memory { NotOutOfMemory result }
     {
         let name = reader.read_string()?;
         Ok(CustomSectionReader { name, reader })

@@ -2,7 +2,7 @@
 ghost use Rattle.std.specs.Prelude.{◌≡◌, false, IfOk, IfErr, is_err, codes, nat_eq};
 ghost use Rattle.std.specs.List.{starts_with};
 ghost use Rattle.wasm_base.specs.FaultAt.{fault_at};
-ghost use Rattle.wasm_base.specs.Hints.{TakesNoMemory, is_out_of_memory};
+ghost use Rattle.wasm_base.specs.Hints.{NotOutOfMemory, is_out_of_memory};
 ghost use Rattle.wasm_base.specs.Owned.{out_of_memory};
 ghost use Rattle.wasm_base.specs.Window.{place};
 ghost use Rattle.wasm_custom.specs.Known.{unknown, known_parts, known_of, owns_lists, branch_hints_in, producers_in, core_dump_in, core_modules_in, core_instances_in, core_stack_in, linking_section_in, relocations_in, KnowsUnlessMemory};
@@ -157,7 +157,7 @@ impl<'a> CustomSectionReader<'a> {
     pub fn as_known(&self, alloc: Global) -> Result<KnownCustom<'a>>
         ensures known { IfOk result (λ known. known_parts known ≡ known_of self.now) }
         ensures refused { IfErr result (λ e. fault_at e ≡ out_of_memory) }
-        ensures memory { owns_lists self.now.name ≡ false → TakesNoMemory result }
+        ensures memory { owns_lists self.now.name ≡ false → NotOutOfMemory result }
     {
         self.as_known_in(alloc, alloc)
     }
@@ -171,7 +171,7 @@ impl<'a> CustomSectionReader<'a> {
     ) -> Result<KnownCustom<'a, A>>
         ensures known { IfOk result (λ known. known_parts known ≡ known_of self.now) }
         ensures refused { IfErr result (λ e. fault_at e ≡ out_of_memory) }
-        ensures memory { owns_lists self.now.name ≡ false → TakesNoMemory result }
+        ensures memory { owns_lists self.now.name ≡ false → NotOutOfMemory result }
     {
         let data = self.data_reader();
         match self.name() {

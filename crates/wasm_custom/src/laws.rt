@@ -5,7 +5,7 @@ ghost use Rattle.std.specs.Ordering.{nat_cmp};
 ghost use Rattle.std.specs.Prelude.{◌≡◌, Ok, Some, false};
 ghost use Rattle.wasm_base.specs.Announced.{GivesAnnounced};
 ghost use Rattle.wasm_base.specs.Comparing.{DecidesSame, IsCopy};
-ghost use Rattle.wasm_base.specs.Inner.{PassesAsRead, PassesIfSuch};
+ghost use Rattle.wasm_base.specs.Inner.{SkipsAsRead, SkipsIfSuch};
 ghost use Rattle.wasm_base.specs.Item.{AllowsOne, Determines};
 ghost use Rattle.wasm_base.specs.Subsections.{GivesSubsections, UnlessTaken};
 ghost use Rattle.wasm_base.specs.Window.{Place, Window};
@@ -248,19 +248,19 @@ fn cast(ty: RelocationType) -> u8
 
 /// If an item of a list inside an item can be read, skipping it consumes the same bytes as reading it. For an index with a name,
 /// and for a producer's value, this holds if each text has at most 100,000 bytes, the limit of skipped names.
-pub fn passing_over_takes_what_reading_takes<'a>()
-    ensures hint { PassesAsRead
+pub fn skipping_consumes_what_reading_consumes<'a>()
+    ensures hint { SkipsAsRead
         ⟦<BranchHint as FromReader<'a>>⟧.meaning
-        ⟦<BranchHint as SkipItem<'a>>⟧.passed_at }
-    ensures comdat_symbol { PassesAsRead
+        ⟦<BranchHint as SkipItem<'a>>⟧.skipped_at }
+    ensures comdat_symbol { SkipsAsRead
         ⟦<ComdatSymbol as FromReader<'a>>⟧.meaning
-        ⟦<ComdatSymbol as SkipItem<'a>>⟧.passed_at }
-    ensures naming { PassesIfSuch IsShortNaming
+        ⟦<ComdatSymbol as SkipItem<'a>>⟧.skipped_at }
+    ensures naming { SkipsIfSuch IsShortNaming
         ⟦<Naming<'a> as FromReader<'a>>⟧.meaning
-        ⟦<Naming<'a> as SkipItem<'a>>⟧.passed_at }
-    ensures value { PassesIfSuch IsShortValue
+        ⟦<Naming<'a> as SkipItem<'a>>⟧.skipped_at }
+    ensures value { SkipsIfSuch IsShortValue
         ⟦<ProducersFieldValue<'a> as FromReader<'a>>⟧.meaning
-        ⟦<ProducersFieldValue<'a> as SkipItem<'a>>⟧.passed_at }
+        ⟦<ProducersFieldValue<'a> as SkipItem<'a>>⟧.skipped_at }
 {}
 
 /// Names, what linkers and dynamic linkers read, and flags allow one outcome at each place too.

@@ -1,7 +1,7 @@
 // What a linker reads.
 ghost use Rattle.std.specs.Prelude.{⊤, ◌≡◌, Some, None, length};
 ghost use Rattle.std.specs.Iterator.{at_most};
-ghost use Rattle.wasm_base.specs.Hints.{TakesNoMemory};
+ghost use Rattle.wasm_base.specs.Hints.{NotOutOfMemory};
 ghost use Rattle.wasm_base.specs.Inner.{after_reading};
 ghost use Rattle.wasm_base.specs.Item.{ReadsAs};
 ghost use Rattle.wasm_base.specs.Leading.{lookup};
@@ -242,7 +242,7 @@ impl<'a> FromReader<'a> for ComdatSymbol {
 
 /// Skips a symbol by reading it.
 impl<'a> SkipItem<'a> for ComdatSymbol {
-    ghost passed_at = { after_reading comdat_symbol_at };
+    ghost skipped_at = { after_reading comdat_symbol_at };
 
     #[tactic(auto, unfolding(wasm_base::specs::Inner::after_reading))]
     fn skip_item(reader: &mut BinaryReader<'a>) -> Result<()> {
@@ -297,7 +297,7 @@ fn read_name<'a>(flags: SymbolFlags, reader: &mut BinaryReader<'a>) -> Result<Op
     ensures gives { GivesBy (λ name. text_if_any name (λ text. text.now)) result reader.old reader.new
         (symbol_name_at (symbol_bits flags)) }
     ensures keeps { KeepsWindow reader.old reader.new }
-    ensures memory { TakesNoMemory result }
+    ensures memory { NotOutOfMemory result }
 {
     if !flags.contains(SymbolFlags::UNDEFINED) || flags.contains(SymbolFlags::EXPLICIT_NAME) {
         return Ok(Some(reader.read_unlimited_string()?));
@@ -315,7 +315,7 @@ fn read_indexed<'a>(
     ensures gives { GivesBy (λ both. (both.0, text_if_any both.1 (λ text. text.now))) result
         reader.old reader.new (index_and_name_at (symbol_bits flags)) }
     ensures keeps { KeepsWindow reader.old reader.new }
-    ensures memory { TakesNoMemory result }
+    ensures memory { NotOutOfMemory result }
 {
     let index = reader.read_var_u32()?;
     let name = read_name(flags, reader)?;
@@ -331,7 +331,7 @@ fn read_data_place(
     ensures gives { GivesBy (λ symbol. symbol) result reader.old reader.new
         (data_place_at (symbol_bits flags)) }
     ensures keeps { KeepsWindow reader.old reader.new }
-    ensures memory { TakesNoMemory result }
+    ensures memory { NotOutOfMemory result }
 {
     if flags.contains(SymbolFlags::UNDEFINED) {
         return Ok(None);
@@ -474,7 +474,7 @@ impl<'a> LinkingSectionReader<'a> {
     #[tactic(auto, unfolding(crate::specs::Linking::linking_in))]
     pub fn new(alloc: Global, mut reader: BinaryReader<'a>) -> Result<Self>
         ensures gives { GivesResult (λ section. section) result (linking_in reader.entry) }
-        ensures memory { TakesNoMemory result }
+        ensures memory { NotOutOfMemory result }
     {
         let start = reader.original_position();
         let version = reader.read_var_u32()?;

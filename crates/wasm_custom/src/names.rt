@@ -1,14 +1,14 @@
 // Names.
 ghost use Rattle.std.specs.Prelude.{⊤, ◌≡◌, ℕ, false, length, refl};
 ghost use Rattle.std.specs.Iterator.{at_most};
-ghost use Rattle.wasm_base.specs.Hints.{Hints, TakesNoMemory, is_out_of_memory};
+ghost use Rattle.wasm_base.specs.Hints.{Hints, NotOutOfMemory, is_out_of_memory};
 ghost use Rattle.wasm_base.specs.Item.{ReadsAs};
 ghost use Rattle.wasm_base.specs.Outcome.{GivesResult};
 ghost use Rattle.wasm_base.specs.Section.{NextItem, all_items, most_items};
 ghost use Rattle.wasm_base.specs.Subsections.{NextSubsection, ReadsWindowAs};
 ghost use Rattle.wasm_base.specs.Window.{place};
 ghost use Rattle.wasm_custom.specs.Ascending.{NextAscending, none_given};
-ghost use Rattle.wasm_custom.specs.Names.{naming_parts, naming_at, passed_naming_at, indirect_naming_at, entries_in, name_parts, name_in, module_name_in, id_of, index_of, index_of_indirect, offset_of_entry, offset_of_subsection};
+ghost use Rattle.wasm_custom.specs.Names.{naming_parts, naming_at, skipped_naming_at, indirect_naming_at, entries_in, name_parts, name_in, module_name_in, id_of, index_of, index_of_indirect, offset_of_entry, offset_of_subsection};
 
 use crate::ascending::in_order;
 use std::alloc::{AllocError, Global};
@@ -43,9 +43,9 @@ impl<'a> FromReader<'a> for Naming<'a> {
 
 /// An index, and a name of at most 100,000 bytes, which need not be UTF-8.
 impl<'a> SkipItem<'a> for Naming<'a> {
-    ghost passed_at = { passed_naming_at };
+    ghost skipped_at = { skipped_naming_at };
 
-    #[tactic(auto, unfolding(crate::specs::Names::passed_naming_at))]
+    #[tactic(auto, unfolding(crate::specs::Names::skipped_naming_at))]
     fn skip_item(reader: &mut BinaryReader<'a>) -> Result<()> {
         reader.read_var_u32()?;
         reader.skip_string()
@@ -146,7 +146,7 @@ impl<'a, T: FromReader<'a>> IndexedMap<'a, T> {
     pub fn new(reader: BinaryReader<'a>) -> Result<Self>
         ensures gives { GivesResult (λ names. names) result (entries_in reader.entry) }
         ensures hints { Hints 1 result }
-        ensures memory { TakesNoMemory result }
+        ensures memory { NotOutOfMemory result }
     {
         Ok(IndexedMap::over(SectionLimited::new(reader)?))
     }
@@ -278,7 +278,7 @@ pub enum Name<'a> {
 #[tactic(auto, unfolding(crate::specs::Names::module_name_in))]
 fn module_name<'a>(mut reader: BinaryReader<'a>) -> Result<Name<'a>>
     ensures gives { GivesResult name_parts result (module_name_in reader.entry) }
-    ensures memory { TakesNoMemory result }
+    ensures memory { NotOutOfMemory result }
 {
     let name_range = reader.remaining_range();
     let name = reader.read_string()?;

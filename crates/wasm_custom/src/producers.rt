@@ -1,10 +1,10 @@
 // The tools that a module was produced with.
 ghost use Rattle.std.specs.Prelude.{◌≡◌};
-ghost use Rattle.wasm_base.specs.Hints.{TakesNoMemory};
+ghost use Rattle.wasm_base.specs.Hints.{NotOutOfMemory};
 ghost use Rattle.wasm_base.specs.Item.{ReadsAs};
 ghost use Rattle.wasm_base.specs.Outcome.{GivesBy};
 ghost use Rattle.wasm_base.specs.Window.{place, KeepsWindow};
-ghost use Rattle.wasm_custom.specs.Producers.{is_field_name, field_name_at, passed_value_at};
+ghost use Rattle.wasm_custom.specs.Producers.{is_field_name, field_name_at, skipped_value_at};
 
 use wasm_base::{
     BinaryReader, Error, Fault, FromReader, Result, SectionLimited, SkipItem, read_inner,
@@ -43,7 +43,7 @@ fn is_field_name(name: &str) -> bool
 fn read_field_name<'a>(reader: &mut BinaryReader<'a>) -> Result<&'a str>
     ensures gives { GivesBy (λ name. name.now) result reader.old reader.new field_name_at }
     ensures keeps { KeepsWindow reader.old reader.new }
-    ensures memory { TakesNoMemory result }
+    ensures memory { NotOutOfMemory result }
 {
     let start = reader.original_position();
     let name = reader.read_unlimited_string()?;
@@ -69,9 +69,9 @@ impl<'a> FromReader<'a> for ProducersFieldValue<'a> {
 
 /// Two names of at most 100,000 bytes each, which need not be UTF-8.
 impl<'a> SkipItem<'a> for ProducersFieldValue<'a> {
-    ghost passed_at = { passed_value_at };
+    ghost skipped_at = { skipped_value_at };
 
-    #[tactic(auto, unfolding(crate::specs::Producers::passed_value_at))]
+    #[tactic(auto, unfolding(crate::specs::Producers::skipped_value_at))]
     fn skip_item(reader: &mut BinaryReader<'a>) -> Result<()> {
         reader.skip_string()?;
         reader.skip_string()

@@ -1,6 +1,6 @@
 // Relocations.
 ghost use Rattle.std.specs.Prelude.{◌≡◌, ◌+◌, slice_get};
-ghost use Rattle.wasm_base.specs.Hints.{TakesNoMemory};
+ghost use Rattle.wasm_base.specs.Hints.{NotOutOfMemory};
 ghost use Rattle.wasm_base.specs.Item.{ReadsAs};
 ghost use Rattle.wasm_base.specs.Outcome.{GivesBy};
 ghost use Rattle.wasm_base.specs.Window.{place, KeepsWindow};
@@ -230,7 +230,7 @@ impl<'a> FromReader<'a> for RelocationType {
 fn read_addend(ty: RelocationType, reader: &mut BinaryReader<'_>) -> Result<i64>
     ensures gives { GivesBy (λ addend. addend) result reader.old reader.new (addend_at (addend_of ty)) }
     ensures keeps { KeepsWindow reader.old reader.new }
-    ensures memory { TakesNoMemory result }
+    ensures memory { NotOutOfMemory result }
 {
     match ty.addend_kind() {
         RelocAddendKind::None => Ok(0),
@@ -283,7 +283,7 @@ impl<'a> RelocSectionReader<'a> {
     #[tactic(auto, unfolding(crate::specs::Reloc::reloc_section_in))]
     pub fn new(mut reader: BinaryReader<'a>) -> Result<Self>
         ensures gives { GivesResult (λ section. section) result (reloc_section_in reader.entry) }
-        ensures memory { TakesNoMemory result }
+        ensures memory { NotOutOfMemory result }
     {
         let range = reader.range();
         let section = reader.read_var_u32()?;

@@ -43,7 +43,8 @@ custom_at : (keeps : List ℕ → Bool) (features at : ℕ) (f : SectionFrame) (
 custom_at keeps features at f text used e z true s = inl (rw (z, e) s, (rw e s, tt), append-nil (frame_bytes f))
 custom_at keeps features at f text used e z false s = inr (rw (z, e) s, section_event features at custom f, refl, rw e s, refl)
 
-form_at : (keeps : List ℕ → Bool) (features at : ℕ) (encoding : Encoding) (f : SectionFrame) (form : Form) → kind_of encoding f.id ≡ whole form
+form_at : (keeps : List ℕ → Bool) (features at : ℕ) (encoding : Encoding) (f : SectionFrame) (form : Form)
+    → kind_of encoding f.id ≡ whole form
     → IsFormed form f.sized.content → StaysOrGoes keeps f (section_event features at form f ∷ [])
 form_at keeps features at encoding f form k g = grind (arith, custom_at, custom_has_its_id, other_stays, custom_zero, append-nil)
 
@@ -59,7 +60,8 @@ code_consumed : (features at : ℕ) (f : SectionFrame) (d : CodeDivision f.sized
     ≡ frame_bytes f
 code_consumed features at f d = grind (arith, bodies_consumed, append_assoc)
 
-kind_at : (keeps : List ℕ → Bool) (features at : ℕ) (encoding : Encoding) (f : SectionFrame) (k : Kind) (events : List Event) → kind_of encoding f.id
+kind_at : (keeps : List ℕ → Bool) (features at : ℕ) (encoding : Encoding) (f : SectionFrame) (k : Kind) (events : List Event)
+    → kind_of encoding f.id
     ≡ k → IsGood k f.sized.content → KindEvents features at k f events → StaysOrGoes keeps f events
 kind_at keeps features at encoding f (whole form) events k g e = rw e (form_at keeps features at encoding f form k g)
 kind_at keeps features at encoding f code events k g (d, e) =
@@ -76,7 +78,8 @@ frame_at keeps features at encoding f events i e = kind_at keeps features at enc
 -- ---- the events of all sections
 
 -- events that stay, before others
-stay_first : (keeps : List ℕ → Bool) (dropped : ℕ) (here : List Event) (rest kept : List Event) → AllStay keeps (shifted_events dropped here)
+stay_first : (keeps : List ℕ → Bool) (dropped : ℕ) (here : List Event) (rest kept : List Event)
+    → AllStay keeps (shifted_events dropped here)
     → AllZip IsMovedBack (staying keeps dropped rest) kept
     → AllZip IsMovedBack (staying keeps dropped (shifted_events dropped here ++ rest)) (here ++ kept)
 stay_first keeps dropped [] rest kept s z = z
@@ -128,7 +131,8 @@ kept_stays keeps features encoding at dropped f frames first more rest kept h s 
     }
 
 -- one section that is dropped
-kept_goes : (keeps : List ℕ → Bool) (features : ℕ) (encoding : Encoding) (at dropped : ℕ) (f : SectionFrame) (frames : List SectionFrame) (e : Event)
+kept_goes : (keeps : List ℕ → Bool) (features : ℕ) (encoding : Encoding) (at dropped : ℕ) (f : SectionFrame) (frames : List SectionFrame)
+    (e : Event)
     (more rest kept : List Event) → frame_stays keeps f ≡ false
     → event_stays keeps e ≡ false → e.consumed ≡ frame_bytes f
     → KeptOf keeps features encoding at (dropped + length (frame_bytes f)) frames more rest kept

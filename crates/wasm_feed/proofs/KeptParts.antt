@@ -32,7 +32,8 @@ pub part_goes_on : (keeps : List ℕ → Bool) (f g : Feed) (bytes : Bor (List �
     → Steps f (Ok (Parsed bytes payload)) g → IsFateOf keeps (report_of payload) fate → IsFewer fate f g
 part_goes_on keeps f g bytes payload fate s i = grind (arith, fewer)
 
-module _ (keeps : List ℕ → Bool) (stream : List ℕ) (events : List Event) (f g : Feed) (a : Along 0 all_features stream f.state f.held events)
+module _ (keeps : List ℕ → Bool) (stream : List ℕ) (events : List Event) (f g : Feed)
+    (a : Along 0 all_features stream f.state f.held events)
     (l : length stream < 2 ^ 64) (eof : f.eof ≡ true) where
   -- what arrived with a payload
   came : (bytes : Bor (List ℕ)) (payload : Payload) → Steps f (Ok (Parsed bytes payload)) g
@@ -92,7 +93,8 @@ kept_shorter keeps [] = omega arith
 kept_shorter keeps (e ∷ events) = grind (arith, length-append, kept_shorter keeps events)
 
 -- the kept bytes are no longer than the stream
-pub no_longer : (keeps : List ℕ → Bool) (stream : List ℕ) (f : Feed) (kept : List ℕ) → HasKept keeps stream f kept → length kept ≤ length stream
+pub no_longer : (keeps : List ℕ → Bool) (stream : List ℕ) (f : Feed) (kept : List ℕ) → HasKept keeps stream f kept
+    → length kept ≤ length stream
 no_longer keeps stream f kept (events, a, e) =
     let n : length kept ≡ length (kept_bytes keeps events) = rw e refl in
     let w : length stream ≡ length (consumed_by events) + length f.held =

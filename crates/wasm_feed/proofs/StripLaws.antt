@@ -62,7 +62,8 @@ pub refused_memory : (keeps : List ℕ → Bool) (stream kept : List ℕ) (e : E
     ≡ out_of_memory → RefusesToStrip stream e
 refused_memory keeps stream kept e s r m = record { memory = λ a. m; fault = λ n. absurd (n (accepted_of keeps stream kept s r)) }
 
-pub refused_copy : (keeps : List ℕ → Bool) (stream kept : List ℕ) (e : Error) → Stream stream 0 → ReadsKept keeps stream kept → EndsWithFault stream e
+pub refused_copy : (keeps : List ℕ → Bool) (stream kept : List ℕ) (e : Error) → Stream stream 0 → ReadsKept keeps stream kept
+    → EndsWithFault stream e
     ⊎ (fault_at e ≡ out_of_memory) → RefusesToStrip stream e
 refused_copy keeps stream kept e s r (inl h) = refused_fault stream e s h
 refused_copy keeps stream kept e s r (inr m) = refused_memory keeps stream kept e s r m
@@ -98,7 +99,8 @@ length_kept q [] = omega arith
 length_kept q (f ∷ frames) = length_step f frames (filter q frames) (length_kept q frames) (q f)
 
 -- a stripped stream is a stream
-stream_kept : (keeps : List ℕ → Bool) (stream : List ℕ) (a : IsAccepted stream) → Stream stream 0 → Stream (stripped keeps a.encoding a.frames) 0
+stream_kept : (keeps : List ℕ → Bool) (stream : List ℕ) (a : IsAccepted stream) → Stream stream 0
+    → Stream (stripped keeps a.encoding a.frames) 0
 stream_kept keeps stream a s =
     let h : List ℕ = header_bytes a.encoding in
     let e : All (λ b. b < 256) (h ++ flat_map frame_bytes a.frames) = rw a.whole at s.each in
@@ -182,7 +184,8 @@ kept_is keeps stream kept a s r =
     (last_event (ended (0 + length (header_bytes a.encoding ++ flat_map frame_bytes a.frames)))) t.whole in
     grind arith
 
-pub strips_so : (keeps : List ℕ → Bool) (stream kept : List ℕ) → Stream stream 0 → ReadsKept keeps stream kept → IsStripped keeps stream kept
+pub strips_so : (keeps : List ℕ → Bool) (stream kept : List ℕ) → Stream stream 0 → ReadsKept keeps stream kept
+    → IsStripped keeps stream kept
 strips_so keeps stream kept s r =
     let a : IsAccepted stream = accepted_of keeps stream kept s r in
     rw (kept_is keeps stream kept a s r) (is_stripped keeps stream a s)

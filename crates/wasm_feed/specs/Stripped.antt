@@ -115,11 +115,13 @@ StripsToFront keeps stream (Ok size) after = IsStripped keeps stream (take size 
 StripsToFront keeps stream (Err e) after = LeavesStream stream e after
 
 -- Like `Strips`, in the stream's own memory.
-abbrev pub StripsInPlace : (keeps : List ℕ → Bool) (stream : List ℕ) → Result (Unit {0}) Error → (after : List ℕ) → Type 0
+abbrev pub StripsInPlace : (keeps : List ℕ → Bool) (stream : List ℕ) → Result (Unit {0}) Error → (after : List ℕ)
+    → Type 0
 StripsInPlace keeps stream (Ok done) after = IsStripped keeps stream after
 StripsInPlace keeps stream (Err e) after = LeavesStream stream e after
 
 -- stripping a second time changes nothing
 abbrev pub StrippingTwiceIsOnce : Type 0
 StrippingTwiceIsOnce =
-    (keeps : List ℕ → Bool) (stream once twice : List ℕ) → IsStripped keeps stream once → IsStripped keeps once twice → twice ≡ once
+    (keeps : List ℕ → Bool) (stream once twice : List ℕ) → IsStripped keeps stream once
+    → IsStripped keeps once twice → twice ≡ once

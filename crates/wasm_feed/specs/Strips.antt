@@ -34,7 +34,8 @@ Comes keeps stream events stays e new = (event_stays keeps e ≡ stays)
 -- What is next in a stream after these events: an event that stays, with these bytes; one that is dropped; or the
 -- end.
 abbrev pub FateComes : (keeps : List ℕ → Bool) (stream : List ℕ) → List Event → (bytes : List ℕ) → Fate → Feed → Type 0
-FateComes keeps stream events bytes Stays new = (e : Event) × Comes keeps stream events true e new × (e.consumed ≡ bytes)
+FateComes keeps stream events bytes Stays new = (e : Event) × Comes keeps stream events true e new
+    × (e.consumed ≡ bytes)
 FateComes keeps stream events bytes Goes new = (e : Event) × Comes keeps stream events false e new
 FateComes keeps stream events bytes End new = (offset : ℕ)
     × Reading stream 0 all_features (events ++ last_event (ended offset) ∷ [])
@@ -77,8 +78,10 @@ CountsKept keeps stream (Ok count) = (kept : List ℕ) × ReadsKept keeps stream
 CountsKept keeps stream (Err e) = EndsWithFault stream e
 
 -- they were put after others, if the stream has no fault and memory was there
-abbrev pub CopiesKept : (keeps : List ℕ → Bool) (stream before : List ℕ) → Result (Unit {0}) Error → (after : List ℕ) → Type 0
-CopiesKept keeps stream before (Ok done) after = (kept : List ℕ) × ReadsKept keeps stream kept × (after ≡ before ++ kept)
+abbrev pub CopiesKept : (keeps : List ℕ → Bool) (stream before : List ℕ) → Result (Unit {0}) Error
+    → (after : List ℕ) → Type 0
+CopiesKept keeps stream before (Ok done) after = (kept : List ℕ) × ReadsKept keeps stream kept
+    × (after ≡ before ++ kept)
 CopiesKept keeps stream before (Err e) after = EndsWithFault stream e ⊎ (fault_at e ≡ out_of_memory)
 
 -- the kept bytes of a stream were moved to its front, and are this many, if it has no fault
@@ -94,13 +97,15 @@ Passes bytes old (Ok part) new = (new ≡ old + length part.bytes.now)
 Passes bytes old (Err e) new = Unit {0}
 
 -- These bytes were kept of a stream, and this is next: a part that stays, which is kept too; the end; or a fault.
-abbrev pub KeptComes : (keeps : List ℕ → Bool) (stream kept : List ℕ) → Result (Option (Bor (List ℕ))) Error → Feed → Type 0
+abbrev pub KeptComes : (keeps : List ℕ → Bool) (stream kept : List ℕ) → Result (Option (Bor (List ℕ))) Error → Feed
+    → Type 0
 KeptComes keeps stream kept (Ok (Some part)) new = HasKept keeps stream new (kept ++ part.now)
 KeptComes keeps stream kept (Ok None) new = ReadsKept keeps stream kept
 KeptComes keeps stream kept (Err e) new = EndsWithFault stream e
 
 -- the same wherever the feeder was
-abbrev pub TakesKept : (keeps : List ℕ → Bool) → (old : Feed) → Result (Option (Bor (List ℕ))) Error → (new : Feed) → Type 0
+abbrev pub TakesKept : (keeps : List ℕ → Bool) → (old : Feed) → Result (Option (Bor (List ℕ))) Error → (new : Feed)
+    → Type 0
 TakesKept keeps old result new = (stream kept : List ℕ) → HasKept keeps stream old kept → length stream < 2 ^ 64
     → KeptComes keeps stream kept result new
 

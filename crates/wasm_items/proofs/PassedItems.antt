@@ -5,7 +5,7 @@ use Rattle.wasm_base.specs.Name.{name_limit, text_at}
 use Rattle.wasm_base.specs.Outcome.{Outcome, ◌>>=◌}
 use Rattle.wasm_base.specs.Skip.{skipped_name_at}
 use Rattle.wasm_base.specs.Window.{Window, Place, window_between}
-use Rattle.wasm_items.specs.Imports.{ItemParts, item_at, passed_item_at, type_ref_at}
+use Rattle.wasm_items.specs.Imports.{ItemParts, item_at, skipped_item_at, type_ref_at}
 use Rattle.wasm_items.specs.Init.{end_of_expression, expression_at}
 use Rattle.wasm_items.specs.declared.imports.TypeRef.{TypeRef}
 
@@ -37,8 +37,8 @@ module _ (q : Place) (parts : ItemParts) where
   name_step p (Ok name) is h = rw (name_passed p name.1 name.0 is) (type_step name (type_ref_at name.1) h)
 
 -- an import of a bundle
-pub item_passed : (p q : Place) (parts : ItemParts) → item_at p ≡ Ok (parts, q) → passed_item_at p ≡ Ok (tt, q)
-unfolding item_at passed_item_at
+pub item_passed : (p q : Place) (parts : ItemParts) → item_at p ≡ Ok (parts, q) → skipped_item_at p ≡ Ok (tt, q)
+unfolding item_at skipped_item_at
 item_passed p q parts h = name_step q parts p (text_at (Some name_limit) p) refl h
 
 -- the window up to an end

@@ -67,14 +67,14 @@ only_functions Func offset p = Ok (tt, p)
 only_functions kind offset p = Err (at_offset ElementFunctionOnly offset)
 
 -- the kind of the elements: an external kind, which must be that of functions
-unfoldable pub element_kind_passed_at : Place → Outcome (Unit {0})
-element_kind_passed_at p = do
+unfoldable pub skipped_element_kind_at : Place → Outcome (Unit {0})
+skipped_element_kind_at p = do
   kind ← kind_at p
   only_functions kind.0 p.offset kind.1
 
 -- the place after the kind of the elements, if present
 abbrev pub after_element_kind : (flags : ℕ) → Place → Outcome (Unit {0})
-after_element_kind flags p = if is_typed flags then element_kind_passed_at p else Ok (tt, p)
+after_element_kind flags p = if is_typed flags then skipped_element_kind_at p else Ok (tt, p)
 
 -- elements that are functions: their kind, and a list of their indices
 unfoldable pub function_elements_at : (flags : ℕ) → Place → Outcome ElementItems

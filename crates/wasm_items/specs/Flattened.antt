@@ -4,7 +4,7 @@ use Rattle.std.specs.Prelude.{◌≡◌, ℕ, zero, suc, List, [], ◌∷◌, �
 use Rattle.std.specs.Prelude.{if◌then◌else◌}
 use Rattle.std.specs.Iterator.{Drains}
 use Rattle.wasm_base.specs.FaultAt.{FaultAt, fault_at}
-use Rattle.wasm_base.specs.Hints.{TakesNoMemory}
+use Rattle.wasm_base.specs.Hints.{NotOutOfMemory}
 use Rattle.wasm_base.specs.Name.{name_limit, text_at}
 use Rattle.wasm_base.specs.Outcome.{Outcome}
 use Rattle.wasm_base.specs.Section.{Items, at_the_end}
@@ -89,7 +89,7 @@ GivesFirst view before None after = (before ≡ []) × (after ≡ [])
 
 -- one call of `next`, which never returns `OutOfMemory`
 abbrev pub NextImport : {X B : Type 0} → (Result X Error → B) → List B → Option (Result X Error) → List B → Type 0
-NextImport view before given after = GivesFirst view before given after × IfSome given TakesNoMemory
+NextImport view before given after = GivesFirst view before given after × IfSome given NotOutOfMemory
 
 -- `next` returns all remaining items in order, and then only `None`.
 pub record GivesAll {A B : Type 0} (view : A → B) (next : List B → Option A → List B → Type 0) : Type 0 where

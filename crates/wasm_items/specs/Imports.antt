@@ -81,8 +81,8 @@ item_at p = do
   Ok (record { name = name.0; ty = ty.0 }, ty.1)
 
 -- the place after a skipped import of a bundle, whose name isn't checked to be UTF-8
-unfoldable pub passed_item_at : Place → Outcome (Unit {0})
-passed_item_at p = do
+unfoldable pub skipped_item_at : Place → Outcome (Unit {0})
+skipped_item_at p = do
   name ← skipped_name_at p
   ty ← type_ref_at name.1
   Ok (tt, ty.1)
@@ -108,7 +108,7 @@ bundle_byte_at fault p =
 unfoldable pub module_bundle_at : (from : List ℕ) → Place → Outcome Bundle
 module_bundle_at from p = do
   byte ← bundle_byte_at Compact7F p
-  items ← inner_section_at passed_item_at byte.1
+  items ← inner_section_at skipped_item_at byte.1
   Ok (of_module from items.0, items.1)
 
 -- imports of one module and one type: the byte 0x7E, the type, and a list of names

@@ -4,7 +4,7 @@ use Rattle.std.specs.Prelude.{Option, IfSome, Result, Ok, Err, if◌then◌else�
 use Rattle.std.specs.Iterator.{Drains}
 use Rattle.std.specs.List.{list_any}
 use Rattle.wasm_base.specs.FaultAt.{FaultAt}
-use Rattle.wasm_base.specs.Hints.{TakesNoMemory}
+use Rattle.wasm_base.specs.Hints.{NotOutOfMemory}
 use Rattle.wasm_base.specs.Name.{byte_at}
 use Rattle.wasm_base.specs.Outcome.{Outcome, ◌>>=◌}
 use Rattle.wasm_base.specs.Section.{item_or_fault, as_read}
@@ -60,7 +60,7 @@ is_last (Err e) = true
 -- one call of `next`, which never returns `OutOfMemory`
 abbrev pub NextInstruction : (before : List (Result ConstInstruction FaultAt)) → Option (Result ConstInstruction Error)
     → (after : List (Result ConstInstruction FaultAt)) → Type 0
-NextInstruction before given after = GivesFirst item_or_fault before given after × IfSome given TakesNoMemory
+NextInstruction before given after = GivesFirst item_or_fault before given after × IfSome given NotOutOfMemory
 
 -- ---- an expression that was read
 

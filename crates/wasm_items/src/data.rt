@@ -1,6 +1,6 @@
 // Data segments.
 ghost use Rattle.std.specs.Prelude.{◌≡◌};
-ghost use Rattle.wasm_base.specs.Hints.{TakesNoMemory};
+ghost use Rattle.wasm_base.specs.Hints.{NotOutOfMemory};
 ghost use Rattle.wasm_base.specs.Item.{ReadsAs};
 ghost use Rattle.wasm_base.specs.Outcome.{GivesBy};
 ghost use Rattle.wasm_base.specs.Window.{place, KeepsWindow};
@@ -72,7 +72,7 @@ pub enum DataKind<'a> {
 fn read_active<'a>(memory_index: u32, reader: &mut BinaryReader<'a>) -> Result<DataKind<'a>>
     ensures gives { GivesBy (λ kind. kind) result reader.old reader.new (active_data_at memory_index) }
     ensures keeps { KeepsWindow reader.old reader.new }
-    ensures memory { TakesNoMemory result }
+    ensures memory { NotOutOfMemory result }
 {
     let offset_expr = ConstExpr::from_reader(reader)?;
     Ok(DataKind::Active {
@@ -86,7 +86,7 @@ fn read_active<'a>(memory_index: u32, reader: &mut BinaryReader<'a>) -> Result<D
 fn read_kind<'a>(reader: &mut BinaryReader<'a>) -> Result<DataKind<'a>>
     ensures gives { GivesBy (λ kind. kind) result reader.old reader.new data_kind_at }
     ensures keeps { KeepsWindow reader.old reader.new }
-    ensures memory { TakesNoMemory result }
+    ensures memory { NotOutOfMemory result }
 {
     let start = reader.original_position();
     match reader.read_var_u32()? {

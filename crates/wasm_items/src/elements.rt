@@ -1,6 +1,6 @@
 // Element segments.
 ghost use Rattle.std.specs.Prelude.{◌≡◌};
-ghost use Rattle.wasm_base.specs.Hints.{TakesNoMemory};
+ghost use Rattle.wasm_base.specs.Hints.{NotOutOfMemory};
 ghost use Rattle.wasm_base.specs.Item.{ReadsAs};
 ghost use Rattle.wasm_base.specs.Outcome.{GivesBy};
 ghost use Rattle.wasm_base.specs.Window.{place, KeepsWindow};
@@ -116,7 +116,7 @@ const HAS_EXPRESSIONS: u8 = 4;
 fn read_flags(reader: &mut BinaryReader<'_>) -> Result<u8>
     ensures gives { GivesBy (λ flags. flags) result reader.old reader.new element_flags_at }
     ensures keeps { KeepsWindow reader.old reader.new }
-    ensures memory { TakesNoMemory result }
+    ensures memory { NotOutOfMemory result }
 {
     let flags = reader.read_var_u32()?;
     if flags > 7 {
@@ -132,7 +132,7 @@ fn read_active<'a>(
 ) -> Result<ElementKind<'a>>
     ensures gives { GivesBy (λ kind. kind) result reader.old reader.new (active_element_at table_index) }
     ensures keeps { KeepsWindow reader.old reader.new }
-    ensures memory { TakesNoMemory result }
+    ensures memory { NotOutOfMemory result }
 {
     let offset_expr = ConstExpr::from_reader(reader)?;
     Ok(ElementKind::Active {
@@ -146,7 +146,7 @@ fn read_active<'a>(
 fn read_kind<'a>(flags: u8, reader: &mut BinaryReader<'a>) -> Result<ElementKind<'a>>
     ensures gives { GivesBy (λ kind. kind) result reader.old reader.new (element_kind_at flags) }
     ensures keeps { KeepsWindow reader.old reader.new }
-    ensures memory { TakesNoMemory result }
+    ensures memory { NotOutOfMemory result }
 {
     if has_flag(flags, IS_NOT_ACTIVE) {
         if has_flag(flags, IS_INDEXED_OR_DECLARED) {
@@ -169,11 +169,11 @@ fn is_typed(flags: u8) -> bool
 }
 
 // Skips the kind of the elements, if present.
-#[tactic(auto, unfolding(crate::specs::Elements::element_kind_passed_at))]
-fn pass_kind(flags: u8, reader: &mut BinaryReader<'_>) -> Result<()>
+#[tactic(auto, unfolding(crate::specs::Elements::skipped_element_kind_at))]
+fn skip_kind(flags: u8, reader: &mut BinaryReader<'_>) -> Result<()>
     ensures gives { GivesBy (λ nothing. nothing) result reader.old reader.new (after_element_kind flags) }
     ensures keeps { KeepsWindow reader.old reader.new }
-    ensures memory { TakesNoMemory result }
+    ensures memory { NotOutOfMemory result }
 {
     if !is_typed(flags) {
         return Ok(());
@@ -190,9 +190,9 @@ fn pass_kind(flags: u8, reader: &mut BinaryReader<'_>) -> Result<()>
 fn read_functions<'a>(flags: u8, reader: &mut BinaryReader<'a>) -> Result<ElementItems<'a>>
     ensures gives { GivesBy (λ items. items) result reader.old reader.new (function_elements_at flags) }
     ensures keeps { KeepsWindow reader.old reader.new }
-    ensures memory { TakesNoMemory result }
+    ensures memory { NotOutOfMemory result }
 {
-    pass_kind(flags, reader)?;
+    skip_kind(flags, reader)?;
     Ok(ElementItems::Functions(read_inner_u32s(reader)?))
 }
 
@@ -200,7 +200,7 @@ fn read_functions<'a>(flags: u8, reader: &mut BinaryReader<'a>) -> Result<Elemen
 fn read_type(flags: u8, reader: &mut BinaryReader<'_>) -> Result<RefType>
     ensures gives { GivesBy (λ ty. ty) result reader.old reader.new (element_type_at flags) }
     ensures keeps { KeepsWindow reader.old reader.new }
-    ensures memory { TakesNoMemory result }
+    ensures memory { NotOutOfMemory result }
 {
     if is_typed(flags) {
         RefType::from_reader(reader)
@@ -214,7 +214,7 @@ fn read_type(flags: u8, reader: &mut BinaryReader<'_>) -> Result<RefType>
 fn read_typed<'a>(flags: u8, reader: &mut BinaryReader<'a>) -> Result<ElementItems<'a>>
     ensures gives { GivesBy (λ items. items) result reader.old reader.new (expression_elements_at flags) }
     ensures keeps { KeepsWindow reader.old reader.new }
-    ensures memory { TakesNoMemory result }
+    ensures memory { NotOutOfMemory result }
 {
     let ty = read_type(flags, reader)?;
     Ok(ElementItems::Expressions(ty, read_inner(reader)?))
@@ -224,7 +224,7 @@ fn read_typed<'a>(flags: u8, reader: &mut BinaryReader<'a>) -> Result<ElementIte
 fn read_items<'a>(flags: u8, reader: &mut BinaryReader<'a>) -> Result<ElementItems<'a>>
     ensures gives { GivesBy (λ items. items) result reader.old reader.new (elements_at flags) }
     ensures keeps { KeepsWindow reader.old reader.new }
-    ensures memory { TakesNoMemory result }
+    ensures memory { NotOutOfMemory result }
 {
     if has_flag(flags, HAS_EXPRESSIONS) {
         return read_typed(flags, reader);

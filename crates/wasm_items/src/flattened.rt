@@ -1,7 +1,7 @@
 // The imports of an import section one by one.
 ghost use Rattle.std.specs.Iterator.{at_most};
 ghost use Rattle.std.specs.Prelude.{◌≡◌, ◌++◌, [], map, length, IfSome};
-ghost use Rattle.wasm_base.specs.Hints.{TakesNoMemory};
+ghost use Rattle.wasm_base.specs.Hints.{NotOutOfMemory};
 ghost use Rattle.wasm_base.specs.Window.{place};
 ghost use Rattle.wasm_items.specs.Flattened.{imports_of_bundles, bundle_imports, flattened, import_alone, found_at, found, GivesFirst, NextImport};
 ghost use Rattle.wasm_items.specs.Imports.{bundle_parts};
@@ -21,7 +21,7 @@ struct ItemsLeft<'a> {
 impl<'a> ItemsLeft<'a> {
     fn next_import(&mut self) -> Option<Result<(u64, Import<'a>)>>
         ensures gives { GivesFirst found_at (items_left self.old) result (items_left self.new) }
-        ensures memory { IfSome result TakesNoMemory }
+        ensures memory { IfSome result NotOutOfMemory }
     {
         let module = self.module;
         match self.items.next() {
@@ -45,7 +45,7 @@ struct NamesLeft<'a> {
 impl<'a> NamesLeft<'a> {
     fn next_import(&mut self) -> Option<Result<(u64, Import<'a>)>>
         ensures gives { GivesFirst found_at (names_left self.old) result (names_left self.new) }
-        ensures memory { IfSome result TakesNoMemory }
+        ensures memory { IfSome result NotOutOfMemory }
     {
         let (module, ty) = (self.module, self.ty);
         match self.names.next() {
@@ -155,7 +155,7 @@ fn next_import<'a>(
 ) -> Option<Result<(u64, Import<'a>)>>
     ensures gives { GivesFirst found_at (bundle.old ++ imports_of_bundles bundles.old) result
         (bundle.new ++ imports_of_bundles bundles.new) }
-    ensures memory { IfSome result TakesNoMemory }
+    ensures memory { IfSome result NotOutOfMemory }
 {
     'left: loop {
         if let Some(import) = bundle.next() {

@@ -1,6 +1,6 @@
 // Imports.
 ghost use Rattle.std.specs.Prelude.{◌≡◌, ◌<◌, false, length};
-ghost use Rattle.wasm_base.specs.Hints.{TakesNoMemory, is_out_of_memory};
+ghost use Rattle.wasm_base.specs.Hints.{NotOutOfMemory, is_out_of_memory};
 ghost use Rattle.wasm_base.specs.Item.{ReadsAs};
 ghost use Rattle.wasm_base.specs.Outcome.{GivesBy};
 ghost use Rattle.wasm_base.specs.Window.{place, KeepsWindow};
@@ -183,11 +183,11 @@ impl<'a> FromReader<'a> for ImportItemCompact<'a> {
 
 /// Skips an import of a bundle, with the errors of `skip_string` and of `TypeRef`. The name may be invalid UTF-8.
 impl<'a> SkipItem<'a> for ImportItemCompact<'a> {
-    ghost use Rattle.wasm_items.specs.Imports.{passed_item_at};
+    ghost use Rattle.wasm_items.specs.Imports.{skipped_item_at};
 
-    ghost passed_at = { passed_item_at };
+    ghost skipped_at = { skipped_item_at };
 
-    #[tactic(auto, unfolding(crate::specs::Imports::passed_item_at))]
+    #[tactic(auto, unfolding(crate::specs::Imports::skipped_item_at))]
     fn skip_item(reader: &mut BinaryReader<'a>) -> Result<()> {
         reader.skip_string()?;
         TypeRef::from_reader(reader)?;
@@ -203,12 +203,12 @@ fn takes_bundles(reader: &BinaryReader<'_>) -> bool
 }
 
 // Skips the byte of a bundle. If bundles aren't accepted, returns this fault at the byte.
-fn pass_bundle_byte(fault: Fault, reader: &mut BinaryReader<'_>) -> Result<()>
+fn skip_bundle_byte(fault: Fault, reader: &mut BinaryReader<'_>) -> Result<()>
     requires byte { 0 < length (place reader.old).rest }
     requires other { is_out_of_memory fault ≡ false }
     ensures gives { GivesBy (λ nothing. nothing) result reader.old reader.new (bundle_byte_at fault) }
     ensures keeps { KeepsWindow reader.old reader.new }
-    ensures memory { TakesNoMemory result }
+    ensures memory { NotOutOfMemory result }
 {
     if !takes_bundles(reader) {
         return Err(Error::new(fault, reader.original_position()));
@@ -223,9 +223,9 @@ fn read_module_bundle<'a>(module: &'a str, reader: &mut BinaryReader<'a>) -> Res
     requires { 0 < length (place reader.old).rest }
     ensures gives { GivesBy bundle_parts result reader.old reader.new (module_bundle_at «module».now) }
     ensures keeps { KeepsWindow reader.old reader.new }
-    ensures memory { TakesNoMemory result }
+    ensures memory { NotOutOfMemory result }
 {
-    pass_bundle_byte(Fault::Compact7F, reader)?;
+    skip_bundle_byte(Fault::Compact7F, reader)?;
     let items = read_inner(reader)?;
     Ok(Imports::Compact1 { module, items })
 }
@@ -236,9 +236,9 @@ fn read_type_bundle<'a>(module: &'a str, reader: &mut BinaryReader<'a>) -> Resul
     requires { 0 < length (place reader.old).rest }
     ensures gives { GivesBy bundle_parts result reader.old reader.new (type_bundle_at «module».now) }
     ensures keeps { KeepsWindow reader.old reader.new }
-    ensures memory { TakesNoMemory result }
+    ensures memory { NotOutOfMemory result }
 {
-    pass_bundle_byte(Fault::Compact7E, reader)?;
+    skip_bundle_byte(Fault::Compact7E, reader)?;
     let ty = reader.read()?;
     let names = read_inner(reader)?;
     Ok(Imports::Compact2 { module, ty, names })
@@ -255,7 +255,7 @@ fn read_single<'a>(
     ensures gives { GivesBy bundle_parts result reader.old reader.new
         (single_at start «module».now name.now) }
     ensures keeps { KeepsWindow reader.old reader.new }
-    ensures memory { TakesNoMemory result }
+    ensures memory { NotOutOfMemory result }
 {
     let ty = reader.read()?;
     Ok(Imports::Single(start, Import { module, name, ty }))

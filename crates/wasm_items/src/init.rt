@@ -1,6 +1,6 @@
 // Constant expressions.
 ghost use Rattle.std.specs.Prelude.{◌≡◌, ◌+◌, length};
-ghost use Rattle.wasm_base.specs.Hints.{TakesNoMemory};
+ghost use Rattle.wasm_base.specs.Hints.{NotOutOfMemory};
 ghost use Rattle.wasm_base.specs.Item.{ReadsAs};
 ghost use Rattle.wasm_base.specs.Outcome.{GivesBy};
 ghost use Rattle.wasm_base.specs.Window.{place, KeepsWindow, range_of};
@@ -189,7 +189,7 @@ pub enum ConstOperator {
 fn read_vector(reader: &mut BinaryReader<'_>) -> Result<V128>
     ensures gives { GivesBy bytes_of_vector result reader.old reader.new (bytes_at 16) }
     ensures keeps { KeepsWindow reader.old reader.new }
-    ensures memory { TakesNoMemory result }
+    ensures memory { NotOutOfMemory result }
 {
     let mut bytes = [0; 16];
     bytes.copy_from_slice(reader.read_bytes(16)?);
@@ -206,7 +206,7 @@ pub(crate) fn read_operands(
     ensures gives { GivesBy (λ operator. operator) result reader.old reader.new
         (after_opcode start opcode) }
     ensures keeps { KeepsWindow reader.old reader.new }
-    ensures memory { TakesNoMemory result }
+    ensures memory { NotOutOfMemory result }
 {
     match opcode {
         0x23 => Ok(ConstOperator::GlobalGet {
@@ -247,7 +247,7 @@ fn read_aggregate(start: u64, reader: &mut BinaryReader<'_>) -> Result<ConstOper
     ensures gives { GivesBy (λ operator. operator) result reader.old reader.new
         (numbered_operands_at start aggregate_operands_of) }
     ensures keeps { KeepsWindow reader.old reader.new }
-    ensures memory { TakesNoMemory result }
+    ensures memory { NotOutOfMemory result }
 {
     match reader.read_var_u32()? {
         0 => Ok(ConstOperator::StructNew {
@@ -278,7 +278,7 @@ fn read_vector_constant(start: u64, reader: &mut BinaryReader<'_>) -> Result<Con
     ensures gives { GivesBy (λ operator. operator) result reader.old reader.new
         (numbered_operands_at start vector_operands_of) }
     ensures keeps { KeepsWindow reader.old reader.new }
-    ensures memory { TakesNoMemory result }
+    ensures memory { NotOutOfMemory result }
 {
     if reader.read_var_u32()? != 12 {
         return Err(Error::new(Fault::NotConstant, start));
@@ -289,10 +289,10 @@ fn read_vector_constant(start: u64, reader: &mut BinaryReader<'_>) -> Result<Con
 }
 
 /// Skips instructions up to and including `end`.
-fn pass_expression(reader: &mut BinaryReader<'_>) -> Result<()>
+fn skip_expression(reader: &mut BinaryReader<'_>) -> Result<()>
     ensures gives { GivesBy (λ nothing. nothing) result reader.old reader.new end_of_expression }
     ensures keeps { KeepsWindow reader.old reader.new }
-    ensures memory { TakesNoMemory result }
+    ensures memory { NotOutOfMemory result }
 {
     'instructions: loop {
         let start = reader.original_position();
@@ -320,16 +320,16 @@ impl<'a> FromReader<'a> for ConstExpr<'a> {
     #[tactic(auto, unfolding(crate::specs::Init::expression_at))]
     fn from_reader(reader: &mut BinaryReader<'a>) -> Result<Self> {
         let before = reader.clone().unwrap();
-        pass_expression(reader)?;
+        skip_expression(reader)?;
         Ok(ConstExpr::new(passed_since(&before, reader)))
     }
 }
 
 /// Skips an expression, with the errors of reading it.
 impl<'a> SkipItem<'a> for ConstExpr<'a> {
-    ghost passed_at = { end_of_expression };
+    ghost skipped_at = { end_of_expression };
 
     fn skip_item(reader: &mut BinaryReader<'a>) -> Result<()> {
-        pass_expression(reader)
+        skip_expression(reader)
     }
 }

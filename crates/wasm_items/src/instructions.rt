@@ -1,7 +1,7 @@
 // The instructions of constant expressions.
 ghost use Rattle.std.specs.Iterator.{at_most};
 ghost use Rattle.std.specs.Prelude.{◌≡◌, length};
-ghost use Rattle.wasm_base.specs.Hints.{TakesNoMemory};
+ghost use Rattle.wasm_base.specs.Hints.{NotOutOfMemory};
 ghost use Rattle.wasm_base.specs.Outcome.{GivesBy};
 ghost use Rattle.wasm_base.specs.Window.{place, KeepsWindow};
 ghost use Rattle.wasm_items.specs.Instructions.{NextInstruction, instruction_at, instructions_in, is_end, is_last, operator_at};
@@ -102,7 +102,7 @@ fn read_operator(start: u64, opcode: u8, reader: &mut BinaryReader<'_>) -> Resul
     ensures gives { GivesBy (λ operator. operator) result reader.old reader.new
         (operator_at start opcode) }
     ensures keeps { KeepsWindow reader.old reader.new }
-    ensures memory { TakesNoMemory result }
+    ensures memory { NotOutOfMemory result }
 {
     if opcode == 0x0b {
         return Ok(ConstOperator::End);
@@ -133,7 +133,7 @@ fn read_operator(start: u64, opcode: u8, reader: &mut BinaryReader<'_>) -> Resul
 #[tactic(auto, unfolding(crate::specs::Instructions::instruction_at))]
 pub fn read_instruction(reader: &mut BinaryReader<'_>) -> Result<ConstInstruction>
     ensures gives { GivesBy (λ instruction. instruction) result reader.old reader.new instruction_at }
-    ensures memory { TakesNoMemory result }
+    ensures memory { NotOutOfMemory result }
 {
     let offset = reader.original_position();
     let opcode = reader.read_u8()?;

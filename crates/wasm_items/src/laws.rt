@@ -1,7 +1,7 @@
 //! Laws of items: of comparing and cloning them, of items that were read, and of iterating over them to the end.
 ghost use Rattle.std.specs.Prelude.{◌≡◌, Ok};
 ghost use Rattle.wasm_base.specs.Comparing.{DecidesWhether, DecidesSame, IsCopy};
-ghost use Rattle.wasm_base.specs.Inner.{PassesAsRead};
+ghost use Rattle.wasm_base.specs.Inner.{SkipsAsRead};
 ghost use Rattle.wasm_base.specs.Item.{AllowsOne, Determines};
 ghost use Rattle.wasm_base.specs.Window.{Place};
 ghost use Rattle.wasm_items.specs.Announced.{ElementsAreGiven};
@@ -139,13 +139,13 @@ pub fn all_imports_come<'a>()
 {}
 
 /// If an import of a bundle or a constant expression can be read, skipping it consumes the same bytes as reading it.
-pub fn passing_over_takes_what_reading_takes<'a>()
-    ensures item { PassesAsRead
+pub fn skipping_consumes_what_reading_consumes<'a>()
+    ensures item { SkipsAsRead
         ⟦<ImportItemCompact<'a> as FromReader<'a>>⟧.meaning
-        ⟦<ImportItemCompact<'a> as SkipItem<'a>>⟧.passed_at }
-    ensures expression { PassesAsRead
+        ⟦<ImportItemCompact<'a> as SkipItem<'a>>⟧.skipped_at }
+    ensures expression { SkipsAsRead
         ⟦<ConstExpr<'a> as FromReader<'a>>⟧.meaning
-        ⟦<ConstExpr<'a> as SkipItem<'a>>⟧.passed_at }
+        ⟦<ConstExpr<'a> as SkipItem<'a>>⟧.skipped_at }
 {}
 
 /// Each of these items allows one outcome at each place, so the iterators over a section of them, and clones of these,

@@ -1,7 +1,7 @@
 // Limits of tables and memories.
 ghost use Rattle.std.specs.Prelude.{◌≡◌};
 ghost use Rattle.wasm_base.specs.Bits.{has_flag};
-ghost use Rattle.wasm_base.specs.Hints.{TakesNoMemory};
+ghost use Rattle.wasm_base.specs.Hints.{NotOutOfMemory};
 ghost use Rattle.wasm_base.specs.Outcome.{GivesBy};
 ghost use Rattle.wasm_base.specs.Window.{place, KeepsWindow};
 ghost use Rattle.wasm_items.specs.Limits.{limit_at, maximum_at, limits_at};
@@ -32,7 +32,7 @@ pub(crate) fn has_flag(flags: u8, flag: u8) -> bool
 fn read_limit(reader: &mut BinaryReader<'_>) -> Result<u64>
     ensures gives { GivesBy (λ n. n) result reader.old reader.new limit_at }
     ensures keeps { KeepsWindow reader.old reader.new }
-    ensures memory { TakesNoMemory result }
+    ensures memory { NotOutOfMemory result }
 {
     if reader.memory64() {
         reader.read_var_u64()
@@ -46,7 +46,7 @@ fn read_limit(reader: &mut BinaryReader<'_>) -> Result<u64>
 fn read_maximum(flags: u8, reader: &mut BinaryReader<'_>) -> Result<Option<u64>>
     ensures gives { GivesBy (λ n. n) result reader.old reader.new (maximum_at flags) }
     ensures keeps { KeepsWindow reader.old reader.new }
-    ensures memory { TakesNoMemory result }
+    ensures memory { NotOutOfMemory result }
 {
     if has_flag(flags, HAS_MAXIMUM) {
         Ok(Some(read_limit(reader)?))
@@ -61,7 +61,7 @@ fn read_maximum(flags: u8, reader: &mut BinaryReader<'_>) -> Result<Option<u64>>
 pub(crate) fn read_limits(flags: u8, reader: &mut BinaryReader<'_>) -> Result<(u64, Option<u64>)>
     ensures gives { GivesBy (λ limits. limits) result reader.old reader.new (limits_at flags) }
     ensures keeps { KeepsWindow reader.old reader.new }
-    ensures memory { TakesNoMemory result }
+    ensures memory { NotOutOfMemory result }
 {
     let initial = read_limit(reader)?;
     let maximum = read_maximum(flags, reader)?;

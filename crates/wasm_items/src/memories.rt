@@ -1,6 +1,6 @@
 // Memories.
 ghost use Rattle.std.specs.Prelude.{◌≡◌};
-ghost use Rattle.wasm_base.specs.Hints.{TakesNoMemory};
+ghost use Rattle.wasm_base.specs.Hints.{NotOutOfMemory};
 ghost use Rattle.wasm_base.specs.Item.{ReadsAs};
 ghost use Rattle.wasm_base.specs.Outcome.{GivesBy};
 ghost use Rattle.wasm_base.specs.Window.{place, KeepsWindow};
@@ -28,7 +28,7 @@ pub type MemorySectionReader<'a> = SectionLimited<'a, MemoryType>;
 fn read_page_size(start: u64, flags: u8, reader: &mut BinaryReader<'_>) -> Result<Option<u32>>
     ensures gives { GivesBy (λ size. size) result reader.old reader.new (page_size_at start flags) }
     ensures keeps { KeepsWindow reader.old reader.new }
-    ensures memory { TakesNoMemory result }
+    ensures memory { NotOutOfMemory result }
 {
     if !has_flag(flags, HAS_PAGE_SIZE) {
         return Ok(None);

@@ -1,6 +1,6 @@
 // Reading groups of types.
 ghost use Rattle.std.specs.Prelude.{◌≡◌, map};
-ghost use Rattle.wasm_base.specs.Hints.{TakesNoMemory};
+ghost use Rattle.wasm_base.specs.Hints.{NotOutOfMemory};
 ghost use Rattle.wasm_base.specs.Item.{ReadsAs};
 ghost use Rattle.wasm_base.specs.Outcome.{GivesBy};
 ghost use Rattle.wasm_base.specs.Owned.{GivesUnlessMemory, list_at};
@@ -128,7 +128,7 @@ impl<'a> FromReaderIn<'a> for CompositeType {
 fn read_supertype(reader: &mut BinaryReader<'_>) -> Result<Option<u32>>
     ensures gives { GivesBy (λ supertype. supertype) result reader.old reader.new supertypes_at }
     ensures keeps { KeepsWindow reader.old reader.new }
-    ensures memory { TakesNoMemory result }
+    ensures memory { NotOutOfMemory result }
 {
     let start = reader.original_position();
     match reader.read_var_u32()? {

@@ -1,6 +1,6 @@
 // Tables.
 ghost use Rattle.std.specs.Prelude.{◌≡◌};
-ghost use Rattle.wasm_base.specs.Hints.{TakesNoMemory};
+ghost use Rattle.wasm_base.specs.Hints.{NotOutOfMemory};
 ghost use Rattle.wasm_base.specs.Item.{ReadsAs};
 ghost use Rattle.wasm_base.specs.Outcome.{GivesBy};
 ghost use Rattle.wasm_base.specs.Window.{place, KeepsWindow};
@@ -100,7 +100,7 @@ impl<'a> FromReader<'a> for TableType {
 fn read_filled<'a>(reader: &mut BinaryReader<'a>) -> Result<Table<'a>>
     ensures gives { GivesBy (λ table. table) result reader.old reader.new filled_table_at }
     ensures keeps { KeepsWindow reader.old reader.new }
-    ensures memory { TakesNoMemory result }
+    ensures memory { NotOutOfMemory result }
 {
     let start = reader.original_position();
     if reader.read_u8()? != 0x00 {

@@ -1,6 +1,6 @@
 // Reading value types, reference types and heap types.
 ghost use Rattle.std.specs.Prelude.{◌≡◌};
-ghost use Rattle.wasm_base.specs.Hints.{TakesNoMemory};
+ghost use Rattle.wasm_base.specs.Hints.{NotOutOfMemory};
 ghost use Rattle.wasm_base.specs.Item.{ReadsAs};
 ghost use Rattle.wasm_base.specs.Outcome.{GivesBy};
 ghost use Rattle.wasm_base.specs.Window.{place, KeepsWindow};
@@ -62,7 +62,7 @@ impl<'a> FromReader<'a> for HeapType {
 fn read_ref_type(lead: Lead, reader: &mut BinaryReader<'_>) -> Result<RefType>
     ensures gives { GivesBy (λ ty. ty) result reader.old reader.new (ref_type_in lead) }
     ensures keeps { KeepsWindow reader.old reader.new }
-    ensures memory { TakesNoMemory result }
+    ensures memory { NotOutOfMemory result }
 {
     let start = reader.original_position();
     let first = reader.read_u8()?;

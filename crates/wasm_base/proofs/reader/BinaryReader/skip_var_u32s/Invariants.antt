@@ -1,12 +1,12 @@
 use Rattle.std.proofs.Common.{◌≡◌}
-use Rattle.wasm_base.specs.Skip.{numbers_passed_at}
+use Rattle.wasm_base.specs.Skip.{skipped_numbers_at}
 use Rattle.wasm_base.specs.Window.{place, KeepsWindow}
 use Rattle.wasm_base.proofs.reader.BinaryReader.skip_var_u32s.Given as goal
 
 -- passing over those that are left comes to what passing over all of them does
 abbrev pub invariant-loop-left : goal.invariant-loop-left
 invariant-loop-left l = record {
-  so_far : numbers_passed_at l.left (place l.self) ≡ numbers_passed_at l.fn.count (place l.fn.self);
+  so_far : skipped_numbers_at l.left (place l.self) ≡ skipped_numbers_at l.fn.count (place l.fn.self);
   keeps : KeepsWindow l.fn.self l.self;
 }
 

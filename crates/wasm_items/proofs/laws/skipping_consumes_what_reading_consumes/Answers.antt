@@ -1,7 +1,7 @@
 use Rattle.wasm_items.proofs.PassedItems.{item_passed, expression_passed}
 use Rattle.wasm_items.specs.Imports.{item_parts}
 use Rattle.wasm_items.specs.Windows.{expression_window}
-use Rattle.wasm_items.proofs.laws.passing_over_takes_what_reading_takes.Goals as goal
+use Rattle.wasm_items.proofs.laws.skipping_consumes_what_reading_consumes.Goals as goal
 
 pub returns-clause-item : goal.returns-clause-item
 returns-clause-item c = λ p q x such reads. item_passed p q (item_parts x) reads

@@ -2,7 +2,7 @@ use Rattle.std.proofs.Common.{refl}
 use Rattle.wasm_custom.proofs.PassedTexts.{naming_passed, value_passed}
 use Rattle.wasm_custom.specs.Names.{naming_parts}
 use Rattle.wasm_custom.specs.Producers.{value_parts}
-use Rattle.wasm_custom.proofs.laws.passing_over_takes_what_reading_takes.Goals as goal
+use Rattle.wasm_custom.proofs.laws.skipping_consumes_what_reading_consumes.Goals as goal
 
 pub returns-clause-hint : goal.returns-clause-hint
 returns-clause-hint c = λ p q x such reads. rw reads refl

@@ -2,7 +2,7 @@ use Rattle.std.proofs.Common.{rules, length, refl, arith}
 use Rattle.wasm_base.specs.Window.{place}
 use Rattle.wasm_items.proofs.PassedInstructions.{next_instruction, fewer_remaining}
 use Rattle.wasm_items.specs.Init.{end_of_expression}
-use Rattle.wasm_items.proofs.init.pass_expression.Goals as goal
+use Rattle.wasm_items.proofs.init.skip_expression.Goals as goal
 
 pub instructions-init : goal.instructions-init
 unfolding end_of_expression
