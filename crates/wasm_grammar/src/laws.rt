@@ -10,7 +10,7 @@ ghost use Rattle.wasm_grammar.specs.WorkedFields.{LongFields, TwoFaults, WholeRe
 
 use crate::encoding::Encoding;
 
-/// Two readings of one stream are one.
+/// A stream has at most one reading.
 pub fn one_reading()
     ensures { OneReading }
 {}
@@ -70,13 +70,15 @@ pub fn worked_endings()
     ensures { WorkedEndings }
 {}
 
-/// Streams at the edges of the rules have the readings, or end as they do, by hand.
+/// Streams at the edges of the rules have the readings, or the ends, that were computed by hand.
 pub fn edges_of_rules()
     ensures { EdgesOfRules }
 {}
 
-/// An accepted stream is its header and then the sections that its reading reports, in their order, and nothing between
-/// them or after. Of each it has the id, the length, and the content, which is the bytes of the range that is reported.
+/// An accepted stream is its header and then the sections that its reading reports, in order, with nothing between or
+/// after them.
+///
+/// Each section is its id, its length, and its content, which is the bytes of the reported range.
 pub fn sections_tile_an_accepted_stream()
     ensures { SectionsTile }
 {}
@@ -92,8 +94,9 @@ pub fn frames_give_events()
     ensures { FramesGiveEvents }
 {}
 
-/// A section that fits after some sections fits after others that say the same to it, and is read the same there: its events
-/// at another offset are its events moved. Sections without a rank, as custom ones, say nothing.
+/// A section that fits after some sections fits after others that imply the same for it, and is read the same there.
+///
+/// Its events at another offset are its events moved. Sections without a rank, such as custom ones, imply nothing.
 pub fn frames_read_the_same()
     ensures { FramesReadTheSame }
 {}
@@ -121,10 +124,12 @@ pub fn equal_encodings_are_the_same()
     ensures copy { IsCopy ⟦<Encoding as Clone>⟧.is_clone ⟦<Encoding as Clone>⟧.is_infallible }
 {}
 
-/// What the events of a reading, accepted or not, say of sections and bodies is what the bytes that they consumed are. Of a
-/// section these are its id, a length field and the content, which is the bytes of its range and begins with the count,
-/// index or name that is reported. Of a code section it is only the content up to its count. Of a body they are a size
-/// field and its window.
+/// What the events of a reading, accepted or not, report of sections and bodies is what the bytes that they consumed
+/// are.
+///
+/// The bytes of a section are its id, a length field and the content, which is the bytes of its range and begins with
+/// the reported count, index or name. Those of a code section are only the content up to its count. Those of a body are
+/// a size field and its window.
 pub fn events_say_their_bytes()
     ensures { EventsSayTheirBytes }
 {}
@@ -134,12 +139,12 @@ pub fn whole_readings()
     ensures { WholeReadings }
 {}
 
-/// Streams whose fields take several bytes before a fault end at that fault, by hand.
+/// Streams whose fields take several bytes before a fault end at the fault that was computed by hand.
 pub fn long_fields()
     ensures { LongFields }
 {}
 
-/// Streams in which two checks can fail end at the first of them, by hand.
+/// Streams in which two checks can fail end at the first of the two faults, as computed by hand.
 pub fn two_faults()
     ensures { TwoFaults }
 {}
