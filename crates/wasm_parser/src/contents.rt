@@ -157,7 +157,7 @@ pub(crate) fn code<'a>(
     })
 }
 
-// Reads content that is one number and nothing else. Bytes after the number are this fault, at the first of them.
+// Reads content that is a single number. `trailing` is the fault of bytes after it, at the first of them.
 fn only_u32(mut window: BinaryReader, trailing: Fault) -> Result<u32>
     ensures reads { ReadsSingleNumber trailing (place window.entry) result }
     ensures hints { HintsNothing result }

@@ -34,7 +34,7 @@ impl<'a> ParseAll<'a> {
     ghost use Rattle.std.specs.Prelude.{◌≡◌};
     ghost use Rattle.wasm_parser.specs.ParseAll.{walk_over};
 
-    // A walk over these bytes, from where the parser is.
+    // Returns a walk over these bytes, from the parser's offset on.
     pub(crate) fn over(parser: Parser, bytes: &'a [u8]) -> Self
         ensures { result ≡ walk_over parser bytes.now }
     {

@@ -68,7 +68,7 @@ pub struct Parser {
     codes: Option<u32>,
     datas: Option<u32>,
     data_counts: Option<u32>,
-    // The bodies and the bytes that a code section still misses.
+    // The bodies and the bytes that a code section still lacks.
     bodies: u32,
     code_bytes: u32,
     // Whether the last part was the start of a code section, or a body.
@@ -109,8 +109,8 @@ impl Parser {
     ///
     /// # Errors
     ///
-    /// The parser is unchanged, and returns the same error for the same bytes. If `eof` is false, missing bytes are no
-    /// error.
+    /// The parser is unchanged, and returns the same error for the same bytes. If `eof` is false, bytes that may still
+    /// come are not missing.
     ///
     /// - `OffsetRange` at the parser's offset if the bytes go beyond the largest offset of a stream.
     /// - At a header: those of `read_header_version`, and `UnknownVersion` at the version.
@@ -368,7 +368,7 @@ impl Parser {
         self.expects_header
     }
 
-    // Whether a code section isn't at its end.
+    // Whether a code section has remaining bytes or bodies.
     fn is_code_open(&self) -> bool
         ensures { result ≡ not (nat_eq (self.now.bodies + self.now.code_bytes) 0) }
     {
@@ -382,7 +382,7 @@ impl Parser {
         !self.expects_header && !self.is_code_open()
     }
 
-    // A reader of bytes that begin where the parser is.
+    // Returns a reader of bytes that begin at the parser's offset.
     fn reader<'a>(&self, bytes: &'a [u8]) -> BinaryReader<'a>
         requires { self.now.offset + length bytes.now < 2 ^ 64 }
         ensures { result ≡ window_over self.now.features self.now.offset bytes.now }
@@ -397,7 +397,7 @@ impl Parser {
         rank > 0 && rank <= self.rank
     }
 
-    // What comes where a section may start, and bytes are left.
+    // Reads what comes where a section may start, if bytes remain.
     fn section<'a>(&self, reader: &mut BinaryReader<'a>) -> Result<Payload<'a>>
         requires { 0 < length (place reader.old).rest }
         ensures { ReadsNextSection self.now (place reader.old) result (place reader.new) }
@@ -410,7 +410,7 @@ impl Parser {
         self.after_id(start, id, reader)
     }
 
-    // A section with this id, which is at this offset, just before the reader.
+    // Reads a section with this id, which is at this offset, just before the reader.
     fn after_id<'a>(&self, start: u64, id: u8, reader: &mut BinaryReader<'a>) -> Result<Payload<'a>>
         requires { start + 1 ≡ (place reader.old).offset }
         ensures { ReadsAfterId self.now start id (place reader.old) result (place reader.new) }
@@ -423,7 +423,7 @@ impl Parser {
         self.after_length(id, field, size, reader)
     }
 
-    // A section with this id and size, whose length field begins at this offset.
+    // Reads a section with this id and size, whose length field begins at this offset.
     fn after_length<'a>(
         &self,
         id: u8,
@@ -444,7 +444,7 @@ impl Parser {
         self.content(kind, id, size, reader)
     }
 
-    // The content of a section of this kind.
+    // Reads the content of a section of this kind.
     fn content<'a>(
         &self,
         kind: SectionKind,
@@ -467,7 +467,7 @@ impl Parser {
         }
     }
 
-    // What comes where the parser is, if bytes are left there, or a header or a body is expected.
+    // Reads the next part, if bytes remain, or a header or a body is expected.
     fn read<'a>(&self, reader: &mut BinaryReader<'a>) -> Result<Payload<'a>>
         requires starts { (place reader.old).offset ≡ self.now.offset }
         requires some { HasSection self.now (place reader.old) }
@@ -482,7 +482,7 @@ impl Parser {
         }
     }
 
-    // How the stream ends where the parser is: each count above 0 wants its other section.
+    // Ends the stream at the parser. Each count above 0 needs its other section.
     fn end<'a>(&mut self) -> Result<Chunk<'a>>
         requires { at_section self.old ≡ true }
         ensures { ParseAnswer self.old true [] result self.new }
@@ -527,7 +527,7 @@ impl Parser {
         self.in_code = false;
     }
 
-    // Goes on to the end of any part.
+    // Moves to the end of any part, and records what later parts must fit.
     fn learn_and_pass(&mut self, payload: &Payload, end: u64)
         requires after { self.old.offset ≤ end }
         requires fits { end + missing_bytes (report_of payload.now)
@@ -587,7 +587,7 @@ impl Parser {
         self.read_on(bytes, eof)
     }
 
-    // What comes next, if bytes are left where a section may start, and don't only begin a header there.
+    // Reads the next part. Where a section may start, some bytes remain, and more than a prefix of the magic.
     fn read_on<'a>(&mut self, bytes: &'a [u8], eof: bool) -> Result<Chunk<'a>>
         requires fits { self.old.offset + length bytes.now < 2 ^ 64 }
         requires begun { IsBegun self.old eof bytes.now }
@@ -608,7 +608,7 @@ impl Parser {
         }
     }
 
-    // A body of a code section that isn't at its end.
+    // Reads the next body of a code section that has remaining bytes or bodies.
     fn body<'a>(&self, reader: &mut BinaryReader<'a>) -> Result<Payload<'a>>
         ensures { ReadsBody self.now (place reader.old) result (place reader.new) }
     {
@@ -637,7 +637,7 @@ fn passes(code_bytes: u32, width: u64, size: u32) -> bool
     }
 }
 
-// A fault; but bytes that are missing where more may come are asked for.
+// Returns the error, or requests the missing bytes if they may still come.
 fn refused<'a>(error: Error, eof: bool) -> Result<Chunk<'a>>
     ensures { Refuses eof error result }
 {
