@@ -230,11 +230,13 @@ def members(module, name):
 
 def about_lines(crate):
     """The doc comment of a crate."""
-    return [line[3:].strip() for line in read("crates", crate, "src", "lib.rt").split("\n") if line.startswith("//!")]
+    return [line[4:].rstrip() for line in read("crates", crate, "src", "lib.rt").split("\n") if line.startswith("//!")]
 
 
 def about(crate):
-    return " ".join(about_lines(crate))
+    """The first paragraph of that."""
+    lines = about_lines(crate)
+    return " ".join(lines[: lines.index("")] if "" in lines else lines)
 
 
 def modules(crate):

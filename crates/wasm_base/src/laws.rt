@@ -1,5 +1,6 @@
-//! What holds of whole runs of the iterators over a section and over subsections, whatever these are, how wide numbers are, and what
-//! comparing and copying say.
+//! The laws of iterators over sections and subsections, of numbers, and of comparing and copying, for every item type.
+//!
+//! Each law is the contract of a function that does nothing.
 ghost use Rattle.std.specs.Hash as hashed;
 ghost use Rattle.std.specs.Prelude.{◌≡◌};
 ghost use Rattle.wasm_base.specs.Comparing.{DecidesWhether, DecidesSame, IsCopy};
@@ -39,11 +40,10 @@ use crate::section::{
 use crate::subsections::{Subsection, Subsections};
 use std::hash::Hash;
 
-/// Calls of `next` return the items of the window up to the first `None`, and nothing after it. The second iterator
-/// yields each item with the offset at which its bytes begin.
+/// Calls of `next` return the items of the window up to the first `None`, and nothing after it.
 ///
-/// The items of a window are the announced ones, and then nothing, or one `SizeMismatch` if bytes remain; after an
-/// item's error, nothing.
+/// The second iterator yields each item with the offset at which its bytes begin. The items of a window are the
+/// announced ones, and then nothing, or one `SizeMismatch` if bytes remain; after an item's error, nothing.
 pub fn items_of_a_window<'a, T: FromReader<'a>>()
     ensures items { (s : Items) →
         GivesItems ⟦<SectionLimitedIntoIter<'a, T> as Iterator>⟧.next_gives T.meaning s }
@@ -53,24 +53,27 @@ pub fn items_of_a_window<'a, T: FromReader<'a>>()
         (AtItsOffset T.meaning) s }
 {}
 
-/// For items that own lists, calls of `next` also return the items of the window, as in `items_of_a_window`, or
-/// `OutOfMemory` in place of one of them, which is then the last.
+/// Calls of `next` return the items of the window, for items that own lists too.
+///
+/// It is as in `items_of_a_window`, except that `OutOfMemory` may come in place of an item, which is then the last.
 pub fn owned_items_of_a_window<'a, T: FromReaderIn<'a>>()
     ensures { (s : Items) →
         GivesItems ⟦<SectionLimitedIntoIterIn<'a, T> as Iterator>⟧.next_gives (UnlessMemory T.meaning) s }
 {}
 
-/// Calls of `next` return the subsections of the window up to the first `None`, and nothing after it. Each is what its
-/// id and its window mean, or its error, and the others follow it, to the end of the window; if an id or a size is
-/// malformed, the others are those of a later place.
+/// Calls of `next` return the subsections of the window up to the first `None`, and nothing after it.
+///
+/// Each is what its id and its window mean, or its error, and the others follow it, to the end of the window. If an id
+/// or a size is malformed, the others are those of a later place.
 pub fn subsections_of_a_window<'a, T: Subsection<'a>>()
     ensures { (s : Window) →
         GivesSubsections ⟦<Subsections<'a, T> as Iterator>⟧.next_gives
         (UnlessTaken T.meaning T.Allocation.ALLOCATES) s }
 {}
 
-/// Both iterators yield the same items and the same error, if the meaning of an item allows one outcome: equal ones, if
-/// it determines the value completely.
+/// Both iterators yield the same items and the same error, if the meaning of an item allows one outcome.
+///
+/// The items are equal if the meaning determines the value completely.
 pub fn both_iterators_give_the_same_items<'a, T: FromReader<'a>>()
     ensures same { AllowsOne T.meaning → (s : Items) → GivesTheSame T.meaning
         (run_over ⟦<SectionLimitedIntoIter<'a, T> as Iterator>⟧.next_gives s)
@@ -92,8 +95,9 @@ pub fn a_clone_gives_the_same_items<'a, T: FromReader<'a>>()
         (EqualRuns ⟦<SectionLimitedIntoIter<'a, T> as Iterator>⟧.next_gives) }
 {}
 
-/// A clone of a section yields the same items that own lists and the same error, up to an `OutOfMemory`, if the meaning
-/// of an item allows one outcome.
+/// A clone of a section yields the same items that own lists and the same error, up to an `OutOfMemory`.
+///
+/// This needs a meaning of an item that allows one outcome.
 pub fn a_clone_gives_the_same_owned_items<'a, T: FromReaderIn<'a>>()
     ensures { AllowsOne T.meaning → (section copy : Section) →
         ⟦<SectionLimited<'a, T> as Clone>⟧.is_clone section copy →
@@ -112,8 +116,9 @@ pub fn a_cloned_iterator_gives_the_same_items<'a, T: FromReader<'a> + Clone>()
         EqualRuns ⟦<SectionLimitedIntoIter<'a, T> as Iterator>⟧.next_gives s t }
 {}
 
-/// Truths, numbers and names allow one outcome, and so does a pair of what allows one. Truths and numbers are
-/// determined, and so is a pair of what is.
+/// The meanings of booleans, numbers and names allow one outcome, and so does that of a pair of such items.
+///
+/// Those of booleans and numbers determine the value, and so does that of a pair of such items.
 pub fn these_allow_one_outcome<'a, T: FromReader<'a>, U: FromReader<'a>>()
     ensures truth { AllowsOne ⟦<bool as FromReader<'a>>⟧.meaning × Determines
         ⟦<bool as FromReader<'a>>⟧.meaning }
@@ -131,15 +136,17 @@ pub fn skipping_a_name_consumes_its_bytes<'a>()
     ensures { SkipsAsRead ⟦<&'a str as FromReader<'a>>⟧.meaning ⟦<&'a str as SkipItem<'a>>⟧.skipped_at }
 {}
 
-/// How many bytes a number takes at most, which unused bits its last byte may have, and how large the sum of its
-/// septets is: all three follow from how many bits its value has, and whether it is signed.
+/// The limits of LEB128 numbers follow from how many bits a value has, and whether it is signed.
+///
+/// These are how many bytes a number has at most, which unused bits its last byte may have, and how large the sum of
+/// its septets is.
 pub fn widths_of_numbers()
     ensures bytes { (kind : NumberKind) → IsLongEnough kind }
     ensures unused { (kind : NumberKind) → ChecksUnused kind }
     ensures sum { (kind : NumberKind) → BoundsSum kind }
 {}
 
-/// Two faults, sorts within faults or sets of features are equal exactly if they are the same.
+/// Two faults, kinds within faults, or sets of features are equal exactly if they are the same.
 pub fn equal_faults_are_the_same()
     ensures number_kind { DecidesSame ⟦<NumberKind as PartialEq>⟧.eq }
     ensures lead { DecidesSame ⟦<Lead as PartialEq>⟧.eq }
@@ -154,7 +161,7 @@ pub fn features_are_hashed_as_their_bits()
         (feature_bits features) }
 {}
 
-/// Two floats are equal exactly if their bits are: of the same bits each is equal to itself, a NaN too.
+/// Two floats are equal exactly if their bits are, so a NaN is equal to itself.
 pub fn equal_floats_have_the_same_bits()
     ensures single { DecidesWhether (λ one other. bits_of_32 one ≡ bits_of_32 other)
         ⟦<Ieee32 as PartialEq>⟧.eq }
@@ -168,13 +175,15 @@ pub fn floats_are_hashed_as_their_bits()
     ensures double { (float : Ieee64) → ⟦<Ieee64 as Hash>⟧.hash_input float ≡ hashed.u64 (bits_of_64 float) }
 {}
 
-/// Two errors are equal exactly if they say the same: fault, offset and number. The hint is not compared.
+/// Two errors are equal exactly if their fault, offset and number are. The hint is not compared.
 pub fn equal_errors_are_the_same()
     ensures { DecidesWhether (λ one other. fault_at one ≡ fault_at other) ⟦<Error as PartialEq>⟧.eq }
 {}
 
-/// A copy is the same as the original, and copying never fails: it does not allocate. This holds for a fault, an error
-/// with its hint, a set of features, a float, a reader, a section, an iterator over its items, and subsections.
+/// A copy is the same as the original, and copying never fails: it does not allocate.
+///
+/// This holds for a fault, an error with its hint, a set of features, a float, a reader, a section, an iterator over
+/// its items, and subsections.
 pub fn copies_are_the_same<'a, T, U: Clone>()
     ensures error { IsCopy ⟦<Error as Clone>⟧.is_clone ⟦<Error as Clone>⟧.is_infallible }
     ensures fault { IsCopy ⟦<Fault as Clone>⟧.is_clone ⟦<Fault as Clone>⟧.is_infallible }

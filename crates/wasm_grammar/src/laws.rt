@@ -1,5 +1,6 @@
-//! Laws of the definitions of a stream, and what comparing and copying encodings say, each the contract of a function
-//! that does nothing.
+//! The laws of readings: they show that the definitions of a stream are the right ones.
+//!
+//! Each law is the contract of a function that does nothing.
 ghost use Rattle.wasm_base.specs.Comparing.{DecidesSame, IsCopy};
 ghost use Rattle.wasm_grammar.specs.FrameLaws.{FramesGiveEvents, FramesReadTheSame, OneDivision, RanklessMayGo};
 ghost use Rattle.wasm_grammar.specs.Laws.{AcceptedEnds, EventsLieEndToEnd, FaultEnds, EventsSayTheirBytes, FaultLiesWithin, LongestTiling, OneReading, SomeReading, StartOnlyMoves, TilesStandAlone};
@@ -10,7 +11,7 @@ ghost use Rattle.wasm_grammar.specs.WorkedFields.{LongFields, TwoFaults, WholeRe
 
 use crate::encoding::Encoding;
 
-/// Two readings of one stream are one.
+/// A stream has at most one reading.
 pub fn one_reading()
     ensures { OneReading }
 {}
@@ -20,8 +21,9 @@ pub fn some_reading()
     ensures { SomeReading }
 {}
 
-/// The reading of a stream ends at its end exactly if the stream is accepted: a header, and then nothing but good
-/// sections in their order.
+/// The reading of a stream ends at its end exactly if the stream is accepted.
+///
+/// An accepted stream is a header, and then nothing but well-formed sections in their order.
 pub fn accepted_ends()
     ensures { AcceptedEnds }
 {}
@@ -41,20 +43,24 @@ pub fn longest_tiling()
     ensures { LongestTiling }
 {}
 
-/// The events of a reading are end to end in its stream, and their windows are its parts at their own offsets; the
-/// bytes that they consumed, joined, are the stream up to where the reading stops.
+/// The events of a reading are end to end in its stream, and their windows are its parts at their own offsets.
+///
+/// The bytes that they consumed, joined, are the stream up to where the reading stops.
 pub fn events_lie_end_to_end()
     ensures { EventsLieEndToEnd }
 {}
 
-/// The start offset only moves offsets: the reading of a stream that starts later has the same events with every offset
-/// moved, unless a section overruns the largest offset there.
+/// The start offset only moves offsets.
+///
+/// The reading of a stream that starts later has the same events with every offset moved, unless a section overruns the
+/// largest offset there.
 pub fn start_only_moves()
     ensures { StartOnlyMoves }
 {}
 
-/// What a tile is depends on its own bytes alone: it comes after the same tiles in every stream that has its bytes
-/// there.
+/// What a tile is depends only on its own bytes.
+///
+/// It comes after the same tiles in every stream that has its bytes there.
 pub fn tiles_stand_alone()
     ensures { TilesStandAlone }
 {}
@@ -64,19 +70,22 @@ pub fn worked_streams()
     ensures { WorkedStreams }
 {}
 
-/// For worked prefixes of streams, one for each kind of waiting, the number of requested bytes and the suffix that
-/// decides are those computed by hand.
+/// For worked prefixes of streams, the number of requested bytes and the deciding suffix are those computed by hand.
+///
+/// There is one prefix for each kind of waiting.
 pub fn worked_endings()
     ensures { WorkedEndings }
 {}
 
-/// Streams at the edges of the rules have the readings, or end as they do, by hand.
+/// Streams at the edges of the rules have the readings, or the ends, that were computed by hand.
 pub fn edges_of_rules()
     ensures { EdgesOfRules }
 {}
 
-/// An accepted stream is its header and then the sections that its reading reports, in their order, and nothing between
-/// them or after. Of each it has the id, the length, and the content, which is the bytes of the range that is reported.
+/// An accepted stream is its header and then the sections that its reading reports, in order, with nothing between or
+/// after them.
+///
+/// Each section is its id, its length, and its content, which is the bytes of the reported range.
 pub fn sections_tile_an_accepted_stream()
     ensures { SectionsTile }
 {}
@@ -87,30 +96,35 @@ pub fn one_division()
 {}
 
 /// The events of an accepted stream are those of its header, of its sections in their order, and its end, each at its
-/// offset: a code section's are its start and its bodies, every other section's is one.
+/// offset.
+///
+/// A code section has events for its start and for each body. Every other section has one event.
 pub fn frames_give_events()
     ensures { FramesGiveEvents }
 {}
 
-/// A section that fits after some sections fits after others that say the same to it, and is read the same there: its events
-/// at another offset are its events moved. Sections without a rank, as custom ones, say nothing.
+/// A section that fits after some sections fits after others that imply the same for it, and is read the same there.
+///
+/// Its events at another offset are its events moved. Sections without a rank, such as custom ones, imply nothing.
 pub fn frames_read_the_same()
     ensures { FramesReadTheSame }
 {}
 
-/// An accepted stream without some of its sections that have no rank, such as custom sections, is accepted.
+/// An accepted stream stays accepted without some of its sections that have no rank, such as custom sections.
 pub fn rankless_may_go()
     ensures { RanklessMayGo }
 {}
 
-/// Of two sections of a reading the later one has the higher rank, if both have a rank in the encoding that the stream's
-/// header names: a module's sections ascend.
+/// Of two sections of a reading with ranks, the later one has the higher rank: a module's sections ascend.
+///
+/// Ranks are those of the encoding that the stream's header names.
 pub fn ranks_ascend()
     ensures { RanksAscend }
 {}
 
-/// After the start of a code section a reading has as many bodies as the section counts, and then another event; or
-/// fewer bodies, and then a fault, which is its last event.
+/// After the start of a code section a reading has as many bodies as the section counts, or a fault.
+///
+/// After all bodies another event follows. If there are fewer bodies, a fault comes next, which is the last event.
 pub fn bodies_follow_their_count()
     ensures { BodiesFollowTheirCount }
 {}
@@ -121,10 +135,12 @@ pub fn equal_encodings_are_the_same()
     ensures copy { IsCopy ⟦<Encoding as Clone>⟧.is_clone ⟦<Encoding as Clone>⟧.is_infallible }
 {}
 
-/// What the events of a reading, accepted or not, say of sections and bodies is what the bytes that they consumed are. Of a
-/// section these are its id, a length field and the content, which is the bytes of its range and begins with the count,
-/// index or name that is reported. Of a code section it is only the content up to its count. Of a body they are a size
-/// field and its window.
+/// What the events of a reading, accepted or not, report of sections and bodies is what the bytes that they consumed
+/// are.
+///
+/// The bytes of a section are its id, a length field and the content, which is the bytes of its range and begins with
+/// the reported count, index or name. Those of a code section are only the content up to its count. Those of a body are
+/// a size field and its window.
 pub fn events_say_their_bytes()
     ensures { EventsSayTheirBytes }
 {}
@@ -134,12 +150,12 @@ pub fn whole_readings()
     ensures { WholeReadings }
 {}
 
-/// Streams whose fields take several bytes before a fault end at that fault, by hand.
+/// Streams whose fields take several bytes before a fault end at the fault that was computed by hand.
 pub fn long_fields()
     ensures { LongFields }
 {}
 
-/// Streams in which two checks can fail end at the first of them, by hand.
+/// Streams in which two checks can fail end at the first of the two faults, as computed by hand.
 pub fn two_faults()
     ensures { TwoFaults }
 {}

@@ -6,11 +6,11 @@ pub use sink::{BoundedSink, Sink, WriteSink, list_of_capacity, write_all};
 pub use source::{ReadSource, SliceSource, Source};
 use std::alloc::AllocError;
 
-/// That a device failed.
+/// The error of a source or a sink: a read or a write failed. The reason is not kept.
 #[derive(Clone, Copy, Debug, PartialEq, Eq)]
 pub struct Failed;
 
-/// The error of a call that reads from a source or writes to a sink.
+/// The error of a call that reads from a source, writes to a sink, and allocates.
 #[derive(Clone, Copy, Debug, PartialEq, Eq)]
 pub enum ListError {
     /// The source failed.

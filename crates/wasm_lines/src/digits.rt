@@ -57,7 +57,7 @@ fn write_to_two(bytes: &mut [u8], at: usize, number: u64) -> usize
     write_two(bytes, at, number)
 }
 
-// Writes one of at most four.
+// Writes a number of at most four digits.
 #[inline(always)]
 fn write_to_four(bytes: &mut [u8], at: usize, number: u64) -> usize
     requires { (number < 10000) × (at + 4 ≤ length bytes.old) }
@@ -71,7 +71,7 @@ fn write_to_four(bytes: &mut [u8], at: usize, number: u64) -> usize
     write_two(bytes, middle, number % 100)
 }
 
-// Writes one of at most eight.
+// Writes a number of at most eight digits.
 #[inline(always)]
 fn write_to_eight(bytes: &mut [u8], at: usize, number: u64) -> usize
     requires { (number < 100000000) × (at + 8 ≤ length bytes.old) }
@@ -85,7 +85,7 @@ fn write_to_eight(bytes: &mut [u8], at: usize, number: u64) -> usize
     write_four(bytes, middle, number % 10_000)
 }
 
-// Writes one of at most twelve.
+// Writes a number of at most twelve digits.
 fn write_to_twelve(bytes: &mut [u8], at: usize, number: u64) -> usize
     requires { (number < 1000000000000) × (at + 12 ≤ length bytes.old) }
     ensures short { result ≤ at + 12 }
@@ -98,7 +98,7 @@ fn write_to_twelve(bytes: &mut [u8], at: usize, number: u64) -> usize
     write_eight(bytes, middle, number % 100_000_000)
 }
 
-// Writes one of more than eight. Out of line, since few are as long.
+// Writes a number of more than eight digits. Out of line, because such numbers are rare.
 #[inline(never)]
 fn write_long(bytes: &mut [u8], at: usize, number: u64) -> usize
     requires { (100000000 ≤ number) × (at + 20 ≤ length bytes.old) }
@@ -109,7 +109,15 @@ fn write_long(bytes: &mut [u8], at: usize, number: u64) -> usize
     write_eight(bytes, middle, number % 100_000_000)
 }
 
-/// Writes a number in decimal digits over the bytes from this place on, of which there must be 20, and says where they end.
+/// Writes a number in decimal at the index `at` of `bytes`, and returns the index after its last digit.
+///
+/// From `at` on there must be 20 bytes, the most that a `u64` takes. Later bytes may be overwritten.
+///
+/// ```rattle
+/// let mut bytes = [0; 24];
+/// let end = write_number(&mut bytes, 0, 1234);
+/// assert_eq!(rt; &bytes[..end], b"1234".as_slice());
+/// ```
 #[inline(always)]
 pub fn write_number(bytes: &mut [u8], at: usize, number: u64) -> usize
     requires { at + 20 ≤ length bytes.old }

@@ -1,5 +1,8 @@
-//! Text that is written as lines: sources and sinks, a page of bytes that wait to be written, the digits of numbers, and the line of each
-//! event of a stream.
+//! Text in lines: the line of each event, numbers, a buffer before a sink, and the devices that programs read and
+//! write.
+//!
+//! `Source` and `Sink` are the devices. A `Page` buffers lines before a sink. `ShortText` writes a line in place,
+//! without allocating.
 #![tactic(auto)]
 
 mod devices;

@@ -10,7 +10,7 @@ use crate::short_text::{ShortText, write_word};
 use std::ops::Range;
 use wasm_parser::{CountedSection, Encoding, Error, Payload};
 
-/// The name of an encoding, which has no line feed.
+/// Returns the name of an encoding in listings: `module` or `component`.
 pub fn encoding_name(encoding: Encoding) -> &'static str
     ensures name { result.now ≡ name_of encoding }
     ensures short { length result.now ≤ 9 }
@@ -33,7 +33,7 @@ fn write_field(bytes: &mut [u8], at: usize, number: u64) -> usize
     write_number(bytes, after, number)
 }
 
-// Writes what has this word, a range and a number.
+// Writes a word, a range and a number.
 #[inline(always)]
 fn write_range(bytes: &mut [u8], at: usize, word: &str, range: &Range<u64>, number: u64) -> usize
     requires word { length word.now ≤ 9 }
@@ -107,7 +107,7 @@ fn write_start(bytes: &mut [u8], at: usize, range: &Range<u64>, func: u32) -> us
     write_range(bytes, at, "start", range, u64::from(func))
 }
 
-// Writes the section that counts data segments.
+// Writes a data count section.
 fn write_data_count(bytes: &mut [u8], at: usize, range: &Range<u64>, count: u32) -> usize
     requires { at + 100 ≤ length bytes.old }
     ensures short { result ≤ at + 100 }
@@ -153,8 +153,18 @@ fn write_end(bytes: &mut [u8], at: usize, offset: u64) -> usize
     write_field(bytes, at, offset)
 }
 
-/// Writes the text of an event in a listing over the bytes from this place on, of which there must be 100, and says where it
-/// ends.
+/// Writes the line of a payload in a listing at the index `at` of `bytes`, without a line feed, and returns the index
+/// after it.
+///
+/// From `at` on there must be 100 bytes. Later bytes may be overwritten.
+///
+/// ```rattle
+/// let mut bytes = [0; 100];
+/// let mut payloads = Parser::new(0).parse_all(b"\0asm\x01\0\0\0");
+/// let version = payloads.next().ok_or("no header")??;
+/// let end = write_payload(&mut bytes, 0, &version);
+/// assert_eq!(rt; &bytes[..end], b"version 0 8 1 module".as_slice());
+/// ```
 #[inline(always)]
 #[tactic(auto, unfolding(crate::specs::Listing::report_text))]
 pub fn write_payload(bytes: &mut [u8], at: usize, payload: &Payload) -> usize
@@ -204,7 +214,7 @@ fn write_fault_number(bytes: &mut [u8], at: usize, number: Option<u64>) -> usize
     }
 }
 
-/// The text of an event in a listing.
+/// The line of a payload in a listing, without a line feed.
 impl ShortText for Payload<'_> {
     ghost use Rattle.wasm_parser.specs.ParseAnswer.{report_of};
     ghost use Rattle.wasm_lines.specs.Listing.{report_text};
@@ -217,7 +227,8 @@ impl ShortText for Payload<'_> {
     }
 }
 
-/// The text of a fault in a listing.
+/// The line of a fault in a listing, without a line feed: `fault`, the offset, the message, and the number if there is
+/// one.
 impl ShortText for Error {
     ghost use Rattle.wasm_base.specs.FaultAt.{fault_at};
     ghost use Rattle.wasm_grammar.specs.Content.{fault};

@@ -1,4 +1,4 @@
-// Bytes that wait to be written.
+// A buffer before a sink.
 ghost use Rattle.std.specs.Prelude.{◌≡◌, ◌≤◌, ◌+◌, ◌++◌, [], codes, length, take, vec_len, IfErr, IfOk, OnErr, OnOk};
 ghost use Rattle.wasm_lines.specs.Calls.{output_failed};
 ghost use Rattle.std.specs.Io.KnownBytes.{Appends};
@@ -10,10 +10,10 @@ use crate::short_text::{ShortText, TEXT_BYTES, write_bytes, write_word};
 use std::alloc::{Allocator, Global};
 use std::marker::Model;
 
-/// How many bytes wait at most.
+/// The most bytes that a page buffers.
 const PAGE_BYTES: usize = 65_536;
 
-// Makes them a whole page of bytes, of which none is to be kept. `Memory` when an allocation fails.
+// Makes the buffer a whole page, of which no byte is kept. Returns `Memory` when an allocation fails.
 fn fill<A: Allocator>(bytes: &mut Vec<u8, A>) -> Result<(), ListError>
     requires { vec_len bytes.old ≤ 65536 }
     ensures len { OnOk result (vec_len bytes.new ≡ 65536) }
@@ -25,7 +25,7 @@ fn fill<A: Allocator>(bytes: &mut Vec<u8, A>) -> Result<(), ListError>
     }
 }
 
-// Writes a text and what ends it over the bytes from this place on, and says where that ends.
+// Writes a text and its end at the index `at`, and returns the index after both.
 #[inline(always)]
 fn write_ended<T: ShortText>(bytes: &mut [u8], at: usize, text: &T, end: &str) -> usize
     requires { (at + 160 ≤ length bytes.old) × (length end.now ≤ 1) }
@@ -37,7 +37,7 @@ fn write_ended<T: ShortText>(bytes: &mut [u8], at: usize, text: &T, end: &str) -
     write_word(bytes, after, end)
 }
 
-// Writes the first bytes, and makes it a whole page of bytes, of which none is to be kept.
+// Writes the first `len` bytes, and makes the buffer a whole page, of which no byte is kept.
 #[inline(never)]
 fn begin_anew<A: Allocator, W: Sink>(
     bytes: &mut Vec<u8, A>,
@@ -58,7 +58,7 @@ fn begin_anew<A: Allocator, W: Sink>(
     fill(bytes)
 }
 
-// Writes the first bytes. Returns `Output` if the sink fails; a prefix of them is then written.
+// Writes the first `len` bytes. Returns `Output` if the sink fails; a prefix of them is then written.
 fn write_first<W: Sink>(bytes: &[u8], len: usize, output: &mut W) -> Result<(), ListError>
     requires { len ≤ length bytes.now }
     ensures writes { OnOk result (Appends (W.taken output.old) (W.taken output.new)
@@ -75,7 +75,7 @@ fn write_first<W: Sink>(bytes: &[u8], len: usize, output: &mut W) -> Result<(), 
     }
 }
 
-// Makes room for this many bytes after the first ones, which are written if there is none, and returns where it starts.
+// Makes room for `count` bytes after the first `len`, which are written if there is none, and returns the index of the room.
 #[inline(always)]
 fn make_room<A: Allocator, W: Sink>(
     bytes: &mut Vec<u8, A>,
@@ -102,10 +102,22 @@ fn make_room<A: Allocator, W: Sink>(
     Ok(0)
 }
 
-/// Bytes that wait to be written, at most 65,536 of them, so that a sink is called once for many lines.
+/// A buffer of up to 65,536 bytes before a sink, so that the sink is called once for many lines.
+///
+/// Call `write_out` at the end: dropping a page writes nothing.
+///
+/// ```rattle
+/// let mut output = BoundedSink::new(alloc, 100)?;
+/// let mut page = Page::new(alloc);
+/// page.put(b"count ", &mut output)?;
+/// page.put_line(&7_u64, &mut output)?;
+/// assert_eq!(rt; output.written().len(), 0);
+/// page.write_out(&mut output)?;
+/// assert_eq!(rt; output.written(), b"count 7\n".as_slice());
+/// ```
 #[derive(Drop)]
 pub struct Page<A: Allocator = Global> {
-    // No bytes, or a whole page of them: first those that wait.
+    // No bytes, or a whole page of them: first the buffered ones.
     bytes: Vec<u8, A>,
     len: usize,
 }
@@ -121,7 +133,7 @@ impl<A: Allocator> Model for Page<A> {
 }
 
 impl<A: Allocator> Page<A> {
-    /// An empty page. It allocates from this allocator when bytes are put.
+    /// Returns an empty page, which allocates its buffer with this allocator when bytes are first put.
     pub fn new(alloc: A) -> Self
         ensures { result ≡ [] }
     {
@@ -131,7 +143,7 @@ impl<A: Allocator> Page<A> {
         }
     }
 
-    /// How many bytes wait: at most 65,536.
+    /// Returns the number of buffered bytes, at most 65,536.
     pub fn len(&self) -> usize
         ensures len { result ≡ length self.now }
         ensures bounded { result ≤ 65536 }
@@ -139,8 +151,14 @@ impl<A: Allocator> Page<A> {
         self.len
     }
 
-    /// Puts at most 65,536 bytes after those that wait, which are written first where there is no room. `Output` where the sink
-    /// fails, and `Memory` when an allocation fails: a prefix of what waited is then written, and no more is known.
+    /// Appends at most 65,536 bytes to the buffer. If there is no room for them, the buffered bytes are written first.
+    ///
+    /// # Errors
+    ///
+    /// - `Output` if the sink fails.
+    /// - `Memory` if an allocation fails.
+    ///
+    /// A prefix of the buffered bytes is then written. What the page holds is not specified: don't use it further.
     #[inline(always)]
     pub fn put<W: Sink>(&mut self, bytes: &[u8], output: &mut W) -> Result<(), ListError>
         requires { length bytes.now ≤ 65536 }
@@ -154,7 +172,11 @@ impl<A: Allocator> Page<A> {
         Ok(())
     }
 
-    /// Puts a text after the bytes that wait, in place, with the errors of `put`.
+    /// Appends a short text to the buffer, where it is written in place.
+    ///
+    /// # Errors
+    ///
+    /// Those of `put`.
     #[inline(always)]
     pub fn put_text<T: ShortText, W: Sink>(
         &mut self,
@@ -169,7 +191,11 @@ impl<A: Allocator> Page<A> {
         self.put_ended(text, "", output)
     }
 
-    /// Puts a text and a line feed in the same way.
+    /// Appends a short text and a line feed to the buffer.
+    ///
+    /// # Errors
+    ///
+    /// Those of `put`.
     #[inline(always)]
     pub fn put_line<T: ShortText, W: Sink>(
         &mut self,
@@ -184,7 +210,7 @@ impl<A: Allocator> Page<A> {
         self.put_ended(text, "\n", output)
     }
 
-    // Puts a text and its end.
+    // Appends a text and its end.
     #[inline(always)]
     fn put_ended<T: ShortText, W: Sink>(
         &mut self,
@@ -203,7 +229,11 @@ impl<A: Allocator> Page<A> {
         Ok(())
     }
 
-    /// Writes the bytes that wait. Returns `Output` if the sink fails; a prefix of them is then written.
+    /// Writes the buffered bytes to the sink. The page is then empty.
+    ///
+    /// # Errors
+    ///
+    /// `Output` if the sink fails. A prefix of the buffered bytes is then written.
     pub fn write_out<W: Sink>(&mut self, output: &mut W) -> Result<(), ListError>
         ensures writes { WritesOut (W.taken output.old) (W.taken output.new)
             self.old self.new result }

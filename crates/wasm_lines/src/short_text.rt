@@ -3,23 +3,34 @@ ghost use Rattle.std.specs.Prelude.{◌≡◌, ℕ, ◌+◌, ◌≤◌, ◌++◌
 
 use crate::digits::write_number;
 
-/// How many bytes a short text has at most: the longest is that of a fault, with a message of at most 80 and two numbers of at
+/// The most bytes of a short text. The longest is that of a fault: a message of at most 80 bytes and two numbers of at
 /// most 20.
 pub const TEXT_BYTES: usize = 159;
 
-/// A text of at most 159 bytes, which is written in place.
+/// A text of at most 159 bytes, which is written in place: a number, or the line of a payload or a fault.
+///
+/// Implement it for your own lines, and put them on a `Page`.
+///
+/// ```rattle
+/// let mut bytes = [0; TEXT_BYTES];
+/// let error = Error::new(Fault::BadMagic, 0);
+/// let end = error.write_at(&mut bytes, 0);
+/// assert!(rt; bytes[..end].starts_with(b"fault 0 magic header not detected"));
+/// ```
 pub trait ShortText {
     /// The text.
     ghost text: { Self → List ℕ };
 
-    /// Writes it over the bytes from this place on, of which there must be 159, and says where it ends.
+    /// Writes the text at the index `at` of `bytes`, and returns the index after it.
+    ///
+    /// From `at` on there must be 159 bytes. Later bytes may be overwritten.
     fn write_at(&self, bytes: &mut [u8], at: usize) -> usize
         requires { at + 159 ≤ length bytes.old }
         ensures short { result ≤ at + 159 }
         ensures written { take result bytes.new ≡ take at bytes.old ++ text self.now };
 }
 
-/// Writes bytes over those from this place on, and says where they end.
+/// Writes these bytes at the index `at`, and returns the index after them.
 #[inline(always)]
 pub(crate) fn write_bytes(bytes: &mut [u8], at: usize, more: &[u8]) -> usize
     requires { at + length more.now ≤ length bytes.old }
@@ -31,7 +42,7 @@ pub(crate) fn write_bytes(bytes: &mut [u8], at: usize, more: &[u8]) -> usize
     end
 }
 
-/// Writes a word. Inlined, so that its length is known.
+/// Writes a word at the index `at` of `bytes`, and returns the index after it. There must be room for the word.
 #[inline(always)]
 pub fn write_word(bytes: &mut [u8], at: usize, word: &str) -> usize
     requires { at + length word.now ≤ length bytes.old }
@@ -41,6 +52,7 @@ pub fn write_word(bytes: &mut [u8], at: usize, word: &str) -> usize
     write_bytes(bytes, at, word.as_bytes())
 }
 
+/// A number in decimal.
 impl ShortText for u64 {
     ghost use Rattle.std.specs.Fmt.{decimal};
 

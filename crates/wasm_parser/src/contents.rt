@@ -15,7 +15,7 @@ use wasm_grammar::{
     IMPORT_SECTION, MEMORY_SECTION, TABLE_SECTION, TAG_SECTION, TYPE_SECTION,
 };
 
-/// The content of a custom section.
+/// Reads the content of a custom section.
 pub(crate) fn custom<'a>(id: u8, size: u32, reader: &mut BinaryReader<'a>) -> Result<Payload<'a>>
     ensures { ReadsAnywhere custom id size (place reader.old) result (place reader.new) }
 {
@@ -26,7 +26,7 @@ pub(crate) fn custom<'a>(id: u8, size: u32, reader: &mut BinaryReader<'a>) -> Re
     }
 }
 
-/// The content of a start section: the index of a function.
+/// Reads the content of a start section: the index of a function.
 pub(crate) fn start<'a>(id: u8, size: u32, reader: &mut BinaryReader<'a>) -> Result<Payload<'a>>
     ensures { ReadsAnywhere index id size (place reader.old) result (place reader.new) }
 {
@@ -36,7 +36,7 @@ pub(crate) fn start<'a>(id: u8, size: u32, reader: &mut BinaryReader<'a>) -> Res
     Ok(Payload::StartSection { func, range })
 }
 
-/// The content of a data count section: the count of data segments.
+/// Reads the content of a data count section: the number of data segments.
 pub(crate) fn data_count<'a>(
     id: u8,
     size: u32,
@@ -50,7 +50,7 @@ pub(crate) fn data_count<'a>(
     Ok(Payload::DataCountSection { count, range })
 }
 
-/// The content of an unknown section.
+/// Reads the content of an unknown section.
 pub(crate) fn unknown<'a>(id: u8, size: u32, reader: &mut BinaryReader<'a>) -> Result<Payload<'a>>
     ensures { ReadsAnywhere unknown id size (place reader.old) result (place reader.new) }
 {
@@ -62,7 +62,7 @@ pub(crate) fn unknown<'a>(id: u8, size: u32, reader: &mut BinaryReader<'a>) -> R
     })
 }
 
-/// So many bytes as a window of their own.
+/// Reads `size` bytes and returns them as a window of their own.
 #[tactic(auto, unfolding(crate::specs::ReadsPart::content_at))]
 pub(crate) fn window<'a>(size: u32, reader: &mut BinaryReader<'a>) -> Result<BinaryReader<'a>>
     ensures gives { GivesBy (λ window. window) result reader.old reader.new (content_at size) }
@@ -74,7 +74,7 @@ pub(crate) fn window<'a>(size: u32, reader: &mut BinaryReader<'a>) -> Result<Bin
     Ok(BinaryReader::new_features(bytes, start, reader.features()))
 }
 
-/// The section with this id, whose content begins with a count.
+/// Returns the section with this id, whose content begins with a count.
 pub(crate) fn counted<'a>(id: u8, window: BinaryReader<'a>) -> Result<Payload<'a>>
     requires { kind_of_module id ≡ whole items }
     ensures { ReadsCounted id window.entry result }
@@ -94,8 +94,9 @@ pub(crate) fn counted<'a>(id: u8, window: BinaryReader<'a>) -> Result<Payload<'a
     })
 }
 
-/// The content of a section that is a count and its items. The count of a data section is the one that a data count
-/// section announced, if there was one.
+/// Reads the content of a section that is a count and its items.
+///
+/// The count of a data section must be the announced one, if a data count section announced one.
 pub(crate) fn items<'a>(
     announced: Option<u32>,
     id: u8,
@@ -126,7 +127,8 @@ fn is_miscounted(announced: Option<u32>, payload: &Payload) -> bool
     }
 }
 
-/// The start of a code section: a count of bodies, which is that of the function section. Without a function section it is 0.
+/// Reads the start of a code section: the number of bodies, which must be the count of the function section, or 0
+/// without one.
 pub(crate) fn code<'a>(
     functions: Option<u32>,
     size: u32,
@@ -155,7 +157,7 @@ pub(crate) fn code<'a>(
     })
 }
 
-// Reads content that is one number and nothing else. Bytes after the number are this fault, at the first of them.
+// Reads content that is a single number. `trailing` is the fault of bytes after it, at the first of them.
 fn only_u32(mut window: BinaryReader, trailing: Fault) -> Result<u32>
     ensures reads { ReadsSingleNumber trailing (place window.entry) result }
     ensures hints { HintsNothing result }
@@ -180,8 +182,9 @@ fn differs(known: Option<u32>, count: u32) -> bool
     }
 }
 
-/// Whether a section has items, and the section that must accompany it is missing: its count is known and above 0,
-/// and the other section's count is not known.
+/// Returns whether a section has items, and the section that must accompany it is missing.
+///
+/// That is so if the section's count is known and above 0, and the other section's count is not known.
 pub(crate) fn lacks(count: Option<u32>, other: Option<u32>) -> bool
     ensures { result ≡ is_lacking count other }
 {

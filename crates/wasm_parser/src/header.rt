@@ -39,15 +39,16 @@ pub(crate) fn read_header<'a>(reader: &mut BinaryReader<'a>) -> Result<Payload<'
     }
 }
 
-/// Whether the four bytes that begin a header are here.
+/// Returns whether the remaining bytes begin with the magic.
 pub(crate) fn magic_follows(reader: &BinaryReader) -> bool
     ensures { result ≡ is_magic_next (place reader.now) }
 {
     reader.remaining_buffer().starts_with(MAGIC.as_slice())
 }
 
-/// How many more bytes are wanted where a section may start, before its id is looked at: one where there are none, and
-/// those that are missing of a header's first four where these may begin one.
+/// Returns how many more bytes are needed where a section may start, before the parser looks at the id.
+///
+/// It is 1 if there are no bytes. If the bytes may begin a second header, it is as many as the magic lacks.
 pub(crate) fn missing_at_section(bytes: &[u8]) -> Option<usize>
     ensures { result ≡ asked_at_section bytes.now }
 {

@@ -1,5 +1,4 @@
-//! Laws of the definitions of framing, each the contract of a function that does nothing: those of the grammar, and those
-//! that tie a parser to it.
+//! The laws of the parser, and of the grammar that it follows. Each is the contract of a function that does nothing.
 ghost use Rattle.wasm_parser.specs.Along.{AnswersGoAlong};
 ghost use Rattle.wasm_parser.specs.ParserLaws.{AnswersLast, EndConsumesAll, ParserSuffices, SomeNextEvent};
 ghost use Rattle.wasm_parser.specs.PayloadItems.{GivesTypes, GivesImports, GivesFunctions, GivesTables};
@@ -19,57 +18,63 @@ pub use wasm_grammar::laws::{
 };
 use wasm_items::{Data, Element, Export, Global, Imports, MemoryType, RecGroup, Table, TagType};
 
-/// What may come after a prefix of a stream depends on what a parser that is there knows, and a parser that
-/// passes what is there is after it.
+/// What may come after a prefix of a stream depends only on the state of a parser there. A parser that consumes the
+/// next part has the state after that part.
 pub fn parser_suffices()
     ensures { ParserSuffices }
 {}
 
-/// A result of `parse` other than a request, on bytes after which more may come, is also the result with more bytes, whether
-/// those are then the whole stream or not.
+/// A result of `parse` other than a request is final: more bytes, whether they complete the stream or not, do not
+/// change it.
 pub fn answers_last()
     ensures { AnswersLast }
 {}
 
-/// What a caller relies on that receives a stream bit by bit and passes unconsumed bytes again. A new parser is at the start of
-/// the stream, and more bytes do not move it. Each result moves it, and is the next event of every stream with this prefix.
-/// Each payload except the end consumes some bytes, and the parser's state follows from the result. Equal bytes have
-/// equal results; a fault, or the end, is returned again.
+/// A caller that receives a stream in chunks, and passes unconsumed bytes again, reads the events of the stream.
+///
+/// A new parser is at the start of the stream, and more bytes do not move it. Each result moves it, and is the next
+/// event of every stream with this prefix. Each payload except the end consumes some bytes, and the parser's state
+/// follows from the result. Equal bytes have equal results; an error, or the end, is returned again.
 pub fn answers_go_along()
     ensures { AnswersGoAlong }
 {}
 
-/// A caller that passes the rest of a code section by `skip_section`, without its bytes, goes on with the reading without the
-/// events of its bodies, where some bytes of that length complete the section.
+/// A caller that calls `skip_section` goes on with the reading, without the events of the skipped bodies.
+///
+/// This needs that some bytes of that length complete the section; the actual bytes are not looked at.
 pub fn skipping_leaves_out_bodies()
     ensures { SkippingLeavesOutBodies }
 {}
 
-/// No parser could decide earlier. `front` is a prefix of a stream that starts at `offset`, a faultless tiling or empty, and
-/// `data` the bytes that have arrived after it (core specification, Binary format, Modules).
+/// No parser could decide earlier than `parse` does.
 ///
-/// One event comes next after the front, whatever the stream. If the data suffices, it is the same in every stream that begins
-/// with both. Otherwise the next event of the stream that ends after the data differs from that of the stream that continues
-/// with a given suffix; both are streams, if there are 2^33 more offsets after the data.
+/// `front` is a prefix of a stream that starts at `offset`: a faultless tiling, or empty. `data` are the bytes that
+/// have arrived after it. One event comes next after the front, whatever the stream. If the data suffices, it is the
+/// same in every stream that begins with both. Otherwise the next event of the stream that ends after the data differs
+/// from that of the stream that continues with a given suffix; both are streams, if there are 2^33 more offsets after
+/// the data.
+///
+/// (Core specification, Binary format, Modules.)
 pub fn short_is_undecided(offset: u64, front: &[u8], data: &[u8])
     ensures next { OneComesNext offset front.now }
     ensures decided { EnoughIsDecided offset front.now «data».now }
     ensures undecided { ShortIsUndecided offset front.now «data».now }
 {}
 
-/// Wherever a parser is in a stream, the reading of that stream has a next event.
+/// The reading of a stream has a next event wherever a parser is in the stream.
 pub fn some_next_event()
     ensures { SomeNextEvent }
 {}
 
-/// The events of a reading that ends at the stream's end consumed all of the stream.
+/// The events of a reading that ends at the stream's end consume all of the stream.
 pub fn end_consumes_all()
     ensures { EndConsumesAll }
 {}
 
-/// The items of a payload that begins with a count are those of its window, by the grammar of its kind of section. They are
-/// as many as were announced, each at its offset in the stream, up to the first fault, and then nothing or one `SizeMismatch`.
-/// Of types, which own lists, `OutOfMemory` may come in place of any, as the last.
+/// The items of a payload that begins with a count are those of its window, by the grammar of its kind of section.
+///
+/// They are as many as announced, each at its offset in the stream, up to the first error, and then nothing or one
+/// `SizeMismatch`. Types own lists, so `OutOfMemory` may come in place of a type, as the last item.
 pub fn items_of_payloads<'a>()
     ensures types { GivesTypes
         ⟦<SectionLimitedIntoIterIn<'a, RecGroup> as Iterator>⟧.next_gives }

@@ -1,4 +1,16 @@
-//! The parser of WebAssembly modules and of components' headers.
+//! The parser of WebAssembly modules and components: it returns the parts of a stream, in memory or in chunks.
+//!
+//! `Parser::parse_all` iterates over a stream in memory, and `Parser::parse` takes one chunk after the other. The crate
+//! re-exports the readers of items and custom sections, so it is the only one that most programs need. `wasm_feed` adds
+//! the buffer for chunked input.
+//!
+//! ```rattle
+//! let mut sections = 0;
+//! for payload in Parser::new(0).parse_all(b"\0asm\x01\0\0\0\x01\x01\0") {
+//!     sections += payload?.as_section().is_some() as u32;
+//! }
+//! assert_eq!(rt; sections, 1);
+//! ```
 #![tactic(auto)]
 
 mod checkpoint;

@@ -4,9 +4,17 @@ use crate::payload::{Chunk, Payload};
 use std::marker::Model;
 use wasm_base::Result;
 
-/// The payloads of a whole stream, in its order.
+/// An iterator over the payloads of a stream in memory, in order.
 ///
-/// After `End`, and after a fault, nothing comes.
+/// It ends after `Payload::End`, and after the first error, which is one of `Parser::parse`. It never allocates.
+///
+/// ```rattle
+/// let mut payloads = Parser::new(0).parse_all(b"\0asm\x01\0\0\0\xff");
+/// assert!(rt; matches!(payloads.next(), Some(Ok(Payload::Version { num: 1, .. }))));
+/// let found = payloads.next().and_then(|payload| payload.err());
+/// assert_eq!(rt; found, Some(Error::new(Fault::MalformedSectionId, 8)));
+/// assert!(rt; payloads.next().is_none());
+/// ```
 #[derive(Drop)]
 pub struct ParseAll<'a> {
     parser: Parser,
@@ -26,7 +34,7 @@ impl<'a> ParseAll<'a> {
     ghost use Rattle.std.specs.Prelude.{◌≡◌};
     ghost use Rattle.wasm_parser.specs.ParseAll.{walk_over};
 
-    // A walk over these bytes, from where the parser is.
+    // Returns a walk over these bytes, from the parser's offset on.
     pub(crate) fn over(parser: Parser, bytes: &'a [u8]) -> Self
         ensures { result ≡ walk_over parser bytes.now }
     {

@@ -36,11 +36,25 @@ use wasm_grammar::{
 };
 use wasm_items::FunctionBody;
 
-/// Reads a module, or the header of a component, part by part (core specification, Binary format, Modules).
+/// A parser of a module or component, one part at a time (core specification, Binary format, Modules).
 ///
-/// A parser buffers nothing. It keeps its offset and what earlier sections imply for later ones: order and counts. `parse` takes
-/// the bytes from that offset on and returns the next part; `parse_all` walks a whole stream. Offsets count bytes from the
-/// start of the stream, which may begin at any offset.
+/// A parser buffers nothing and never allocates. It keeps its offset and what earlier sections imply for later ones:
+/// order and counts. `parse` takes the bytes from that offset on and returns the next part. `parse_all` walks a stream
+/// in memory. Offsets count bytes from the start of the stream, which may begin at any offset.
+///
+/// The parser checks the frame of a stream: headers, sections, their order and counts, and the sizes of bodies. The
+/// items of a section are read, and checked, only when you iterate over them. Nothing is validated, and function bodies
+/// are not decoded.
+///
+/// ```rattle
+/// let stream: &[u8] = b"\0asm\x01\0\0\0\x02\x07\x01\x01m\x01f\0\0";
+/// for payload in Parser::new(0).parse_all(stream) {
+///     if let Payload::ImportSection(section) = payload? {
+///         let first = section.into_imports().next().ok_or("no import")??;
+///         assert_eq!(rt; (first.module, first.name), ("m", "f"));
+///     }
+/// }
+/// ```
 #[derive(Debug, Drop)]
 pub struct Parser {
     offset: u64,
@@ -54,7 +68,7 @@ pub struct Parser {
     codes: Option<u32>,
     datas: Option<u32>,
     data_counts: Option<u32>,
-    // The bodies and the bytes that a code section still misses.
+    // The bodies and the bytes that a code section still lacks.
     bodies: u32,
     code_bytes: u32,
     // Whether the last part was the start of a code section, or a body.
@@ -62,7 +76,7 @@ pub struct Parser {
 }
 
 impl Parser {
-    /// A parser of a stream that begins at this offset, with all features.
+    /// Returns a parser of a stream that begins at this offset, with all features.
     pub fn new(offset: u64) -> Self
         ensures { result ≡ initial_state offset all_features }
     {
@@ -82,49 +96,69 @@ impl Parser {
         }
     }
 
-    /// Returns the next part of the stream, or requests more bytes. `bytes` are the stream's bytes from the parser's offset on.
+    /// Returns the next part of the stream, or requests more bytes. `bytes` are the stream's bytes from the parser's
+    /// offset on.
     ///
-    /// `eof` says that no bytes come after these, so that missing bytes are a fault. Without it, `NeedMoreData` is returned while
-    /// these bytes don't decide what comes next, and the parser is unchanged: pass the same bytes again, with more after them.
-    /// More bytes never change any other result, and no parser could decide earlier: it requests more bytes exactly if two
-    /// streams that begin with these have different next events.
+    /// `eof` says that no bytes come after these, so that missing bytes are a fault. Without it, `NeedMoreData` is
+    /// returned while these bytes don't decide what comes next. The parser is then unchanged: pass the same bytes
+    /// again, with more after them. More bytes never change any other result, and no parser could decide earlier: it
+    /// requests more bytes exactly if two streams that begin with these have different next events.
     ///
-    /// The parser is then `consumed` bytes further. Pass the bytes after those next:
+    /// After a part the parser is `consumed` bytes further. Pass the bytes after those next. At the end of the stream,
+    /// `consumed` is 0 and the payload is `End`.
     ///
-    /// ```text
-    /// loop {
-    ///     match parser.parse(rest, true) {
-    ///         Ok(Chunk::Parsed { consumed, payload }) => {
-    ///             if let Payload::End(_) = payload {
-    ///                 return Ok(());
-    ///             }
-    ///             look_at(&payload);
-    ///             drop(payload);
-    ///             rest = rest.split_at(consumed).1;
-    ///         }
-    ///         Ok(Chunk::NeedMoreData(_)) => unreachable!(),
-    ///         Err(error) => return Err(error),
-    ///     }
-    /// }
+    /// # Errors
+    ///
+    /// The parser is unchanged, and returns the same error for the same bytes. If `eof` is false, bytes that may still
+    /// come are not missing.
+    ///
+    /// - `OffsetRange` at the parser's offset if the bytes go beyond the largest offset of a stream.
+    /// - At a header: those of `read_header_version`, and `UnknownVersion` at the version.
+    /// - At a section: `MagicAtSection` at a second header, `MalformedSectionId` at an id above 127, those of
+    ///   `read_var_u32` for the length, `SectionTooLarge` at the length, and `OutOfOrder` at the content.
+    /// - In the content of a section: `UnexpectedEof` at the content if bytes are missing, and the errors of the first
+    ///   fields, which must lie in the content: those of `read_string` for the name of a custom section, otherwise
+    ///   those of `read_var_u32`. `StartContent` and `DataCountContent` at the first trailing byte. `DataCountDiffer`
+    ///   at the end of the section.
+    /// - At the start of a code section: those of `read_var_u32` for the count, `UnexpectedEof` at the content if the
+    ///   count overruns it, `FunctionCodeDiffer` and `CodeWithoutFunction` at the content.
+    /// - At a body: `TrailingCode` at the first byte after the last body, those of `read_var_u32` for the size,
+    ///   `UnexpectedEof` at the size if the body overruns its section, which is reported as soon as the size is read,
+    ///   and `UnexpectedEof` after the size if bytes are missing.
+    /// - At the end of the stream: `FunctionWithoutCode` and `DataCountWithoutData` there.
+    ///
+    /// # Example
+    ///
+    /// ```rattle
+    /// let stream: &[u8] = b"\0asm\x01\0\0\0\0\x02\x01a";
+    /// let mut parser = Parser::new(0);
+    /// assert!(rt; matches!(parser.parse(&stream[..6], false)?, Chunk::NeedMoreData(2)));
+    /// assert!(rt; matches!(parser.parse(stream, true)?, Chunk::Parsed { consumed: 8, .. }));
+    /// assert!(rt; matches!(parser.parse(&stream[8..], true)?, Chunk::Parsed { consumed: 4, .. }));
+    /// let end = parser.parse(&stream[12..], true)?;
+    /// assert!(rt; matches!(end, Chunk::Parsed { consumed: 0, payload: Payload::End(12) }));
     /// ```
-    ///
-    /// A fault is reported at its offset in the stream, and the parser is unchanged: the faults of a header, of a section's id,
-    /// length, order and first fields, of a body's size, and of counts that don't match. A body that overruns its section is
-    /// refused as soon as its size has been read, with `UnexpectedEof` at the body's start. `OffsetRange` at the parser's offset
-    /// means that the bytes go beyond the largest offset of a stream.
     pub fn parse<'a>(&mut self, bytes: &'a [u8], eof: bool) -> Result<Chunk<'a>>
+        // On every outcome.
         ensures answers { ParseAnswer self.old eof bytes.now result self.new }
         ensures gives { GivesNextEvent self.old eof bytes.now result self.new }
+        // On a part.
         ensures consumes { Consumes bytes.now result }
+        // On a request.
         ensures asks { AsksForSome result }
         ensures waits { AsksWhereOpen self.old eof bytes.now result }
+        // On an error.
         ensures faults { FaultsWithin self.old bytes.now result }
+        // On a request or an error.
         ensures unchanged { IsUnchanged self.old result self.new }
     {
         self.answer(bytes, eof)
     }
 
-    /// The payloads of the stream that these bytes are, up to its end or its first fault.
+    /// Returns an iterator over the payloads of a stream in memory, up to its end or its first error.
+    ///
+    /// `bytes` are the stream's bytes from the parser's offset on. `bytes` must be complete: missing bytes are an
+    /// error.
     ///
     /// ```rattle
     /// let mut names = Vec::new(alloc);
@@ -142,8 +176,9 @@ impl Parser {
         ParseAll::over(self, bytes)
     }
 
-    /// The number of bytes that `skip_section` would skip: those remaining in a code section, from `CodeSectionStart` until a
-    /// payload that is no body. `None` elsewhere.
+    /// Returns the number of bytes that `skip_section` would skip, or `None` outside a code section.
+    ///
+    /// It is `Some` from `CodeSectionStart` until a payload that is not a body.
     pub fn skippable(&self) -> Option<u32>
         ensures { result ≡ skippable_of self.now }
     {
@@ -154,8 +189,21 @@ impl Parser {
         }
     }
 
-    /// Skips the remaining bytes of a code section, as many as `skippable` returns; pass the bytes after those next. The parser
-    /// must be in a code section, so that `skippable` is `Some`.
+    /// Skips the remaining bytes of a code section, as many as `skippable` returns. Pass the bytes after those to the
+    /// next call.
+    ///
+    /// The parser must be in a code section: `skippable` must be `Some`. The skipped bodies are not checked.
+    ///
+    /// ```rattle
+    /// let stream: &[u8] = b"\0asm\x01\0\0\0\x03\x02\x01\0\x0a\x04\x01\x02\0\x0b";
+    /// let mut parser = Parser::new(0);
+    /// for part in [0..8, 8..12, 12..15] {
+    ///     parser.parse(&stream[part], false)?;
+    /// }
+    /// assert_eq!(rt; parser.skippable(), Some(3));
+    /// parser.skip_section();
+    /// assert_eq!(rt; (parser.offset(), parser.skippable()), (18, Some(0)));
+    /// ```
     pub fn skip_section(&mut self)
         requires { IsSome (skippable_of self.old) }
         ensures state { self.new ≡ skipped_state self.old }
@@ -166,7 +214,8 @@ impl Parser {
         self.code_bytes = 0;
     }
 
-    /// All that the parser knows, as plain values: `resume` makes a parser of them that goes on as this one.
+    /// Returns the state of the parser as plain values. `resume` makes a parser from them that continues as this one
+    /// does.
     pub fn checkpoint(&self) -> Checkpoint
         ensures state { state_of result ≡ self.now }
         ensures fits { result.offset + result.code_bytes < 2 ^ 64 }
@@ -187,8 +236,10 @@ impl Parser {
         }
     }
 
-    /// The parser that this checkpoint describes. The remaining bytes of a code section must end within the offsets of a stream,
-    /// below 2^64, as they do in each checkpoint that `checkpoint` returns.
+    /// Returns the parser that this checkpoint describes.
+    ///
+    /// The remaining bytes of a code section must end within the offsets of a stream: `offset + code_bytes` must be
+    /// below 2^64. Every checkpoint that `checkpoint` returns is such.
     pub fn resume(checkpoint: Checkpoint) -> Self
         requires { checkpoint.offset + checkpoint.code_bytes < 2 ^ 64 }
         ensures { result ≡ state_of checkpoint }
@@ -209,29 +260,30 @@ impl Parser {
         }
     }
 
-    /// The stream offset of what comes next.
+    /// Returns the offset of the next part, from the start of the stream.
     pub fn offset(&self) -> u64
         ensures { result ≡ self.now.offset }
     {
         self.offset
     }
 
-    /// The features of the windows of every payload.
+    /// Returns the features of the readers in every payload.
     pub fn features(&self) -> WasmFeatures
         ensures { feature_bits result ≡ self.now.features }
     {
         self.features
     }
 
-    /// Sets the features of the windows of later payloads.
+    /// Sets the features of the readers in later payloads. They change how items are read, not the frame of a stream.
     pub fn set_features(&mut self, features: WasmFeatures)
         ensures { self.new ≡ record self.old { features = feature_bits features } }
     {
         self.features = features;
     }
 
-    /// A reader of these bytes, which begin at this offset of the whole stream, with the parser's features. The offset and
-    /// the length together must not pass 2^64 - 1, as `fits` says.
+    /// Returns a reader of these bytes, which begin at this offset of the stream, with the parser's features.
+    ///
+    /// The bytes must end within the offsets of a stream: see `fits`.
     pub fn binary_reader<'a>(&self, bytes: &'a [u8], offset: u64) -> BinaryReader<'a>
         requires { offset + length bytes.now < 2 ^ 64 }
         ensures { result ≡ window_over self.now.features offset bytes.now }
@@ -239,14 +291,19 @@ impl Parser {
         BinaryReader::new_features(bytes, offset, self.features)
     }
 
-    /// Whether these bytes begin as a core module does: with the eight bytes of its header.
+    /// Returns whether these bytes begin with the eight bytes of a core module's header.
+    ///
+    /// ```rattle
+    /// assert!(rt; Parser::is_core_wasm(b"\0asm\x01\0\0\0\0"));
+    /// assert!(rt; !Parser::is_core_wasm(b"\0asm\x01"));
+    /// ```
     pub fn is_core_wasm(bytes: &[u8]) -> bool
         ensures { result ≡ begins_with_header Module bytes.now }
     {
         bytes.starts_with(CORE_HEADER.as_slice())
     }
 
-    /// Whether these bytes begin as a component does: with the eight bytes of its header.
+    /// Returns whether these bytes begin with the eight bytes of a component's header.
     pub fn is_component(bytes: &[u8]) -> bool
         ensures { result ≡ begins_with_header Component bytes.now }
     {
@@ -289,7 +346,7 @@ impl Clone for Parser {
     }
 }
 
-/// A parser of a stream that begins at offset 0.
+/// Returns a parser of a stream that begins at offset 0, with all features.
 impl Default for Parser {
     ghost is_default = { λ parser. parser ≡ initial_state 0 all_features };
 
@@ -311,7 +368,7 @@ impl Parser {
         self.expects_header
     }
 
-    // Whether a code section isn't at its end.
+    // Whether a code section has remaining bytes or bodies.
     fn is_code_open(&self) -> bool
         ensures { result ≡ not (nat_eq (self.now.bodies + self.now.code_bytes) 0) }
     {
@@ -325,7 +382,7 @@ impl Parser {
         !self.expects_header && !self.is_code_open()
     }
 
-    // A reader of bytes that begin where the parser is.
+    // Returns a reader of bytes that begin at the parser's offset.
     fn reader<'a>(&self, bytes: &'a [u8]) -> BinaryReader<'a>
         requires { self.now.offset + length bytes.now < 2 ^ 64 }
         ensures { result ≡ window_over self.now.features self.now.offset bytes.now }
@@ -340,7 +397,7 @@ impl Parser {
         rank > 0 && rank <= self.rank
     }
 
-    // What comes where a section may start, and bytes are left.
+    // Reads what comes where a section may start, if bytes remain.
     fn section<'a>(&self, reader: &mut BinaryReader<'a>) -> Result<Payload<'a>>
         requires { 0 < length (place reader.old).rest }
         ensures { ReadsNextSection self.now (place reader.old) result (place reader.new) }
@@ -353,7 +410,7 @@ impl Parser {
         self.after_id(start, id, reader)
     }
 
-    // A section with this id, which is at this offset, just before the reader.
+    // Reads a section with this id, which is at this offset, just before the reader.
     fn after_id<'a>(&self, start: u64, id: u8, reader: &mut BinaryReader<'a>) -> Result<Payload<'a>>
         requires { start + 1 ≡ (place reader.old).offset }
         ensures { ReadsAfterId self.now start id (place reader.old) result (place reader.new) }
@@ -366,7 +423,7 @@ impl Parser {
         self.after_length(id, field, size, reader)
     }
 
-    // A section with this id and size, whose length field begins at this offset.
+    // Reads a section with this id and size, whose length field begins at this offset.
     fn after_length<'a>(
         &self,
         id: u8,
@@ -387,7 +444,7 @@ impl Parser {
         self.content(kind, id, size, reader)
     }
 
-    // The content of a section of this kind.
+    // Reads the content of a section of this kind.
     fn content<'a>(
         &self,
         kind: SectionKind,
@@ -410,7 +467,7 @@ impl Parser {
         }
     }
 
-    // What comes where the parser is, if bytes are left there, or a header or a body is expected.
+    // Reads the next part, if bytes remain, or a header or a body is expected.
     fn read<'a>(&self, reader: &mut BinaryReader<'a>) -> Result<Payload<'a>>
         requires starts { (place reader.old).offset ≡ self.now.offset }
         requires some { HasSection self.now (place reader.old) }
@@ -425,7 +482,7 @@ impl Parser {
         }
     }
 
-    // How the stream ends where the parser is: each count above 0 wants its other section.
+    // Ends the stream at the parser. Each count above 0 needs its other section.
     fn end<'a>(&mut self) -> Result<Chunk<'a>>
         requires { at_section self.old ≡ true }
         ensures { ParseAnswer self.old true [] result self.new }
@@ -470,7 +527,7 @@ impl Parser {
         self.in_code = false;
     }
 
-    // Goes on to the end of any part.
+    // Moves to the end of any part, and records what later parts must fit.
     fn learn_and_pass(&mut self, payload: &Payload, end: u64)
         requires after { self.old.offset ≤ end }
         requires fits { end + missing_bytes (report_of payload.now)
@@ -530,7 +587,7 @@ impl Parser {
         self.read_on(bytes, eof)
     }
 
-    // What comes next, if bytes are left where a section may start, and don't only begin a header there.
+    // Reads the next part. Where a section may start, some bytes remain, and more than a prefix of the magic.
     fn read_on<'a>(&mut self, bytes: &'a [u8], eof: bool) -> Result<Chunk<'a>>
         requires fits { self.old.offset + length bytes.now < 2 ^ 64 }
         requires begun { IsBegun self.old eof bytes.now }
@@ -551,7 +608,7 @@ impl Parser {
         }
     }
 
-    // A body of a code section that isn't at its end.
+    // Reads the next body of a code section that has remaining bytes or bodies.
     fn body<'a>(&self, reader: &mut BinaryReader<'a>) -> Result<Payload<'a>>
         ensures { ReadsBody self.now (place reader.old) result (place reader.new) }
     {
@@ -580,7 +637,7 @@ fn passes(code_bytes: u32, width: u64, size: u32) -> bool
     }
 }
 
-// A fault; but bytes that are missing where more may come are asked for.
+// Returns the error, or requests the missing bytes if they may still come.
 fn refused<'a>(error: Error, eof: bool) -> Result<Chunk<'a>>
     ensures { Refuses eof error result }
 {

@@ -19,108 +19,123 @@ use wasm_items::{
     TableSectionReader, TagSectionReader, TypeSectionReader,
 };
 
-/// One part of a stream (core specification, Binary format, Modules).
+/// One part of a stream: a header, a section, the start of a code section, a body, or the end.
 ///
-/// Ranges and offsets count bytes from the start of the stream. The readers borrow the bytes that were parsed, and have
-/// the parser's features.
+/// Ranges and offsets count bytes from the start of the stream. Readers borrow from the parsed bytes and have the
+/// parser's features. A section with a count is a `SectionLimited`: its items are read when you iterate over them.
+///
+/// ```rattle
+/// let stream: &[u8] = b"\0asm\x01\0\0\0\x03\x02\x01\0\x0a\x04\x01\x02\0\x0b";
+/// let mut bodies = 0;
+/// for payload in Parser::new(0).parse_all(stream) {
+///     match payload? {
+///         Payload::FunctionSection(section) => assert_eq!(rt; section.count(), 1),
+///         Payload::CodeSectionEntry(_) => bodies += 1,
+///         _ => {}
+///     }
+/// }
+/// assert_eq!(rt; bodies, 1);
+/// ```
+///
+/// (Core specification, Binary format, Modules.)
 #[derive(Drop)]
 pub enum Payload<'a> {
     // Fields of less than eight bytes come first: so they share a word, and lie over no pointer or offset of another kind.
-    /// The header: its version, and what it announces.
+    /// The header: the encoding and its version.
     Version {
-        /// What the header announces.
+        /// The encoding that the header announces.
         encoding: Encoding,
-        /// The 16-bit version: 1 of a module, 13 of a component.
+        /// The 16-bit version: 1 for a module, 13 for a component.
         num: u16,
-        /// The offsets of the eight bytes, in the whole stream.
+        /// The offsets of the eight bytes of the header.
         range: Range<u64>,
     },
-    /// The types of a module.
+    /// The type section.
     TypeSection(TypeSectionReader<'a>),
-    /// What a module imports.
+    /// The import section.
     ImportSection(ImportSectionReader<'a>),
-    /// The type indices of a module's functions.
+    /// The function section: the type index of each function.
     FunctionSection(FunctionSectionReader<'a>),
-    /// The tables of a module.
+    /// The table section.
     TableSection(TableSectionReader<'a>),
-    /// The memories of a module.
+    /// The memory section.
     MemorySection(MemorySectionReader<'a>),
-    /// The tags of a module.
+    /// The tag section.
     TagSection(TagSectionReader<'a>),
-    /// The globals of a module.
+    /// The global section.
     GlobalSection(GlobalSectionReader<'a>),
-    /// What a module exports.
+    /// The export section.
     ExportSection(ExportSectionReader<'a>),
-    /// The index of the function that starts a module; the range is that of the index.
+    /// The start section: the index of the start function.
     StartSection {
-        /// The index of the function.
+        /// The index of the start function.
         func: u32,
-        /// The offsets of the content, in the whole stream.
+        /// The offsets of the section's content.
         range: Range<u64>,
     },
-    /// The element segments of a module.
+    /// The element section.
     ElementSection(ElementSectionReader<'a>),
-    /// The number of data segments that the data section will have; the range is that of the number.
+    /// The data count section: the number of data segments that the data section must have.
     DataCountSection {
-        /// How many data segments are announced.
+        /// The number of data segments.
         count: u32,
-        /// The offsets of the content, in the whole stream.
+        /// The offsets of the section's content.
         range: Range<u64>,
     },
-    /// The data segments of a module.
+    /// The data section.
     DataSection(DataSectionReader<'a>),
-    /// The start of a code section: how many bodies follow, the offsets of its content, of which not all needs to be
-    /// there yet, and how many bytes of that content are after the count.
+    /// The start of a code section: its count. Each body is a payload of its own, `CodeSectionEntry`.
     CodeSectionStart {
-        /// How many bodies follow.
+        /// The number of bodies that follow.
         count: u32,
-        /// How many bytes of the content come after the count.
+        /// The number of bytes of the section's content after the count.
         size: u32,
-        /// The offsets of the content in the whole stream, the count among it. Not all of it needs to be there.
+        /// The offsets of the section's content, including the count. The stream may end, or be malformed, within them.
         unchecked_range: Range<u64>,
     },
     /// One body of a code section.
     CodeSectionEntry(FunctionBody<'a>),
     /// A custom section.
     CustomSection(CustomSectionReader<'a>),
-    /// A section with an id that isn't known: its content, and the offsets of that.
+    /// A section with an unknown id, or any section of a component except a custom one.
     UnknownSection {
         /// The section's id, from 1 to 127.
         id: u8,
-        /// The content's bytes.
+        /// The bytes of the section's content.
         contents: &'a [u8],
-        /// The offsets of the content, in the whole stream.
+        /// The offsets of the section's content.
         range: Range<u64>,
     },
     /// The end of the stream, at this offset.
     End(u64),
 }
 
-/// What a call of `parse` returns.
+/// The result of `Parser::parse` without an error: a part, or a request for more bytes.
 #[derive(Debug, Drop)]
 pub enum Chunk<'a> {
-    /// More bytes are needed, about this many; nothing was consumed.
+    /// More bytes are needed to decide what comes next. The number is a hint of how many, at least 1. Nothing was
+    /// consumed.
     NeedMoreData(usize),
-    /// So many bytes were consumed, and are this.
+    /// A part of the stream was consumed.
     Parsed {
-        /// How many bytes were consumed: some, but at the end of the stream.
+        /// The number of bytes consumed: at least 1, and 0 only at the end of the stream.
         consumed: usize,
-        /// What they are.
+        /// The part.
         payload: Payload<'a>,
     },
 }
 
-/// The id of the section that a payload is, the offsets of its content in the whole stream, and its count, if it has one.
+/// A section's id, the offsets of its content in the stream, and its count if it has one.
 pub type SectionParts = (u8, Range<u64>, Option<u32>);
 
-/// A section that begins with a count of items, whatever their type.
+/// A section that begins with a count of items, whatever their type: its id, count and range.
 #[derive(Drop)]
 pub struct CountedSection {
     /// The section's id.
     pub id: u8,
-    /// How many items it announces.
+    /// The number of items that the section announces.
     pub count: u32,
-    /// The offsets of its content in the whole stream, the count among it.
+    /// The offsets of the section's content in the stream, including the count.
     pub range: Range<u64>,
 }
 
@@ -137,7 +152,9 @@ fn counted_section<T>(id: u8, section: &SectionLimited<'_, T>) -> Option<Counted
 }
 
 impl<'a> Payload<'a> {
-    /// The section that this is, if it is one that begins with a count of items. A code section is none: its bodies are payloads.
+    /// Returns the section that this payload is, if the section begins with a count of items.
+    ///
+    /// A code section is not such a section, because its bodies are payloads of their own.
     #[inline(always)]
     pub fn as_counted(&self) -> Option<CountedSection>
         ensures { result ≡ counted_in (report_of self.now) }
@@ -157,8 +174,10 @@ impl<'a> Payload<'a> {
         }
     }
 
-    /// The section's id and the offsets of its content in the stream, from the first byte after its length to its end.
-    /// `None` for a header, a body and the end; a code section is its `CodeSectionStart`.
+    /// Returns the section's id and the offsets of its content, or `None` for a header, a body and the end.
+    ///
+    /// The content lasts from the first byte after the section's length to its end. A code section is its
+    /// `CodeSectionStart`.
     pub fn as_section(&self) -> Option<(u8, Range<u64>)>
         ensures { result ≡ section_of (report_of self.now) }
     {
@@ -168,7 +187,16 @@ impl<'a> Payload<'a> {
         }
     }
 
-    /// Like `as_section`, with the section's count, if it has one.
+    /// Returns the section's id, the offsets of its content and its count, or `None` for a header, a body and the end.
+    ///
+    /// The count is `None` for a start section, a custom section and an unknown one.
+    ///
+    /// ```rattle
+    /// let mut payloads = Parser::new(0).parse_all(b"\0asm\x01\0\0\0\x01\x01\0");
+    /// payloads.next();
+    /// let types = payloads.next().ok_or("no section")??;
+    /// assert_eq!(rt; types.section_parts(), Some((1, 10..11, Some(0))));
+    /// ```
     pub fn section_parts(&self) -> Option<SectionParts>
         ensures { result ≡ parts_of (report_of self.now) }
     {

@@ -7,7 +7,7 @@ ghost use Rattle.wasm_grammar.specs.Sections.{count_report};
 use crate::payload::Payload;
 use wasm_grammar::{Encoding, START_SECTION, section_place};
 
-/// The encoding that a header names, or the one that was known.
+/// Returns the encoding that a header names, or the known one.
 pub(crate) fn known_encoding(payload: &Payload, known: Encoding) -> Encoding
     ensures { result ≡ known_encoding (report_of payload.now) known }
 {
@@ -17,7 +17,7 @@ pub(crate) fn known_encoding(payload: &Payload, known: Encoding) -> Encoding
     }
 }
 
-/// The rank of a section that has one, or the one that was known.
+/// Returns the rank of a section that has one, or the known one.
 pub(crate) fn known_rank(payload: &Payload, counted: Option<(u8, u32)>, known: u8) -> u8
     requires { counted ≡ count_report (report_of payload.now) }
     ensures { result ≡ known_rank (rank_report (report_of payload.now)) known }
@@ -40,7 +40,7 @@ fn rank_in(payload: &Payload, counted: Option<(u8, u32)>) -> u8
     }
 }
 
-/// The id and the count of a section that has a count.
+/// Returns the id and the count of a section that has a count.
 pub(crate) fn id_and_count(payload: &Payload) -> Option<(u8, u32)>
     ensures { result ≡ count_report (report_of payload.now) }
 {
@@ -50,7 +50,7 @@ pub(crate) fn id_and_count(payload: &Payload) -> Option<(u8, u32)>
     }
 }
 
-/// The count of the section with this id, if this is its count, or the one that was known.
+/// Returns the count of the section with this id if the payload is that section, or the known one.
 pub(crate) fn known_count(counted: Option<(u8, u32)>, id: u8, known: Option<u32>) -> Option<u32>
     ensures { result ≡ known_count id counted known }
 {
@@ -60,7 +60,7 @@ pub(crate) fn known_count(counted: Option<(u8, u32)>, id: u8, known: Option<u32>
     }
 }
 
-/// The bodies that a code section still misses.
+/// Returns the number of bodies that a code section still lacks.
 pub(crate) fn missing_bodies(payload: &Payload, known: u32) -> u32
     ensures { result ≡ missing_bodies (report_of payload.now) known }
 {
@@ -71,7 +71,7 @@ pub(crate) fn missing_bodies(payload: &Payload, known: u32) -> u32
     }
 }
 
-/// The bytes that a code section still lacks after a part of `taken` bytes.
+/// Returns the number of bytes that a code section still lacks after a part of `taken` bytes.
 pub(crate) fn missing_bytes(payload: &Payload, taken: u64, known: u32) -> u32
     ensures { result ≡ missing_bytes (report_of payload.now) taken known }
 {
@@ -82,7 +82,7 @@ pub(crate) fn missing_bytes(payload: &Payload, taken: u64, known: u32) -> u32
     }
 }
 
-/// Whether it is the start of a code section, or a body.
+/// Returns whether a payload is the start of a code section, or a body.
 pub(crate) fn is_of_code(payload: &Payload) -> bool
     ensures { result ≡ reports_code (report_of payload.now) }
 {

@@ -6,7 +6,18 @@ use super::Failed;
 use std::alloc::{AllocError, Allocator, Global};
 use std::io::Write;
 
-/// Takes bytes, a few at a time.
+/// A device that bytes are written to, as many at a time as it takes: a file, a pipe, memory.
+///
+/// Implement it for your own output. `BoundedSink` keeps the bytes, and `WriteSink` covers everything with
+/// `std::io::Write`.
+///
+/// ```rattle
+/// let mut sink = BoundedSink::new(alloc, 4)?;
+/// assert_eq!(rt; sink.write(b"abc")?, 3);
+/// assert_eq!(rt; sink.write(b"def")?, 1);
+/// assert_eq!(rt; sink.write(b"ef"), Err(Failed));
+/// assert!(rt; sink.failed());
+/// ```
 pub trait Sink {
     /// The bytes that it has taken, where these are known.
     ghost taken: { Self → Option (List ℕ) } = { λ _. None };
@@ -14,7 +25,11 @@ pub trait Sink {
     /// Whether a write has failed.
     ghost has_failed: { Self → Bool };
 
-    /// Takes bytes from the start of `buf` and says how many: 0 only where `buf` is empty. A failed write takes none.
+    /// Takes bytes from the start of `buf` and returns how many. It is 0 only if `buf` is empty.
+    ///
+    /// # Errors
+    ///
+    /// `Failed` if the write failed. No byte was taken.
     fn write(&mut self, buf: &[u8]) -> Result<usize, Failed>
         ensures bound { IfOk result (λ n. n ≤ length buf.now) }
         ensures some { IfOk result (λ n. 0 < length buf.now → 0 < n) }
@@ -22,12 +37,24 @@ pub trait Sink {
         ensures failed { has_failed self.new
             ≡ (if is_ok result then has_failed self.old else true) };
 
-    /// Whether a write has failed.
+    /// Returns whether a write has failed.
     fn failed(&self) -> bool
         ensures { result ≡ has_failed self.now };
 }
 
-/// Writes all bytes, or a prefix of them if the sink fails.
+/// Writes all bytes, in as many calls of `write` as the sink needs.
+///
+/// # Errors
+///
+/// `Failed` if a write failed. A prefix of the bytes is then written.
+///
+/// # Example
+///
+/// ```rattle
+/// let mut sink = BoundedSink::new(alloc, 10)?;
+/// write_all(&mut sink, b"abc")?;
+/// assert_eq!(rt; sink.written(), b"abc".as_slice());
+/// ```
 pub fn write_all<W: Sink>(output: &mut W, bytes: &[u8]) -> Result<(), Failed>
     ensures ok { OnOk result (Appends (W.taken output.old) (W.taken output.new) bytes.now) }
     ensures err { OnErr result
@@ -42,7 +69,11 @@ pub fn write_all<W: Sink>(output: &mut W, bytes: &[u8]) -> Result<(), Failed>
     Ok(())
 }
 
-/// An empty list with room for `size` bytes, which it may have without growing. `AllocError` where the allocation failed.
+/// Returns an empty list with room for `size` bytes, up to which it grows without allocating.
+///
+/// # Errors
+///
+/// `AllocError` if the allocation fails.
 pub fn list_of_capacity<A: Allocator>(alloc: A, size: usize) -> Result<Vec<u8, A>, AllocError>
     ensures empty { IfOk result (λ bytes. bytes.items ≡ []) }
     ensures capacity { IfOk result (λ bytes. size ≤ vec_capacity bytes) }
@@ -51,6 +82,13 @@ pub fn list_of_capacity<A: Allocator>(alloc: A, size: usize) -> Result<Vec<u8, A
 }
 
 /// A sink that keeps up to `size` bytes in memory, and fails only when it is full.
+///
+/// ```rattle
+/// let mut sink = BoundedSink::new(alloc, 4)?;
+/// write_all(&mut sink, b"abcd")?;
+/// assert_eq!(rt; write_all(&mut sink, b"ef"), Err(Failed));
+/// assert_eq!(rt; sink.written(), b"abcd".as_slice());
+/// ```
 #[derive(Drop)]
 pub struct BoundedSink<A: Allocator = Global> {
     bytes: Vec<u8, A>,
@@ -61,7 +99,11 @@ pub struct BoundedSink<A: Allocator = Global> {
 }
 
 impl BoundedSink {
-    /// A sink with room for `size` bytes.
+    /// Returns a sink with room for `size` bytes, which it allocates at once.
+    ///
+    /// # Errors
+    ///
+    /// `AllocError` if the allocation fails.
     pub fn new(alloc: Global, size: usize) -> Result<Self, AllocError>
         ensures bytes { IfOk result (λ s. s.bytes.items ≡ []) }
         ensures size { IfOk result (λ s. s.size ≡ size) }
@@ -73,6 +115,10 @@ impl BoundedSink {
 
 impl<A: Allocator> BoundedSink<A> {
     /// Like `new`, with memory from any allocator.
+    ///
+    /// # Errors
+    ///
+    /// Those of `new`.
     pub fn new_in(alloc: A, size: usize) -> Result<Self, AllocError>
         ensures bytes { IfOk result (λ s. s.bytes.items ≡ []) }
         ensures size { IfOk result (λ s. s.size ≡ size) }
@@ -85,7 +131,7 @@ impl<A: Allocator> BoundedSink<A> {
         })
     }
 
-    /// The bytes that it has taken.
+    /// Returns the bytes written so far.
     pub fn written(&self) -> &[u8]
         ensures { result.now ≡ self.now.bytes.items }
     {
@@ -124,8 +170,17 @@ impl<A: Allocator> Sink for BoundedSink<A> {
     }
 }
 
-/// A sink over a writer. A writer that takes 0 bytes of a `buf` that has some fails. Its bytes are known where those of
-/// the writer are.
+/// A sink over a writer of `std::io::Write`.
+///
+/// A writer that takes 0 bytes of a `buf` that has some has failed. Call `flush` after the last write: a writer may
+/// buffer.
+///
+/// ```rattle
+/// let mut sink = WriteSink::new(Vec::new(alloc));
+/// write_all(&mut sink, b"abc")?;
+/// sink.flush()?;
+/// assert!(rt; !sink.failed());
+/// ```
 #[derive(Drop)]
 pub struct WriteSink<W> {
     writer: W,
@@ -135,7 +190,7 @@ pub struct WriteSink<W> {
 }
 
 impl<W: Write> WriteSink<W> {
-    /// A sink that forwards to this writer.
+    /// Returns a sink that forwards to this writer.
     pub fn new(writer: W) -> Self
         ensures writer { result.writer ≡ writer }
         ensures failed { result.failed ≡ false }
@@ -148,7 +203,11 @@ impl<W: Write> WriteSink<W> {
         }
     }
 
-    /// Hands on what the writer has kept back.
+    /// Flushes the writer, so that what it has buffered is forwarded.
+    ///
+    /// # Errors
+    ///
+    /// `Failed` if the flush failed. `failed` then returns true.
     pub fn flush(&mut self) -> Result<(), Failed>
         ensures bytes { Keeps (W.contents self.old.writer) (W.contents self.new.writer) }
         ensures failed { self.new.failed ≡ (if is_ok result then self.old.failed else true) }

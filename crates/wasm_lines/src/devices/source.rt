@@ -5,7 +5,17 @@ ghost use Rattle.std.specs.Io.KnownBytes.{ReadConsumes};
 use super::Failed;
 use std::io::Read;
 
-/// Gives bytes, a few at a time.
+/// A device that bytes are read from, in chunks of its own choice: a file, a pipe, a slice.
+///
+/// Implement it for your own input. `SliceSource` and `ReadSource` cover slices and everything with `std::io::Read`.
+///
+/// ```rattle
+/// let mut source = SliceSource::new(b"abc");
+/// let mut buffer = [0; 2];
+/// assert_eq!(rt; source.read(&mut buffer)?, 2);
+/// assert_eq!(rt; source.read(&mut buffer)?, 1);
+/// assert_eq!(rt; source.read(&mut buffer)?, 0);
+/// ```
 pub trait Source {
     /// The bytes that it has left, where these are known.
     ghost remaining: { Self → Option (List ℕ) } = { λ _. None };
@@ -13,15 +23,20 @@ pub trait Source {
     /// Whether a read has failed.
     ghost has_failed: { Self → Bool };
 
-    /// Moves bytes to the start of `buf` and says how many: 0 only at the end, or where `buf` is empty. A failed read
-    /// moves none.
+    /// Moves bytes from the source to the start of `buf` and returns how many.
+    ///
+    /// It is 0 only at the end of the source, or if `buf` is empty. A short read is no sign of the end.
+    ///
+    /// # Errors
+    ///
+    /// `Failed` if the read failed. No byte was moved.
     fn read(&mut self, buf: &mut [u8]) -> Result<usize, Failed>
         ensures bound { IfOk result (λ n. n ≤ length buf.new) }
         ensures bytes { ReadConsumes (remaining self.old) (remaining self.new) result buf.new }
         ensures failed { has_failed self.new
             ≡ (if is_ok result then has_failed self.old else true) };
 
-    /// Whether a read has failed.
+    /// Returns whether a read has failed.
     fn failed(&self) -> bool
         ensures { result ≡ has_failed self.now };
 }
@@ -33,7 +48,7 @@ pub struct SliceSource<'a> {
 }
 
 impl<'a> SliceSource<'a> {
-    /// A source of these bytes.
+    /// Returns a source of these bytes.
     pub fn new(bytes: &'a [u8]) -> Self
         ensures { result.rest.now ≡ bytes.now }
     {
@@ -64,7 +79,13 @@ impl Source for SliceSource<'_> {
     }
 }
 
-/// A source over a reader. Its bytes are known where those of the reader are.
+/// A source over a reader of `std::io::Read`.
+///
+/// ```rattle
+/// let mut source = ReadSource::new(b"abc".as_slice());
+/// let mut buffer = [0; 8];
+/// assert_eq!(rt; source.read(&mut buffer)?, 3);
+/// ```
 #[derive(Drop)]
 pub struct ReadSource<R> {
     reader: R,
@@ -72,7 +93,7 @@ pub struct ReadSource<R> {
 }
 
 impl<R: Read> ReadSource<R> {
-    /// A source that returns what this reader returns.
+    /// Returns a source of what this reader reads.
     pub fn new(reader: R) -> Self
         ensures reader { result.reader ≡ reader }
         ensures failed { result.failed ≡ false }
