@@ -1,4 +1,15 @@
-//! Custom sections: the name and the data of each, and readers for the data of the known ones.
+//! Readers for custom sections: the name, branch hint, producers, dylink, linking, relocation and core dump sections.
+//!
+//! A `CustomSectionReader` has the name and the data of a section. Its method `as_known` selects the reader for the
+//! data by the name. Reading never fails the stream: custom sections with malformed data are `KnownCustom::Unknown`, or
+//! report errors when you iterate over them.
+//!
+//! # Errors
+//!
+//! Each item documents the errors that it adds to those of its parts, which are documented in `wasm_base`. In short,
+//! truncated input is `UnexpectedEof`, a malformed LEB128 number is `NumberTooLong` or `NumberTooLarge`, and a text
+//! that is not UTF-8 is `MalformedUtf8` at its last byte. A text has no limit where the documentation says "of any
+//! length", and is otherwise `StringSize` above 100,000 bytes.
 #![tactic(auto)]
 
 mod ascending;
