@@ -12,11 +12,31 @@ use wasm_base::{
     read_flag, read_inner,
 };
 
-/// The section `metadata.code.branch_hint`, whose items are the functions with branch hints (tool conventions, Code
-/// Metadata, Branch Hints).
+/// The section `metadata.code.branch_hint`, whose items are the functions with branch hints.
+///
+/// ```rattle
+/// // In function 3, the branch at offset 9 is likely.
+/// let bytes = &[1, 3, 1, 9, 1, 1];
+/// for function in BranchHintSectionReader::new(BinaryReader::new(bytes, 0))? {
+///     let function = function?;
+///     assert_eq!(rt; function.func, 3);
+///     assert_eq!(rt; function.hints.count(), 1);
+/// }
+/// ```
+///
+/// (Tool conventions, Code Metadata, Branch Hints.)
 pub type BranchHintSectionReader<'a> = SectionLimited<'a, BranchHintFunction<'a>>;
 
-/// The branch hints of a function (tool conventions, Code Metadata, Branch Hints).
+/// The branch hints of a function.
+///
+/// ```rattle
+/// let mut reader = BinaryReader::new(&[3, 1, 9, 1, 1], 0);
+/// for hint in BranchHintFunction::from_reader(&mut reader)?.hints {
+///     assert_eq!(rt; hint?.func_offset, 9);
+/// }
+/// ```
+///
+/// (Tool conventions, Code Metadata, Branch Hints.)
 #[derive(Clone, Debug, Drop)]
 pub struct BranchHintFunction<'a> {
     /// The index of the function.
@@ -25,7 +45,16 @@ pub struct BranchHintFunction<'a> {
     pub hints: SectionLimited<'a, BranchHint>,
 }
 
-/// A branch hint: whether a branch is likely to be taken (tool conventions, Code Metadata, Branch Hints).
+/// A branch hint: whether a branch is likely to be taken.
+///
+/// ```rattle
+/// let mut reader = BinaryReader::new(&[9, 1, 0], 0);
+/// let hint = BranchHint::from_reader(&mut reader)?;
+/// assert_eq!(rt; hint.func_offset, 9);
+/// assert!(rt; !hint.taken);
+/// ```
+///
+/// (Tool conventions, Code Metadata, Branch Hints.)
 #[derive(Clone, Copy, Debug)]
 pub struct BranchHint {
     /// The offset of the branch instruction from the start of the function's body, in bytes.

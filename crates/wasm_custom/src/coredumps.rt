@@ -15,28 +15,65 @@ use wasm_base::{
     read_list,
 };
 
-/// The section `core`: the process that was dumped (tool conventions, Coredump, Process Information).
+/// The section `core`: the process that was dumped.
+///
+/// ```rattle
+/// let section = CoreDumpSection::new(BinaryReader::new(b"\x00\x09test.wasm", 0))?;
+/// assert_eq!(rt; section.name, "test.wasm");
+/// ```
+///
+/// (Tool conventions, Coredump, Process Information.)
 #[derive(Drop)]
 pub struct CoreDumpSection<'a> {
     /// The name of the process, of any length.
     pub name: &'a str,
 }
 
-/// The section `coremodules`: the modules of the process (tool conventions, Coredump, Modules and Instances).
+/// The section `coremodules`: the modules of the process.
+///
+/// ```rattle
+/// let section = CoreDumpModulesSection::new(alloc, BinaryReader::new(b"\x01\x00\x04test", 0))?;
+/// assert_eq!(rt; section.modules.as_slice(), ["test"].as_slice());
+/// ```
+///
+/// (Tool conventions, Coredump, Modules and Instances.)
 #[derive(Debug, Drop)]
 pub struct CoreDumpModulesSection<'a, A: Allocator = Global> {
     /// The names of the modules, borrowed from the input.
     pub modules: Vec<&'a str, A>,
 }
 
-/// The section `coreinstances`: the instances of the process (tool conventions, Coredump, Modules and Instances).
+/// The section `coreinstances`: the instances of the process.
+///
+/// ```rattle
+/// // An instance of module 0 with one memory, 0, and no globals.
+/// let bytes = &[1, 0, 0, 1, 0, 0];
+/// let section = CoreDumpInstancesSection::new(alloc, BinaryReader::new(bytes, 0))?;
+/// for instance in &section.instances {
+///     assert_eq!(rt; instance.memories.as_slice(), [0].as_slice());
+/// }
+/// ```
+///
+/// (Tool conventions, Coredump, Modules and Instances.)
 #[derive(Drop)]
 pub struct CoreDumpInstancesSection<A: Allocator = Global> {
-    /// The instances.
+    /// The instances, in order.
     pub instances: Vec<CoreDumpInstance<A>, A>,
 }
 
-/// The section `corestack`: a thread and its frames (tool conventions, Coredump, Thread(s) and Stack Frames).
+/// The section `corestack`: a thread and its frames.
+///
+/// ```rattle
+/// // The thread "main", with one frame: instance 4, function 42, offset 51, one local and nothing on the stack.
+/// let bytes = b"\x00\x04main\x01\x00\x04\x2a\x33\x01\x7f\x01\x00";
+/// let section = CoreDumpStackSection::new(alloc, BinaryReader::new(bytes, 0))?;
+/// assert_eq!(rt; section.name, "main");
+/// for frame in &section.frames {
+///     assert_eq!(rt; frame.funcidx, 42);
+/// }
+/// ```
+///
+/// (Tool conventions, Coredump, Thread(s) and Stack Frames.)
 #[derive(Drop)]
 pub struct CoreDumpStackSection<'a, A: Allocator = Global> {
     /// The name of the thread, of any length.
@@ -45,7 +82,16 @@ pub struct CoreDumpStackSection<'a, A: Allocator = Global> {
     pub frames: Vec<CoreDumpStackFrame<A>, A>,
 }
 
-/// An instance of a module in a core dump (tool conventions, Coredump, Modules and Instances).
+/// An instance of a module in a core dump.
+///
+/// ```rattle
+/// let mut reader = BinaryReader::new(&[0, 1, 1, 7, 0], 0);
+/// let instance = CoreDumpInstance::from_reader(alloc, &mut reader)?;
+/// assert_eq!(rt; instance.module_index, 1);
+/// assert_eq!(rt; instance.memories.as_slice(), [7].as_slice());
+/// ```
+///
+/// (Tool conventions, Coredump, Modules and Instances.)
 #[derive(Debug, Drop)]
 pub struct CoreDumpInstance<A: Allocator = Global> {
     /// The index of the module in the section `coremodules`.
@@ -56,7 +102,16 @@ pub struct CoreDumpInstance<A: Allocator = Global> {
     pub globals: Vec<u32, A>,
 }
 
-/// A frame of a thread's stack in a core dump (tool conventions, Coredump, Thread(s) and Stack Frames).
+/// A frame of a thread's stack in a core dump.
+///
+/// ```rattle
+/// let mut reader = BinaryReader::new(&[0, 4, 42, 51, 1, 0x7f, 1, 0], 0);
+/// let frame = CoreDumpStackFrame::from_reader(alloc, &mut reader)?;
+/// assert_eq!(rt; frame.codeoffset, 51);
+/// assert_eq!(rt; frame.locals.len(), 1);
+/// ```
+///
+/// (Tool conventions, Coredump, Thread(s) and Stack Frames.)
 #[derive(Debug, Drop)]
 pub struct CoreDumpStackFrame<A: Allocator = Global> {
     /// The index of the instance in the section `coreinstances`.
@@ -71,7 +126,17 @@ pub struct CoreDumpStackFrame<A: Allocator = Global> {
     pub stack: Vec<CoreDumpValue, A>,
 }
 
-/// A value of a local or on the operand stack of a frame (tool conventions, Coredump, Thread(s) and Stack Frames).
+/// A value of a local or on the operand stack of a frame.
+///
+/// ```rattle
+/// let mut reader = BinaryReader::new(&[0x7f, 5], 0);
+/// match CoreDumpValue::from_reader(&mut reader)? {
+///     CoreDumpValue::I32(value) => assert_eq!(rt; value, 5),
+///     _ => assert!(rt; false),
+/// }
+/// ```
+///
+/// (Tool conventions, Coredump, Thread(s) and Stack Frames.)
 #[derive(Clone, Debug, Drop)]
 pub enum CoreDumpValue {
     /// A missing value, for example one that was optimized out.

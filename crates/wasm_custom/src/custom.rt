@@ -14,6 +14,13 @@ use wasm_base::{BinaryReader, Result};
 /// `as_known` returns a reader for the data of a section with a known name. Offsets are in bytes from the start of the
 /// stream.
 ///
+/// ```rattle
+/// let section = CustomSectionReader::new(BinaryReader::new(b"\x01a\x07\x08", 100))?;
+/// assert_eq!(rt; section.name(), "a");
+/// assert_eq!(rt; section.data(), [7, 8].as_slice());
+/// assert_eq!(rt; section.data_offset(), 102);
+/// ```
+///
 /// (Core specification, Binary format, Modules, Custom Section.)
 #[derive(Drop)]
 pub struct CustomSectionReader<'a> {

@@ -15,10 +15,31 @@ use wasm_base::{
     BinaryReader, FromReader, MayAllocate, Result, Subsection, Subsections, read_list,
 };
 
-/// The section `dylink.0`, an iterator over subsections (tool conventions, Dynamic Linking, The "dylink.0" Section).
+/// The section `dylink.0`, an iterator over subsections.
+///
+/// ```rattle
+/// // The library needs "a.so".
+/// let bytes = b"\x02\x06\x01\x04a.so";
+/// for subsection in Dylink0SectionReader::new(alloc, BinaryReader::new(bytes, 0)) {
+///     if let Dylink0Subsection::Needed(libraries) = subsection? {
+///         assert_eq!(rt; libraries.as_slice(), ["a.so"].as_slice());
+///     }
+/// }
+/// ```
+///
+/// (Tool conventions, Dynamic Linking, The "dylink.0" Section.)
 pub type Dylink0SectionReader<'a> = Subsections<'a, Dylink0Subsection<'a>>;
 
-/// The memory and table space that a library needs (tool conventions, Dynamic Linking, The "dylink.0" Section).
+/// The memory and table space that a library needs.
+///
+/// ```rattle
+/// let mut reader = BinaryReader::new(&[16, 2, 1, 0], 0);
+/// let info = MemInfo::from_reader(&mut reader)?;
+/// assert_eq!(rt; info.memory_size, 16);
+/// assert_eq!(rt; info.table_size, 1);
+/// ```
+///
+/// (Tool conventions, Dynamic Linking, The "dylink.0" Section.)
 #[derive(Clone, Copy, Debug)]
 pub struct MemInfo {
     /// The size of the memory area, in bytes.
@@ -31,7 +52,16 @@ pub struct MemInfo {
     pub table_alignment: u32,
 }
 
-/// The flags of an export's symbol (tool conventions, Dynamic Linking, The "dylink.0" Section).
+/// The flags of an export's symbol.
+///
+/// ```rattle
+/// let mut reader = BinaryReader::new(b"\x01f\x80\x02", 0);
+/// let export = ExportInfo::from_reader(&mut reader)?;
+/// assert_eq!(rt; export.name, "f");
+/// assert_eq!(rt; export.flags, SymbolFlags::TLS);
+/// ```
+///
+/// (Tool conventions, Dynamic Linking, The "dylink.0" Section.)
 #[derive(Debug, Drop)]
 pub struct ExportInfo<'a> {
     /// The name of the export.
@@ -40,7 +70,16 @@ pub struct ExportInfo<'a> {
     pub flags: SymbolFlags,
 }
 
-/// The flags of an import's symbol (tool conventions, Dynamic Linking, The "dylink.0" Section).
+/// The flags of an import's symbol.
+///
+/// ```rattle
+/// let mut reader = BinaryReader::new(b"\x03env\x01f\x01", 0);
+/// let import = ImportInfo::from_reader(&mut reader)?;
+/// assert_eq!(rt; import.module, "env");
+/// assert_eq!(rt; import.flags, SymbolFlags::BINDING_WEAK);
+/// ```
+///
+/// (Tool conventions, Dynamic Linking, The "dylink.0" Section.)
 #[derive(Debug, Drop)]
 pub struct ImportInfo<'a> {
     /// The name of the module that is imported from.
@@ -54,6 +93,14 @@ pub struct ImportInfo<'a> {
 /// A subsection of the section `dylink.0`.
 ///
 /// Subsections with lists own them, so reading them allocates. The texts are borrowed from the input.
+///
+/// ```rattle
+/// let reader = BinaryReader::new(&[16, 2, 1, 0], 0);
+/// match Dylink0Subsection::from_reader(alloc, 1, reader)? {
+///     Dylink0Subsection::MemInfo(info) => assert_eq!(rt; info.memory_size, 16),
+///     _ => assert!(rt; false),
+/// }
+/// ```
 ///
 /// (Tool conventions, Dynamic Linking, The "dylink.0" Section.)
 #[derive(Debug, Drop)]

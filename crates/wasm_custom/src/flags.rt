@@ -11,6 +11,14 @@ use wasm_base::{BinaryReader, FromReader, Result};
 ///
 /// The methods of `bitflags::Flags`, such as `contains`, examine the set. Unknown bits are kept.
 ///
+/// ```rattle
+/// use bitflags::Flags;
+/// let mut reader = BinaryReader::new(&[0x14], 0);
+/// let flags = SymbolFlags::from_reader(&mut reader)?;
+/// assert!(rt; flags.contains(SymbolFlags::UNDEFINED));
+/// assert!(rt; !flags.contains(SymbolFlags::EXPORTED));
+/// ```
+///
 /// (Tool conventions, Linking, Symbol Table Subsection.)
 #[derive(Clone, Copy, Debug, PartialEq, Eq, Hash, Default, PartialOrd, Ord)]
 pub struct SymbolFlags(u32);
@@ -124,6 +132,13 @@ impl<'a> FromReader<'a> for SymbolFlags {
 /// The flags of a data segment, as a set of bits.
 ///
 /// The methods of `bitflags::Flags`, such as `contains`, examine the set. Unknown bits are kept.
+///
+/// ```rattle
+/// use bitflags::Flags;
+/// let mut reader = BinaryReader::new(&[0x01], 0);
+/// let flags = SegmentFlags::from_reader(&mut reader)?;
+/// assert!(rt; flags.contains(SegmentFlags::STRINGS));
+/// ```
 ///
 /// (Tool conventions, Linking, Segment Info Subsection.)
 #[derive(Clone, Copy, Debug, PartialEq, Eq, Hash, Default)]

@@ -24,6 +24,16 @@ use wasm_base::{BinaryReader, Error, Fault, Result, SectionLimited, Subsections}
 ///
 /// `CustomSectionReader::as_known` returns it. The readers in the variants are lazy, except those of core dumps: these
 /// own what they read.
+///
+/// ```rattle
+/// // A core dump that lists one module.
+/// let bytes = b"\x0bcoremodules\x01\x00\x04test";
+/// let section = CustomSectionReader::new(BinaryReader::new(bytes, 0))?;
+/// match section.as_known(alloc)? {
+///     KnownCustom::CoreDumpModules(dump) => assert_eq!(rt; dump.modules.as_slice(), ["test"].as_slice()),
+///     _ => assert!(rt; false),
+/// }
+/// ```
 #[derive(Drop)]
 pub enum KnownCustom<'a, A: Allocator = Global> {
     /// The section `name`: the names of functions, locals and other parts of the module.
@@ -161,6 +171,13 @@ impl<'a> CustomSectionReader<'a> {
     /// # Errors
     ///
     /// `OutOfMemory`, at offset 0, when an allocation fails. There is no other error: malformed data is `Unknown`.
+    ///
+    /// ```rattle
+    /// // A section `core` has to begin with the byte 0.
+    /// let section = CustomSectionReader::new(BinaryReader::new(b"\x04core\x01", 0))?;
+    /// let known = section.as_known(alloc)?;
+    /// assert!(rt; matches!(known, KnownCustom::Unknown));
+    /// ```
     pub fn as_known(&self, alloc: Global) -> Result<KnownCustom<'a>>
         ensures known { IfOk result (λ known. known_parts known ≡ known_of self.now) }
         ensures refused { IfErr result (λ e. fault_at e ≡ out_of_memory) }

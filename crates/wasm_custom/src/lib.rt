@@ -10,6 +10,22 @@
 //! truncated input is `UnexpectedEof`, a malformed LEB128 number is `NumberTooLong` or `NumberTooLarge`, and a text
 //! that is not UTF-8 is `MalformedUtf8` at its last byte. A text has no limit where the documentation says "of any
 //! length", and is otherwise `StringSize` above 100,000 bytes.
+//!
+//! ```rattle
+//! // The section `name`, with the name "f" for function 5.
+//! let section = CustomSectionReader::new(BinaryReader::new(b"\x04name\x01\x04\x01\x05\x01f", 0))?;
+//! if let KnownCustom::Name(subsections) = section.as_known(alloc)? {
+//!     for subsection in subsections {
+//!         if let Name::Function(names) = subsection? {
+//!             for naming in names {
+//!                 let naming = naming?;
+//!                 assert_eq!(rt; naming.index, 5);
+//!                 assert_eq!(rt; naming.name, "f");
+//!             }
+//!         }
+//!     }
+//! }
+//! ```
 #![tactic(auto)]
 
 mod ascending;

@@ -21,16 +21,59 @@ use wasm_base::{
     Subsection, Subsections, leading_byte_error, read_inner,
 };
 
-/// A list of information about data segments (tool conventions, Linking, Segment Info Subsection).
+/// A list of information about data segments.
+///
+/// ```rattle
+/// let bytes = b"\x01\x05.data\x02\x00";
+/// for segment in SegmentMap::new(BinaryReader::new(bytes, 0))? {
+///     let segment = segment?;
+///     assert_eq!(rt; segment.name, ".data");
+///     assert_eq!(rt; segment.alignment, 2);
+/// }
+/// ```
+///
+/// (Tool conventions, Linking, Segment Info Subsection.)
 pub type SegmentMap<'a> = SectionLimited<'a, Segment<'a>>;
 
-/// The functions that are called at startup (tool conventions, Linking, Init Functions Subsection).
+/// A list of functions to call at startup.
+///
+/// ```rattle
+/// for function in InitFuncMap::new(BinaryReader::new(&[1, 10, 4], 0))? {
+///     let function = function?;
+///     assert_eq!(rt; function.priority, 10);
+///     assert_eq!(rt; function.symbol_index, 4);
+/// }
+/// ```
+///
+/// (Tool conventions, Linking, Init Functions Subsection.)
 pub type InitFuncMap<'a> = SectionLimited<'a, InitFunc>;
 
-/// A list of comdats (tool conventions, Linking, COMDAT Subsection).
+/// A list of comdats.
+///
+/// ```rattle
+/// let bytes = b"\x01\x01c\x00\x01\x01\x05";
+/// for comdat in ComdatMap::new(BinaryReader::new(bytes, 0))? {
+///     assert_eq!(rt; comdat?.name, "c");
+/// }
+/// ```
+///
+/// (Tool conventions, Linking, COMDAT Subsection.)
 pub type ComdatMap<'a> = SectionLimited<'a, Comdat<'a>>;
 
-/// A list of symbols (tool conventions, Linking, Symbol Table Subsection).
+/// A list of symbols.
+///
+/// ```rattle
+/// // The defined function 3 has the symbol "f".
+/// let bytes = b"\x01\x00\x00\x03\x01f";
+/// for symbol in SymbolInfoMap::new(BinaryReader::new(bytes, 0))? {
+///     if let SymbolInfo::Func { index, name, .. } = symbol? {
+///         assert_eq!(rt; index, 3);
+///         assert_eq!(rt; name, Some("f"));
+///     }
+/// }
+/// ```
+///
+/// (Tool conventions, Linking, Symbol Table Subsection.)
 pub type SymbolInfoMap<'a> = SectionLimited<'a, SymbolInfo<'a>>;
 
 /// Information about a data segment (tool conventions, Linking, Segment Info Subsection).
@@ -53,8 +96,19 @@ pub struct InitFunc {
     pub symbol_index: u32,
 }
 
-/// A comdat: a group of symbols, of which the linker keeps one copy if several modules define it (tool conventions,
-/// Linking, COMDAT Subsection).
+/// A comdat: a group of symbols, of which the linker keeps one copy if several modules define it.
+///
+/// ```rattle
+/// // The comdat "c" of function 5.
+/// let mut reader = BinaryReader::new(b"\x01c\x00\x01\x01\x05", 0);
+/// for symbol in Comdat::from_reader(&mut reader)?.symbols {
+///     let symbol = symbol?;
+///     assert_eq!(rt; symbol.kind, ComdatSymbolKind::Func);
+///     assert_eq!(rt; symbol.index, 5);
+/// }
+/// ```
+///
+/// (Tool conventions, Linking, COMDAT Subsection.)
 #[derive(Clone, Debug, Drop)]
 pub struct Comdat<'a> {
     /// The name of the comdat, which identifies it among modules.
@@ -91,7 +145,18 @@ pub enum ComdatSymbolKind {
     Section,
 }
 
-/// The location of a defined data symbol (tool conventions, Linking, Symbol Table Subsection).
+/// The location of a defined data symbol.
+///
+/// ```rattle
+/// let mut reader = BinaryReader::new(b"\x01\x00\x01x\x00\x08\x04", 0);
+/// if let SymbolInfo::Data { symbol, .. } = SymbolInfo::from_reader(&mut reader)? {
+///     let place = symbol.ok_or("not defined")?;
+///     assert_eq!(rt; place.offset, 8);
+///     assert_eq!(rt; place.size, 4);
+/// }
+/// ```
+///
+/// (Tool conventions, Linking, Symbol Table Subsection.)
 #[derive(Clone, Copy, Debug)]
 pub struct DefinedDataSymbol {
     /// The index of the data segment.
@@ -102,7 +167,21 @@ pub struct DefinedDataSymbol {
     pub size: u32,
 }
 
-/// A symbol of the symbol table (tool conventions, Linking, Symbol Table Subsection).
+/// A symbol of the symbol table.
+///
+/// ```rattle
+/// // An undefined function, imported as function 0.
+/// let mut reader = BinaryReader::new(&[0, 0x10, 0], 0);
+/// match SymbolInfo::from_reader(&mut reader)? {
+///     SymbolInfo::Func { index, name, .. } => {
+///         assert_eq!(rt; index, 0);
+///         assert_eq!(rt; name, None);
+///     }
+///     _ => assert!(rt; false),
+/// }
+/// ```
+///
+/// (Tool conventions, Linking, Symbol Table Subsection.)
 #[derive(Clone, Copy, Debug)]
 pub enum SymbolInfo<'a> {
     /// A function.
@@ -402,7 +481,17 @@ impl<'a> FromReader<'a> for SymbolInfo<'a> {
     }
 }
 
-/// A subsection of the section `linking` (tool conventions, Linking, Linking Metadata Section).
+/// A subsection of the section `linking`.
+///
+/// ```rattle
+/// let reader = BinaryReader::new(&[1, 10, 4], 0);
+/// match Linking::from_reader(alloc, 6, reader)? {
+///     Linking::InitFuncs(functions) => assert_eq!(rt; functions.count(), 1),
+///     _ => assert!(rt; false),
+/// }
+/// ```
+///
+/// (Tool conventions, Linking, Linking Metadata Section.)
 #[derive(Clone, Debug, Drop)]
 pub enum Linking<'a> {
     /// Names, alignments and flags of the data segments (id 5).
@@ -458,6 +547,16 @@ impl<'a> Subsection<'a> for Linking<'a> {
 ///
 /// Iterate over the section, or over `subsections`, to read the subsections. Offsets are in bytes from the start of the
 /// stream.
+///
+/// ```rattle
+/// // Version 2, and the function symbol 4 to call at startup.
+/// let bytes = &[2, 6, 3, 1, 10, 4];
+/// for subsection in LinkingSectionReader::new(alloc, BinaryReader::new(bytes, 0))? {
+///     if let Linking::InitFuncs(functions) = subsection? {
+///         assert_eq!(rt; functions.count(), 1);
+///     }
+/// }
+/// ```
 ///
 /// (Tool conventions, Linking, Linking Metadata Section.)
 #[derive(Debug, Drop)]
@@ -534,7 +633,7 @@ impl<'a> LinkingSectionReader<'a> {
         self.range.start..self.range.end
     }
 
-    /// Returns the subsections.
+    /// Returns an iterator over the subsections, starting with the first.
     pub fn subsections(&self) -> Subsections<'a, Linking<'a>>
         ensures { result ≡ self.now.subsections }
     {

@@ -20,8 +20,16 @@ use wasm_base::{
     SectionLimitedIntoIter, SkipItem, Subsection, Subsections, read_inner,
 };
 
-/// An entry of a name map: an index and a name (core specification, Appendix, Custom Sections, Name Section, Name
-/// Maps).
+/// An entry of a name map: an index and a name.
+///
+/// ```rattle
+/// let mut reader = BinaryReader::new(b"\x05\x01f", 0);
+/// let naming = Naming::from_reader(&mut reader)?;
+/// assert_eq!(rt; naming.index, 5);
+/// assert_eq!(rt; naming.name, "f");
+/// ```
+///
+/// (Core specification, Appendix, Custom Sections, Name Section, Name Maps.)
 #[derive(Clone, Copy, Debug)]
 pub struct Naming<'a> {
     /// The index of the named item, in the index space of the map.
@@ -57,6 +65,13 @@ impl<'a> SkipItem<'a> for Naming<'a> {
 /// An entry of an `IndexedMap`, which has an index and a fault for indices that do not ascend.
 ///
 /// `Naming` and `IndirectNaming` implement it.
+///
+/// ```rattle
+/// let mut reader = BinaryReader::new(b"\x05\x01f", 0);
+/// let naming = Naming::from_reader(&mut reader)?;
+/// assert_eq!(rt; naming.index(), 5);
+/// assert_eq!(rt; Naming::order_fault(), Fault::NamesOrder);
+/// ```
 pub trait MapEntry<'a>: FromReader<'a> {
     ghost use Rattle.wasm_base.specs.declared.fault.Fault.{Fault};
 
@@ -106,6 +121,19 @@ impl<'a> MapEntry<'a> for Naming<'a> {
 /// * After a malformed entry, with the errors of its `from_reader`, the iterator ends.
 /// * If bytes follow the last entry, the iterator ends with `SizeMismatch` at the first of them.
 ///
+/// ```rattle
+/// // The indices are 5, 3 and 6.
+/// let bytes = b"\x03\x05\x01a\x03\x01b\x06\x01c";
+/// let mut names = Vec::new(alloc);
+/// for naming in IndexedMap::<Naming>::new(BinaryReader::new(bytes, 0))? {
+///     match naming {
+///         Ok(naming) => names.push(naming.name)?,
+///         Err(error) => assert_eq!(rt; error, Error::new(Fault::NamesOrder, 4)),
+///     }
+/// }
+/// assert_eq!(rt; names.as_slice(), ["a", "c"].as_slice());
+/// ```
+///
 /// (Core specification, Appendix, Custom Sections, Name Section, Name Maps.)
 #[derive(Drop)]
 pub struct IndexedMap<'a, T> {
@@ -118,12 +146,32 @@ pub struct IndexedMap<'a, T> {
 ///
 /// The order fault is `NamesOrder`. See `IndexedMap` for other errors.
 ///
+/// ```rattle
+/// for naming in NameMap::new(BinaryReader::new(b"\x01\x05\x01f", 0))? {
+///     let naming = naming?;
+///     assert_eq!(rt; naming.index, 5);
+///     assert_eq!(rt; naming.name, "f");
+/// }
+/// ```
+///
 /// (Core specification, Appendix, Custom Sections, Name Section, Name Maps.)
 pub type NameMap<'a> = IndexedMap<'a, Naming<'a>>;
 
 /// A map from indices to name maps, as an iterator over ascending entries.
 ///
 /// The order fault is `IndirectOrder`. See `IndexedMap` for other errors.
+///
+/// ```rattle
+/// // Local 0 of function 5 has the name "x".
+/// let bytes = b"\x01\x05\x01\x00\x01x";
+/// for function in IndirectNameMap::new(BinaryReader::new(bytes, 0))? {
+///     let function = function?;
+///     assert_eq!(rt; function.index, 5);
+///     for local in function.names {
+///         assert_eq!(rt; local?.name, "x");
+///     }
+/// }
+/// ```
 ///
 /// (Core specification, Appendix, Custom Sections, Name Section, Indirect Name Maps.)
 pub type IndirectNameMap<'a> = IndexedMap<'a, IndirectNaming<'a>>;
@@ -205,8 +253,15 @@ impl<'a, T: MapEntry<'a>> Iterator for IndexedMap<'a, T> {
     }
 }
 
-/// An entry of an indirect name map: an index and a name map (core specification, Appendix, Custom Sections, Name
-/// Section, Indirect Name Maps).
+/// An entry of an indirect name map: an index and a name map.
+///
+/// ```rattle
+/// let mut reader = BinaryReader::new(b"\x05\x01\x00\x01x", 0);
+/// let function = IndirectNaming::from_reader(&mut reader)?;
+/// assert_eq!(rt; function.index, 5);
+/// ```
+///
+/// (Core specification, Appendix, Custom Sections, Name Section, Indirect Name Maps.)
 #[derive(Clone, Debug, Drop)]
 pub struct IndirectNaming<'a> {
     /// The index of the item whose parts are named, such as a function.
@@ -258,6 +313,14 @@ impl<'a> MapEntry<'a> for IndirectNaming<'a> {
 /// The core specification has names of the module, functions, locals, types, fields and tags. The names of labels,
 /// tables, memories, globals, element and data segments belong to the extended name section proposal. The names of
 /// parameters are read as `wasmparser` reads them.
+///
+/// ```rattle
+/// let reader = BinaryReader::new(b"\x03app", 0);
+/// match Name::from_reader(alloc, 0, reader)? {
+///     Name::Module { name, .. } => assert_eq!(rt; name, "app"),
+///     _ => assert!(rt; false),
+/// }
+/// ```
 ///
 /// (Core specification, Appendix, Custom Sections, Name Section, Subsections.)
 #[derive(Clone, Drop)]
@@ -391,6 +454,18 @@ fn id_of(name: &Name<'_>) -> u8
 /// * A malformed id is `InvalidU7`; a malformed size is an error of `read_reader`.
 ///
 /// After each of these, the iterator continues with the next subsection, as `Subsections` does.
+///
+/// ```rattle
+/// // The name of the module, then the name "f" for function 5.
+/// let bytes = b"\x00\x04\x03app\x01\x04\x01\x05\x01f";
+/// for subsection in NameSectionReader::new(alloc, BinaryReader::new(bytes, 0)) {
+///     match subsection? {
+///         Name::Module { name, .. } => assert_eq!(rt; name, "app"),
+///         Name::Function(names) => assert_eq!(rt; names.count(), 1),
+///         _ => assert!(rt; false),
+///     }
+/// }
+/// ```
 ///
 /// (Core specification, Appendix, Custom Sections, Name Section.)
 #[derive(Drop)]

@@ -10,11 +10,30 @@ use wasm_base::{
     BinaryReader, Error, Fault, FromReader, Result, SectionLimited, SkipItem, read_inner,
 };
 
-/// The section `producers`, whose items are fields: the languages and tools that a module was produced with (tool
-/// conventions, Producers Section).
+/// The section `producers`, whose items are fields: the languages and tools that a module was produced with.
+///
+/// ```rattle
+/// let bytes = b"\x01\x08language\x01\x04Rust\x00";
+/// for field in ProducersSectionReader::new(BinaryReader::new(bytes, 0))? {
+///     let field = field?;
+///     assert_eq!(rt; field.name, "language");
+///     assert_eq!(rt; field.values.count(), 1);
+/// }
+/// ```
+///
+/// (Tool conventions, Producers Section.)
 pub type ProducersSectionReader<'a> = SectionLimited<'a, ProducersField<'a>>;
 
-/// A field of the producers section: the values for one kind of tool (tool conventions, Producers Section).
+/// A field of the producers section: the values for one kind of tool.
+///
+/// ```rattle
+/// let mut reader = BinaryReader::new(b"\x03sdk\x01\x0aEmscripten\x053.1.0", 0);
+/// for value in ProducersField::from_reader(&mut reader)?.values {
+///     assert_eq!(rt; value?.version, "3.1.0");
+/// }
+/// ```
+///
+/// (Tool conventions, Producers Section.)
 #[derive(Clone, Debug, Drop)]
 pub struct ProducersField<'a> {
     /// The kind of the values: `language`, `sdk` or `processed-by`.
@@ -23,7 +42,16 @@ pub struct ProducersField<'a> {
     pub values: SectionLimited<'a, ProducersFieldValue<'a>>,
 }
 
-/// A language or tool that a module was produced with (tool conventions, Producers Section).
+/// A language or tool that a module was produced with.
+///
+/// ```rattle
+/// let mut reader = BinaryReader::new(b"\x01C\x0311.", 0);
+/// let value = ProducersFieldValue::from_reader(&mut reader)?;
+/// assert_eq!(rt; value.name, "C");
+/// assert_eq!(rt; value.version, "11.");
+/// ```
+///
+/// (Tool conventions, Producers Section.)
 #[derive(Clone, Copy, Debug)]
 pub struct ProducersFieldValue<'a> {
     /// The name of the language or tool.

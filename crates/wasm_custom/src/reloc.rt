@@ -9,11 +9,30 @@ ghost use Rattle.wasm_custom.specs.Reloc.{types, addend_of, extent_of, addend_at
 use std::ops::Range;
 use wasm_base::{BinaryReader, FromReader, Lead, Result, SectionLimited, leading_byte_error};
 
-/// A list of relocations (tool conventions, Linking, Relocation Sections).
+/// A list of relocations.
+///
+/// ```rattle
+/// // The index of function symbol 2, at offset 6.
+/// for entry in RelocationEntryReader::new(BinaryReader::new(&[1, 0, 6, 2], 0))? {
+///     assert_eq!(rt; entry?.ty, RelocationType::FunctionIndexLeb);
+/// }
+/// ```
+///
+/// (Tool conventions, Linking, Relocation Sections.)
 pub type RelocationEntryReader<'a> = SectionLimited<'a, RelocationEntry>;
 
-/// A section whose name begins with `reloc.`: the relocations of another section (tool conventions, Linking, Relocation
-/// Sections).
+/// A section whose name begins with `reloc.`: the relocations of another section.
+///
+/// ```rattle
+/// // In section 3: the index of function symbol 2, at offset 6.
+/// let section = RelocSectionReader::new(BinaryReader::new(&[3, 1, 0, 6, 2], 0))?;
+/// assert_eq!(rt; section.section_index(), 3);
+/// for entry in section.entries() {
+///     assert_eq!(rt; entry?.index, 2);
+/// }
+/// ```
+///
+/// (Tool conventions, Linking, Relocation Sections.)
 #[derive(Clone, Debug, Drop)]
 pub struct RelocSectionReader<'a> {
     section: u32,
@@ -21,7 +40,18 @@ pub struct RelocSectionReader<'a> {
     entries: RelocationEntryReader<'a>,
 }
 
-/// A relocation: a place in a section that the linker fills in (tool conventions, Linking, Relocation Sections).
+/// A relocation: a place in a section that the linker fills in.
+///
+/// ```rattle
+/// // The address of symbol 2 plus 8, at offset 6.
+/// let mut reader = BinaryReader::new(&[3, 6, 2, 8], 0);
+/// let entry = RelocationEntry::from_reader(&mut reader)?;
+/// assert_eq!(rt; entry.addend, 8);
+/// let range = entry.relocation_range()?;
+/// assert_eq!(rt; range.end, 11);
+/// ```
+///
+/// (Tool conventions, Linking, Relocation Sections.)
 #[derive(Clone, Copy, Debug, PartialEq, Eq, Hash)]
 pub struct RelocationEntry {
     /// The type of the relocation: what to write, and in which encoding.
@@ -39,6 +69,14 @@ pub struct RelocationEntry {
 /// The variants have the numbers of the tool conventions, which a cast (`ty as u8`) returns and `try_from` takes.
 /// Below, a number is in LEB128, padded to the given bytes, unless it is written "as *n* bytes", in little-endian
 /// order.
+///
+/// ```rattle
+/// let ty = RelocationType::MemoryAddrI32;
+/// assert_eq!(rt; ty as u8, 5);
+/// assert_eq!(rt; ty.extent(), 4);
+/// assert_eq!(rt; ty.addend_kind(), RelocAddendKind::Addend32);
+/// assert_eq!(rt; RelocationType::try_from(5), Ok(ty));
+/// ```
 ///
 /// (Tool conventions, Linking, Relocation Sections.)
 #[derive(Clone, Copy, Debug, PartialEq, Eq, Hash)]
