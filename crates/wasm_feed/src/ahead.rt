@@ -116,11 +116,13 @@ impl<A: Allocator> Ahead<A> {
         cursor: &mut Cursor,
         stored: &mut Vec<u8, A>,
     ) -> Result<(), ListError>
+        // On success.
         ensures same { OnOk result (lending stored.new.items self.new cursor.new
             ≡ beside (feed_of stored.old.items cursor.old) self.old) }
         ensures enough { OnOk result (ReadsEnough stored.new.items self.new cursor.new) }
         ensures room { OnOk result (vec_len stored.new + length self.new
             ≤ vec_capacity stored.new) }
+        // On an error.
         ensures unchanged { OnErr result (beside (feed_of stored.new.items cursor.new) self.new
             ≡ beside (feed_of stored.old.items cursor.old) self.old) }
         ensures memory { IfErr result (λ e. e ≡ Memory) }

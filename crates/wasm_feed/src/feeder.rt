@@ -374,9 +374,11 @@ impl<A: Allocator> Feeder<A> {
     ) -> Result<(usize, R)>
         requires may_come { MayCome self.old piece.now }
         requires callable { F.IsAlwaysCallable look }
+        // On success.
         ensures steps { IfOk result (λ reported_as. (s : _) × F.post look s reported_as.1
             × StepsOver self.old piece.now s reported_as.0 self.new) }
         ensures within { IfOk result (λ reported_as. reported_as.0 ≤ length piece.now) }
+        // On an error.
         ensures unchanged { OnErr result (self.new ≡ self.old) }
         ensures memory { IfErr result (λ e. fault_at e ≡ out_of_memory) }
     {
