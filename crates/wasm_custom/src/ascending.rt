@@ -15,8 +15,8 @@ fn is_above(last: Option<u32>, index: u32) -> bool
     }
 }
 
-/// Returns an entry that was read if its index is above the last one returned, and records the index. Otherwise returns this
-/// fault at the start of the entry.
+/// Returns an entry that was read if its index is above the last one returned, and records the index. Otherwise returns
+/// this fault at the start of the entry.
 pub(crate) fn in_order<T: Drop>(
     last: &mut Option<u32>,
     index: u32,

@@ -12,25 +12,54 @@ use wasm_base::{
     read_flag, read_inner,
 };
 
-/// The section `metadata.code.branch_hint`: the functions that have hints (tool conventions, Code Metadata, Branch
-/// Hints).
+/// The section `metadata.code.branch_hint`, whose items are the functions with branch hints.
+///
+/// ```rattle
+/// // In function 3, the branch at offset 9 is likely.
+/// let bytes = &[1, 3, 1, 9, 1, 1];
+/// for function in BranchHintSectionReader::new(BinaryReader::new(bytes, 0))? {
+///     let function = function?;
+///     assert_eq!(rt; function.func, 3);
+///     assert_eq!(rt; function.hints.count(), 1);
+/// }
+/// ```
+///
+/// (Tool conventions, Code Metadata, Branch Hints.)
 pub type BranchHintSectionReader<'a> = SectionLimited<'a, BranchHintFunction<'a>>;
 
-/// The branch hints of a function (tool conventions, Code Metadata, Branch Hints).
+/// The branch hints of a function.
+///
+/// ```rattle
+/// let mut reader = BinaryReader::new(&[3, 1, 9, 1, 1], 0);
+/// for hint in BranchHintFunction::from_reader(&mut reader)?.hints {
+///     assert_eq!(rt; hint?.func_offset, 9);
+/// }
+/// ```
+///
+/// (Tool conventions, Code Metadata, Branch Hints.)
 #[derive(Clone, Debug, Drop)]
 pub struct BranchHintFunction<'a> {
-    /// The function's index.
+    /// The index of the function.
     pub func: u32,
-    /// Its hints.
+    /// The hints of the function, read lazily. If the function was read, iterating over them yields no error.
     pub hints: SectionLimited<'a, BranchHint>,
 }
 
-/// Whether a branch is likely to be taken (tool conventions, Code Metadata, Branch Hints).
+/// A branch hint: whether a branch is likely to be taken.
+///
+/// ```rattle
+/// let mut reader = BinaryReader::new(&[9, 1, 0], 0);
+/// let hint = BranchHint::from_reader(&mut reader)?;
+/// assert_eq!(rt; hint.func_offset, 9);
+/// assert!(rt; !hint.taken);
+/// ```
+///
+/// (Tool conventions, Code Metadata, Branch Hints.)
 #[derive(Clone, Copy, Debug)]
 pub struct BranchHint {
     /// The offset of the branch instruction from the start of the function's body, in bytes.
     pub func_offset: u32,
-    /// Whether it is likely to be taken.
+    /// Whether the branch is likely to be taken.
     pub taken: bool,
 }
 
@@ -50,10 +79,13 @@ fn read_hint_size(reader: &mut BinaryReader<'_>) -> Result<()>
     }
 }
 
-/// An offset, a u32; a byte that is 1, the size of the value; and the value, a byte that is 0, or 1 for a branch that is
-/// likely to be taken.
+/// Reads the offset of the branch, a u32; the size of the value, a byte that must be 1; and the value, a byte that is 0
+/// or 1.
 ///
-/// Another byte is `LeadingByte(BranchHint)` or `LeadingByte(BranchTaken)` at it, with the byte as its number.
+/// # Errors
+///
+/// `LeadingByte(BranchHint)` at another size, `LeadingByte(BranchTaken)` at another value, with the byte as the number
+/// of the error; `UnexpectedEof` if a byte is missing; and the errors of `read_var_u32`.
 impl<'a> FromReader<'a> for BranchHint {
     ghost meaning = { ReadsAs (λ hint. hint) branch_hint_at };
 
@@ -66,6 +98,7 @@ impl<'a> FromReader<'a> for BranchHint {
     }
 }
 
+/// Skips a hint, with the errors of reading it.
 impl<'a> SkipItem<'a> for BranchHint {
     ghost skipped_at = { after_reading branch_hint_at };
 
@@ -75,7 +108,11 @@ impl<'a> SkipItem<'a> for BranchHint {
     }
 }
 
-/// The index of a function, a u32, and the list of its hints, which are skipped and their errors returned.
+/// Reads the index of a function, a u32, and skips the list of hints.
+///
+/// # Errors
+///
+/// The errors of `read_var_u32` for the index and the count, and of each hint (`BranchHint`).
 impl<'a> FromReader<'a> for BranchHintFunction<'a> {
     ghost use Rattle.wasm_custom.specs.BranchHinting.{function_hints_at};
 

@@ -15,74 +15,139 @@ use wasm_base::{
     read_list,
 };
 
-/// The section `core`: the process that was dumped (tool conventions, Coredump, Process Information).
+/// The section `core`: the process that was dumped.
+///
+/// ```rattle
+/// let section = CoreDumpSection::new(BinaryReader::new(b"\x00\x09test.wasm", 0))?;
+/// assert_eq!(rt; section.name, "test.wasm");
+/// ```
+///
+/// (Tool conventions, Coredump, Process Information.)
 #[derive(Drop)]
 pub struct CoreDumpSection<'a> {
-    /// The name of the process.
+    /// The name of the process, of any length.
     pub name: &'a str,
 }
 
-/// The section `coremodules`: the modules of the process (tool conventions, Coredump, Modules and Instances).
+/// The section `coremodules`: the modules of the process.
+///
+/// ```rattle
+/// let section = CoreDumpModulesSection::new(alloc, BinaryReader::new(b"\x01\x00\x04test", 0))?;
+/// assert_eq!(rt; section.modules.as_slice(), ["test"].as_slice());
+/// ```
+///
+/// (Tool conventions, Coredump, Modules and Instances.)
 #[derive(Debug, Drop)]
 pub struct CoreDumpModulesSection<'a, A: Allocator = Global> {
-    /// Their names.
+    /// The names of the modules, borrowed from the input.
     pub modules: Vec<&'a str, A>,
 }
 
-/// The section `coreinstances`: the instances of the process (tool conventions, Coredump, Modules and Instances).
+/// The section `coreinstances`: the instances of the process.
+///
+/// ```rattle
+/// // An instance of module 0 with one memory, 0, and no globals.
+/// let bytes = &[1, 0, 0, 1, 0, 0];
+/// let section = CoreDumpInstancesSection::new(alloc, BinaryReader::new(bytes, 0))?;
+/// for instance in &section.instances {
+///     assert_eq!(rt; instance.memories.as_slice(), [0].as_slice());
+/// }
+/// ```
+///
+/// (Tool conventions, Coredump, Modules and Instances.)
 #[derive(Drop)]
 pub struct CoreDumpInstancesSection<A: Allocator = Global> {
-    /// The instances.
+    /// The instances, in order.
     pub instances: Vec<CoreDumpInstance<A>, A>,
 }
 
-/// The section `corestack`: a thread and its frames (tool conventions, Coredump, Thread(s) and Stack Frames).
+/// The section `corestack`: a thread and its frames.
+///
+/// ```rattle
+/// // The thread "main", with one frame: instance 4, function 42, offset 51, one local and nothing on the stack.
+/// let bytes = b"\x00\x04main\x01\x00\x04\x2a\x33\x01\x7f\x01\x00";
+/// let section = CoreDumpStackSection::new(alloc, BinaryReader::new(bytes, 0))?;
+/// assert_eq!(rt; section.name, "main");
+/// for frame in &section.frames {
+///     assert_eq!(rt; frame.funcidx, 42);
+/// }
+/// ```
+///
+/// (Tool conventions, Coredump, Thread(s) and Stack Frames.)
 #[derive(Drop)]
 pub struct CoreDumpStackSection<'a, A: Allocator = Global> {
-    /// The name of the thread.
+    /// The name of the thread, of any length.
     pub name: &'a str,
-    /// Its frames.
+    /// The frames of the thread's stack, in order.
     pub frames: Vec<CoreDumpStackFrame<A>, A>,
 }
 
-/// An instance of a module (tool conventions, Coredump, Modules and Instances).
+/// An instance of a module in a core dump.
+///
+/// ```rattle
+/// let mut reader = BinaryReader::new(&[0, 1, 1, 7, 0], 0);
+/// let instance = CoreDumpInstance::from_reader(alloc, &mut reader)?;
+/// assert_eq!(rt; instance.module_index, 1);
+/// assert_eq!(rt; instance.memories.as_slice(), [7].as_slice());
+/// ```
+///
+/// (Tool conventions, Coredump, Modules and Instances.)
 #[derive(Debug, Drop)]
 pub struct CoreDumpInstance<A: Allocator = Global> {
     /// The index of the module in the section `coremodules`.
     pub module_index: u32,
-    /// The indices of its memories.
+    /// The indices of the instance's memories.
     pub memories: Vec<u32, A>,
-    /// The indices of its globals.
+    /// The indices of the instance's globals.
     pub globals: Vec<u32, A>,
 }
 
-/// A frame of a thread's stack (tool conventions, Coredump, Thread(s) and Stack Frames).
+/// A frame of a thread's stack in a core dump.
+///
+/// ```rattle
+/// let mut reader = BinaryReader::new(&[0, 4, 42, 51, 1, 0x7f, 1, 0], 0);
+/// let frame = CoreDumpStackFrame::from_reader(alloc, &mut reader)?;
+/// assert_eq!(rt; frame.codeoffset, 51);
+/// assert_eq!(rt; frame.locals.len(), 1);
+/// ```
+///
+/// (Tool conventions, Coredump, Thread(s) and Stack Frames.)
 #[derive(Debug, Drop)]
 pub struct CoreDumpStackFrame<A: Allocator = Global> {
     /// The index of the instance in the section `coreinstances`.
     pub instanceidx: u32,
-    /// The index of the function in its module.
+    /// The index of the function in the module of the instance.
     pub funcidx: u32,
     /// The offset of the instruction from the start of the function's body, in bytes.
     pub codeoffset: u32,
-    /// The values of its locals.
+    /// The values of the locals.
     pub locals: Vec<CoreDumpValue, A>,
-    /// The values on its operand stack.
+    /// The values on the operand stack.
     pub stack: Vec<CoreDumpValue, A>,
 }
 
-/// A value in a frame (tool conventions, Coredump, Thread(s) and Stack Frames).
+/// A value of a local or on the operand stack of a frame.
+///
+/// ```rattle
+/// let mut reader = BinaryReader::new(&[0x7f, 5], 0);
+/// match CoreDumpValue::from_reader(&mut reader)? {
+///     CoreDumpValue::I32(value) => assert_eq!(rt; value, 5),
+///     _ => assert!(rt; false),
+/// }
+/// ```
+///
+/// (Tool conventions, Coredump, Thread(s) and Stack Frames.)
 #[derive(Clone, Debug, Drop)]
 pub enum CoreDumpValue {
-    /// A value that is no longer known.
+    /// A missing value, for example one that was optimized out.
     Missing,
-    /// A number of 32 bits.
+    /// A 32-bit integer.
     I32(i32),
-    /// A number of 64 bits.
+    /// A 64-bit integer.
     I64(i64),
-    /// A float of 32 bits.
+    /// A 32-bit float, as bits.
     F32(Ieee32),
-    /// A float of 64 bits.
+    /// A 64-bit float, as bits.
     F64(Ieee64),
 }
 
@@ -247,10 +312,13 @@ fn read_frame<A: Allocator + Copy>(
     })
 }
 
-/// A byte, and the value that it announces: 0x01 for a missing value; 0x7F or 0x7E and a signed number of 32 or 64 bits; 0x7D or
-/// 0x7C and the 4 or 8 bytes of a float, in little-endian order.
+/// Reads a byte and the value: 0x01 for a missing value; 0x7F or 0x7E and a signed LEB128 number of 32 or 64 bits; 0x7D
+/// or 0x7C and the 4 or 8 bytes of a float, in little-endian order.
 ///
-/// Another byte is `CoreValue` at it.
+/// # Errors
+///
+/// `CoreValue` at any other byte; `UnexpectedEof` if no byte remains; and the errors of `read_var_i32`, `read_var_i64`,
+/// `read_f32` and `read_f64`.
 impl<'a> FromReader<'a> for CoreDumpValue {
     ghost meaning = { ReadsAs value_parts value_at };
 
@@ -268,9 +336,12 @@ impl<'a> FromReader<'a> for CoreDumpValue {
     }
 }
 
-/// A byte 0, the index of a module, a u32, the list of its memories' indices, and that of its globals'.
+/// Reads a byte 0, the index of a module, a u32, and the lists of the indices of memories and of globals.
 ///
-/// Another byte is `CoreStartByte(Instance)` at it.
+/// # Errors
+///
+/// `CoreStartByte(Instance)` at another first byte; `UnexpectedEof` if it is missing; the errors of `read_var_u32`; and
+/// `OutOfMemory`, at offset 0, when an allocation fails.
 impl<'a> FromReaderIn<'a> for CoreDumpInstance {
     ghost meaning = { ReadsAs instance_parts instance_at };
 
@@ -279,9 +350,13 @@ impl<'a> FromReaderIn<'a> for CoreDumpInstance {
     }
 }
 
-/// A byte 0, an instance, a function and an offset, each a u32, the list of the locals' values, and that of the stack's.
+/// Reads a byte 0, an instance, a function and an offset, each a u32, and the lists of values of the locals and of the
+/// operand stack.
 ///
-/// Another byte is `CoreStartByte(Frame)` at it.
+/// # Errors
+///
+/// `CoreStartByte(Frame)` at another first byte; `UnexpectedEof` if it is missing; the errors of `read_var_u32` and
+/// `CoreDumpValue`; and `OutOfMemory`, at offset 0, when an allocation fails.
 impl<'a> FromReaderIn<'a> for CoreDumpStackFrame {
     ghost meaning = { ReadsAs frame_parts frame_at };
 
@@ -291,9 +366,13 @@ impl<'a> FromReaderIn<'a> for CoreDumpStackFrame {
 }
 
 impl<'a> CoreDumpSection<'a> {
-    /// Reads a byte 0 and the name of the process, a text of any size, up to the end of the window.
+    /// Reads a byte 0 and the name of the process, a text of any length, up to the end of the window.
     ///
-    /// Another byte is `CoreStartByte(Name)` at it; trailing bytes are `CustomTrailing` at the first of them.
+    /// # Errors
+    ///
+    /// * `CoreStartByte(Name)` at another first byte; `UnexpectedEof` if it is missing.
+    /// * The errors of `read_unlimited_string`.
+    /// * `CustomTrailing` at the first byte after the name.
     #[tactic(auto, unfolding(crate::specs::Coredumps::name_section_in))]
     pub fn new(mut reader: BinaryReader<'a>) -> Result<CoreDumpSection<'a>>
         ensures gives { GivesResult (λ section. section.name.now)
@@ -346,10 +425,15 @@ fn read_frames<A: Allocator + Copy>(
 }
 
 impl<'a> CoreDumpModulesSection<'a> {
-    /// Reads the list of modules up to the end of the window: for each a byte 0 and its name, a text of any size.
+    /// Reads the list of modules up to the end of the window: for each a byte 0 and the name, a text of any length.
     ///
-    /// Another byte is `CoreStartByte(Module)` at the start of the list; trailing bytes are `CustomTrailing` at the first of
-    /// them. `OutOfMemory`, at offset 0, when an allocation fails.
+    /// # Errors
+    ///
+    /// * `CoreStartByte(Module)` at the start of the data, if the first byte of any module is not 0.
+    /// * The errors of `read_var_u32` and `read_unlimited_string`; `UnexpectedEof` if the first byte of a module is
+    ///   missing.
+    /// * `CustomTrailing` at the first byte after the last module.
+    /// * `OutOfMemory`, at offset 0, when an allocation fails.
     pub fn new(alloc: Global, reader: BinaryReader<'a>) -> Result<CoreDumpModulesSection<'a>>
         ensures gives { GivesResultUnlessMemory modules_parts result (modules_in (place reader.entry)) }
     {
@@ -358,7 +442,11 @@ impl<'a> CoreDumpModulesSection<'a> {
 }
 
 impl<'a, A: Allocator + Copy> CoreDumpModulesSection<'a, A> {
-    /// Like `new`, with any allocator: `OutOfMemory`, at offset 0, when an allocation fails.
+    /// Reads the list of modules like `new`, with any allocator.
+    ///
+    /// # Errors
+    ///
+    /// Those of `new`.
     #[tactic(auto, unfolding(crate::specs::Coredumps::modules_in))]
     pub fn new_in(alloc: A, mut reader: BinaryReader<'a>) -> Result<Self>
         ensures gives { GivesResultUnlessMemory modules_parts result (modules_in (place reader.entry)) }
@@ -373,8 +461,11 @@ impl<'a, A: Allocator + Copy> CoreDumpModulesSection<'a, A> {
 impl CoreDumpInstancesSection {
     /// Reads the list of instances up to the end of the window.
     ///
-    /// The errors are those of instances; trailing bytes are `CustomTrailing` at the first of them. `OutOfMemory`, at offset 0,
-    /// when an allocation fails.
+    /// # Errors
+    ///
+    /// * The errors of `read_var_u32` for the count, and of each instance (`CoreDumpInstance`).
+    /// * `CustomTrailing` at the first byte after the last instance.
+    /// * `OutOfMemory`, at offset 0, when an allocation fails.
     pub fn new(alloc: Global, reader: BinaryReader<'_>) -> Result<CoreDumpInstancesSection>
         ensures gives { GivesResultUnlessMemory instances_parts result (instances_in (place reader.entry)) }
     {
@@ -383,7 +474,11 @@ impl CoreDumpInstancesSection {
 }
 
 impl<A: Allocator + Copy> CoreDumpInstancesSection<A> {
-    /// Like `new`, with any allocator: `OutOfMemory`, at offset 0, when an allocation fails.
+    /// Reads the list of instances like `new`, with any allocator.
+    ///
+    /// # Errors
+    ///
+    /// Those of `new`.
     #[tactic(auto, unfolding(crate::specs::Coredumps::instances_in))]
     pub fn new_in(alloc: A, mut reader: BinaryReader<'_>) -> Result<Self>
         ensures gives { GivesResultUnlessMemory instances_parts result (instances_in (place reader.entry)) }
@@ -395,10 +490,16 @@ impl<A: Allocator + Copy> CoreDumpInstancesSection<A> {
 }
 
 impl<'a> CoreDumpStackSection<'a> {
-    /// Reads a byte 0, the name of the thread, a text of any size, and the list of its frames, up to the end of the window.
+    /// Reads a byte 0, the name of the thread, a text of any length, and the list of frames, up to the end of the
+    /// window.
     ///
-    /// Another byte is `CoreStartByte(StackName)` at it; other errors are those of frames; trailing bytes are `CustomTrailing` at
-    /// the first of them. `OutOfMemory`, at offset 0, when an allocation fails.
+    /// # Errors
+    ///
+    /// * `CoreStartByte(StackName)` at another first byte; `UnexpectedEof` if it is missing.
+    /// * The errors of `read_unlimited_string`, of `read_var_u32` for the count, and of each frame
+    ///   (`CoreDumpStackFrame`).
+    /// * `CustomTrailing` at the first byte after the last frame.
+    /// * `OutOfMemory`, at offset 0, when an allocation fails.
     pub fn new(alloc: Global, reader: BinaryReader<'a>) -> Result<CoreDumpStackSection<'a>>
         ensures gives { GivesResultUnlessMemory stack_parts result (stack_in (place reader.entry)) }
     {
@@ -407,7 +508,11 @@ impl<'a> CoreDumpStackSection<'a> {
 }
 
 impl<'a, A: Allocator + Copy> CoreDumpStackSection<'a, A> {
-    /// Like `new`, with any allocator: `OutOfMemory`, at offset 0, when an allocation fails.
+    /// Reads the name and the frames like `new`, with any allocator.
+    ///
+    /// # Errors
+    ///
+    /// Those of `new`.
     #[tactic(auto, unfolding(crate::specs::Coredumps::stack_in))]
     pub fn new_in(alloc: A, mut reader: BinaryReader<'a>) -> Result<Self>
         ensures gives { GivesResultUnlessMemory stack_parts result (stack_in (place reader.entry)) }

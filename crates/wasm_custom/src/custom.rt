@@ -9,9 +9,19 @@ use std::marker::Model;
 use std::ops::Range;
 use wasm_base::{BinaryReader, Result};
 
-/// A custom section: its name, and its data after it (core specification, Binary format, Modules, Custom Section).
+/// A custom section: a name and the data after it.
 ///
-/// Offsets count bytes from the start of the whole stream.
+/// `as_known` returns a reader for the data of a section with a known name. Offsets are in bytes from the start of the
+/// stream.
+///
+/// ```rattle
+/// let section = CustomSectionReader::new(BinaryReader::new(b"\x01a\x07\x08", 100))?;
+/// assert_eq!(rt; section.name(), "a");
+/// assert_eq!(rt; section.data(), [7, 8].as_slice());
+/// assert_eq!(rt; section.data_offset(), 102);
+/// ```
+///
+/// (Core specification, Binary format, Modules, Custom Section.)
 #[derive(Drop)]
 pub struct CustomSectionReader<'a> {
     name: &'a str,
@@ -42,11 +52,15 @@ impl<'a> Clone for CustomSectionReader<'a> {
 impl<'a> CustomSectionReader<'a> {
     ghost use Rattle.wasm_custom.specs.Custom.{ReadsCustom};
 
-    /// Reads the name, a text of at most 100,000 bytes; the remaining bytes of the window are the data.
+    /// Reads the name, a text of at most 100,000 bytes. The remaining bytes of the window are the data, which is not
+    /// read.
     ///
-    /// The errors are those of `BinaryReader::read_string`: those of the name's size; `StringSize` at the last byte of the size
-    /// if it is above 100,000; `UnexpectedEof` after the size if the window ends before the name does; `MalformedUtf8` at the
-    /// last byte of the name.
+    /// # Errors
+    ///
+    /// * `UnexpectedEof`, `NumberTooLong` or `NumberTooLarge` in the size of the name, a u32.
+    /// * `StringSize` at the last byte of the size if it is above 100,000.
+    /// * `UnexpectedEof` after the size if the window ends before the name does.
+    /// * `MalformedUtf8` at the last byte of the name.
     pub fn new(mut reader: BinaryReader<'a>) -> Result<Self>
         ensures reads { ReadsCustom reader.entry result }
         ensures hints { Hints (missing_of_sized (place reader.entry)) result }
@@ -56,14 +70,14 @@ impl<'a> CustomSectionReader<'a> {
         Ok(CustomSectionReader { name, reader })
     }
 
-    /// Returns the section's name.
+    /// Returns the name of the section.
     pub fn name(&self) -> &'a str
         ensures { result.now ≡ self.now.name }
     {
         self.name
     }
 
-    /// Returns the bytes after the name.
+    /// Returns the data: the bytes after the name.
     pub fn data(&self) -> &'a [u8]
         ensures { result.now ≡ (place self.now.reader).rest }
     {
@@ -91,7 +105,7 @@ impl<'a> CustomSectionReader<'a> {
         self.reader.range()
     }
 
-    /// Returns a reader of the data, with the window's features.
+    /// Returns a reader over the data, with the features of the section's window.
     pub fn data_reader(&self) -> BinaryReader<'a>
         ensures { result ≡ whole_window (place self.now.reader) }
     {

@@ -15,69 +15,120 @@ use wasm_base::{
     BinaryReader, FromReader, MayAllocate, Result, Subsection, Subsections, read_list,
 };
 
-/// The section `dylink.0`: its subsections (tool conventions, Dynamic Linking, The "dylink.0" Section).
+/// The section `dylink.0`, an iterator over subsections.
+///
+/// ```rattle
+/// // The library needs "a.so".
+/// let bytes = b"\x02\x06\x01\x04a.so";
+/// for subsection in Dylink0SectionReader::new(alloc, BinaryReader::new(bytes, 0)) {
+///     if let Dylink0Subsection::Needed(libraries) = subsection? {
+///         assert_eq!(rt; libraries.as_slice(), ["a.so"].as_slice());
+///     }
+/// }
+/// ```
+///
+/// (Tool conventions, Dynamic Linking, The "dylink.0" Section.)
 pub type Dylink0SectionReader<'a> = Subsections<'a, Dylink0Subsection<'a>>;
 
-/// The memory and table space that a library needs (tool conventions, Dynamic Linking, The "dylink.0" Section).
+/// The memory and table space that a library needs.
+///
+/// ```rattle
+/// let mut reader = BinaryReader::new(&[16, 2, 1, 0], 0);
+/// let info = MemInfo::from_reader(&mut reader)?;
+/// assert_eq!(rt; info.memory_size, 16);
+/// assert_eq!(rt; info.table_size, 1);
+/// ```
+///
+/// (Tool conventions, Dynamic Linking, The "dylink.0" Section.)
 #[derive(Clone, Copy, Debug)]
 pub struct MemInfo {
-    /// The size in memory, in bytes.
+    /// The size of the memory area, in bytes.
     pub memory_size: u32,
-    /// The alignment in memory, as a power of two.
+    /// The alignment of the memory area, as the base-2 logarithm of the bytes.
     pub memory_alignment: u32,
-    /// The number of table elements.
+    /// The size of the table area, in elements.
     pub table_size: u32,
-    /// The alignment in the table, as a power of two.
+    /// The alignment of the table area, as the base-2 logarithm of the elements.
     pub table_alignment: u32,
 }
 
-/// Information about an export (tool conventions, Dynamic Linking, The "dylink.0" Section).
+/// The flags of an export's symbol.
+///
+/// ```rattle
+/// let mut reader = BinaryReader::new(b"\x01f\x80\x02", 0);
+/// let export = ExportInfo::from_reader(&mut reader)?;
+/// assert_eq!(rt; export.name, "f");
+/// assert_eq!(rt; export.flags, SymbolFlags::TLS);
+/// ```
+///
+/// (Tool conventions, Dynamic Linking, The "dylink.0" Section.)
 #[derive(Debug, Drop)]
 pub struct ExportInfo<'a> {
-    /// The export's name.
+    /// The name of the export.
     pub name: &'a str,
-    /// Its symbol's flags.
+    /// The flags of the symbol.
     pub flags: SymbolFlags,
 }
 
-/// Information about an import (tool conventions, Dynamic Linking, The "dylink.0" Section).
+/// The flags of an import's symbol.
+///
+/// ```rattle
+/// let mut reader = BinaryReader::new(b"\x03env\x01f\x01", 0);
+/// let import = ImportInfo::from_reader(&mut reader)?;
+/// assert_eq!(rt; import.module, "env");
+/// assert_eq!(rt; import.flags, SymbolFlags::BINDING_WEAK);
+/// ```
+///
+/// (Tool conventions, Dynamic Linking, The "dylink.0" Section.)
 #[derive(Debug, Drop)]
 pub struct ImportInfo<'a> {
-    /// The module that it comes from.
+    /// The name of the module that is imported from.
     pub module: &'a str,
-    /// Its name in that module.
+    /// The name of the import in that module.
     pub field: &'a str,
-    /// Its symbol's flags.
+    /// The flags of the symbol.
     pub flags: SymbolFlags,
 }
 
-/// A subsection of the section `dylink.0` (tool conventions, Dynamic Linking, The "dylink.0" Section).
+/// A subsection of the section `dylink.0`.
+///
+/// Subsections with lists own them, so reading them allocates. The texts are borrowed from the input.
+///
+/// ```rattle
+/// let reader = BinaryReader::new(&[16, 2, 1, 0], 0);
+/// match Dylink0Subsection::from_reader(alloc, 1, reader)? {
+///     Dylink0Subsection::MemInfo(info) => assert_eq!(rt; info.memory_size, 16),
+///     _ => assert!(rt; false),
+/// }
+/// ```
+///
+/// (Tool conventions, Dynamic Linking, The "dylink.0" Section.)
 #[derive(Debug, Drop)]
 pub enum Dylink0Subsection<'a, A: Allocator = Global> {
-    /// The memory and table space that the library needs.
+    /// The memory and table space that the library needs (id 1).
     MemInfo(MemInfo),
-    /// The names of the libraries that it needs.
+    /// The names of the libraries that the library needs (id 2).
     Needed(Vec<&'a str, A>),
-    /// Information about exports.
+    /// The flags of exported symbols (id 3).
     ExportInfo(Vec<ExportInfo<'a>, A>),
-    /// Information about imports.
+    /// The flags of imported symbols (id 4).
     ImportInfo(Vec<ImportInfo<'a>, A>),
-    /// The directories that are searched for libraries.
+    /// The directories to search for libraries (id 5).
     RuntimePath(Vec<&'a str, A>),
-    /// The name of the architecture that the library is for.
+    /// The name of the architecture that the library is for (id 6).
     TargetArch(&'a str),
-    /// A subsection with another id.
+    /// A subsection with another id, which is not decoded.
     Unknown {
-        /// Its id.
+        /// The id, below 128.
         ty: u8,
-        /// Its bytes.
+        /// The content, without the id and the size.
         contents: &'a [u8],
-        /// The offsets of its bytes in the whole stream.
+        /// The offsets of the content, in bytes from the start of the stream.
         range: Range<u64>,
     },
 }
 
-/// Four numbers, each a u32.
+/// Reads four numbers, each a u32, with the errors of `read_var_u32`.
 impl<'a> FromReader<'a> for MemInfo {
     ghost use Rattle.wasm_custom.specs.Dylink0.{mem_info_at};
 
@@ -98,7 +149,7 @@ impl<'a> FromReader<'a> for MemInfo {
     }
 }
 
-/// A name of any length and flags, a u32.
+/// Reads a name of any length and flags, a u32, with the errors of `read_unlimited_string` and `read_var_u32`.
 impl<'a> FromReader<'a> for ExportInfo<'a> {
     ghost meaning = { ReadsAs export_info_parts export_info_at };
 
@@ -110,7 +161,7 @@ impl<'a> FromReader<'a> for ExportInfo<'a> {
     }
 }
 
-/// Two names of any length and flags, a u32.
+/// Reads two names of any length and flags, a u32, with the errors of `read_unlimited_string` and `read_var_u32`.
 impl<'a> FromReader<'a> for ImportInfo<'a> {
     ghost meaning = { ReadsAs import_info_parts import_info_at };
 
@@ -194,7 +245,14 @@ fn read_imports<'a, A: Allocator>(
 }
 
 impl<'a, A: Allocator> Dylink0Subsection<'a, A> {
-    /// Like `from_reader`, with any allocator: `OutOfMemory`, at offset 0, when an allocation fails.
+    /// Reads the subsection with this id, with any allocator for its lists. `from_reader` is the same for `Global`.
+    ///
+    /// The subsection is the remaining bytes of the reader. Bytes after its last part are ignored.
+    ///
+    /// # Errors
+    ///
+    /// The errors of the parts, which are those of `read_var_u32` and `read_unlimited_string`; `OutOfMemory`, at offset
+    /// 0, when an allocation fails. An unknown id is no error.
     #[tactic(auto, unfolding(crate::specs::Dylink0::dylink_subsection_in))]
     pub fn from_reader_in(alloc: A, id: u8, mut reader: BinaryReader<'a>) -> Result<Self>
         ensures gives { GivesResultUnlessMemory dylink_parts result
@@ -216,7 +274,11 @@ impl<'a, A: Allocator> Dylink0Subsection<'a, A> {
     }
 }
 
-/// Numbers, a list of texts or of information about exports or imports, or a text. Bytes after these are ignored.
+/// Reads a subsection: numbers, a list of texts, exports or imports, or a text. Bytes after these are ignored.
+///
+/// # Errors
+///
+/// Those of `from_reader_in`.
 impl<'a> Subsection<'a> for Dylink0Subsection<'a> {
     ghost meaning = { ReadsWindowAs dylink_parts dylink_subsection_in };
 

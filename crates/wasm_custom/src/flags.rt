@@ -7,7 +7,19 @@ ghost use Rattle.wasm_base.specs.declared.fault.NumberKind.TheVariants.{VarU32};
 use bitflags::{Flag, Flags};
 use wasm_base::{BinaryReader, FromReader, Result};
 
-/// The flags of a symbol, one bit each (tool conventions, Linking, Symbol Table Subsection). Unknown bits are kept.
+/// The flags of a symbol, as a set of bits.
+///
+/// The methods of `bitflags::Flags`, such as `contains`, examine the set. Unknown bits are kept.
+///
+/// ```rattle
+/// use bitflags::Flags;
+/// let mut reader = BinaryReader::new(&[0x14], 0);
+/// let flags = SymbolFlags::from_reader(&mut reader)?;
+/// assert!(rt; flags.contains(SymbolFlags::UNDEFINED));
+/// assert!(rt; !flags.contains(SymbolFlags::EXPORTED));
+/// ```
+///
+/// (Tool conventions, Linking, Symbol Table Subsection.)
 #[derive(Clone, Copy, Debug, PartialEq, Eq, Hash, Default, PartialOrd, Ord)]
 pub struct SymbolFlags(u32);
 
@@ -106,7 +118,7 @@ impl Flags for SymbolFlags {
     }
 }
 
-/// A u32. Unknown bits are kept.
+/// Reads a u32, with the errors of `read_var_u32`. Unknown bits are kept.
 impl<'a> FromReader<'a> for SymbolFlags {
     ghost use Rattle.wasm_custom.specs.Flags.{symbol_bits};
 
@@ -117,7 +129,18 @@ impl<'a> FromReader<'a> for SymbolFlags {
     }
 }
 
-/// The flags of a data segment, one bit each (tool conventions, Linking, Segment Info Subsection). Unknown bits are kept.
+/// The flags of a data segment, as a set of bits.
+///
+/// The methods of `bitflags::Flags`, such as `contains`, examine the set. Unknown bits are kept.
+///
+/// ```rattle
+/// use bitflags::Flags;
+/// let mut reader = BinaryReader::new(&[0x01], 0);
+/// let flags = SegmentFlags::from_reader(&mut reader)?;
+/// assert!(rt; flags.contains(SegmentFlags::STRINGS));
+/// ```
+///
+/// (Tool conventions, Linking, Segment Info Subsection.)
 #[derive(Clone, Copy, Debug, PartialEq, Eq, Hash, Default)]
 pub struct SegmentFlags(u32);
 
@@ -164,7 +187,7 @@ impl Flags for SegmentFlags {
     }
 }
 
-/// A u32. Unknown bits are kept.
+/// Reads a u32, with the errors of `read_var_u32`. Unknown bits are kept.
 impl<'a> FromReader<'a> for SegmentFlags {
     ghost use Rattle.wasm_custom.specs.Flags.{segment_bits};
 

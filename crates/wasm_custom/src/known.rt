@@ -20,30 +20,43 @@ use crate::reloc::RelocSectionReader;
 use std::alloc::{Allocator, Global};
 use wasm_base::{BinaryReader, Error, Fault, Result, SectionLimited, Subsections};
 
-/// A custom section whose data is known, by its name.
+/// The data of a custom section, read as the name of the section says.
+///
+/// `CustomSectionReader::as_known` returns it. The readers in the variants are lazy, except those of core dumps: these
+/// own what they read.
+///
+/// ```rattle
+/// // A core dump that lists one module.
+/// let bytes = b"\x0bcoremodules\x01\x00\x04test";
+/// let section = CustomSectionReader::new(BinaryReader::new(bytes, 0))?;
+/// match section.as_known(alloc)? {
+///     KnownCustom::CoreDumpModules(dump) => assert_eq!(rt; dump.modules.as_slice(), ["test"].as_slice()),
+///     _ => assert!(rt; false),
+/// }
+/// ```
 #[derive(Drop)]
 pub enum KnownCustom<'a, A: Allocator = Global> {
-    /// The section `name`.
+    /// The section `name`: the names of functions, locals and other parts of the module.
     Name(NameSectionReader<'a>),
-    /// The section `metadata.code.branch_hint`.
+    /// The section `metadata.code.branch_hint`: which branches are likely to be taken.
     BranchHints(BranchHintSectionReader<'a>),
-    /// The section `producers`.
+    /// The section `producers`: the languages and tools that the module was produced with.
     Producers(ProducersSectionReader<'a>),
-    /// The section `dylink.0`.
+    /// The section `dylink.0`: what a dynamic linker needs.
     Dylink0(Dylink0SectionReader<'a>),
-    /// The section `core`.
+    /// The section `core`: the process of a core dump.
     CoreDump(CoreDumpSection<'a>),
-    /// The section `corestack`.
+    /// The section `corestack`: a thread of a core dump, with its frames.
     CoreDumpStack(CoreDumpStackSection<'a, A>),
-    /// The section `coreinstances`.
+    /// The section `coreinstances`: the instances of a core dump.
     CoreDumpInstances(CoreDumpInstancesSection<A>),
-    /// The section `coremodules`.
+    /// The section `coremodules`: the modules of a core dump.
     CoreDumpModules(CoreDumpModulesSection<'a, A>),
-    /// The section `linking`.
+    /// The section `linking`: the symbols and other information of an object file.
     Linking(LinkingSectionReader<'a>),
-    /// A section whose name begins with `reloc.`.
+    /// A section whose name begins with `reloc.`: the relocations of another section.
     Reloc(RelocSectionReader<'a>),
-    /// A section with another name, or one whose data is malformed for its name.
+    /// A section with another name, or one whose data the reader for its name rejects.
     Unknown,
 }
 
@@ -149,11 +162,22 @@ fn unknown_but_for_memory<'a, A: Allocator>(error: Error) -> Result<KnownCustom<
 }
 
 impl<'a> CustomSectionReader<'a> {
-    /// Returns the reader of the section's data, selected by its name: `Unknown` if the name isn't known, or if the reader's `new`
-    /// reports a fault of the data.
+    /// Returns a reader for the data, selected by the name of the section.
     ///
-    /// The only error is `OutOfMemory`, at offset 0, when an allocation fails. Only `coremodules`, `coreinstances` and
-    /// `corestack` allocate.
+    /// The result is `Unknown` if the name is not known, or if the `new` of the selected reader returns an error. Only
+    /// `coremodules`, `coreinstances` and `corestack` allocate. The subsections of `dylink.0` allocate later, when you
+    /// iterate over them.
+    ///
+    /// # Errors
+    ///
+    /// `OutOfMemory`, at offset 0, when an allocation fails. There is no other error: malformed data is `Unknown`.
+    ///
+    /// ```rattle
+    /// // A section `core` has to begin with the byte 0.
+    /// let section = CustomSectionReader::new(BinaryReader::new(b"\x04core\x01", 0))?;
+    /// let known = section.as_known(alloc)?;
+    /// assert!(rt; matches!(known, KnownCustom::Unknown));
+    /// ```
     pub fn as_known(&self, alloc: Global) -> Result<KnownCustom<'a>>
         ensures known { IfOk result (λ known. known_parts known ≡ known_of self.now) }
         ensures refused { IfErr result (λ e. fault_at e ≡ out_of_memory) }
@@ -162,8 +186,13 @@ impl<'a> CustomSectionReader<'a> {
         self.as_known_in(alloc, alloc)
     }
 
-    /// Like `as_known`, with `alloc` for the lists of core dumps. A reader of subsections keeps `kept`, the allocator for the lists
-    /// that are read from its subsections.
+    /// Returns a reader for the data like `as_known`, with `alloc` for the lists of core dumps.
+    ///
+    /// A reader of subsections keeps `kept`, the allocator for the lists of the subsections that it will read.
+    ///
+    /// # Errors
+    ///
+    /// Those of `as_known`.
     pub fn as_known_in<A: Allocator + Copy>(
         &self,
         kept: Global,

@@ -1,5 +1,5 @@
-//! Laws of custom sections and their items: of comparing, hashing and cloning them, of items that were read, and of iterating
-//! over them to the end.
+//! Laws of custom sections and their items: of comparing, hashing and cloning them, of items that were read, and of
+//! iterating over them to the end.
 ghost use Rattle.std.specs.Hash as hashed;
 ghost use Rattle.std.specs.Ordering.{nat_cmp};
 ghost use Rattle.std.specs.Prelude.{◌≡◌, Ok, Some, false};
@@ -85,8 +85,8 @@ pub fn default_flags_are_none()
         ⟦<SegmentFlags as Default>⟧.is_default flags → segment_bits flags ≡ 0 }
 {}
 
-/// A clone of a custom section or of one of its items is identical to it, its name as a text and its window. Cloning never
-/// fails, since it never allocates.
+/// A clone of a custom section or of one of its items is identical to it, its name as a text and its window. Cloning
+/// never fails, since it never allocates.
 pub fn copies_are_the_same<'a>()
     ensures section { IsCopy
         ⟦<CustomSectionReader<'a> as Clone>⟧.is_clone
@@ -118,8 +118,8 @@ pub fn copies_are_the_same<'a>()
         ⟦<RelocAddendKind as Clone>⟧.is_infallible }
 {}
 
-/// A clone of a name, of what has names, of a symbol, of what linkers and dynamic linkers read or of a set of flags is identical
-/// to it. Cloning never fails.
+/// A clone of a name, of what has names, of a symbol, of what linkers and dynamic linkers read or of a set of flags is
+/// identical to it. Cloning never fails.
 pub fn copies_of_names_and_symbols_are_the_same<'a>()
     ensures naming { IsCopy ⟦<Naming<'a> as Clone>⟧.is_clone ⟦<Naming<'a> as Clone>⟧.is_infallible }
     ensures segment { IsCopy
@@ -195,8 +195,8 @@ pub fn items_allow_one_outcome<'a>()
     ensures relocation_type { AllowsOne ⟦<RelocationType as FromReader<'a>>⟧.meaning }
 {}
 
-/// Each of these items is determined by its bytes, so the iterators over a section of them, and clones of these, yield equal
-/// items.
+/// Each of these items is determined by its bytes, so the iterators over a section of them, and clones of these, yield
+/// equal items.
 pub fn items_are_determined<'a>()
     ensures function_hints { Determines ⟦<BranchHintFunction<'a> as FromReader<'a>>⟧.meaning }
     ensures hint { Determines ⟦<BranchHint as FromReader<'a>>⟧.meaning }
@@ -204,9 +204,9 @@ pub fn items_are_determined<'a>()
     ensures relocation_type { Determines ⟦<RelocationType as FromReader<'a>>⟧.meaning }
 {}
 
-/// `next` returns exactly the names, or the subsections of names, whose index or id is above every one returned before. Any
-/// other one is the order fault at its start, and one with a fault of its own is that fault. The returned indices or ids ascend
-/// strictly, also across faults. After the first `None`, every call returns `None`.
+/// `next` returns exactly the names, or the subsections of names, whose index or id is above every one returned before.
+/// Any other one is the order fault at its start, and one with a fault of its own is that fault. The returned indices
+/// or ids ascend strictly, also across faults. After the first `None`, every call returns `None`.
 pub fn names_ascend<'a>()
     ensures names { GivesAscending
         ⟦<SectionLimitedIntoIter<'a, Naming<'a>> as Iterator>⟧.next_gives
@@ -222,8 +222,8 @@ pub fn names_ascend<'a>()
         ⟦<NameSectionReader<'a> as Iterator>⟧.next_gives }
 {}
 
-/// `next` returns the subsections of a section for linkers, one after the other to its end, and then only `None`. Each is what
-/// its id and its window mean, or its fault.
+/// `next` returns the subsections of a section for linkers, one after the other to its end, and then only `None`. Each
+/// is what its id and its window mean, or its fault.
 pub fn subsections_for_linkers<'a>()
     ensures { (s : Window) →
         GivesSubsections ⟦<LinkingIntoIter<'a> as Iterator>⟧.next_gives
@@ -246,10 +246,11 @@ fn cast(ty: RelocationType) -> u8
     ty as u8
 }
 
-/// If an item of a list inside an item can be read, skipping it consumes the same bytes as reading it. For an index with a name,
-/// and for a producer's value, this holds if each text has at most 100,000 bytes, the limit of skipped names.
-pub fn skipping_consumes_what_reading_consumes<'a>()
-    ensures hint { SkipsAsRead
+/// If an item of a list inside an item can be read, skipping it consumes the same bytes as reading it. For an index
+/// with a name, and for a producer's value, this holds if each text has at most 100,000 bytes, the limit of skipped
+/// names.
+pub fn passing_over_takes_what_reading_takes<'a>()
+    ensures hint { PassesAsRead
         ⟦<BranchHint as FromReader<'a>>⟧.meaning
         ⟦<BranchHint as SkipItem<'a>>⟧.skipped_at }
     ensures comdat_symbol { SkipsAsRead

@@ -1,4 +1,31 @@
-//! Custom sections: the name and the data of each, and readers for the data of the known ones.
+//! Readers for custom sections: the name, branch hint, producers, dylink, linking, relocation and core dump sections.
+//!
+//! A `CustomSectionReader` has the name and the data of a section. Its method `as_known` selects the reader for the
+//! data by the name. Reading never fails the stream: custom sections with malformed data are `KnownCustom::Unknown`, or
+//! report errors when you iterate over them.
+//!
+//! # Errors
+//!
+//! Each item documents the errors that it adds to those of its parts, which are documented in `wasm_base`. In short,
+//! truncated input is `UnexpectedEof`, a malformed LEB128 number is `NumberTooLong` or `NumberTooLarge`, and a text
+//! that is not UTF-8 is `MalformedUtf8` at its last byte. A text has no limit where the documentation says "of any
+//! length", and is otherwise `StringSize` above 100,000 bytes.
+//!
+//! ```rattle
+//! // The section `name`, with the name "f" for function 5.
+//! let section = CustomSectionReader::new(BinaryReader::new(b"\x04name\x01\x04\x01\x05\x01f", 0))?;
+//! if let KnownCustom::Name(subsections) = section.as_known(alloc)? {
+//!     for subsection in subsections {
+//!         if let Name::Function(names) = subsection? {
+//!             for naming in names {
+//!                 let naming = naming?;
+//!                 assert_eq!(rt; naming.index, 5);
+//!                 assert_eq!(rt; naming.name, "f");
+//!             }
+//!         }
+//!     }
+//! }
+//! ```
 #![tactic(auto)]
 
 mod ascending;

@@ -21,59 +21,114 @@ use wasm_base::{
     Subsection, Subsections, leading_byte_error, read_inner,
 };
 
-/// The data segments of a module that is to be linked (tool conventions, Linking, Segment Info Subsection).
+/// A list of information about data segments.
+///
+/// ```rattle
+/// let bytes = b"\x01\x05.data\x02\x00";
+/// for segment in SegmentMap::new(BinaryReader::new(bytes, 0))? {
+///     let segment = segment?;
+///     assert_eq!(rt; segment.name, ".data");
+///     assert_eq!(rt; segment.alignment, 2);
+/// }
+/// ```
+///
+/// (Tool conventions, Linking, Segment Info Subsection.)
 pub type SegmentMap<'a> = SectionLimited<'a, Segment<'a>>;
 
-/// The functions that are called at startup (tool conventions, Linking, Init Functions Subsection).
+/// A list of functions to call at startup.
+///
+/// ```rattle
+/// for function in InitFuncMap::new(BinaryReader::new(&[1, 10, 4], 0))? {
+///     let function = function?;
+///     assert_eq!(rt; function.priority, 10);
+///     assert_eq!(rt; function.symbol_index, 4);
+/// }
+/// ```
+///
+/// (Tool conventions, Linking, Init Functions Subsection.)
 pub type InitFuncMap<'a> = SectionLimited<'a, InitFunc>;
 
-/// The comdats of a module (tool conventions, Linking, COMDAT Subsection).
+/// A list of comdats.
+///
+/// ```rattle
+/// let bytes = b"\x01\x01c\x00\x01\x01\x05";
+/// for comdat in ComdatMap::new(BinaryReader::new(bytes, 0))? {
+///     assert_eq!(rt; comdat?.name, "c");
+/// }
+/// ```
+///
+/// (Tool conventions, Linking, COMDAT Subsection.)
 pub type ComdatMap<'a> = SectionLimited<'a, Comdat<'a>>;
 
-/// The symbols of a module (tool conventions, Linking, Symbol Table Subsection).
+/// A list of symbols.
+///
+/// ```rattle
+/// // The defined function 3 has the symbol "f".
+/// let bytes = b"\x01\x00\x00\x03\x01f";
+/// for symbol in SymbolInfoMap::new(BinaryReader::new(bytes, 0))? {
+///     if let SymbolInfo::Func { index, name, .. } = symbol? {
+///         assert_eq!(rt; index, 3);
+///         assert_eq!(rt; name, Some("f"));
+///     }
+/// }
+/// ```
+///
+/// (Tool conventions, Linking, Symbol Table Subsection.)
 pub type SymbolInfoMap<'a> = SectionLimited<'a, SymbolInfo<'a>>;
 
 /// Information about a data segment (tool conventions, Linking, Segment Info Subsection).
 #[derive(Clone, Copy, Debug)]
 pub struct Segment<'a> {
-    /// Its name.
+    /// The name of the segment.
     pub name: &'a str,
-    /// Its alignment, as a power of two.
+    /// The alignment of the segment, as the base-2 logarithm of the bytes.
     pub alignment: u32,
-    /// Its flags.
+    /// The flags of the segment.
     pub flags: SegmentFlags,
 }
 
-/// A function that is called at startup (tool conventions, Linking, Init Functions Subsection).
+/// A function to call at startup (tool conventions, Linking, Init Functions Subsection).
 #[derive(Clone, Copy, Debug)]
 pub struct InitFunc {
-    /// Its priority: functions with lower numbers are called first.
+    /// The priority of the function: lower numbers are called first.
     pub priority: u32,
-    /// The index of the function's symbol.
+    /// The index of the function's symbol in the symbol table.
     pub symbol_index: u32,
 }
 
-/// A group of symbols, of which one copy is kept if several modules have it (tool conventions, Linking, COMDAT Subsection).
+/// A comdat: a group of symbols, of which the linker keeps one copy if several modules define it.
+///
+/// ```rattle
+/// // The comdat "c" of function 5.
+/// let mut reader = BinaryReader::new(b"\x01c\x00\x01\x01\x05", 0);
+/// for symbol in Comdat::from_reader(&mut reader)?.symbols {
+///     let symbol = symbol?;
+///     assert_eq!(rt; symbol.kind, ComdatSymbolKind::Func);
+///     assert_eq!(rt; symbol.index, 5);
+/// }
+/// ```
+///
+/// (Tool conventions, Linking, COMDAT Subsection.)
 #[derive(Clone, Debug, Drop)]
 pub struct Comdat<'a> {
-    /// Its name.
+    /// The name of the comdat, which identifies it among modules.
     pub name: &'a str,
-    /// Its flags, none of which is known.
+    /// The flags. None is defined; they are not checked.
     pub flags: u32,
-    /// Its symbols.
+    /// The symbols of the comdat, read lazily. If the comdat was read, iterating over them yields no error.
     pub symbols: SectionLimited<'a, ComdatSymbol>,
 }
 
 /// A symbol of a comdat (tool conventions, Linking, COMDAT Subsection).
 #[derive(Clone, Copy, Debug)]
 pub struct ComdatSymbol {
-    /// What it is.
+    /// The kind of the symbol.
     pub kind: ComdatSymbolKind,
-    /// Its index in the index space of its kind.
+    /// The index of the symbol, in the index space of the kind.
     pub index: u32,
 }
 
-/// What a symbol of a comdat is (tool conventions, Linking, COMDAT Subsection).
+/// The kind of a symbol of a comdat (tool conventions, Linking, COMDAT Subsection).
 #[derive(Clone, Copy, Debug, PartialEq, Eq, Hash)]
 pub enum ComdatSymbolKind {
     /// A data segment.
@@ -90,75 +145,102 @@ pub enum ComdatSymbolKind {
     Section,
 }
 
-/// Where the data of a symbol is (tool conventions, Linking, Symbol Table Subsection).
+/// The location of a defined data symbol.
+///
+/// ```rattle
+/// let mut reader = BinaryReader::new(b"\x01\x00\x01x\x00\x08\x04", 0);
+/// if let SymbolInfo::Data { symbol, .. } = SymbolInfo::from_reader(&mut reader)? {
+///     let place = symbol.ok_or("not defined")?;
+///     assert_eq!(rt; place.offset, 8);
+///     assert_eq!(rt; place.size, 4);
+/// }
+/// ```
+///
+/// (Tool conventions, Linking, Symbol Table Subsection.)
 #[derive(Clone, Copy, Debug)]
 pub struct DefinedDataSymbol {
     /// The index of the data segment.
     pub index: u32,
-    /// Its offset from the start of the segment, in bytes.
+    /// The offset of the data from the start of the segment, in bytes.
     pub offset: u32,
-    /// Its size, in bytes.
+    /// The size of the data, in bytes.
     pub size: u32,
 }
 
-/// A symbol (tool conventions, Linking, Symbol Table Subsection).
+/// A symbol of the symbol table.
+///
+/// ```rattle
+/// // An undefined function, imported as function 0.
+/// let mut reader = BinaryReader::new(&[0, 0x10, 0], 0);
+/// match SymbolInfo::from_reader(&mut reader)? {
+///     SymbolInfo::Func { index, name, .. } => {
+///         assert_eq!(rt; index, 0);
+///         assert_eq!(rt; name, None);
+///     }
+///     _ => assert!(rt; false),
+/// }
+/// ```
+///
+/// (Tool conventions, Linking, Symbol Table Subsection.)
 #[derive(Clone, Copy, Debug)]
 pub enum SymbolInfo<'a> {
     /// A function.
     Func {
-        /// Its flags.
+        /// The flags of the symbol.
         flags: SymbolFlags,
-        /// The function's index.
+        /// The index of the function.
         index: u32,
-        /// Its name, if present: an import has one only with `EXPLICIT_NAME`.
+        /// The name of the symbol. `None` for an undefined symbol without `EXPLICIT_NAME`, which has the name of the
+        /// import.
         name: Option<&'a str>,
     },
     /// A global.
     Global {
-        /// Its flags.
+        /// The flags of the symbol.
         flags: SymbolFlags,
-        /// The global's index.
+        /// The index of the global.
         index: u32,
-        /// Its name, if present.
+        /// The name of the symbol, or `None` as for a function.
         name: Option<&'a str>,
     },
-    /// An event.
+    /// An event, which the core specification calls a tag.
     Event {
-        /// Its flags.
+        /// The flags of the symbol.
         flags: SymbolFlags,
-        /// The event's index.
+        /// The index of the event.
         index: u32,
-        /// Its name, if present.
+        /// The name of the symbol, or `None` as for a function.
         name: Option<&'a str>,
     },
     /// A table.
     Table {
-        /// Its flags.
+        /// The flags of the symbol.
         flags: SymbolFlags,
-        /// The table's index.
+        /// The index of the table.
         index: u32,
-        /// Its name, if present.
+        /// The name of the symbol, or `None` as for a function.
         name: Option<&'a str>,
     },
-    /// Data.
+    /// Data in a segment.
     Data {
-        /// Its flags.
+        /// The flags of the symbol.
         flags: SymbolFlags,
-        /// Its name.
+        /// The name of the symbol.
         name: &'a str,
-        /// Where it is, if it is defined in this module.
+        /// The location of the data, or `None` for an undefined symbol.
         symbol: Option<DefinedDataSymbol>,
     },
     /// A section.
     Section {
-        /// Its flags.
+        /// The flags of the symbol.
         flags: SymbolFlags,
-        /// The section's index among all sections of the module.
+        /// The index of the section among all sections of the module.
         section: u32,
     },
 }
 
-/// A name of any length, an alignment and flags, each a u32.
+/// Reads a name of any length, an alignment and flags, each a u32, with the errors of `read_unlimited_string` and
+/// `read_var_u32`.
 impl<'a> FromReader<'a> for Segment<'a> {
     ghost use Rattle.wasm_custom.specs.Linking.{segment_parts, segment_at};
 
@@ -177,7 +259,7 @@ impl<'a> FromReader<'a> for Segment<'a> {
     }
 }
 
-/// A priority and the index of a symbol, each a u32.
+/// Reads a priority and the index of a symbol, each a u32, with the errors of `read_var_u32`.
 impl<'a> FromReader<'a> for InitFunc {
     ghost use Rattle.wasm_custom.specs.Linking.{init_function_at};
 
@@ -209,7 +291,11 @@ fn comdat_kind(byte: u8) -> Option<ComdatSymbolKind>
     }
 }
 
-/// A byte below 6. Another one is `LeadingByte(ComdatSymbol)` at it, with the byte as its number.
+/// Reads a byte: 0 for data, 1 a function, 2 a global, 3 an event, 4 a table, 5 a section.
+///
+/// # Errors
+///
+/// `UnexpectedEof` if no byte remains; `LeadingByte(ComdatSymbol)` at any other byte, which is its number.
 impl<'a> FromReader<'a> for ComdatSymbolKind {
     ghost use Rattle.wasm_custom.specs.Linking.{comdat_kind_at};
 
@@ -228,7 +314,7 @@ impl<'a> FromReader<'a> for ComdatSymbolKind {
     }
 }
 
-/// A kind, and an index, a u32.
+/// Reads a kind and an index, a u32, with the errors of `ComdatSymbolKind` and `read_var_u32`.
 impl<'a> FromReader<'a> for ComdatSymbol {
     ghost meaning = { ReadsAs (λ symbol. symbol) comdat_symbol_at };
 
@@ -240,7 +326,7 @@ impl<'a> FromReader<'a> for ComdatSymbol {
     }
 }
 
-/// Skips a symbol by reading it.
+/// Skips a symbol, with the errors of reading it.
 impl<'a> SkipItem<'a> for ComdatSymbol {
     ghost skipped_at = { after_reading comdat_symbol_at };
 
@@ -251,8 +337,11 @@ impl<'a> SkipItem<'a> for ComdatSymbol {
     }
 }
 
-/// A name of any length, flags, a u32, and a list of symbols, which are skipped and their errors returned, so those of a
-/// comdat that was read have none.
+/// Reads a name of any length and flags, a u32, and skips the list of symbols.
+///
+/// # Errors
+///
+/// Those of `read_unlimited_string`, `read_var_u32` and, for each symbol, `ComdatSymbol`.
 impl<'a> FromReader<'a> for Comdat<'a> {
     ghost use Rattle.wasm_custom.specs.Linking.{comdat_parts, comdat_at};
 
@@ -271,7 +360,7 @@ impl<'a> FromReader<'a> for Comdat<'a> {
     }
 }
 
-/// The index of a segment, an offset in it and a size, each a u32.
+/// Reads the index of a segment, an offset in it and a size, each a u32, with the errors of `read_var_u32`.
 impl<'a> FromReader<'a> for DefinedDataSymbol {
     ghost use Rattle.wasm_custom.specs.Linking.{defined_data_at};
 
@@ -339,10 +428,14 @@ fn read_data_place(
     Ok(Some(reader.read()?))
 }
 
-/// A kind, a byte, and flags, a u32; then an index and, if present, a name; for data a name and, if it is defined, its location;
-/// for a section its index.
+/// Reads a kind, a byte, and flags, a u32; then an index and, if present, a name of any length; for data a name and, if
+/// defined, a location; for a section an index.
 ///
-/// Another kind is `LeadingByte(Symbol)` at it, with the byte as its number, unless the flags have an error.
+/// # Errors
+///
+/// * `LeadingByte(Symbol)` at a kind above 5, which is its number. It is reported only if the flags after it can be
+///   read.
+/// * `UnexpectedEof` if no byte remains, and the errors of `read_var_u32` and `read_unlimited_string`.
 impl<'a> FromReader<'a> for SymbolInfo<'a> {
     ghost use Rattle.wasm_custom.specs.Linking.{symbol_parts, symbol_at};
 
@@ -388,32 +481,46 @@ impl<'a> FromReader<'a> for SymbolInfo<'a> {
     }
 }
 
-/// A subsection of the section for linkers (tool conventions, Linking, Linking Metadata Section).
+/// A subsection of the section `linking`.
+///
+/// ```rattle
+/// let reader = BinaryReader::new(&[1, 10, 4], 0);
+/// match Linking::from_reader(alloc, 6, reader)? {
+///     Linking::InitFuncs(functions) => assert_eq!(rt; functions.count(), 1),
+///     _ => assert!(rt; false),
+/// }
+/// ```
+///
+/// (Tool conventions, Linking, Linking Metadata Section.)
 #[derive(Clone, Debug, Drop)]
 pub enum Linking<'a> {
-    /// Information about data segments.
+    /// Names, alignments and flags of the data segments (id 5).
     SegmentInfo(SegmentMap<'a>),
-    /// The functions that are called at startup.
+    /// The functions to call at startup (id 6).
     InitFuncs(InitFuncMap<'a>),
-    /// The comdats.
+    /// The comdats (id 7).
     ComdatInfo(ComdatMap<'a>),
-    /// The symbols.
+    /// The symbol table (id 8).
     SymbolTable(SymbolInfoMap<'a>),
-    /// The name of the architecture that the module is for.
+    /// The name of the architecture that the module is for (id 9).
     TargetArch(&'a str),
-    /// A subsection with another id.
+    /// A subsection with another id, which is not decoded.
     Unknown {
-        /// Its id.
+        /// The id, below 128.
         ty: u8,
-        /// Its bytes.
+        /// The content, without the id and the size.
         contents: &'a [u8],
-        /// The offsets of its bytes in the whole stream.
+        /// The offsets of the content, in bytes from the start of the stream.
         range: Range<u64>,
     },
 }
 
-/// A count, a u32, and items that are read on demand; for the architecture a name of at most 100,000 bytes. Bytes after that
-/// name are ignored.
+/// Reads the count of a list, whose items are read lazily; or, for the architecture, a name of at most 100,000 bytes.
+/// Bytes after that name are ignored.
+///
+/// # Errors
+///
+/// Those of `read_var_u32` for the count, or of `read_string` for the architecture.
 impl<'a> Subsection<'a> for Linking<'a> {
     ghost meaning = { ReadsWindowAs linking_parts linking_subsection_in };
 
@@ -436,9 +543,22 @@ impl<'a> Subsection<'a> for Linking<'a> {
     }
 }
 
-/// The section `linking`: a version and subsections (tool conventions, Linking, Linking Metadata Section).
+/// The section `linking`: a version and subsections.
 ///
-/// Offsets count bytes from the start of the whole stream.
+/// Iterate over the section, or over `subsections`, to read the subsections. Offsets are in bytes from the start of the
+/// stream.
+///
+/// ```rattle
+/// // Version 2, and the function symbol 4 to call at startup.
+/// let bytes = &[2, 6, 3, 1, 10, 4];
+/// for subsection in LinkingSectionReader::new(alloc, BinaryReader::new(bytes, 0))? {
+///     if let Linking::InitFuncs(functions) = subsection? {
+///         assert_eq!(rt; functions.count(), 1);
+///     }
+/// }
+/// ```
+///
+/// (Tool conventions, Linking, Linking Metadata Section.)
 #[derive(Debug, Drop)]
 pub struct LinkingSectionReader<'a> {
     version: u32,
@@ -469,8 +589,11 @@ impl<'a> Clone for LinkingSectionReader<'a> {
 }
 
 impl<'a> LinkingSectionReader<'a> {
-    /// Reads the version, a u32, with the errors of `read_var_u32`. A version other than 2 is `LinkingVersion` at it, with
-    /// it as its number. The remaining bytes of the window are the subsections; reading them never allocates.
+    /// Reads the version, a u32. The remaining bytes of the window are the subsections; reading them never allocates.
+    ///
+    /// # Errors
+    ///
+    /// Those of `read_var_u32`; `LinkingVersion` at the version, which is its number, if it is not 2.
     #[tactic(auto, unfolding(crate::specs::Linking::linking_in))]
     pub fn new(alloc: Global, mut reader: BinaryReader<'a>) -> Result<Self>
         ensures gives { GivesResult (λ section. section) result (linking_in reader.entry) }
@@ -489,14 +612,14 @@ impl<'a> LinkingSectionReader<'a> {
         })
     }
 
-    /// Returns the version, which is 2.
+    /// Returns the version, which is always 2.
     pub fn version(&self) -> u32
         ensures { result ≡ self.now.version }
     {
         self.version
     }
 
-    /// Returns the offset after the version.
+    /// Returns the offset after the version, where the subsections begin.
     pub fn original_position(&self) -> u64
         ensures { result ≡ (place self.now.subsections).offset }
     {
@@ -510,7 +633,7 @@ impl<'a> LinkingSectionReader<'a> {
         self.range.start..self.range.end
     }
 
-    /// Returns the subsections.
+    /// Returns an iterator over the subsections, starting with the first.
     pub fn subsections(&self) -> Subsections<'a, Linking<'a>>
         ensures { result ≡ self.now.subsections }
     {
@@ -532,7 +655,11 @@ impl<'a> IntoIterator for LinkingSectionReader<'a> {
     }
 }
 
-/// An iterator over the subsections of a section for linkers, like `Subsections`.
+/// An iterator over the subsections of the section `linking`.
+///
+/// # Errors
+///
+/// Those of `Subsections`: the error of a malformed subsection, after which the next one follows.
 #[derive(Drop)]
 pub struct LinkingIntoIter<'a> {
     subsections: Subsections<'a, Linking<'a>>,

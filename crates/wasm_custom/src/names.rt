@@ -20,16 +20,25 @@ use wasm_base::{
     SectionLimitedIntoIter, SkipItem, Subsection, Subsections, read_inner,
 };
 
-/// An index and its name (core specification, Appendix, Custom Sections, Name Section, Name Maps).
+/// An entry of a name map: an index and a name.
+///
+/// ```rattle
+/// let mut reader = BinaryReader::new(b"\x05\x01f", 0);
+/// let naming = Naming::from_reader(&mut reader)?;
+/// assert_eq!(rt; naming.index, 5);
+/// assert_eq!(rt; naming.name, "f");
+/// ```
+///
+/// (Core specification, Appendix, Custom Sections, Name Section, Name Maps.)
 #[derive(Clone, Copy, Debug)]
 pub struct Naming<'a> {
-    /// The index of what is named.
+    /// The index of the named item, in the index space of the map.
     pub index: u32,
-    /// Its name.
+    /// The name of the item.
     pub name: &'a str,
 }
 
-/// An index, a u32, and a name of any length, with the errors of `read_unlimited_string`.
+/// Reads an index, a u32, and a name of any length, with the errors of `read_var_u32` and `read_unlimited_string`.
 impl<'a> FromReader<'a> for Naming<'a> {
     ghost meaning = { ReadsAs naming_parts naming_at };
 
@@ -41,7 +50,8 @@ impl<'a> FromReader<'a> for Naming<'a> {
     }
 }
 
-/// An index, and a name of at most 100,000 bytes, which need not be UTF-8.
+/// Skips an index and a name of at most 100,000 bytes, with the errors of `read_var_u32` and `skip_string`. The name
+/// may be invalid UTF-8.
 impl<'a> SkipItem<'a> for Naming<'a> {
     ghost skipped_at = { skipped_naming_at };
 
@@ -52,7 +62,16 @@ impl<'a> SkipItem<'a> for Naming<'a> {
     }
 }
 
-/// An entry of a map: what an index names, and the fault of indices that don't ascend.
+/// An entry of an `IndexedMap`, which has an index and a fault for indices that do not ascend.
+///
+/// `Naming` and `IndirectNaming` implement it.
+///
+/// ```rattle
+/// let mut reader = BinaryReader::new(b"\x05\x01f", 0);
+/// let naming = Naming::from_reader(&mut reader)?;
+/// assert_eq!(rt; naming.index(), 5);
+/// assert_eq!(rt; Naming::order_fault(), Fault::NamesOrder);
+/// ```
 pub trait MapEntry<'a>: FromReader<'a> {
     ghost use Rattle.wasm_base.specs.declared.fault.Fault.{Fault};
 
@@ -62,11 +81,11 @@ pub trait MapEntry<'a>: FromReader<'a> {
 
     ghost takes_no_memory: { is_out_of_memory order_fault ≡ false };
 
-    /// Returns the fault of an entry whose index isn't above every index returned before.
+    /// Returns the fault for an entry whose index is not above every index returned before.
     fn order_fault() -> Fault
         ensures { result ≡ order_fault };
 
-    /// The index of what is named.
+    /// Returns the index of the entry.
     fn index(&self) -> u32
         ensures { result ≡ index_of self.now };
 }
@@ -91,22 +110,70 @@ impl<'a> MapEntry<'a> for Naming<'a> {
     }
 }
 
-/// An iterator over entries whose indices ascend (core specification, Appendix, Custom Sections, Name Section, Name Maps).
+/// An iterator over entries whose indices ascend.
 ///
-/// It ends after the first malformed entry. One whose index isn't above every index returned before is its `order_fault` at its
-/// start, and the next one follows.
+/// Entries are read lazily and in order. The indices of the entries returned with `Ok` ascend strictly.
+///
+/// # Errors
+///
+/// * An entry whose index is not above every index returned before is the `order_fault` of its type, at the start of
+///   the entry. The iterator continues with the next entry.
+/// * After a malformed entry, with the errors of its `from_reader`, the iterator ends.
+/// * If bytes follow the last entry, the iterator ends with `SizeMismatch` at the first of them.
+///
+/// ```rattle
+/// // The indices are 5, 3 and 6.
+/// let bytes = b"\x03\x05\x01a\x03\x01b\x06\x01c";
+/// let mut names = Vec::new(alloc);
+/// for naming in IndexedMap::<Naming>::new(BinaryReader::new(bytes, 0))? {
+///     match naming {
+///         Ok(naming) => names.push(naming.name)?,
+///         Err(error) => assert_eq!(rt; error, Error::new(Fault::NamesOrder, 4)),
+///     }
+/// }
+/// assert_eq!(rt; names.as_slice(), ["a", "c"].as_slice());
+/// ```
+///
+/// (Core specification, Appendix, Custom Sections, Name Section, Name Maps.)
 #[derive(Drop)]
 pub struct IndexedMap<'a, T> {
-    /// The entries as encoded, in any order.
+    /// An iterator over the remaining entries as encoded, in any order.
     pub names: SectionLimitedIntoIter<'a, T>,
     last: Option<u32>,
 }
 
-/// Names by index. One whose index isn't above the last is `NamesOrder`.
+/// A map from indices to names, as an iterator over ascending entries.
+///
+/// The order fault is `NamesOrder`. See `IndexedMap` for other errors.
+///
+/// ```rattle
+/// for naming in NameMap::new(BinaryReader::new(b"\x01\x05\x01f", 0))? {
+///     let naming = naming?;
+///     assert_eq!(rt; naming.index, 5);
+///     assert_eq!(rt; naming.name, "f");
+/// }
+/// ```
+///
+/// (Core specification, Appendix, Custom Sections, Name Section, Name Maps.)
 pub type NameMap<'a> = IndexedMap<'a, Naming<'a>>;
 
-/// Name maps by index (core specification, Appendix, Custom Sections, Name Section, Indirect Name Maps). One whose index isn't
-/// above the last is `IndirectOrder`.
+/// A map from indices to name maps, as an iterator over ascending entries.
+///
+/// The order fault is `IndirectOrder`. See `IndexedMap` for other errors.
+///
+/// ```rattle
+/// // Local 0 of function 5 has the name "x".
+/// let bytes = b"\x01\x05\x01\x00\x01x";
+/// for function in IndirectNameMap::new(BinaryReader::new(bytes, 0))? {
+///     let function = function?;
+///     assert_eq!(rt; function.index, 5);
+///     for local in function.names {
+///         assert_eq!(rt; local?.name, "x");
+///     }
+/// }
+/// ```
+///
+/// (Core specification, Appendix, Custom Sections, Name Section, Indirect Name Maps.)
 pub type IndirectNameMap<'a> = IndexedMap<'a, IndirectNaming<'a>>;
 
 impl<'a, T> Model for IndexedMap<'a, T> {
@@ -141,7 +208,11 @@ impl<'a, T: Clone> Clone for IndexedMap<'a, T> {
 }
 
 impl<'a, T: FromReader<'a>> IndexedMap<'a, T> {
-    /// Reads the count, a u32, with the errors of `read_var_u32`. No entry is read.
+    /// Creates an iterator from a window that begins with the count of entries. Reads only the count, a u32.
+    ///
+    /// # Errors
+    ///
+    /// Those of `read_var_u32` for the count.
     #[tactic(auto, unfolding(crate::specs::Names::entries_in))]
     pub fn new(reader: BinaryReader<'a>) -> Result<Self>
         ensures gives { GivesResult (λ names. names) result (entries_in reader.entry) }
@@ -182,16 +253,30 @@ impl<'a, T: MapEntry<'a>> Iterator for IndexedMap<'a, T> {
     }
 }
 
-/// An index and its name map (core specification, Appendix, Custom Sections, Name Section, Indirect Name Maps).
+/// An entry of an indirect name map: an index and a name map.
+///
+/// ```rattle
+/// let mut reader = BinaryReader::new(b"\x05\x01\x00\x01x", 0);
+/// let function = IndirectNaming::from_reader(&mut reader)?;
+/// assert_eq!(rt; function.index, 5);
+/// ```
+///
+/// (Core specification, Appendix, Custom Sections, Name Section, Indirect Name Maps.)
 #[derive(Clone, Debug, Drop)]
 pub struct IndirectNaming<'a> {
-    /// The index of what owns the names, such as a function.
+    /// The index of the item whose parts are named, such as a function.
     pub index: u32,
-    /// The names of what it owns, such as its locals.
+    /// The names of the parts, such as the locals of the function.
     pub names: NameMap<'a>,
 }
 
-/// An index, a u32, and a list of names, which are skipped, with the errors of `skip_string`.
+/// Reads an index, a u32, and skips a name map.
+///
+/// The names are limited to 100,000 bytes here. Iterating over them also checks that they are UTF-8 and in order.
+///
+/// # Errors
+///
+/// Those of `read_var_u32` and, for the names, `skip_string`.
 impl<'a> FromReader<'a> for IndirectNaming<'a> {
     ghost meaning = { ReadsAs (λ naming. naming) indirect_naming_at };
 
@@ -223,53 +308,63 @@ impl<'a> MapEntry<'a> for IndirectNaming<'a> {
     }
 }
 
-/// A subsection of names (core specification, Appendix, Custom Sections, Name Section, Subsections).
+/// A subsection of the section `name`.
 ///
-/// The core specification has those of the module, functions, locals, types, fields and tags. Those of labels, tables,
-/// memories, globals, element and data segments are of the extended name section proposal; those of parameters are read as
-/// `wasmparser` reads them.
+/// The core specification has names of the module, functions, locals, types, fields and tags. The names of labels,
+/// tables, memories, globals, element and data segments belong to the extended name section proposal. The names of
+/// parameters are read as `wasmparser` reads them.
+///
+/// ```rattle
+/// let reader = BinaryReader::new(b"\x03app", 0);
+/// match Name::from_reader(alloc, 0, reader)? {
+///     Name::Module { name, .. } => assert_eq!(rt; name, "app"),
+///     _ => assert!(rt; false),
+/// }
+/// ```
+///
+/// (Core specification, Appendix, Custom Sections, Name Section, Subsections.)
 #[derive(Clone, Drop)]
 pub enum Name<'a> {
-    /// The name of the module.
+    /// The name of the module (id 0).
     Module {
-        /// The name.
+        /// The name, of at most 100,000 bytes.
         name: &'a str,
-        /// The offsets of the name and its size, all remaining bytes of the subsection, in the whole stream.
+        /// The offsets of the size and the name, which are the whole subsection, in bytes from the start of the stream.
         name_range: Range<u64>,
     },
-    /// The names of functions.
+    /// The names of functions (id 1).
     Function(NameMap<'a>),
-    /// The names of locals, by function.
+    /// The names of locals, by function (id 2).
     Local(IndirectNameMap<'a>),
-    /// The names of labels, by function.
+    /// The names of labels, by function (id 3).
     Label(IndirectNameMap<'a>),
-    /// The names of types.
+    /// The names of types (id 4).
     Types(NameMap<'a>),
-    /// The names of tables.
+    /// The names of tables (id 5).
     Table(NameMap<'a>),
-    /// The names of memories.
+    /// The names of memories (id 6).
     Memory(NameMap<'a>),
-    /// The names of globals.
+    /// The names of globals (id 7).
     Global(NameMap<'a>),
-    /// The names of element segments.
+    /// The names of element segments (id 8).
     Element(NameMap<'a>),
-    /// The names of data segments.
+    /// The names of data segments (id 9).
     Data(NameMap<'a>),
-    /// The names of fields, by type.
+    /// The names of fields, by type (id 10).
     Field(IndirectNameMap<'a>),
-    /// The names of tags.
+    /// The names of tags (id 11).
     Tag(NameMap<'a>),
-    /// The names of parameters, by type.
+    /// The names of parameters, by type (id 12).
     Parameter(IndirectNameMap<'a>),
-    /// The names of the parameters of tags, by tag.
+    /// The names of the parameters of tags, by tag (id 13).
     TagParameter(IndirectNameMap<'a>),
-    /// A subsection with another id.
+    /// A subsection with another id, which is not decoded.
     Unknown {
-        /// Its id.
+        /// The id, below 128.
         ty: u8,
-        /// Its bytes.
+        /// The content, without the id and the size.
         contents: &'a [u8],
-        /// The offsets of its bytes in the whole stream.
+        /// The offsets of the content, in bytes from the start of the stream.
         range: Range<u64>,
     },
 }
@@ -288,8 +383,12 @@ fn module_name<'a>(mut reader: BinaryReader<'a>) -> Result<Name<'a>>
     Ok(Name::Module { name, name_range })
 }
 
-/// The name of the module is the whole subsection: trailing bytes are `NameTrailing` at the first of them. Other subsections are
-/// a count, a u32, and names that are read on demand.
+/// Reads the name of the module, or the count of a name map, whose entries are read lazily.
+///
+/// # Errors
+///
+/// For the name of the module, those of `read_string`, and `NameTrailing` at the first byte after the name. For a name
+/// map, those of `read_var_u32` for the count.
 impl<'a> Subsection<'a> for Name<'a> {
     ghost meaning = { ReadsWindowAs name_parts name_in };
 
@@ -344,13 +443,34 @@ fn id_of(name: &Name<'_>) -> u8
     }
 }
 
-/// The section `name`: its subsections, whose ids ascend (core specification, Appendix, Custom Sections, Name Section).
+/// The section `name`, an iterator over subsections whose ids ascend.
 ///
-/// A subsection whose id isn't above every id returned before is `NameSectionOrder` at its start. A malformed one is its fault,
-/// and its id doesn't count as returned. After either, the next one follows.
+/// Reading subsections never allocates.
+///
+/// # Errors
+///
+/// * A subsection whose id is not above every id returned before is `NameSectionOrder` at the start of the subsection.
+/// * A malformed subsection is the error of reading it. Its id does not count as returned.
+/// * A malformed id is `InvalidU7`; a malformed size is an error of `read_reader`.
+///
+/// After each of these, the iterator continues with the next subsection, as `Subsections` does.
+///
+/// ```rattle
+/// // The name of the module, then the name "f" for function 5.
+/// let bytes = b"\x00\x04\x03app\x01\x04\x01\x05\x01f";
+/// for subsection in NameSectionReader::new(alloc, BinaryReader::new(bytes, 0)) {
+///     match subsection? {
+///         Name::Module { name, .. } => assert_eq!(rt; name, "app"),
+///         Name::Function(names) => assert_eq!(rt; names.count(), 1),
+///         _ => assert!(rt; false),
+///     }
+/// }
+/// ```
+///
+/// (Core specification, Appendix, Custom Sections, Name Section.)
 #[derive(Drop)]
 pub struct NameSectionReader<'a> {
-    /// The subsections as encoded, in any order.
+    /// An iterator over the remaining subsections as encoded, in any order.
     pub sections: Subsections<'a, Name<'a>>,
     last: Option<u32>,
 }
@@ -378,7 +498,8 @@ impl<'a> Clone for NameSectionReader<'a> {
 }
 
 impl<'a> NameSectionReader<'a> {
-    /// Creates an iterator over the subsections in the remaining bytes of a reader's window, which never allocates.
+    /// Creates an iterator over the subsections in the remaining bytes of a reader. Nothing is read, and nothing
+    /// allocates.
     pub fn new(alloc: Global, reader: BinaryReader<'a>) -> Self
         ensures { result ≡ none_given reader.entry }
     {

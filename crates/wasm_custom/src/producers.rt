@@ -10,24 +10,53 @@ use wasm_base::{
     BinaryReader, Error, Fault, FromReader, Result, SectionLimited, SkipItem, read_inner,
 };
 
-/// The section `producers`: its fields (tool conventions, Producers Section).
+/// The section `producers`, whose items are fields: the languages and tools that a module was produced with.
+///
+/// ```rattle
+/// let bytes = b"\x01\x08language\x01\x04Rust\x00";
+/// for field in ProducersSectionReader::new(BinaryReader::new(bytes, 0))? {
+///     let field = field?;
+///     assert_eq!(rt; field.name, "language");
+///     assert_eq!(rt; field.values.count(), 1);
+/// }
+/// ```
+///
+/// (Tool conventions, Producers Section.)
 pub type ProducersSectionReader<'a> = SectionLimited<'a, ProducersField<'a>>;
 
-/// A field of the producers section (tool conventions, Producers Section).
+/// A field of the producers section: the values for one kind of tool.
+///
+/// ```rattle
+/// let mut reader = BinaryReader::new(b"\x03sdk\x01\x0aEmscripten\x053.1.0", 0);
+/// for value in ProducersField::from_reader(&mut reader)?.values {
+///     assert_eq!(rt; value?.version, "3.1.0");
+/// }
+/// ```
+///
+/// (Tool conventions, Producers Section.)
 #[derive(Clone, Debug, Drop)]
 pub struct ProducersField<'a> {
-    /// Which tools it names: `language`, `sdk` or `processed-by`.
+    /// The kind of the values: `language`, `sdk` or `processed-by`.
     pub name: &'a str,
-    /// The tools.
+    /// The languages or tools, each with a version, read lazily.
     pub values: SectionLimited<'a, ProducersFieldValue<'a>>,
 }
 
-/// A tool that a module was produced with (tool conventions, Producers Section).
+/// A language or tool that a module was produced with.
+///
+/// ```rattle
+/// let mut reader = BinaryReader::new(b"\x01C\x0311.", 0);
+/// let value = ProducersFieldValue::from_reader(&mut reader)?;
+/// assert_eq!(rt; value.name, "C");
+/// assert_eq!(rt; value.version, "11.");
+/// ```
+///
+/// (Tool conventions, Producers Section.)
 #[derive(Clone, Copy, Debug)]
 pub struct ProducersFieldValue<'a> {
-    /// Its name.
+    /// The name of the language or tool.
     pub name: &'a str,
-    /// Its version.
+    /// The version of the language or tool, possibly empty.
     pub version: &'a str,
 }
 
@@ -53,7 +82,7 @@ fn read_field_name<'a>(reader: &mut BinaryReader<'a>) -> Result<&'a str>
     Ok(name)
 }
 
-/// A name and a version, each a text of any size.
+/// Reads a name and a version, each a text of any length, with the errors of `read_unlimited_string`.
 impl<'a> FromReader<'a> for ProducersFieldValue<'a> {
     ghost use Rattle.wasm_custom.specs.Producers.{value_parts, field_value_at};
 
@@ -67,7 +96,8 @@ impl<'a> FromReader<'a> for ProducersFieldValue<'a> {
     }
 }
 
-/// Two names of at most 100,000 bytes each, which need not be UTF-8.
+/// Skips a name and a version of at most 100,000 bytes each, with the errors of `skip_string`. They may be invalid
+/// UTF-8.
 impl<'a> SkipItem<'a> for ProducersFieldValue<'a> {
     ghost skipped_at = { skipped_value_at };
 
@@ -78,9 +108,15 @@ impl<'a> SkipItem<'a> for ProducersFieldValue<'a> {
     }
 }
 
-/// A text, and the list of the field's values, which are skipped as two names each, with the errors of these.
+/// Reads the name of the field, a text of any length, and skips the list of values.
 ///
-/// A text other than `language`, `sdk` or `processed-by` is `ProducersField` at the field's start.
+/// The texts of the values are limited to 100,000 bytes here. Iterating over the values also checks that they are
+/// UTF-8.
+///
+/// # Errors
+///
+/// `ProducersField` at the start of the field if its name is not `language`, `sdk` or `processed-by`; the errors of
+/// `read_unlimited_string` and `read_var_u32`; and for the values those of `skip_string`.
 impl<'a> FromReader<'a> for ProducersField<'a> {
     ghost use Rattle.wasm_custom.specs.Producers.{field_parts, field_at};
 

@@ -9,11 +9,30 @@ ghost use Rattle.wasm_custom.specs.Reloc.{types, addend_of, extent_of, addend_at
 use std::ops::Range;
 use wasm_base::{BinaryReader, FromReader, Lead, Result, SectionLimited, leading_byte_error};
 
-/// The relocations of a section (tool conventions, Linking, Relocation Sections).
+/// A list of relocations.
+///
+/// ```rattle
+/// // The index of function symbol 2, at offset 6.
+/// for entry in RelocationEntryReader::new(BinaryReader::new(&[1, 0, 6, 2], 0))? {
+///     assert_eq!(rt; entry?.ty, RelocationType::FunctionIndexLeb);
+/// }
+/// ```
+///
+/// (Tool conventions, Linking, Relocation Sections.)
 pub type RelocationEntryReader<'a> = SectionLimited<'a, RelocationEntry>;
 
-/// A section whose name begins with `reloc.`: the relocations of another section (tool conventions, Linking, Relocation
-/// Sections).
+/// A section whose name begins with `reloc.`: the relocations of another section.
+///
+/// ```rattle
+/// // In section 3: the index of function symbol 2, at offset 6.
+/// let section = RelocSectionReader::new(BinaryReader::new(&[3, 1, 0, 6, 2], 0))?;
+/// assert_eq!(rt; section.section_index(), 3);
+/// for entry in section.entries() {
+///     assert_eq!(rt; entry?.index, 2);
+/// }
+/// ```
+///
+/// (Tool conventions, Linking, Relocation Sections.)
 #[derive(Clone, Debug, Drop)]
 pub struct RelocSectionReader<'a> {
     section: u32,
@@ -21,20 +40,45 @@ pub struct RelocSectionReader<'a> {
     entries: RelocationEntryReader<'a>,
 }
 
-/// A relocation: a place in a section that a linker fills in (tool conventions, Linking, Relocation Sections).
+/// A relocation: a place in a section that the linker fills in.
+///
+/// ```rattle
+/// // The address of symbol 2 plus 8, at offset 6.
+/// let mut reader = BinaryReader::new(&[3, 6, 2, 8], 0);
+/// let entry = RelocationEntry::from_reader(&mut reader)?;
+/// assert_eq!(rt; entry.addend, 8);
+/// let range = entry.relocation_range()?;
+/// assert_eq!(rt; range.end, 11);
+/// ```
+///
+/// (Tool conventions, Linking, Relocation Sections.)
 #[derive(Clone, Copy, Debug, PartialEq, Eq, Hash)]
 pub struct RelocationEntry {
-    /// Its type.
+    /// The type of the relocation: what to write, and in which encoding.
     pub ty: RelocationType,
     /// The offset of the place from the start of the section's content, in bytes.
     pub offset: u32,
-    /// The index of what it is filled in with: a symbol, or for `TypeIndexLeb` a type.
+    /// The index of the symbol whose value is written; for `TypeIndexLeb`, the index of a type.
     pub index: u32,
-    /// What is added to the value, 0 if the type has no addend.
+    /// The addend, which is added to the value. It is 0 if the type has no addend.
     pub addend: i64,
 }
 
-/// What a relocation is filled in with, and how: the numbers are those in the tool conventions (Linking, Relocation Sections).
+/// The type of a relocation: what the linker writes, and in which encoding.
+///
+/// The variants have the numbers of the tool conventions, which a cast (`ty as u8`) returns and `try_from` takes.
+/// Below, a number is in LEB128, padded to the given bytes, unless it is written "as *n* bytes", in little-endian
+/// order.
+///
+/// ```rattle
+/// let ty = RelocationType::MemoryAddrI32;
+/// assert_eq!(rt; ty as u8, 5);
+/// assert_eq!(rt; ty.extent(), 4);
+/// assert_eq!(rt; ty.addend_kind(), RelocAddendKind::Addend32);
+/// assert_eq!(rt; RelocationType::try_from(5), Ok(ty));
+/// ```
+///
+/// (Tool conventions, Linking, Relocation Sections.)
 #[derive(Clone, Copy, Debug, PartialEq, Eq, Hash)]
 #[repr(u8)]
 pub enum RelocationType {
@@ -94,14 +138,14 @@ pub enum RelocationType {
     FunctionIndexI32,
 }
 
-/// Whether a type of relocations has an addend, and how it is written (tool conventions, Linking, Relocation Sections).
+/// The encoding of the addend of a relocation type (tool conventions, Linking, Relocation Sections).
 #[derive(Clone, Copy, Debug, PartialEq, Eq, Hash)]
 pub enum RelocAddendKind {
-    /// It has none.
+    /// No addend.
     None,
-    /// It has one of 32 bits, signed.
+    /// A signed 32-bit number.
     Addend32,
-    /// It has one of 64 bits, signed.
+    /// A signed 64-bit number.
     Addend64,
 }
 
@@ -146,7 +190,7 @@ fn type_numbered(number: u8) -> Option<RelocationType>
     }
 }
 
-/// Converts a number from 0 to 26 to its type; other numbers are an error.
+/// Returns the relocation type with this number. The error, for a number above 26, is `()`.
 impl TryFrom<u8> for RelocationType {
     ghost use Rattle.wasm_custom.specs.Reloc.{IsTypeOf};
 
@@ -160,7 +204,7 @@ impl TryFrom<u8> for RelocationType {
 }
 
 impl RelocationType {
-    /// Returns whether relocations of this type have an addend, and of what size.
+    /// Returns whether relocations of this type have an addend, and in which encoding.
     pub fn addend_kind(&self) -> RelocAddendKind
         ensures { result ≡ addend_of self.now }
     {
@@ -183,7 +227,7 @@ impl RelocationType {
         }
     }
 
-    /// Returns the size of the place that such a relocation fills in, in bytes.
+    /// Returns the size of the place that a relocation of this type fills in, in bytes: 4, 5, 8 or 10.
     pub fn extent(&self) -> usize
         ensures { result ≡ extent_of self.now }
     {
@@ -209,7 +253,11 @@ impl RelocationType {
     }
 }
 
-/// A byte. One above 26 is `LeadingByte(Reloc)` at it, with the byte as its number.
+/// Reads a byte, the number of the type.
+///
+/// # Errors
+///
+/// `UnexpectedEof` if no byte remains; `LeadingByte(Reloc)` at a byte above 26, which is its number.
 impl<'a> FromReader<'a> for RelocationType {
     ghost use Rattle.wasm_custom.specs.Reloc.{relocation_type_at};
 
@@ -239,7 +287,11 @@ fn read_addend(ty: RelocationType, reader: &mut BinaryReader<'_>) -> Result<i64>
     }
 }
 
-/// A type, an offset and an index, each a u32, and the addend that the type has: a signed number of 32 or 64 bits, or none.
+/// Reads a type, a byte, an offset and an index, each a u32, and the addend, if the type has one.
+///
+/// # Errors
+///
+/// Those of `RelocationType`, `read_var_u32` and, for the addend, `read_var_i32` or `read_var_i64`.
 impl<'a> FromReader<'a> for RelocationEntry {
     ghost use Rattle.wasm_custom.specs.Reloc.{relocation_at};
 
@@ -264,7 +316,11 @@ impl RelocationEntry {
     ghost use Rattle.std.specs.Prelude.{Ok};
     ghost use Rattle.wasm_custom.specs.Reloc.{relocated_range};
 
-    /// Returns the range of the bytes that are filled in, from the start of the section's content. It is always `Ok`.
+    /// Returns the range of the bytes that the relocation fills in, in bytes from the start of the section's content.
+    ///
+    /// # Errors
+    ///
+    /// None: the result is always `Ok`, even if the range ends after the section.
     pub fn relocation_range(&self) -> Result<Range<usize>>
         ensures { result ≡ Ok (relocated_range self.now) }
     {
@@ -277,9 +333,12 @@ impl<'a> RelocSectionReader<'a> {
     ghost use Rattle.wasm_custom.specs.Reloc.{reloc_section_in};
     ghost use Rattle.wasm_base.specs.Outcome.{GivesResult};
 
-    /// Reads the index of the relocated section, a u32, and the count of relocations, a u32.
+    /// Reads the index of the relocated section and the count of relocations, each a u32. The relocations are read
+    /// lazily.
     ///
-    /// The errors are those of the two numbers. No relocation is read.
+    /// # Errors
+    ///
+    /// Those of `read_var_u32` for the two numbers.
     #[tactic(auto, unfolding(crate::specs::Reloc::reloc_section_in))]
     pub fn new(mut reader: BinaryReader<'a>) -> Result<Self>
         ensures gives { GivesResult (λ section. section) result (reloc_section_in reader.entry) }
@@ -302,14 +361,17 @@ impl<'a> RelocSectionReader<'a> {
         self.section
     }
 
-    /// Returns the offsets of the whole window, in bytes from the start of the whole stream.
+    /// Returns the offsets of the whole window, in bytes from the start of the stream.
     pub fn range(&self) -> Range<u64>
         ensures { result ≡ self.now.range }
     {
         self.range.start..self.range.end
     }
 
-    /// Returns the relocations, as a window that begins at their count.
+    /// Returns the list of relocations. Its window begins at the count.
+    ///
+    /// Iterating over it yields the errors of `RelocationEntry`, and `SizeMismatch` at the first byte after the last
+    /// relocation.
     pub fn entries(&self) -> RelocationEntryReader<'a>
         ensures { result ≡ self.now.entries }
     {

@@ -10,10 +10,33 @@ use std::alloc::Allocator;
 use std::marker::Model;
 use wasm_lines::{Failed, ListError, Source};
 
-/// The remaining bytes of the chunk that was read last, in the buffer that it was read into.
+/// The remaining bytes of the last chunk that was read from a source, in the buffer that it was read into.
 ///
-/// With a cursor and the bytes that are stored before them, it is a feeder that reads from a source and parses each chunk in place. A
-/// loop calls `make_ready`, then `parse_next` on what is `seen`, and then `pass_borrowed`, or `refill` if the step requested more.
+/// Together with a `Cursor` and a vector of stored bytes, it is a feeder that reads from a source and parses each chunk
+/// in place. A loop calls `make_ready`, then `parse_next` on what `seen` returns, and then `pass_borrowed`, or `refill`
+/// if the step requested more input.
+///
+/// ```rattle
+/// let mut input = SliceSource::new(b"\0asm\x01\0\0\0");
+/// let mut ahead = Ahead::new(vec![in alloc; 0; 4096]?);
+/// let (mut cursor, mut stored) = (Cursor::new(Parser::new(0)), Vec::new(alloc));
+/// let mut parts = 0;
+/// loop {
+///     ahead.make_ready(&mut cursor, &mut stored)?;
+///     let is_request = match parse_next(&mut cursor, seen(&stored, ahead.bytes()))? {
+///         Step::Parsed { payload: Payload::End(_), .. } => break,
+///         Step::Parsed { .. } => false,
+///         Step::NeedMoreData(_) => true,
+///     };
+///     if is_request {
+///         ahead.refill(&mut cursor, &mut stored, &mut input)?;
+///     } else {
+///         ahead.pass_borrowed(&mut cursor, &stored);
+///         parts += 1;
+///     }
+/// }
+/// assert_eq!(rt; parts, 1);
+/// ```
 #[derive(Drop)]
 pub struct Ahead<A: Allocator> {
     buffer: Vec<u8, A>,
@@ -33,7 +56,8 @@ impl<A: Allocator> Model for Ahead<A> {
 }
 
 impl<A: Allocator> Ahead<A> {
-    /// No bytes yet, and a buffer to read into, which has at least one byte.
+    /// Creates it without bytes, with a buffer to read chunks into. The buffer must have at least one byte; its length
+    /// is the size of the largest chunk.
     pub fn new(buffer: Vec<u8, A>) -> Self
         requires { 0 < vec_len buffer }
         ensures { result ≡ [] }
@@ -45,7 +69,7 @@ impl<A: Allocator> Ahead<A> {
         }
     }
 
-    /// The remaining bytes of the chunk.
+    /// Returns the remaining bytes of the chunk.
     pub fn bytes(&self) -> &[u8]
         ensures { result.now ≡ self.now }
     {
@@ -79,21 +103,26 @@ impl<A: Allocator> Ahead<A> {
         }
     }
 
-    /// Stores the bytes that the next step has to read after those that are held: none, unless the end of a chunk cut a part.
+    /// Moves the bytes that the next step needs from the chunk to the stored ones: none, unless the end of a chunk cut
+    /// a part.
+    ///
+    /// It also reserves room for the rest of the chunk, so that `refill` does not allocate.
     ///
     /// # Errors
     ///
-    /// `Memory` when an allocation fails. The feeder is then where it was.
+    /// `Memory` when an allocation fails. No byte is lost: the call can be repeated.
     pub fn make_ready(
         &mut self,
         cursor: &mut Cursor,
         stored: &mut Vec<u8, A>,
     ) -> Result<(), ListError>
+        // On success.
         ensures same { OnOk result (lending stored.new.items self.new cursor.new
             ≡ beside (feed_of stored.old.items cursor.old) self.old) }
         ensures enough { OnOk result (ReadsEnough stored.new.items self.new cursor.new) }
         ensures room { OnOk result (vec_len stored.new + length self.new
             ≤ vec_capacity stored.new) }
+        // On an error.
         ensures unchanged { OnErr result (beside (feed_of stored.new.items cursor.new) self.new
             ≡ beside (feed_of stored.old.items cursor.old) self.old) }
         ensures memory { IfErr result (λ e. e ≡ Memory) }
@@ -103,7 +132,7 @@ impl<A: Allocator> Ahead<A> {
         Ok(())
     }
 
-    /// Passes the bytes that a step consumed.
+    /// Drops the bytes that a step consumed in place from the chunk.
     pub fn pass_borrowed(&mut self, cursor: &mut Cursor, stored: &[u8])
         ensures { beside (feed_of stored.now cursor.new) self.new
             ≡ lending stored.now self.old cursor.old }
@@ -112,11 +141,13 @@ impl<A: Allocator> Ahead<A> {
         self.pass(count);
     }
 
-    /// Stores the bytes that a step left, for which `make_ready` made room, and reads once: the next chunk, or that the stream has ended.
+    /// Stores the rest of the chunk, for which `make_ready` reserved room, and performs one read from the source.
+    ///
+    /// The read returns the next chunk; a read of 0 bytes marks the end of input. It never allocates.
     ///
     /// # Errors
     ///
-    /// `Input` when the source fails. The feeder then holds the same bytes, all of them stored.
+    /// `Input` if the source failed. No byte is lost: the rest of the chunk is stored.
     pub fn refill<R: Source>(
         &mut self,
         cursor: &mut Cursor,

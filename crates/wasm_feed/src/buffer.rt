@@ -18,8 +18,9 @@ pub(crate) fn append<A: Allocator>(
     Ok(())
 }
 
-/// Drops the first bytes, and makes room for `count` after the remaining ones. It allocates for these alone, before anything is moved:
-/// a failed allocation changes nothing. It grows by more than it must, so that many small chunks cost no more than a large one.
+/// Drops the first bytes, and makes room for `count` after the remaining ones. It allocates for these alone, before
+/// anything is moved: a failed allocation changes nothing. It grows by more than it must, so that many small chunks
+/// cost no more than a large one.
 pub(crate) fn make_room<A: Allocator>(
     bytes: &mut Vec<u8, A>,
     spent: usize,

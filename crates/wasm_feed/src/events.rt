@@ -10,21 +10,29 @@ use std::alloc::{Allocator, Global};
 use std::ops::Range;
 use wasm_parser::{Encoding, Error, Fault, Payload, Result};
 
-/// What an event of a stream is, with the numbers that it announces (core specification, Binary format, Modules).
+/// The kind of an event, with the numbers that the bytes announce.
+///
+/// ```rattle
+/// let events = read_pieces(alloc, 0, &[b"\0asm\x01\0\0\0\x01\x01\0".as_slice()])?;
+/// assert_eq!(rt; events[1].kind, EventKind::Section { id: 1, count: 0 });
+/// assert_eq!(rt; events[2].kind, EventKind::End);
+/// ```
+///
+/// (Core specification, Binary format, Modules.)
 #[derive(Debug, Drop, PartialEq, Eq)]
 pub enum EventKind {
     /// The header.
     Version {
-        /// The 16-bit version: 1 of a module, 13 of a component.
+        /// The 16-bit version: 1 for a module, 13 for a component.
         num: u16,
-        /// What the header announces.
+        /// The encoding that the header announces: a module or a component.
         encoding: Encoding,
     },
-    /// A section that begins with a count of items.
+    /// A section that begins with a count of items. The items are not read.
     Section {
-        /// The section's id.
+        /// The id of the section.
         id: u8,
-        /// How many items it announces.
+        /// The announced number of items.
         count: u32,
     },
     /// The start section.
@@ -34,43 +42,53 @@ pub enum EventKind {
     },
     /// The data count section.
     DataCount {
-        /// How many data segments are announced.
+        /// The announced number of data segments.
         count: u32,
     },
     /// The start of a code section.
     Code {
-        /// How many bodies follow.
+        /// The announced number of bodies.
         count: u32,
-        /// How many bytes of the content come after the count.
+        /// The size of the content after the count, in bytes.
         size: u32,
     },
-    /// One body of a code section.
+    /// The body of one function in the code section.
     Body,
     /// A custom section.
     Custom {
-        /// The offset in the whole stream at which its data begins, after its name.
+        /// The offset of the data, which begins after the name, in bytes from the start of the stream.
         data_offset: u64,
     },
-    /// A section with an id that isn't known.
+    /// A section with an unknown id.
     Unknown {
-        /// The section's id.
+        /// The id of the section.
         id: u8,
     },
-    /// The end of the stream.
+    /// The end of the stream, without a fault.
     End,
-    /// The fault at which the stream ends.
+    /// The fault at which the stream stops.
     Fault(Error),
 }
 
-/// An event of the reading of a stream.
+/// An event of a stream, as a value that owns its bytes.
+///
+/// `read_pieces` returns the events of a stream.
+///
+/// ```rattle
+/// let events = read_pieces(alloc, 0, &[b"\0asm\x01\0\0\0\x01\x01\0".as_slice()])?;
+/// assert_eq!(rt; events[1].range, 10..11);
+/// assert_eq!(rt; events[1].bytes.as_slice(), [1, 1, 0].as_slice());
+/// ```
 #[derive(Debug, Drop, PartialEq, Eq)]
 pub struct Event<A: Allocator = Global> {
-    /// What it is.
+    /// The kind of the event.
     pub kind: EventKind,
-    /// The offsets in the whole stream of the header, of a section's content or of a body. That of a code section goes on to
-    /// the content's end; that of the end and of a fault is empty.
+    /// The offsets of the header, of the section's content or of the body, in bytes from the start of the stream.
+    ///
+    /// For the start of a code section they are those of the whole content, including the bodies. For the end and for a
+    /// fault the range is empty.
     pub range: Range<u64>,
-    /// A copy of the bytes that it consumed: none at the end and at a fault.
+    /// A copy of the bytes that the event consumed, empty for the end and for a fault.
     pub bytes: Vec<u8, A>,
 }
 

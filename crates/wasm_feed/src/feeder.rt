@@ -22,21 +22,46 @@ use std::marker::Model;
 use wasm_lines::{ListError, Source};
 use wasm_parser::{Chunk, Error, Fault, Parser, Payload, Result, WasmFeatures, fits};
 
-/// What one step of a feeder returns.
+/// The result of one step of a feeder: a part of the stream, or a request for more input.
+///
+/// ```rattle
+/// use bitflags::Flags;
+/// let mut feeder = Feeder::new(alloc, 0, WasmFeatures::all());
+/// feeder.push(b"\0asm")?;
+/// match feeder.step()? {
+///     Step::NeedMoreData(hint) => assert_eq!(rt; hint, 4),
+///     Step::Parsed { .. } => assert!(rt; false),
+/// }
+/// ```
 #[derive(Drop)]
 pub enum Step<'a> {
-    /// More bytes are needed, about this many.
+    /// The bytes so far do not determine the next part. The hint is how many bytes are missing, at least 1; a part may
+    /// need more.
+    ///
+    /// Call `push` with the next chunk, or `finish` at the end of input.
     NeedMoreData(usize),
     /// The next part of the stream.
     Parsed {
-        /// The bytes that it consumed.
+        /// The bytes that the part consumed, empty for `End`. They are borrowed from the feeder's buffer or from the
+        /// chunk.
         bytes: &'a [u8],
-        /// What they are.
+        /// The part, which borrows from the same bytes.
         payload: Payload<'a>,
     },
 }
 
-/// Where a feeder is: its parser, how many of the bytes that it stores were consumed, and what it waits for.
+/// The position of a feeder in its stream: a parser, and the number of stored bytes that it has consumed.
+///
+/// Most programs use a `Feeder`, which has a cursor and the stored bytes. Use a cursor directly, with `parse_next` or
+/// `Ahead`, to store the bytes yourself.
+///
+/// ```rattle
+/// let mut cursor = Cursor::new(Parser::new(0));
+/// match parse_next(&mut cursor, b"\0asm\x01\0\0\0")? {
+///     Step::Parsed { bytes, .. } => assert_eq!(rt; bytes.len(), 8),
+///     Step::NeedMoreData(_) => assert!(rt; false),
+/// }
+/// ```
 #[derive(Drop)]
 pub struct Cursor {
     parser: Parser,
@@ -46,7 +71,7 @@ pub struct Cursor {
 }
 
 impl Cursor {
-    /// A cursor of this parser, where nothing is stored yet.
+    /// Creates a cursor at the start of an empty buffer, which requests input first.
     pub fn new(parser: Parser) -> Cursor
         ensures { feed_of [] result ≡ empty_feed parser }
     {
@@ -58,7 +83,7 @@ impl Cursor {
         }
     }
 
-    /// A cursor of this parser before bytes that are all of the stream.
+    /// Creates a cursor at the start of a buffer that holds the whole stream.
     pub(crate) fn over_all(parser: Parser) -> Cursor
         ensures parser { result.parser ≡ parser }
         ensures mark { result.mark ≡ 0 }
@@ -72,14 +97,14 @@ impl Cursor {
         }
     }
 
-    /// How many bytes were consumed.
+    /// Returns the number of consumed bytes.
     pub(crate) fn mark(&self) -> usize
         ensures { result ≡ self.now.mark }
     {
         self.mark
     }
 
-    /// Notes that the stream ends after the bytes that are there.
+    /// Marks the end of input after the stored bytes.
     pub(crate) fn finish(&mut self)
         ensures { self.new ≡ finished_cursor self.old }
     {
@@ -88,29 +113,42 @@ impl Cursor {
     }
 }
 
-/// Reads a stream that comes in chunks (core specification, Binary format, Modules).
+/// A parser with a buffer, for a stream that arrives in chunks.
 ///
-/// A feeder stores the bytes that were pushed and not consumed yet, and no others after a push; the payloads
-/// that `step` returns borrow from them. A download is read so:
+/// A feeder stores the bytes that were pushed and not consumed yet, and no others after a push. The payloads that a
+/// step returns borrow from them. Call `open().step()` in a loop; when the feeder `wants_more`, `push` the next chunk,
+/// or `finish` at the end of input. `step_over` parses in place what lies whole in a chunk, without storing it.
 ///
-/// ```text
+/// Payloads, faults and their offsets do not depend on how the stream is chunked. Offsets are in bytes from the start
+/// of the stream.
+///
+/// # Errors
+///
+/// A step returns the fault of `Parser::parse` at which the stream stops. Each later step returns the fault again, and
+/// likewise `End`. A failed `push`, `read_from` or `step_over` leaves the feeder unchanged, so you can call it again.
+///
+/// ```rattle
+/// use bitflags::Flags;
 /// let mut feeder = Feeder::new(alloc, 0, WasmFeatures::all());
+/// let mut chunks = [b"\0asm\x01\0".as_slice(), b"\0\0\0\x02\x01a".as_slice()].into_iter();
+/// let mut bytes_of_parts = 0;
 /// loop {
 ///     match feeder.open().step()? {
-///         Step::Parsed { payload: Payload::End(_), .. } => return Ok(()),
-///         Step::Parsed { bytes, payload } => ..,
+///         Step::Parsed { payload: Payload::End(_), .. } => break,
+///         Step::Parsed { bytes, .. } => bytes_of_parts += bytes.len(),
 ///         Step::NeedMoreData(_) => {}
 ///     }
 ///     if feeder.wants_more() {
-///         match download.next()? {
-///             Some(piece) => feeder.push(piece)?,
+///         match chunks.next() {
+///             Some(chunk) => feeder.push(chunk)?,
 ///             None => feeder.finish(),
 ///         }
 ///     }
 /// }
+/// assert_eq!(rt; bytes_of_parts, 12);
 /// ```
 ///
-/// Offsets count bytes from the start of the whole stream.
+/// (Core specification, Binary format, Modules.)
 #[derive(Drop)]
 pub struct Feeder<A: Allocator = Global> {
     cursor: Cursor,
@@ -134,15 +172,21 @@ impl Feeder {
     ghost use Rattle.wasm_feed.specs.Opened.{LendsCursor};
     ghost use Rattle.wasm_feed.specs.Rows.{the_row};
 
-    /// A feeder of a stream that begins at this offset, whose windows have these features. It does not allocate yet.
+    /// Creates a feeder for a stream that begins at this offset and is read with these features. Allocates nothing yet.
     pub fn new(alloc: Global, offset: u64, features: WasmFeatures) -> Feeder
         ensures { result ≡ new_feed offset (feature_bits features) }
     {
         Feeder::new_in(alloc, offset, features)
     }
 
-    /// The next part of the stream, or a request for more bytes. Every later step returns a fault again, and the end too. To continue
-    /// with the feeder afterwards, call `open().step()`, of which more is known, or `step_with`.
+    /// Returns the next part of the stream, or a request for more input.
+    ///
+    /// The call is the same as `open().step()`. In verified code prefer that one, or `step_with`: their contracts
+    /// describe the feeder right after the step, and not only after the payload is dropped.
+    ///
+    /// # Errors
+    ///
+    /// The fault at which the stream stops, as `Parser::parse` returns it. Each later step returns it again.
     pub fn step(&mut self) -> Result<Step<'_>>
         ensures* after { sem 𝓛 (Rests the_row self.entry (Steps self.old result)) }
         ensures gives { GivesStep self.old.state self.old.eof self.old.held result }
@@ -150,7 +194,8 @@ impl Feeder {
         self.open().step()
     }
 
-    /// The feeder taken apart, so that a step moves its cursor while the payload borrows its bytes.
+    /// Borrows the cursor and the stored bytes of the feeder separately, so that a step can change the cursor while the
+    /// payload borrows the bytes.
     pub fn open(&mut self) -> Opened<'_, '_>
         ensures* after { sem 𝓛 (LendsCursor self.entry result) }
         ensures opens { feed_of result.bytes.now result.cursor.now ≡ self.entry.now }
@@ -165,7 +210,7 @@ impl Feeder {
 impl<A: Allocator> Feeder<A> {
     ghost use Rattle.wasm_feed.specs.Step.{Steps};
 
-    /// Like `new`, with memory from any allocator.
+    /// Creates a feeder like `new`, with any allocator for the stored bytes.
     pub fn new_in(alloc: A, offset: u64, features: WasmFeatures) -> Feeder<A>
         ensures { result ≡ new_feed offset (feature_bits features) }
     {
@@ -177,45 +222,63 @@ impl<A: Allocator> Feeder<A> {
         }
     }
 
-    /// Whether bytes may be pushed: at first, and after `NeedMoreData` until the next `push` that is `Ok`, or `finish`.
+    /// Returns whether the feeder requests input, so that `push` may be called.
+    ///
+    /// That is so at first, and from a `NeedMoreData` until the next successful `push` or `read_from`, or `finish`.
     pub fn wants_more(&self) -> bool
         ensures { result ≡ self.now.wants_more }
     {
         self.cursor.wants_more
     }
 
-    /// How many bytes were pushed and not consumed.
+    /// Returns the number of bytes that were pushed and not consumed.
     pub fn held(&self) -> usize
         ensures { result ≡ length self.now.held }
     {
         after(&self.bytes, self.cursor.mark).len()
     }
 
-    /// How many bytes are stored: those that are held, and those that were consumed since the last push.
+    /// Returns the number of stored bytes: the held ones, and those consumed since the last push.
     pub fn stored(&self) -> usize
         ensures { result ≡ self.now.stored }
     {
         self.bytes.len()
     }
 
-    /// Whether the end of input has been signalled, by `finish` or by a `read_from` that found it.
+    /// Returns whether the end of input was marked, by `finish` or by a `read_from` that reached it.
     pub fn is_finished(&self) -> bool
         ensures { result ≡ self.now.eof }
     {
         self.cursor.is_finished
     }
 
-    /// Signals the end of input. A second call changes nothing.
+    /// Marks the end of input. The steps after it report truncation as a fault, or return `End`. A second call changes
+    /// nothing.
     pub fn finish(&mut self)
         ensures { self.new ≡ finished self.old }
     {
         self.cursor.finish();
     }
 
-    /// Gives the next bytes of the stream. The feeder must want more.
+    /// Appends the next chunk of the stream, which is copied. Call it only if the feeder `wants_more`.
     ///
-    /// `OffsetRange` at the parser's offset, where the stream would pass the offset 2^64 - 1; then `OutOfMemory` when an
-    /// allocation fails. Either leaves the feeder as it was.
+    /// An empty chunk is allowed and is not the end of input. Consumed bytes are dropped from the buffer first.
+    ///
+    /// # Errors
+    ///
+    /// The feeder is unchanged after an error.
+    ///
+    /// * `OffsetRange` at the offset of the first byte that is not consumed, if the stream would end beyond 2^64 - 1.
+    /// * `OutOfMemory`, at offset 0, when an allocation fails.
+    ///
+    /// ```rattle
+    /// use bitflags::Flags;
+    /// let mut feeder = Feeder::new(alloc, 18446744073709551610, WasmFeatures::all());
+    /// if let Err(error) = feeder.push(b"\0asm\x01\0\0\0") {
+    ///     assert_eq!(rt; error.fault(), Fault::OffsetRange);
+    /// }
+    /// assert_eq!(rt; feeder.held(), 0);
+    /// ```
     pub fn push(&mut self, piece: &[u8]) -> Result<()>
         requires { self.old.wants_more ≡ true }
         ensures ok { OnOk result (self.new ≡ pushed self.old piece.now) }
@@ -230,10 +293,24 @@ impl<A: Allocator> Feeder<A> {
         refill(&mut self.cursor, &mut self.bytes, piece)
     }
 
-    /// Performs one read from this source into `buffer` and appends the result; a read of 0 bytes marks the end of input. A stream that
-    /// passes the offset 2^64 - 1 is a fault of the next step. The feeder must want more, as for `push`, and `buffer` must not be empty.
+    /// Performs one read from a source into `buffer` and appends the result. A read of 0 bytes marks the end of input.
     ///
-    /// `Input` if the source failed; `Memory` if an allocation failed. Either leaves the feeder as it was.
+    /// Call it only if the feeder `wants_more`, with a `buffer` that is not empty. If the stream ends beyond the offset
+    /// 2^64 - 1, the next step returns `OffsetRange`.
+    ///
+    /// # Errors
+    ///
+    /// `Input` if the source failed; `Memory` when an allocation fails, in which case the bytes that were read are in
+    /// `buffer` alone. The feeder is then unchanged.
+    ///
+    /// ```rattle
+    /// use bitflags::Flags;
+    /// let mut feeder = Feeder::new(alloc, 0, WasmFeatures::all());
+    /// let mut source = SliceSource::new(b"\0asm\x01\0\0\0");
+    /// let mut buffer = [0; 5];
+    /// feeder.read_from(&mut source, &mut buffer)?;
+    /// assert_eq!(rt; feeder.held(), 5);
+    /// ```
     pub fn read_from<R: Source>(
         &mut self,
         input: &mut R,
@@ -248,7 +325,17 @@ impl<A: Allocator> Feeder<A> {
         read_more(&mut self.cursor, &mut self.bytes, input, buffer)
     }
 
-    /// One step along the stream, and what is made of it.
+    /// Performs one step, passes the result to `look`, and returns what `look` returns.
+    ///
+    /// It is an alternative to `open().step()` for code that should not hold the payload.
+    ///
+    /// ```rattle
+    /// use bitflags::Flags;
+    /// let mut feeder = Feeder::new(alloc, 0, WasmFeatures::all());
+    /// feeder.push(b"\0asm\x01\0\0\0")?;
+    /// let is_part = feeder.step_with(|step| matches!(step, Ok(Step::Parsed { .. })));
+    /// assert!(rt; is_part);
+    /// ```
     pub fn step_with<R, F: FnOnce(Result<Step<'_>>) -> R>(&mut self, look: F) -> R
         requires { F.IsAlwaysCallable look }
         ensures { (s : _) × F.post look s result × Steps self.old s self.new }
@@ -256,37 +343,30 @@ impl<A: Allocator> Feeder<A> {
         look(parse_next(&mut self.cursor, &self.bytes))
     }
 
-    /// Reads the next part from the bytes that are held and then those of a chunk, passes it to `look`, and returns how many bytes
-    /// of the chunk the feeder took.
+    /// Performs one step over the held bytes and a chunk, passes the result to `look`, and returns the number of bytes
+    /// taken from the chunk, with what `look` returned.
     ///
-    /// The step is the one that `step_with` would make after a push of the chunk, but a part that lies whole in the chunk is
-    /// parsed in place. The feeder takes all of the chunk when it asks for more; the bytes that it did not take must come first
-    /// the next time. It keeps the bytes that a fault is about, so each later step returns the same fault. After `finish` the
-    /// chunk must be empty (`is_finished`). A download is read like this:
-    ///
-    /// ```text
-    /// let mut rest = download.next()?;
-    /// loop {
-    ///     let (taken, is_over) = feeder.step_over(rest, |step| ..)?;
-    ///     if is_over? {
-    ///         return Ok(());
-    ///     }
-    ///     rest = &rest[taken..];
-    ///     if feeder.wants_more() {
-    ///         match download.next()? {
-    ///             Some(chunk) => rest = chunk,
-    ///             None => feeder.finish(),
-    ///         }
-    ///     }
-    /// }
-    /// ```
-    ///
-    /// A stream that passes the offset 2^64 - 1 is a fault of the step.
+    /// The step is the one that `step_with` would make after a push of the chunk, but a part that lies whole in the
+    /// chunk is parsed in place. Pass the bytes that were not taken again, at the front of the next call's chunk. When
+    /// the feeder requests input it has taken all of the chunk. It keeps the bytes of a fault, so each later step
+    /// returns the same fault. After `finish` the chunk must be empty.
     ///
     /// # Errors
     ///
-    /// `OutOfMemory`, at offset 0, when an allocation fails that the chunk may need. The feeder is then unchanged, and `look` was
-    /// not called.
+    /// `OutOfMemory`, at offset 0, when an allocation fails that the chunk may need. The feeder is then unchanged, and
+    /// `look` was not called. A fault of the stream is passed to `look`; `OffsetRange` is, too, if the stream ends
+    /// beyond 2^64 - 1.
+    ///
+    /// ```rattle
+    /// use bitflags::Flags;
+    /// let mut feeder = Feeder::new(alloc, 0, WasmFeatures::all());
+    /// // The header is parsed in place; the section stays in the chunk for the next call.
+    /// let chunk = b"\0asm\x01\0\0\0\0\x02\x01a";
+    /// let (taken, is_part) = feeder.step_over(chunk, |step| matches!(step, Ok(Step::Parsed { .. })))?;
+    /// assert!(rt; is_part);
+    /// assert_eq!(rt; taken, 8);
+    /// assert_eq!(rt; feeder.stored(), 0);
+    /// ```
     pub fn step_over<R, F: FnOnce(Result<Step<'_>>) -> R>(
         &mut self,
         piece: &[u8],
@@ -294,9 +374,11 @@ impl<A: Allocator> Feeder<A> {
     ) -> Result<(usize, R)>
         requires may_come { MayCome self.old piece.now }
         requires callable { F.IsAlwaysCallable look }
+        // On success.
         ensures steps { IfOk result (λ reported_as. (s : _) × F.post look s reported_as.1
             × StepsOver self.old piece.now s reported_as.0 self.new) }
         ensures within { IfOk result (λ reported_as. reported_as.0 ≤ length piece.now) }
+        // On an error.
         ensures unchanged { OnErr result (self.new ≡ self.old) }
         ensures memory { IfErr result (λ e. fault_at e ≡ out_of_memory) }
     {
@@ -310,7 +392,17 @@ impl<A: Allocator> Feeder<A> {
     }
 }
 
-/// A feeder that is taken apart.
+/// A feeder whose cursor and stored bytes are borrowed separately, for one step. `Feeder::open` returns it.
+///
+/// ```rattle
+/// use bitflags::Flags;
+/// let mut feeder = Feeder::new(alloc, 0, WasmFeatures::all());
+/// feeder.push(b"\0asm\x01\0\0\0")?;
+/// if let Step::Parsed { bytes, .. } = feeder.open().step()? {
+///     assert_eq!(rt; bytes.len(), 8);
+/// }
+/// assert_eq!(rt; feeder.held(), 0);
+/// ```
 #[derive(Drop)]
 pub struct Opened<'c, 'a> {
     cursor: &'c mut Cursor,
@@ -321,7 +413,11 @@ impl<'c, 'a> Opened<'c, 'a> {
     ghost use Rattle.wasm_feed.specs.Cursors.{feed_of};
     ghost use Rattle.wasm_feed.specs.Step.{Steps};
 
-    /// One step along the stream.
+    /// Returns the next part of the stream, or a request for more input.
+    ///
+    /// # Errors
+    ///
+    /// Those of `Feeder::step`.
     pub fn step(self) -> Result<Step<'a>>
         ensures { Steps (feed_of self.entry.bytes.now self.entry.cursor.now) result
             (feed_of self.entry.bytes.now self.exit.0.now) }
@@ -331,8 +427,7 @@ impl<'c, 'a> Opened<'c, 'a> {
     }
 }
 
-/// Puts the next bytes after those that are held, and lets the ones before the mark go. A failed allocation changes
-/// nothing.
+/// Appends a chunk to the held bytes, and drops the consumed ones. A failed allocation changes nothing.
 pub(crate) fn refill<A: Allocator>(
     cursor: &mut Cursor,
     bytes: &mut Vec<u8, A>,
@@ -380,7 +475,23 @@ pub(crate) fn read_more<A: Allocator, R: Source>(
     }
 }
 
-/// One step in these bytes.
+/// Performs one step of a cursor in the stored bytes, and returns the next part, or a request for more input.
+///
+/// `bytes` are all stored bytes, including those that the cursor has consumed. On success the cursor has consumed those
+/// of the part.
+///
+/// # Errors
+///
+/// The fault at which the stream stops, as `Parser::parse` returns it. The cursor has consumed nothing.
+///
+/// ```rattle
+/// // A second magic is a fault.
+/// let mut cursor = Cursor::new(Parser::new(0));
+/// parse_next(&mut cursor, b"\0asm\x01\0\0\0\0asm")?;
+/// if let Err(error) = parse_next(&mut cursor, b"\0asm\x01\0\0\0\0asm") {
+///     assert_eq!(rt; error, Error::new(Fault::MagicAtSection, 8));
+/// }
+/// ```
 pub fn parse_next<'a>(cursor: &mut Cursor, bytes: &'a [u8]) -> Result<Step<'a>>
     ensures parses { ParseAnswer cursor.old.parser cursor.old.is_finished
         (drop cursor.old.mark bytes.now) (answer_of result) cursor.new.parser }

@@ -8,18 +8,19 @@ ghost use Rattle.wasm_feed.specs.FeedersLaws.{FeedersGoAlong, FeedersWait};
 use crate::listing::Ended;
 use wasm_lines::{Failed, ListError};
 
-/// Where a feeder is in a stream, whatever calls are made, in any order. A new one has received nothing, and a chunk adds to
-/// what it received. A step, over a chunk too, is the next event of every stream that begins with these bytes, its last one, or
-/// undecided. Each payload except the end shows some bytes, so a loop over steps ends. The parser's state afterwards follows from
-/// the step. After the end or a fault each later step reports the same, whatever bytes come, and after `finish` too.
+/// Where a feeder is in a stream, whatever calls are made, in any order. A new one has received nothing, and a chunk
+/// adds to what it received. A step, over a chunk too, is the next event of every stream that begins with these bytes,
+/// its last one, or undecided. Each payload except the end shows some bytes, so a loop over steps ends. The parser's
+/// state afterwards follows from the step. After the end or a fault each later step reports the same, whatever bytes
+/// come, and after `finish` too.
 pub fn feeders_go_along()
     ensures { FeedersGoAlong }
 {}
 
-/// A feeder wants more only if its parser is undecided on the held bytes, and more may come. After bytes arrived, by a push, a read or
-/// a step over a chunk, it stores less than the bound of the undecided ones and the chunk together. If the held bytes decide, a
-/// step over a chunk takes and stores nothing. All of this holds below the largest offset; a step past it is the fault
-/// `OffsetRange`.
+/// A feeder wants more only if its parser is undecided on the held bytes, and more may come. After bytes arrived, by a
+/// push, a read or a step over a chunk, it stores less than the bound of the undecided ones and the chunk together. If
+/// the held bytes decide, a step over a chunk takes and stores nothing. All of this holds below the largest offset; a
+/// step past it is the fault `OffsetRange`.
 pub fn feeders_wait_where_undecided()
     ensures { FeedersWait }
 {}
@@ -29,8 +30,8 @@ pub fn stripping_twice_is_once()
     ensures { StrippingTwiceIsOnce }
 {}
 
-/// Two ends of listings are equal exactly if both are the end of a stream, or both a fault with the same kind, offset and number.
-/// Two `ListError`s are equal exactly if they are the same.
+/// Two ends of listings are equal exactly if both are the end of a stream, or both a fault with the same kind, offset
+/// and number. Two `ListError`s are equal exactly if they are the same.
 pub fn equal_ends_are_the_same()
     ensures ended { DecidesWhether (λ one other. fault_at_end one ≡ fault_at_end other)
         ⟦<Ended as PartialEq>⟧.eq }

@@ -10,23 +10,33 @@ use std::alloc::{Allocator, Global};
 use wasm_lines::{ListError, Page, Sink, Source};
 use wasm_parser::{Error, Parser, Payload, Result as ParserResult};
 
-/// How a stream that was listed ended.
+/// The end of a stream that was listed or dumped: without a fault, or at the first fault.
+///
+/// ```rattle
+/// // The function section announces a function, but there is no code section.
+/// let mut input = SliceSource::new(b"\0asm\x01\0\0\0\x03\x02\x01\0");
+/// let mut output = BoundedSink::new(alloc, 1000)?;
+/// match list(alloc, &mut input, &mut output, 4096)? {
+///     Ended::Fault(error) => assert_eq!(rt; error.fault(), Fault::FunctionWithoutCode),
+///     Ended::End => assert!(rt; false),
+/// }
+/// ```
 #[derive(Clone, Copy, Debug, PartialEq, Eq)]
 pub enum Ended {
-    /// At its end, with no fault.
+    /// The stream ended without a fault.
     End,
-    /// At its first fault, whose offset counts bytes from the stream's start.
+    /// The stream stopped at this fault. The offset is in bytes from the start of the stream.
     Fault(Error),
 }
 
-/// What is done after a step along a stream.
+/// The next action of a loop over a stream, after a step.
 #[derive(Clone, Copy)]
 pub enum Turn {
-    /// To go on with the bytes that are stored.
+    /// Perform another step over the bytes so far.
     Advance,
-    /// To read more of them.
+    /// Read more input.
     Read,
-    /// To end.
+    /// Stop: the stream has ended.
     End(Ended),
 }
 
@@ -57,7 +67,11 @@ fn put_answer<A: Allocator, W: Sink>(
     }
 }
 
-/// Like `list`, with memory from any allocator: `Memory` if an allocation fails.
+/// Reads a stream and writes its listing like `list`, with any allocator.
+///
+/// # Errors
+///
+/// Those of `list`.
 pub fn list_in<A: Allocator + Copy, R: Source, W: Sink>(
     alloc: A,
     input: &mut R,
@@ -91,13 +105,30 @@ pub fn list_in<A: Allocator + Copy, R: Source, W: Sink>(
     }
 }
 
-/// Reads the input, at most `piece` bytes at once and at least one, and writes its listing: a line for each event of the stream, whose
-/// offsets count bytes from 0. The lines of all events that are decided are written before more is read. It buffers the undecided
-/// bytes, the last chunk, and a page of lines; no clause bounds them.
+/// Reads a stream from a source and writes its listing to a sink: a line for each event.
 ///
-/// A stream that passes the offset 2^64 - 1 ends with the fault `OffsetRange`. An error leaves a prefix of the listing written:
-/// `Input` if the source failed, all lines except the last of what it returned; `Output` if the sink did; `Memory` if an allocation
-/// failed. A device that had failed before the call is still known to have failed.
+/// It reads at most `piece` bytes at once, which must be at least 1. It writes the lines of all decided events before
+/// it reads more. It buffers the undecided bytes, the last chunk and a page of lines. Offsets are in bytes from the
+/// start of the stream, which is offset 0.
+///
+/// A fault of the stream is no error: its line is written, and `Ended::Fault` is returned. A stream that ends beyond
+/// the offset 2^64 - 1 has the fault `OffsetRange`.
+///
+/// # Errors
+///
+/// A prefix of the listing has been written.
+///
+/// * `Input` if the source failed. The listing of the bytes read so far has been written, without its last line, the
+///   end or fault.
+/// * `Output` if the sink failed.
+/// * `Memory` when an allocation fails.
+///
+/// ```rattle
+/// let mut input = SliceSource::new(b"\0asm\x01\0\0\0");
+/// let mut output = BoundedSink::new(alloc, 1000)?;
+/// assert_eq!(rt; list(alloc, &mut input, &mut output, 4096)?, Ended::End);
+/// assert_eq!(rt; output.written(), b"version 0 8 1 module\nend 8\n".as_slice());
+/// ```
 pub fn list<R: Source, W: Sink>(
     alloc: Global,
     input: &mut R,

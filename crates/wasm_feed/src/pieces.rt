@@ -9,7 +9,15 @@ use crate::feeder::{Cursor, parse_next, refill};
 use std::alloc::{Allocator, Global};
 use wasm_parser::{Parser, Result, fits};
 
-/// Whether these chunks, joined at this offset, stay within the offsets of a stream: whether `read_pieces` may be called with them.
+/// Returns whether a stream of these chunks, which begins at this offset, ends at most at the offset 2^64 - 1.
+///
+/// `read_pieces` requires it.
+///
+/// ```rattle
+/// let chunks = [b"\0asm".as_slice(), b"\x01\0\0\0".as_slice()];
+/// assert!(rt; fits_pieces(0, &chunks));
+/// assert!(rt; !fits_pieces(18446744073709551610, &chunks));
+/// ```
 pub fn fits_pieces(offset: u64, pieces: &[&[u8]]) -> bool
     ensures { IsTrue result ↔ (offset + length (joined pieces.now) < 2 ^ 64) }
 {
@@ -48,7 +56,11 @@ fn read_held<A: Allocator + Copy>(
     }
 }
 
-/// Like `read_pieces`, with memory from any allocator: `OutOfMemory` at offset 0 if an allocation fails.
+/// Returns the events of a stream like `read_pieces`, with any allocator.
+///
+/// # Errors
+///
+/// Those of `read_pieces`.
 pub fn read_pieces_in<A: Allocator + Copy>(
     alloc: A,
     offset: u64,
@@ -71,10 +83,22 @@ pub fn read_pieces_in<A: Allocator + Copy>(
     Ok(events)
 }
 
-/// The events of a stream that arrives in these chunks and begins at this offset, read with all features: those of the whole stream,
-/// however it is chunked. The last one is the end, or the first fault. `fits_pieces` says whether they may be read.
+/// Returns the events of a stream that arrives in these chunks and begins at this offset.
 ///
-/// `OutOfMemory` at offset 0 if an allocation fails, and no other error: a fault of the stream is an event.
+/// The events do not depend on how the stream is chunked. The last one is `End` or `Fault`. The stream is read with all
+/// features. Each event owns a copy of its bytes. Call it only if `fits_pieces` returns true.
+///
+/// # Errors
+///
+/// `OutOfMemory`, at offset 0, when an allocation fails. There is no other error: a fault of the stream is an event.
+///
+/// ```rattle
+/// let chunks = [b"\0asm\x01\0".as_slice(), b"\0\0\0\x02\x01a".as_slice()];
+/// let events = read_pieces(alloc, 0, &chunks)?;
+/// assert_eq!(rt; events.len(), 3);
+/// assert_eq!(rt; events[1].kind, EventKind::Custom { data_offset: 12 });
+/// assert_eq!(rt; events[2].kind, EventKind::End);
+/// ```
 pub fn read_pieces(alloc: Global, offset: u64, pieces: &[&[u8]]) -> Result<Vec<Event>>
     requires { offset + length (joined pieces.now) < 2 ^ 64 }
     ensures { ReadsUnlessMemory (joined pieces.now) offset all_features result }

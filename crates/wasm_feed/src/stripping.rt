@@ -12,21 +12,32 @@ use std::alloc::{Allocator, Global};
 use wasm_lines::list_of_capacity;
 use wasm_parser::{Error, Fault, Parser, Payload, Result};
 
-/// Which custom sections stay in a stream that is stripped (core specification, Binary format, Modules, Custom Section).
+/// The choice of custom sections that stay in a stripped stream.
 ///
-/// By default all are removed. The sections with names in `kept` stay. If `removed` has names, the sections with other names stay too.
+/// A custom section stays if its name is in `kept`; or if `removed` has names, and its name is not among them; or if it
+/// is `name` and `names` is true. The other custom sections are removed.
+///
+/// ```rattle
+/// // Two custom sections without data, "a" and "b".
+/// let bytes = b"\0asm\x01\0\0\0\0\x02\x01a\0\x02\x01b";
+/// let keep = Keep { names: false, kept: &["b"], removed: &[] };
+/// let stripped = strip_in(alloc, bytes, keep)?;
+/// assert_eq!(rt; stripped.as_slice(), b"\0asm\x01\0\0\0\0\x02\x01b".as_slice());
+/// ```
+///
+/// (Core specification, Binary format, Modules, Custom Section.)
 #[derive(Clone, Copy)]
 pub struct Keep<'a> {
-    /// Whether the sections named `name` stay, which have the names of functions.
+    /// Whether the sections named `name` stay, which have the names of functions and other items.
     pub names: bool,
-    /// Sections with these names stay.
+    /// The names of sections that stay.
     pub kept: &'a [&'a str],
-    /// If there are any, sections with other names stay.
+    /// The names of sections that are removed. If there are any, the sections with other names stay.
     pub removed: &'a [&'a str],
 }
 
 impl Keep<'_> {
-    /// Keeps no custom section, or only those named `name`.
+    /// Returns the choice that keeps no custom section, or, if `names` is true, only those named `name`.
     pub fn names(names: bool) -> Keep<'static>
         ensures { stays_by result ≡ custom_stays names }
     {
@@ -197,9 +208,20 @@ fn move_kept(bytes: &mut [u8], keep: Keep<'_>) -> Result<usize>
     Ok(kept)
 }
 
-/// Strips a stream of its custom sections, but for those that stay, in its own bytes: the stripped stream is then at the front, and its length in bytes is returned. The
-/// bytes after it are unspecified. It never allocates, and the only error is the fault of a stream that isn't accepted, which is left
+/// Strips a stream in place, moves the result to the front of the bytes, and returns the length of the result in bytes.
+///
+/// The result is that of `strip_in`. The bytes after it are unspecified. It never allocates.
+///
+/// # Errors
+///
+/// The fault at which the stream stops, at its offset in bytes from the start of the stream. The bytes are then
 /// unchanged.
+///
+/// ```rattle
+/// let mut bytes = *b"\0asm\x01\0\0\0\0\x02\x01a";
+/// let len = strip_to_front(&mut bytes, Keep::names(false))?;
+/// assert_eq!(rt; &bytes[..len], b"\0asm\x01\0\0\0".as_slice());
+/// ```
 pub fn strip_to_front(bytes: &mut [u8], keep: Keep<'_>) -> Result<usize>
     ensures { StripsToFront (stays_by keep) bytes.old result bytes.new }
 {
@@ -209,7 +231,17 @@ pub fn strip_to_front(bytes: &mut [u8], keep: Keep<'_>) -> Result<usize>
     move_kept(bytes, keep)
 }
 
-/// Like `strip_to_front`, for a vector, which is truncated to the stripped stream.
+/// Strips a stream in place, and truncates the vector to the result.
+///
+/// # Errors
+///
+/// Those of `strip_to_front`.
+///
+/// ```rattle
+/// let mut bytes = b"\0asm\x01\0\0\0\0\x02\x01a".to_vec(alloc)?;
+/// strip_in_place(&mut bytes, Keep::names(false))?;
+/// assert_eq!(rt; bytes.len(), 8);
+/// ```
 pub fn strip_in_place<A: Allocator>(bytes: &mut Vec<u8, A>, keep: Keep<'_>) -> Result<()>
     ensures { StripsInPlace (stays_by keep) bytes.old.items result bytes.new.items }
 {
@@ -218,8 +250,11 @@ pub fn strip_in_place<A: Allocator>(bytes: &mut Vec<u8, A>, keep: Keep<'_>) -> R
     Ok(())
 }
 
-/// Like `strip`, with any choice of custom sections and memory from any allocator: `OutOfMemory` at offset 0 if its one allocation
-/// fails, for an accepted stream only.
+/// Returns a copy of a stream like `strip`, with any choice of custom sections and any allocator.
+///
+/// # Errors
+///
+/// Those of `strip`.
 pub fn strip_in<A: Allocator>(alloc: A, bytes: &[u8], keep: Keep<'_>) -> Result<Vec<u8, A>>
     ensures { Strips (stays_by keep) bytes.now result }
 {
@@ -233,15 +268,23 @@ pub fn strip_in<A: Allocator>(alloc: A, bytes: &[u8], keep: Keep<'_>) -> Result<
     Ok(kept)
 }
 
-/// A copy of a stream without its custom sections (core specification, Binary format, Modules, Custom Section): its header and its
-/// other sections, byte for byte and in order. With `keep_names` the custom sections named `name` stay too. The stream begins at
-/// offset 0.
+/// Returns a copy of a stream without its custom sections.
 ///
-/// The copy is accepted too, and is read like the stream, except for the dropped sections; offsets are less by the number of bytes
-/// dropped before them.
+/// The copy has the header and the other sections, byte for byte and in order. With `keep_names` the custom sections
+/// named `name` stay too. The copy has no fault either, and parses like the stream, except for the removed sections;
+/// offsets are less by the number of bytes removed before them. The call allocates once, exactly the bytes of the copy.
 ///
-/// If the stream isn't accepted, returns the fault at which its reading ends, with its offset in bytes from the start of the stream;
-/// otherwise `OutOfMemory` at offset 0 if the allocation fails. It allocates once, for as many bytes as the copy has.
+/// # Errors
+///
+/// * The fault at which the stream stops, at its offset in bytes from the start of the stream. Nothing was allocated.
+/// * `OutOfMemory`, at offset 0, when the allocation fails.
+///
+/// ```rattle
+/// let stripped = strip(alloc, b"\0asm\x01\0\0\0\0\x02\x01a", false)?;
+/// assert_eq!(rt; stripped.as_slice(), b"\0asm\x01\0\0\0".as_slice());
+/// ```
+///
+/// (Core specification, Binary format, Modules, Custom Section.)
 pub fn strip(alloc: Global, bytes: &[u8], keep_names: bool) -> Result<Vec<u8>>
     ensures { Strips (custom_stays keep_names) bytes.now result }
 {

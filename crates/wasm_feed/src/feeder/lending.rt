@@ -11,19 +11,25 @@ use std::alloc::{AllocError, Allocator};
 use wasm_parser::laws::answers_last;
 use wasm_parser::{Chunk, Parser, fits};
 
-/// A chunk of at most this many bytes is stored whole after bytes that are held: copying it costs less than asking the parser how many
-/// bytes are missing.
+/// A chunk of at most this many bytes is stored whole after bytes that are held: copying it costs less than asking the
+/// parser how many bytes are missing.
 const SMALL_PIECE: usize = 512;
 
-/// The bytes that a step reads: the stored ones, or the chunk if there are none.
+/// Returns the bytes that the next step reads: the stored bytes, or the chunk if none are stored.
+///
+/// ```rattle
+/// assert_eq!(rt; seen(&[], &[1, 2]), [1, 2].as_slice());
+/// assert_eq!(rt; seen(&[7], &[1, 2]), [7].as_slice());
+/// ```
 pub fn seen<'a>(stored: &'a [u8], piece: &'a [u8]) -> &'a [u8]
     ensures { result.now ≡ seen stored.now piece.now }
 {
     if stored.is_empty() { piece } else { stored }
 }
 
-/// Stores as many bytes of the chunk as the next step needs after the held ones, and returns their number: none if nothing is held,
-/// since the chunk is then read in place. There is room for the others too. A failed allocation changes nothing.
+/// Stores as many bytes of the chunk as the next step needs after the held ones, and returns their number: none if
+/// nothing is held, since the chunk is then read in place. There is room for the others too. A failed allocation
+/// changes nothing.
 pub(crate) fn make_ready<A: Allocator>(
     cursor: &mut Cursor,
     stored: &mut Vec<u8, A>,
@@ -142,8 +148,9 @@ pub(crate) fn keep<A: Allocator>(cursor: &mut Cursor, stored: &mut Vec<u8, A>, p
     put(stored, &piece[count..]);
 }
 
-/// Takes what a step consumed of the chunk and returns the number of bytes. Takes the whole chunk if the step requested more, and if
-/// it read the chunk and consumed nothing: the bytes of a fault are held, so that the next step reports it too.
+/// Takes what a step consumed of the chunk and returns the number of bytes. Takes the whole chunk if the step requested
+/// more, and if it read the chunk and consumed nothing: the bytes of a fault are held, so that the next step reports it
+/// too.
 pub(super) fn take_left<A: Allocator>(
     cursor: &mut Cursor,
     stored: &mut Vec<u8, A>,
