@@ -249,8 +249,8 @@ fn cast(ty: RelocationType) -> u8
 /// If an item of a list inside an item can be read, skipping it consumes the same bytes as reading it. For an index
 /// with a name, and for a producer's value, this holds if each text has at most 100,000 bytes, the limit of skipped
 /// names.
-pub fn passing_over_takes_what_reading_takes<'a>()
-    ensures hint { PassesAsRead
+pub fn skipping_consumes_what_reading_consumes<'a>()
+    ensures hint { SkipsAsRead
         ⟦<BranchHint as FromReader<'a>>⟧.meaning
         ⟦<BranchHint as SkipItem<'a>>⟧.skipped_at }
     ensures comdat_symbol { SkipsAsRead
