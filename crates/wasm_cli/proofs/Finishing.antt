@@ -7,8 +7,8 @@ use Rattle.wasm_lines.specs.Calls.{Device, from_to}
 use Rattle.wasm_cli.proofs.ForCallers.{appends_kept}
 use Rattle.wasm_cli.specs.Devices.{over, Follows, IsUntouched, Says}
 use Rattle.wasm_cli.specs.Endings.{RunsUsage, Flushes, FailsToFlush, LeavesAlone, Finishes, status_of}
-use Rattle.wasm_cli.specs.ListRuns.{RunsListingAs, Runs, EndsAs, ListsAll, RunsThenFlushes, RunsProgram, usage}
-use Rattle.wasm_cli.specs.declared.list.command.Command.{Command}
+use Rattle.wasm_cli.specs.ListCommands.{Asked}
+use Rattle.wasm_cli.specs.ListRuns.{RunsListingAs, Runs, EndsAs, ListsAll, RunsThenFlushes, RunsWhole, usage}
 use Rattle.wasm_feed.specs.declared.listing.Ended.{Ended}
 use Rattle.wasm_feed.specs.declared.listing.Ended.TheVariants.{End, Fault}
 use Rattle.wasm_lines.specs.declared.devices.ListError.{ListError}
@@ -26,9 +26,6 @@ lists_kept source rest taken written kept how h k = record {
   within = h.within;
   past_the_top = h.past_the_top;
 }
-
-some_is : {X : Type 0} {x y : X} → Some x ≡ Some y → x ≡ y
-some_is h = cc
 
 below_two : (how : Ended) → status_of (Ok how) < 2
 below_two End = omega arith
@@ -135,17 +132,16 @@ flushed_after runs first second first_errors second_errors forwarded status resu
   ends = finish;
 }
 
-pub program : (command : Command) (input first second first_errors second_errors : Device) (forwarded : Bool) (status result : ℕ)
+pub program : (asked : Asked) (input first second first_errors second_errors : Device) (forwarded : Bool) (status result : ℕ)
     → Follows first second → Follows first_errors second_errors
-    → Runs command input first first_errors status → Finishes status forwarded second second_errors result
-    → RunsProgram (Some command) forwarded input (over first second) (over first_errors second_errors) result
-program command input first second first_errors second_errors forwarded status result f fe runs finish = record {
-  lists = λ c. let r = runs.lists (some_is c) in listed_all input first second first_errors second_errors forwarded status result f fe r.how
+    → Runs asked input first first_errors status → Finishes status forwarded second second_errors result
+    → RunsWhole asked forwarded input (over first second) (over first_errors second_errors) result
+program asked input first second first_errors second_errors forwarded status result f fe runs finish = record {
+  lists = λ c. let r = runs.lists c in listed_all input first second first_errors second_errors forwarded status result f fe r.how
       r.runs finish;
-  strips = λ c. flushed_after _ first second first_errors second_errors forwarded status result f fe (runs.strips (some_is c)) finish;
-  helps = λ c. flushed_after _ first second first_errors second_errors forwarded status result f fe (runs.helps (some_is c)) finish;
-  says_version = λ c.
-      flushed_after _ first second first_errors second_errors forwarded status result f fe (runs.says_version (some_is c)) finish;
-  refuses = λ c. refused_all input first second first_errors second_errors forwarded status result f fe (runs.refuses (some_is c)) finish;
-  without_arguments = λ none. absurd cc;
+  strips = λ options c. flushed_after _ first second first_errors second_errors forwarded status result f fe (runs.strips options c) finish;
+  helps = λ c. flushed_after _ first second first_errors second_errors forwarded status result f fe (runs.helps c) finish;
+  prints_version = λ c.
+      flushed_after _ first second first_errors second_errors forwarded status result f fe (runs.prints_version c) finish;
+  refuses = λ c. refused_all input first second first_errors second_errors forwarded status result f fe (runs.refuses c) finish;
 }

@@ -1,3 +1,4 @@
+pub mod Choosing
 pub mod Coloring
 pub mod Finishing
 pub mod ForCallers

@@ -7,5 +7,6 @@ pub mod Endings
 pub mod ListCommands
 pub mod ListRuns
 pub mod Options
+pub mod StripOptions
 pub mod Strips
 pub mod Words

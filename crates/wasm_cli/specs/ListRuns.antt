@@ -1,21 +1,14 @@
 -- What a run of the program does.
-use Rattle.std.specs.Prelude.{◌≡◌, ◌⊎◌, ℕ, Bool, List, ◌++◌, drop, codes, Option, Some, None, Result, Ok, Err}
-use Rattle.std.specs.Prelude.{if◌then◌else◌}
-use Rattle.std.specs.IoError.{error_kind}
-use Rattle.std.specs.declared.io.Error.{Error}
+use Rattle.std.specs.Prelude.{◌≡◌, ◌⊎◌, ℕ, Bool, List, ◌++◌, codes, Option, Some, None, Result, Ok, Err}
 use Rattle.wasm_lines.specs.Calls.{Device, bytes_of, input_failed, output_failed}
 use Rattle.wasm_feed.specs.Lists.{Lists, ListsSource}
 use Rattle.wasm_feed.specs.declared.listing.Ended.{Ended}
 use Rattle.wasm_lines.specs.declared.devices.ListError.{ListError}
-use Rattle.wasm_cli.specs.Arguments.{is_no_text}
 use Rattle.wasm_cli.specs.Devices.{over, Follows, IsUntouched, Says, complaint_of}
 use Rattle.wasm_cli.specs.Endings.{status_of, Reports, RunsUsage, CannotBegin, WritesAll, WritesSome, Flushes}
 use Rattle.wasm_cli.specs.Endings.{FailsToFlush, Finishes}
-use Rattle.wasm_cli.specs.ListCommands.{command_of}
+use Rattle.wasm_cli.specs.ListCommands.{Asked, listing, stripping, help, version, unknown}
 use Rattle.wasm_cli.specs.Strips.{RunsStripping}
-use Rattle.wasm_cli.specs.declared.list.command.Command.{Command}
-use Rattle.wasm_cli.specs.declared.list.command.Command.TheVariants.{Listing, Stripping, Help, Version}
-use Rattle.wasm_cli.specs.declared.list.command.Command.TheVariants.{Unknown}
 
 abbrev pub usage : List ℕ
 usage = codes "usage: wasm_list [strip]\n"
@@ -25,14 +18,19 @@ version_text = codes "wasm_list 0.1.0 (follows wasmparser 0.263.0)\n"
 
 abbrev pub help_text : List ℕ
 help_text =
-    codes "usage: wasm_list [strip] < FILE\n" ++ (
+    codes "usage: wasm_list [strip [OPTION]...] < FILE\n" ++ (
     codes "\n" ++ (
     codes "Lists the parts of the WebAssembly module on standard input: the header, each\n" ++ (
     codes "section and function body with its offsets, and the end or the first fault.\n" ++ (
-    codes "With strip, writes the module without its custom sections instead.\n" ++ (
+    codes "With strip, writes the module without its custom sections instead. Options of\n" ++ (
+    codes "strip, which may be repeated:\n" ++ (
+    codes "\n" ++ (
+    codes "  --keep-names  keeps the sections called name\n" ++ (
+    codes "  --keep NAME   keeps the custom sections with this name\n" ++ (
+    codes "  --only NAME   removes only the custom sections with this name\n" ++ (
     codes "\n" ++ (
     codes "The exit status is 0, 1 at a fault, 2 for wrong arguments, and 3 if the input\n" ++ (
-    codes "or the output failed or memory ran out.\n")))))))
+    codes "or the output failed or memory ran out.\n"))))))))))))
 
 -- a run whose listing ended so
 pub record RunsListingAs (how : Result Ended ListError) (input output errors : Device) (status : ℕ) : Type 0 where
@@ -55,12 +53,12 @@ pub record RunsText (text : List ℕ) (input output errors : Device) (status : �
   pub writes : WritesText text output errors status
 
 -- a run that was asked for this
-pub record Runs (command : Command) (input output errors : Device) (status : ℕ) : Type 0 where
-  pub lists : command ≡ Listing → RunsListing input output errors status
-  pub strips : command ≡ Stripping → RunsStripping input output errors status
-  pub helps : command ≡ Help → RunsText help_text input output errors status
-  pub says_version : command ≡ Version → RunsText version_text input output errors status
-  pub refuses : command ≡ Unknown → RunsUsage usage input output errors status
+pub record Runs (asked : Asked) (input output errors : Device) (status : ℕ) : Type 0 where
+  pub lists : asked ≡ listing → RunsListing input output errors status
+  pub strips : (options : List (List ℕ)) → asked ≡ stripping options → RunsStripping options input output errors status
+  pub helps : asked ≡ help → RunsText help_text input output errors status
+  pub prints_version : asked ≡ version → RunsText version_text input output errors status
+  pub refuses : asked ≡ unknown → RunsUsage usage input output errors status
 
 -- a listing that failed, with its reason
 pub record GivesUp (why : ListError) (output errors : Device) (status : ℕ) : Type 0 where
@@ -94,19 +92,19 @@ pub record RunsThenFlushes (runs : (output errors : Device) (status : ℕ) → T
   pub ran : runs written said first
   pub ends : Finishes first forwarded passes_on said_last status
 
--- what the arguments after the program's own name ask for, unless fetching them failed; one that is not UTF-8 is
--- unknown
-abbrev pub command_after_name : {A : Type 0} → (A → List (List ℕ)) → Result A Error → Option Command
-command_after_name words (Ok arguments) = Some (command_of (drop 1 (words arguments)))
-command_after_name words (Err e) = if is_no_text (error_kind e) then Some Unknown else None
+-- the whole program, which was asked for this
+pub record RunsWhole (asked : Asked) (forwarded : Bool) (input output errors : Device) (status : ℕ) : Type 0 where
+  pub lists : asked ≡ listing → ListsAll forwarded input output errors status
+  pub strips : (options : List (List ℕ)) → asked ≡ stripping options
+      → RunsThenFlushes (RunsStripping options input) forwarded output errors status
+  pub helps : asked ≡ help → RunsThenFlushes (RunsText help_text input) forwarded output errors status
+  pub prints_version : asked ≡ version → RunsThenFlushes (RunsText version_text input) forwarded output errors status
+  pub refuses : asked ≡ unknown → RunsUsage usage input output errors status
 
--- The whole program, which was asked for this if the arguments could be fetched, or one was not UTF-8.
-pub record RunsProgram (command : Option Command) (forwarded : Bool) (input output errors : Device) (status : ℕ) : Type
-    0 where
-  pub lists : command ≡ Some Listing → ListsAll forwarded input output errors status
-  pub strips : command ≡ Some Stripping → RunsThenFlushes (RunsStripping input) forwarded output errors status
-  pub helps : command ≡ Some Help → RunsThenFlushes (RunsText help_text input) forwarded output errors status
-  pub says_version : command ≡ Some Version
-      → RunsThenFlushes (RunsText version_text input) forwarded output errors status
-  pub refuses : command ≡ Some Unknown → RunsUsage usage input output errors status
-  pub without_arguments : command ≡ None → CannotBegin input output errors status
+-- The whole program, which was asked for this if the arguments could be fetched, or one was not UTF-8; or an allocation
+-- failed before that was known.
+abbrev pub RunsProgram : Option Asked → (needs_memory : Type 0) (forwarded : Bool) (input output errors : Device)
+    (status : ℕ) → Type 0
+RunsProgram (Some asked) needs_memory forwarded input output errors status =
+    RunsWhole asked forwarded input output errors status ⊎ (needs_memory × CannotBegin input output errors status)
+RunsProgram None needs_memory forwarded input output errors status = CannotBegin input output errors status

@@ -7,7 +7,9 @@ use Rattle.wasm_base.specs.Message.{error_text}
 use Rattle.wasm_base.specs.declared.error.Error.{Error}
 use Rattle.wasm_grammar.specs.Accepted.{IsAccepted}
 use Rattle.wasm_lines.specs.Calls.{input_failed, Device}
-use Rattle.wasm_feed.specs.Stripped.{IsStripped, EndsWithFault}
+use Rattle.wasm_feed.specs.Stripped.{stays_by, IsStripped, EndsWithFault}
+use Rattle.wasm_feed.specs.declared.stripping.Keep.{Keep}
+use Rattle.wasm_cli.specs.StripOptions.{KeepsAs}
 use Rattle.wasm_lines.specs.declared.devices.ListError.{ListError}
 use Rattle.wasm_lines.specs.declared.devices.ListError.TheVariants.{Input, Output, Memory}
 use Rattle.wasm_cli.specs.Devices.{IsUntouched, Says}
@@ -46,20 +48,36 @@ pub record WritesNothing (stream : List ℕ) (e : Error) (output errors : Device
   pub sink : IsUntouched output
   pub answers : Refuses e errors status
 
--- The stripped stream was written, as far as the output took it; or the stream was refused.
-abbrev pub WritesStripped : (stream : List ℕ) (output errors : Device) (status : ℕ) → Type 0
-WritesStripped stream output errors status =
-    ((kept : List ℕ) × IsStripped false stream kept × (WritesAll kept output errors status
+-- The stream without the sections that do not stay was written, as far as the output took it; or the stream was refused.
+abbrev pub WritesStripped : (keep : Keep) (stream : List ℕ) (output errors : Device) (status : ℕ) → Type 0
+WritesStripped keep stream output errors status =
+    ((kept : List ℕ) × IsStripped (stays_by keep) stream kept × (WritesAll kept output errors status
     ⊎ WritesSome kept output errors status))
     ⊎ ((e : Error) × WritesNothing stream e output errors status)
 
--- The source gave all that it had left, which was stripped.
-pub record StripsInput (input output errors : Device) (status : ℕ) : Type 0 where
+-- A stream was stripped as these options say, and written.
+pub record StripsChosen (options : List (List ℕ)) (stream : List ℕ) (output errors : Device) (status : ℕ) : Type 0 where
+  pub keep : Keep
+  pub chosen : KeepsAs options keep
+  pub writes : WritesStripped keep stream output errors status
+
+-- An allocation failed, and nothing was written.
+pub record CannotChoose (output errors : Device) (status : ℕ) : Type 0 where
+  pub sink : IsUntouched output
+  pub gives_up : GivesUpAs Memory errors status
+
+-- the one or the other
+abbrev pub StripsAs : (options : List (List ℕ)) (stream : List ℕ) (output errors : Device) (status : ℕ) → Type 0
+StripsAs options stream output errors status =
+    StripsChosen options stream output errors status ⊎ CannotChoose output errors status
+
+-- The source gave all that it had left, which was stripped as these options say.
+pub record StripsInput (options : List (List ℕ)) (input output errors : Device) (status : ℕ) : Type 0 where
   pub given : List ℕ
   pub gave : Consumes input.before input.after given
   pub at_end : IsAtEnd input.after
   pub source : input.has_failed ≡ input.had_failed
-  pub writes : WritesStripped given output errors status
+  pub writes : StripsAs options given output errors status
 
 -- The source failed, or memory for what it gave was refused: nothing was written.
 pub record CannotRead (input output errors : Device) (status : ℕ) : Type 0 where
@@ -71,7 +89,7 @@ pub record CannotRead (input output errors : Device) (status : ℕ) : Type 0 whe
   pub sink : IsUntouched output
   pub gives_up : GivesUpAs why errors status
 
--- a run that strips its input
-abbrev pub RunsStripping : (input output errors : Device) (status : ℕ) → Type 0
-RunsStripping input output errors status =
-    StripsInput input output errors status ⊎ CannotRead input output errors status
+-- a run that strips its input, with these options
+abbrev pub RunsStripping : (options : List (List ℕ)) (input output errors : Device) (status : ℕ) → Type 0
+RunsStripping options input output errors status =
+    StripsInput options input output errors status ⊎ CannotRead input output errors status

@@ -1,5 +1,6 @@
 //! The program that lists the sections of a WebAssembly stream, or strips it of its custom sections, over any devices.
 mod command;
+mod options;
 mod program;
 mod stripping;
 

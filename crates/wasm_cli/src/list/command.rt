@@ -1,20 +1,22 @@
 // What the program is asked for.
-ghost use Rattle.std.specs.Prelude.{◌≡◌, drop, map, string_bytes};
+ghost use Rattle.std.specs.Prelude.{◌≡◌, [], IfOk, OnErr, drop, map, string_bytes};
 ghost use Rattle.std.specs.Vec.Iter.{into_iter_items};
-ghost use Rattle.wasm_cli.specs.ListCommands.{command_of as command_by, command_named as command_by_name};
-ghost use Rattle.wasm_cli.specs.ListRuns.{command_after_name as command_if_any};
+ghost use Rattle.wasm_cli.specs.ListCommands.{IsGiven, asked_alone, asked_by, asked_if_options, asked_of};
+ghost use Rattle.wasm_cli.specs.StripOptions.{rest_of};
 
+use super::options::rest_after_options;
 use crate::common::is_no_text;
+use std::alloc::{AllocError, Global};
 use std::env::Args;
 use std::io;
 
 /// What the program is to do.
 #[derive(Clone, Copy)]
-pub(super) enum Command {
+pub(super) enum Command<'a> {
     /// To list the input.
     Listing,
-    /// To strip it.
-    Stripping,
+    /// To strip it, with these options.
+    Stripping(&'a [String]),
     /// To say how it is used.
     Help,
     /// To say its version.
@@ -23,12 +25,26 @@ pub(super) enum Command {
     Unknown,
 }
 
-// What one argument asks for.
-fn command_named(word: &str) -> Command
-    ensures { result ≡ command_by_name word.now }
+// What the arguments after `strip` ask for.
+fn command_to_strip(options: &[String]) -> Command<'_>
+    ensures { asked_of result
+        ≡ asked_if_options (rest_of (map string_bytes options.now)) (map string_bytes options.now) }
 {
+    if rest_after_options(options).is_empty() {
+        Command::Stripping(options)
+    } else {
+        Command::Unknown
+    }
+}
+
+// What another argument asks for, before these.
+fn command_alone<'a>(word: &str, more: &[String]) -> Command<'a>
+    ensures { asked_of result ≡ asked_alone word.now (map string_bytes more.now) }
+{
+    if !more.is_empty() {
+        return Command::Unknown;
+    }
     match word {
-        "strip" => Command::Stripping,
         "--help" => Command::Help,
         "--version" => Command::Version,
         _ => Command::Unknown,
@@ -36,44 +52,66 @@ fn command_named(word: &str) -> Command
 }
 
 /// What these arguments ask for.
-pub(super) fn command_of(args: &[String]) -> Command
-    ensures { result ≡ command_by (map string_bytes args.now) }
+pub(super) fn command_of(words: &[String]) -> Command<'_>
+    ensures { asked_of result ≡ asked_by (map string_bytes words.now) }
 {
-    match args.len() {
-        0 => Command::Listing,
-        1 => command_named(args[0].as_str()),
-        _ => Command::Unknown,
+    let [word, more @ ..] = words else {
+        return Command::Listing;
+    };
+    if word.as_str() == "strip" {
+        return command_to_strip(more);
     }
+    command_alone(word.as_str(), more)
 }
 
-// What the arguments after the first ask for, which is the program's own name.
-fn command_after_name(mut args: Args) -> Command
-    ensures { result ≡ command_by (drop 1 (map string_bytes (into_iter_items args))) }
+// Stores the arguments after the first, which is the program's own name.
+fn words_after_name(alloc: Global, mut arguments: Args) -> Result<Vec<String>, AllocError>
+    ensures ok { IfOk result (λ words. map string_bytes words.items
+        ≡ drop 1 (map string_bytes (into_iter_items arguments))) }
+    ensures err { OnErr result (¬ (drop 1 (map string_bytes (into_iter_items arguments)) ≡ [])) }
 {
-    let _name = args.next();
-    match args.next() {
-        None => Command::Listing,
-        Some(word) => {
-            if args.len() > 0 {
-                return Command::Unknown;
-            }
-            command_named(word.as_str())
-        }
-    }
+    let _name = arguments.next();
+    stored(alloc, arguments)
 }
 
-/// What these arguments ask for, if they could be had. One that is not valid UTF-8 asks for nothing known.
-pub(super) fn command_asked(arguments: io::Result<Args>) -> Option<Command>
-    ensures { result
-        ≡ command_if_any (λ args. map string_bytes (into_iter_items args)) arguments }
+// Stores these arguments.
+fn stored(alloc: Global, mut arguments: Args) -> Result<Vec<String>, AllocError>
+    ensures ok { IfOk result (λ words. map string_bytes words.items
+        ≡ map string_bytes (into_iter_items arguments)) }
+    ensures err { OnErr result (¬ (map string_bytes (into_iter_items arguments) ≡ [])) }
+{
+    let mut words = Vec::new(alloc);
+    'words: while let Some(word) = arguments.next() {
+        words.push(word)?;
+    }
+    Ok(words)
+}
+
+/// The arguments of a run.
+#[derive(Drop)]
+pub(super) enum Given {
+    /// Those after the program's own name.
+    Words(Vec<String>),
+    /// One is not valid UTF-8.
+    NoText,
+    /// An allocation failed.
+    Nothing,
+}
+
+/// Stores the arguments, if they could be fetched.
+pub(super) fn words_given(alloc: Global, arguments: io::Result<Args>) -> Given
+    ensures { IsGiven (λ args. map string_bytes (into_iter_items args)) arguments result }
 {
     match arguments {
-        Ok(arguments) => Some(command_after_name(arguments)),
+        Ok(arguments) => match words_after_name(alloc, arguments) {
+            Ok(words) => Given::Words(words),
+            Err(_) => Given::Nothing,
+        },
         Err(error) => {
             if is_no_text(&error) {
-                Some(Command::Unknown)
+                Given::NoText
             } else {
-                None
+                Given::Nothing
             }
         }
     }

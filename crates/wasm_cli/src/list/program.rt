@@ -3,11 +3,11 @@ ghost use Rattle.std.specs.Prelude.{◌≡◌, map, string_bytes};
 ghost use Rattle.std.specs.Process.{exit_status};
 ghost use Rattle.std.specs.Vec.Iter.{into_iter_items};
 ghost use Rattle.wasm_lines.specs.Calls.{device_of, writer_device};
-ghost use Rattle.wasm_cli.specs.ListCommands.{command_of as command_by};
-ghost use Rattle.wasm_cli.specs.ListRuns.{Runs, RunsListing, RunsProgram, WritesText, command_after_name as command_if_any};
+ghost use Rattle.wasm_cli.specs.ListCommands.{WantsMemory, asked_by, asked_if_any, asked_of};
+ghost use Rattle.wasm_cli.specs.ListRuns.{Runs, RunsListing, RunsProgram, RunsWhole, WritesText};
 ghost use Rattle.wasm_cli.specs.ListRuns.{help_text, version_text};
 
-use super::command::{Command, command_asked, command_of};
+use super::command::{Command, Given, command_of, words_given};
 use super::stripping::strip_input;
 use crate::common::{PIECE, complain, finish, give_up};
 use crate::pipe::{Messages, Piped};
@@ -19,11 +19,16 @@ use std::sync::atomic::AtomicBool;
 use wasm_feed::{Ended, ListError, ReadSource, Sink, Source, WriteSink, list, write_all};
 
 /// What `--help` prints.
-const HELP: &[u8] = b"usage: wasm_list [strip] < FILE
+const HELP: &[u8] = b"usage: wasm_list [strip [OPTION]...] < FILE
 
 Lists the parts of the WebAssembly module on standard input: the header, each
 section and function body with its offsets, and the end or the first fault.
-With strip, writes the module without its custom sections instead.
+With strip, writes the module without its custom sections instead. Options of
+strip, which may be repeated:
+
+  --keep-names  keeps the sections called name
+  --keep NAME   keeps the custom sections with this name
+  --only NAME   removes only the custom sections with this name
 
 The exit status is 0, 1 at a fault, 2 for wrong arguments, and 3 if the input
 or the output failed or memory ran out.
@@ -63,7 +68,7 @@ pub fn run_host(rt: HostRuntime) -> ExitCode {
 
 /// The whole program: reads the arguments after the program's own name, runs, flushes the output, and returns the exit status.
 ///
-/// An argument that is not valid UTF-8 is another argument; if the arguments can't be fetched, memory ran out.
+/// An argument that is not valid UTF-8 is another argument; if the arguments can't be fetched or stored, memory ran out.
 pub fn run_program<R: Source, W: Write, E: Sink>(
     alloc: Global,
     arguments: io::Result<Args>,
@@ -71,22 +76,39 @@ pub fn run_program<R: Source, W: Write, E: Sink>(
     output: &mut WriteSink<W>,
     errors: &mut E,
 ) -> ExitCode
-    ensures { RunsProgram
-        (command_if_any (λ args. map string_bytes (into_iter_items args)) arguments)
+    ensures { RunsProgram (asked_if_any (λ args. map string_bytes (into_iter_items args)) arguments)
+        (WantsMemory (λ args. map string_bytes (into_iter_items args)) arguments)
         output.new.forwarded
         (device_of R.remaining R.has_failed input.old input.new)
         (writer_device W.contents output.old output.new)
         (device_of E.taken E.has_failed errors.old errors.new) (exit_status result) }
 {
-    let Some(command) = command_asked(arguments) else {
-        return ExitCode::from(give_up(errors, ListError::Memory));
-    };
+    match words_given(alloc, arguments) {
+        Given::Words(words) => run_whole(alloc, command_of(&words), input, output, errors),
+        Given::NoText => run_whole(alloc, Command::Unknown, input, output, errors),
+        Given::Nothing => ExitCode::from(give_up(errors, ListError::Memory)),
+    }
+}
+
+// Does what is asked for, flushes the output, and returns the exit status.
+fn run_whole<R: Source, W: Write, E: Sink>(
+    alloc: Global,
+    command: Command<'_>,
+    input: &mut R,
+    output: &mut WriteSink<W>,
+    errors: &mut E,
+) -> ExitCode
+    ensures { RunsWhole (asked_of command) output.new.forwarded
+        (device_of R.remaining R.has_failed input.old input.new)
+        (writer_device W.contents output.old output.new)
+        (device_of E.taken E.has_failed errors.old errors.new) (exit_status result) }
+{
     let status = run_command(alloc, command, input, output, errors);
     ExitCode::from(finish(status, output, errors))
 }
 
-/// Lists the input, or with the one argument `strip` writes it without its custom sections. Returns the exit status: 0 at
-/// the end of the stream, 1 at a fault of it, 2 for other arguments, 3 where the input, the output or memory failed.
+/// Lists the input, or with `strip` writes it without its custom sections, but for those that the options after `strip` keep. Returns the
+/// exit status: 0 at the end of the stream, 1 at a fault of it, 2 for other arguments, 3 if the input, the output or an allocation failed.
 ///
 /// A message goes to `errors` for the last two, and for a fault of a stream that isn't stripped. Whether it could be written
 /// changes no status.
@@ -97,7 +119,7 @@ pub fn run<R: Source, W: Sink, E: Sink>(
     output: &mut W,
     errors: &mut E,
 ) -> u8
-    ensures { Runs (command_by (map string_bytes args.now))
+    ensures { Runs (asked_by (map string_bytes args.now))
         (device_of R.remaining R.has_failed input.old input.new)
         (device_of W.taken W.has_failed output.old output.new)
         (device_of E.taken E.has_failed errors.old errors.new) result }
@@ -108,19 +130,19 @@ pub fn run<R: Source, W: Sink, E: Sink>(
 // `run` for this command.
 fn run_command<R: Source, W: Sink, E: Sink>(
     alloc: Global,
-    command: Command,
+    command: Command<'_>,
     input: &mut R,
     output: &mut W,
     errors: &mut E,
 ) -> u8
-    ensures { Runs command
+    ensures { Runs (asked_of command)
         (device_of R.remaining R.has_failed input.old input.new)
         (device_of W.taken W.has_failed output.old output.new)
         (device_of E.taken E.has_failed errors.old errors.new) result }
 {
     match command {
         Command::Listing => list_input(alloc, input, output, errors),
-        Command::Stripping => strip_input(alloc, input, output, errors),
+        Command::Stripping(options) => strip_input(alloc, options, input, output, errors),
         Command::Help => write_text(help(), output, errors),
         Command::Version => write_text(version(), output, errors),
         Command::Unknown => {

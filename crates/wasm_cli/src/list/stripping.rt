@@ -1,11 +1,12 @@
 // The input without its custom sections.
 ghost use Rattle.wasm_lines.specs.Calls.{input_failed, device_of};
-ghost use Rattle.wasm_cli.specs.Strips.{ReadsAll, ReadsPiece, Refuses, RunsStripping, WritesStripped};
-ghost use Rattle.std.specs.Prelude.{◌≡◌, ◌<◌, length};
+ghost use Rattle.wasm_cli.specs.Strips.{ReadsAll, ReadsPiece, Refuses, RunsStripping, StripsAs, WritesStripped};
+ghost use Rattle.std.specs.Prelude.{◌≡◌, ◌<◌, length, map, string_bytes};
 
+use super::options::choice_of;
 use crate::common::{complain, give_up, read_buffer};
 use std::alloc::Global;
-use wasm_feed::{ListError, Sink, Source, strip_in_place, write_all};
+use wasm_feed::{Keep, ListError, Sink, Source, strip_in_place, write_all};
 use wasm_parser::Error;
 
 // Performs one read, and appends the result to these bytes. Returns whether there were any.
@@ -60,14 +61,15 @@ fn tell_fault<E: Sink>(alloc: Global, errors: &mut E, error: Error) -> u8
 fn write_stripped<W: Sink, E: Sink>(
     alloc: Global,
     mut bytes: Vec<u8>,
+    keep: Keep<'_>,
     output: &mut W,
     errors: &mut E,
 ) -> u8
-    ensures { WritesStripped bytes.items
+    ensures { WritesStripped keep bytes.items
         (device_of W.taken W.has_failed output.old output.new)
         (device_of E.taken E.has_failed errors.old errors.new) result }
 {
-    match strip_in_place(&mut bytes, false) {
+    match strip_in_place(&mut bytes, keep) {
         Ok(()) => match write_all(output, &bytes) {
             Ok(()) => 0,
             Err(_) => give_up(errors, ListError::Output),
@@ -76,23 +78,42 @@ fn write_stripped<W: Sink, E: Sink>(
     }
 }
 
-/// Strips the input: reads all of it, and writes it without its custom sections. Returns the exit status: 0, 1 at a fault of the
-/// stream, and 3 if the input, the output or an allocation failed.
+// Strips this input, as the options say.
+fn strip_bytes<W: Sink, E: Sink>(
+    alloc: Global,
+    options: &[String],
+    bytes: Vec<u8>,
+    output: &mut W,
+    errors: &mut E,
+) -> u8
+    ensures { StripsAs (map string_bytes options.now) bytes.items
+        (device_of W.taken W.has_failed output.old output.new)
+        (device_of E.taken E.has_failed errors.old errors.new) result }
+{
+    match choice_of(alloc, options) {
+        Ok(choice) => write_stripped(alloc, bytes, choice.keep(), output, errors),
+        Err(_) => give_up(errors, ListError::Memory),
+    }
+}
+
+/// Strips the input as these options say: reads all of it, and writes it without its custom sections, but for those that stay. Returns the
+/// exit status: 0, 1 at a fault of the stream, and 3 if the input, the output or an allocation failed.
 ///
 /// For the last two a message goes to `errors`, and nothing to the output. A message that can't be written changes no status.
 pub(super) fn strip_input<R: Source, W: Sink, E: Sink>(
     alloc: Global,
+    options: &[String],
     input: &mut R,
     output: &mut W,
     errors: &mut E,
 ) -> u8
-    ensures { RunsStripping
+    ensures { RunsStripping (map string_bytes options.now)
         (device_of R.remaining R.has_failed input.old input.new)
         (device_of W.taken W.has_failed output.old output.new)
         (device_of E.taken E.has_failed errors.old errors.new) result }
 {
     match read_all(alloc, input) {
-        Ok(bytes) => write_stripped(alloc, bytes, output, errors),
+        Ok(bytes) => strip_bytes(alloc, options, bytes, output, errors),
         Err(why) => give_up(errors, why),
     }
 }

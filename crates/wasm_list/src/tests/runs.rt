@@ -65,11 +65,16 @@ type Row = (
 
 const USAGE: &[u8] = b"usage: wasm_list [strip]\n";
 
-const HELP: &[u8] = b"usage: wasm_list [strip] < FILE
+const HELP: &[u8] = b"usage: wasm_list [strip [OPTION]...] < FILE
 
 Lists the parts of the WebAssembly module on standard input: the header, each
 section and function body with its offsets, and the end or the first fault.
-With strip, writes the module without its custom sections instead.
+With strip, writes the module without its custom sections instead. Options of
+strip, which may be repeated:
+
+  --keep-names  keeps the sections called name
+  --keep NAME   keeps the custom sections with this name
+  --only NAME   removes only the custom sections with this name
 
 The exit status is 0, 1 at a fault, 2 for wrong arguments, and 3 if the input
 or the output failed or memory ran out.
@@ -77,7 +82,41 @@ or the output failed or memory ran out.
 
 const VERSION: &[u8] = b"wasm_list 0.1.0 (follows wasmparser 0.263.0)\n";
 
-const ROWS: [Row; 15] = [
+// A module with the custom sections a, name and b, and what of it stays.
+const CUSTOM: &[u8] = b"\0asm\x01\0\0\0\0\x02\x01a\0\x05\x04name\0\x02\x01b";
+
+const NAME: &[u8] = b"\0asm\x01\0\0\0\0\x05\x04name";
+
+const NAME_AND_B: &[u8] = b"\0asm\x01\0\0\0\0\x05\x04name\0\x02\x01b";
+
+const ROWS: [Row; 24] = [
+    (&["strip", "--keep-names"], CUSTOM, 0, NAME, b""),
+    (&["strip", "--keep", "name"], CUSTOM, 0, NAME, b""),
+    (&["strip", "--only", "a"], CUSTOM, 0, NAME_AND_B, b""),
+    (
+        &["strip", "--keep", "b", "--keep-names"],
+        CUSTOM,
+        0,
+        NAME_AND_B,
+        b"",
+    ),
+    (
+        &["strip", "--only", "a", "--only", "b", "--keep", "b"],
+        CUSTOM,
+        0,
+        NAME_AND_B,
+        b"",
+    ),
+    (
+        &["strip", "--only", "--keep-names", "--keep", "--only"],
+        CUSTOM,
+        0,
+        CUSTOM,
+        b"",
+    ),
+    (&["strip", "--keep"], CUSTOM, 2, b"", USAGE),
+    (&["strip", "--keep-names", "b"], CUSTOM, 2, b"", USAGE),
+    (&["strip", "--only", "a", "--help"], CUSTOM, 2, b"", USAGE),
     (&["--help"], MODULE, 0, HELP, b""),
     (&["--version"], MODULE, 0, VERSION, b""),
     (&["strip", "--help"], MODULE, 2, b"", USAGE),
@@ -147,7 +186,7 @@ const ROWS: [Row; 15] = [
 fn all_answer(rt: &impl Abort, alloc: Global, rows: &[Row]) -> Result<(), Fail> {
     for (arguments, stream, status, written, said) in rows {
         let input = &mut SliceSource::new(stream);
-        answers(rt, alloc, arguments, input, 500, (*status, written, said))?;
+        answers(rt, alloc, arguments, input, 800, (*status, written, said))?;
     }
     Ok(())
 }
