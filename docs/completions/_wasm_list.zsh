@@ -1,6 +1,14 @@
 #compdef wasm_list
 # Completions of wasm_list for zsh.
-_arguments \
-    '(strip --version)--help[print a summary]' \
-    '(strip --help)--version[print the version]' \
-    '(--help --version)1:command:((strip\:"write the module without its custom sections"))'
+if [[ $words[2] == strip ]] && (( CURRENT > 2 )); then
+    _arguments \
+        '1:command:(strip)' \
+        '*--keep-names[keep the sections called name]' \
+        '*--keep[keep the custom sections with a name]:name:' \
+        '*--only[remove only the custom sections with a name]:name:'
+else
+    _arguments \
+        '(strip --version)--help[print a summary]' \
+        '(strip --help)--version[print the version]' \
+        '(--help --version)1:command:((strip\:"write the module without its custom sections"))'
+fi

@@ -65,7 +65,7 @@ extern "C" {
 
 /* The version of this header. Before 1.0.0 a new minor version may change anything; from then on a new minor version only adds
    declarations, and a new major version may change them. Enumerators keep their numbers. */
-#define PULLEYNAVY_VERSION_STRING "0.1.0"
+#define PULLEYNAVY_VERSION_STRING "0.2.0"
 #define PULLEYNAVY_VERSION_MAJOR 0
 #define PULLEYNAVY_VERSION_MINOR 1
 #define PULLEYNAVY_VERSION_PATCH 0

@@ -5,7 +5,7 @@ ghost use Rattle.std.specs.Prelude.{◌≡◌};
 /// patch. Compare it with `PULLEYNAVY_VERSION_NUMBER`, that of the header.
 #[unsafe(no_mangle)]
 pub extern "C" fn pulleynavy_version() -> u32
-    ensures { result ≡ 256 }
+    ensures { result ≡ 512 }
 {
-    256
+    512
 }

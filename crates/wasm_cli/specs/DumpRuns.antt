@@ -47,29 +47,49 @@ abbrev pub names_usage : List ℕ
 names_usage = codes "wasm_dump: --names reads each file twice, and standard input can't be: name files\n"
 
 abbrev pub version_text : List ℕ
-version_text = codes "wasm_dump 0.1.0 (follows wasmparser 0.263.0)\n"
+version_text = codes "wasm_dump 0.2.0 (follows wasmparser 0.263.0)\n"
 
 abbrev pub help_text : List ℕ
 help_text =
-    codes "usage: wasm_dump [OPTION]... [--section ID|NAME]... [FILE]...\n" ++ (
+    codes "usage: wasm_dump [--color] [--names] [--json] [--bytes] [--section ID|NAME]\n" ++ (
+    codes "                 [FILE...]\n" ++ (
+    codes "       wasm_dump --help | --version\n" ++ (
     codes "\n" ++ (
-    codes "Shows what the WebAssembly modules in the FILEs hold, each under its name where\n" ++ (
-    codes "there are several; - or none is standard input. Each section and body has a\n" ++ (
-    codes "line, and under it a line for each item, which begins with the offset of its\n" ++ (
-    codes "bytes in the file. A fault of an item is a line at its place. With --section\n" ++ (
-    codes "only the sections with this id or name are shown; several add up. The options:\n" ++ (
+    codes "wasm_dump shows what each FILE contains: a line for each section and function\n" ++ (
+    codes "body, and below it a line for each item, which begins with the offset of the\n" ++ (
+    codes "item in the file. Without a FILE, or with '-', it reads standard input. With\n" ++ (
+    codes "several files, each dump follows the name of its file.\n" ++ (
     codes "\n" ++ (
-    codes "  --color   the text has colours, as a terminal shows them\n" ++ (
-    codes "  --names   each FILE is read twice, and items have the names that its custom\n" ++ (
-    codes "            sections name have for them\n" ++ (
-    codes "  --json    each line is an object of JSON, for programs\n" ++ (
-    codes "  --bytes   before a line the bytes that it is read from, in hexadecimal\n" ++ (
+    codes "A malformed item is a line that begins with fault, and the next section\n" ++ (
+    codes "follows. A fault of the file itself is the last line. wasm_dump does not\n" ++ (
+    codes "validate modules, and it shows function bodies as ranges of bytes.\n" ++ (
     codes "\n" ++ (
-    codes "  wasm_dump a.wasm                       all of it\n" ++ (
-    codes "  wasm_dump --section import < a.wasm    its imports\n" ++ (
+    codes "Options come before files, in any order:\n" ++ (
     codes "\n" ++ (
-    codes "The status is 0, or 1 where a file has a fault at which reading stops, 2 for\n" ++ (
-    codes "other arguments, and 3 where a file, the output or memory failed.\n"))))))))))))))))))
+    codes "  --color    The text has colors for a terminal. It cannot be combined with\n" ++ (
+    codes "             --json.\n" ++ (
+    codes "  --names    Each file is read twice, and items are shown with their names from\n" ++ (
+    codes "             the custom sections called 'name'. Standard input cannot be read\n" ++ (
+    codes "             twice.\n" ++ (
+    codes "  --json     Each line is a JSON object, for programs.\n" ++ (
+    codes "  --bytes    Each line follows the bytes that it was read from, in hexadecimal.\n" ++ (
+    codes "             It cannot be combined with --json.\n" ++ (
+    codes "  --section ID|NAME\n" ++ (
+    codes "             Only sections with this id, with this name in the standard, or\n" ++ (
+    codes "             custom sections with this name are shown. The option may be\n" ++ (
+    codes "             repeated.\n" ++ (
+    codes "  --help     Prints a summary of the options.\n" ++ (
+    codes "  --version  Prints the version, and that of the wasmparser crate whose names\n" ++ (
+    codes "             it follows.\n" ++ (
+    codes "\n" ++ (
+    codes "Exit status:\n" ++ (
+    codes "  0  All files were read to their ends.\n" ++ (
+    codes "  1  A file has a fault at which reading stops.\n" ++ (
+    codes "  2  The arguments are wrong.\n" ++ (
+    codes "  3  A file or device failed, or memory ran out. The reason is printed to\n" ++ (
+    codes "     standard error, unless the output is a pipe that its reader has closed.\n" ++ (
+    codes "\n" ++ (
+    codes "With several files the exit status is the greatest of theirs.\n"))))))))))))))))))))))))))))))))))))))
 
 -- These sections of the input were shown, with the status and message of how that ended.
 pub record Shows (options : Options) (only : List Only) (forwarded : Bool) (input output errors : Device) (status : ℕ) :

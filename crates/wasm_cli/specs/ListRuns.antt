@@ -14,23 +14,46 @@ abbrev pub usage : List ℕ
 usage = codes "usage: wasm_list [strip]\n"
 
 abbrev pub version_text : List ℕ
-version_text = codes "wasm_list 0.1.0 (follows wasmparser 0.263.0)\n"
+version_text = codes "wasm_list 0.2.0 (follows wasmparser 0.263.0)\n"
 
 abbrev pub help_text : List ℕ
 help_text =
-    codes "usage: wasm_list [strip [OPTION]...] < FILE\n" ++ (
+    codes "usage: wasm_list\n" ++ (
+    codes "       wasm_list strip [--keep-names] [--keep NAME] [--only NAME]\n" ++ (
+    codes "       wasm_list --help | --version\n" ++ (
     codes "\n" ++ (
-    codes "Lists the parts of the WebAssembly module on standard input: the header, each\n" ++ (
-    codes "section and function body with its offsets, and the end or the first fault.\n" ++ (
-    codes "With strip, writes the module without its custom sections instead. Options of\n" ++ (
-    codes "strip, which may be repeated:\n" ++ (
+    codes "wasm_list reads a WebAssembly module, or the header of a component, from\n" ++ (
+    codes "standard input. It writes a line for each part to standard output as soon as\n" ++ (
+    codes "the part is read: the header, each section with its offsets and count, each\n" ++ (
+    codes "function body, and the end. All numbers are decimal, and offsets count bytes\n" ++ (
+    codes "from the start of the input. A fault is the last line, with its offset.\n" ++ (
     codes "\n" ++ (
-    codes "  --keep-names  keeps the sections called name\n" ++ (
-    codes "  --keep NAME   keeps the custom sections with this name\n" ++ (
-    codes "  --only NAME   removes only the custom sections with this name\n" ++ (
+    codes "With strip, it writes the module without its custom sections, such as names and\n" ++ (
+    codes "debugging information. All other bytes stay as they are. If the module is\n" ++ (
+    codes "malformed, nothing is written.\n" ++ (
     codes "\n" ++ (
-    codes "The exit status is 0, 1 at a fault, 2 for wrong arguments, and 3 if the input\n" ++ (
-    codes "or the output failed or memory ran out.\n"))))))))))))
+    codes "These options come after strip, in any order, and may be repeated:\n" ++ (
+    codes "\n" ++ (
+    codes "  --keep-names  Keeps the custom sections called 'name'.\n" ++ (
+    codes "  --keep NAME   Keeps the custom sections with this name.\n" ++ (
+    codes "  --only NAME   Removes only the custom sections with this name, and those that\n" ++ (
+    codes "                other such options name. A section that another option keeps is\n" ++ (
+    codes "                not removed.\n" ++ (
+    codes "\n" ++ (
+    codes "On its own:\n" ++ (
+    codes "\n" ++ (
+    codes "  --help        Prints a summary.\n" ++ (
+    codes "  --version     Prints the version, and that of the wasmparser crate whose\n" ++ (
+    codes "                names it follows.\n" ++ (
+    codes "\n" ++ (
+    codes "Any other argument prints the usage line to standard error.\n" ++ (
+    codes "\n" ++ (
+    codes "Exit status:\n" ++ (
+    codes "  0  The input was read to its end.\n" ++ (
+    codes "  1  The input has a fault. With strip, the fault is printed to standard error.\n" ++ (
+    codes "  2  The arguments are wrong.\n" ++ (
+    codes "  3  The input or the output failed, or memory ran out. The reason is printed\n" ++ (
+    codes "     to standard error, unless the output is a pipe that its reader has closed.\n")))))))))))))))))))))))))))))))))))
 
 -- a run whose listing ended so
 pub record RunsListingAs (how : Result Ended ListError) (input output errors : Device) (status : ℕ) : Type 0 where

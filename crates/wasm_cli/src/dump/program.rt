@@ -26,29 +26,49 @@ use wasm_feed::{Ended, Failed, ListError, ReadSource, Sink, Source, WriteSink, w
 use wasm_tree::{ItemNames, Lines, Objects, Style};
 
 /// What `--help` says.
-const HELP: &[u8] = b"usage: wasm_dump [OPTION]... [--section ID|NAME]... [FILE]...
+const HELP: &[u8] = b"usage: wasm_dump [--color] [--names] [--json] [--bytes] [--section ID|NAME]
+                 [FILE...]
+       wasm_dump --help | --version
 
-Shows what the WebAssembly modules in the FILEs hold, each under its name where
-there are several; - or none is standard input. Each section and body has a
-line, and under it a line for each item, which begins with the offset of its
-bytes in the file. A fault of an item is a line at its place. With --section
-only the sections with this id or name are shown; several add up. The options:
+wasm_dump shows what each FILE contains: a line for each section and function
+body, and below it a line for each item, which begins with the offset of the
+item in the file. Without a FILE, or with '-', it reads standard input. With
+several files, each dump follows the name of its file.
 
-  --color   the text has colours, as a terminal shows them
-  --names   each FILE is read twice, and items have the names that its custom
-            sections name have for them
-  --json    each line is an object of JSON, for programs
-  --bytes   before a line the bytes that it is read from, in hexadecimal
+A malformed item is a line that begins with fault, and the next section
+follows. A fault of the file itself is the last line. wasm_dump does not
+validate modules, and it shows function bodies as ranges of bytes.
 
-  wasm_dump a.wasm                       all of it
-  wasm_dump --section import < a.wasm    its imports
+Options come before files, in any order:
 
-The status is 0, or 1 where a file has a fault at which reading stops, 2 for
-other arguments, and 3 where a file, the output or memory failed.
+  --color    The text has colors for a terminal. It cannot be combined with
+             --json.
+  --names    Each file is read twice, and items are shown with their names from
+             the custom sections called 'name'. Standard input cannot be read
+             twice.
+  --json     Each line is a JSON object, for programs.
+  --bytes    Each line follows the bytes that it was read from, in hexadecimal.
+             It cannot be combined with --json.
+  --section ID|NAME
+             Only sections with this id, with this name in the standard, or
+             custom sections with this name are shown. The option may be
+             repeated.
+  --help     Prints a summary of the options.
+  --version  Prints the version, and that of the wasmparser crate whose names
+             it follows.
+
+Exit status:
+  0  All files were read to their ends.
+  1  A file has a fault at which reading stops.
+  2  The arguments are wrong.
+  3  A file or device failed, or memory ran out. The reason is printed to
+     standard error, unless the output is a pipe that its reader has closed.
+
+With several files the exit status is the greatest of theirs.
 ";
 
 /// What `--version` says.
-const VERSION: &[u8] = b"wasm_dump 0.1.0 (follows wasmparser 0.263.0)\n";
+const VERSION: &[u8] = b"wasm_dump 0.2.0 (follows wasmparser 0.263.0)\n";
 
 // `HELP`, in the words of its clause.
 fn help() -> &'static [u8]

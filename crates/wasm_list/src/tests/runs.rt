@@ -65,22 +65,45 @@ type Row = (
 
 const USAGE: &[u8] = b"usage: wasm_list [strip]\n";
 
-const HELP: &[u8] = b"usage: wasm_list [strip [OPTION]...] < FILE
+const HELP: &[u8] = b"usage: wasm_list
+       wasm_list strip [--keep-names] [--keep NAME] [--only NAME]
+       wasm_list --help | --version
 
-Lists the parts of the WebAssembly module on standard input: the header, each
-section and function body with its offsets, and the end or the first fault.
-With strip, writes the module without its custom sections instead. Options of
-strip, which may be repeated:
+wasm_list reads a WebAssembly module, or the header of a component, from
+standard input. It writes a line for each part to standard output as soon as
+the part is read: the header, each section with its offsets and count, each
+function body, and the end. All numbers are decimal, and offsets count bytes
+from the start of the input. A fault is the last line, with its offset.
 
-  --keep-names  keeps the sections called name
-  --keep NAME   keeps the custom sections with this name
-  --only NAME   removes only the custom sections with this name
+With strip, it writes the module without its custom sections, such as names and
+debugging information. All other bytes stay as they are. If the module is
+malformed, nothing is written.
 
-The exit status is 0, 1 at a fault, 2 for wrong arguments, and 3 if the input
-or the output failed or memory ran out.
+These options come after strip, in any order, and may be repeated:
+
+  --keep-names  Keeps the custom sections called 'name'.
+  --keep NAME   Keeps the custom sections with this name.
+  --only NAME   Removes only the custom sections with this name, and those that
+                other such options name. A section that another option keeps is
+                not removed.
+
+On its own:
+
+  --help        Prints a summary.
+  --version     Prints the version, and that of the wasmparser crate whose
+                names it follows.
+
+Any other argument prints the usage line to standard error.
+
+Exit status:
+  0  The input was read to its end.
+  1  The input has a fault. With strip, the fault is printed to standard error.
+  2  The arguments are wrong.
+  3  The input or the output failed, or memory ran out. The reason is printed
+     to standard error, unless the output is a pipe that its reader has closed.
 ";
 
-const VERSION: &[u8] = b"wasm_list 0.1.0 (follows wasmparser 0.263.0)\n";
+const VERSION: &[u8] = b"wasm_list 0.2.0 (follows wasmparser 0.263.0)\n";
 
 // A module with the custom sections a, name and b, and what of it stays.
 const CUSTOM: &[u8] = b"\0asm\x01\0\0\0\0\x02\x01a\0\x05\x04name\0\x02\x01b";
@@ -186,7 +209,7 @@ const ROWS: [Row; 24] = [
 fn all_answer(rt: &impl Abort, alloc: Global, rows: &[Row]) -> Result<(), Fail> {
     for (arguments, stream, status, written, said) in rows {
         let input = &mut SliceSource::new(stream);
-        answers(rt, alloc, arguments, input, 800, (*status, written, said))?;
+        answers(rt, alloc, arguments, input, 2000, (*status, written, said))?;
     }
     Ok(())
 }
