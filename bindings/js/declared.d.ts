@@ -3,7 +3,7 @@
 
 export declare const VERSION: string;
 
-/** What an event is. */
+/** The kind of an event. */
 export declare const EventKind: {
     readonly NEED_MORE: 0;
     readonly VERSION: 1;
@@ -18,7 +18,7 @@ export declare const EventKind: {
     readonly FAULT: 10;
 };
 
-/** What a fault is. */
+/** The kind of a fault. */
 export declare const FaultKind: {
     readonly OUT_OF_MEMORY: 1;
     readonly UNEXPECTED_EOF: 2;
@@ -70,7 +70,7 @@ export declare const FaultKind: {
     readonly SUPERTYPES: 48;
 };
 
-/** Of NUMBER_TOO_LONG and NUMBER_TOO_LARGE, the kind of the number. */
+/** The kind of the number of NUMBER_TOO_LONG and NUMBER_TOO_LARGE. */
 export declare const NumberKind: {
     readonly VAR_U32: 0;
     readonly VAR_I32: 1;
@@ -79,7 +79,7 @@ export declare const NumberKind: {
     readonly VAR_S33: 4;
 };
 
-/** Of LEADING_BYTE, what the byte begins. */
+/** What the byte of LEADING_BYTE should have begun. */
 export declare const Lead: {
     readonly BRANCH_HINT: 0;
     readonly BRANCH_TAKEN: 1;
@@ -94,7 +94,7 @@ export declare const Lead: {
     readonly MUTABILITY: 10;
 };
 
-/** Of CORE_START_BYTE, the part of a core dump that begins with the byte. */
+/** The part of a core dump that the byte of CORE_START_BYTE should have begun. */
 export declare const CoreStart: {
     readonly NAME: 0;
     readonly MODULE: 1;
@@ -133,7 +133,7 @@ export declare const TypeKind: {
     readonly I16: 7;
 };
 
-/** What a reference refers to. */
+/** The type of what a reference refers to. */
 export declare const HeapKind: {
     readonly FUNC: 0;
     readonly EXTERN: 1;
@@ -150,14 +150,14 @@ export declare const HeapKind: {
     readonly CONCRETE: 12;
 };
 
-/** What a subtype defines. */
+/** The kind of a composite type. */
 export declare const CompositeKind: {
     readonly FUNC: 0;
     readonly ARRAY: 1;
     readonly STRUCT: 2;
 };
 
-/** What is imported or exported. */
+/** The kind of an import or export. */
 export declare const ExternalKind: {
     readonly FUNC: 0;
     readonly TABLE: 1;
@@ -167,27 +167,27 @@ export declare const ExternalKind: {
     readonly FUNC_EXACT: 5;
 };
 
-/** An import, a bundle of imports of one module, or a bundle of one module and one type. */
+/** The kind of an item of an import section. */
 export declare const ImportKind: {
     readonly SINGLE: 0;
     readonly BUNDLE: 1;
     readonly BUNDLE_OF_TYPE: 2;
 };
 
-/** What becomes of an element segment. */
+/** The kind of an element segment. */
 export declare const ElementKind: {
     readonly PASSIVE: 0;
     readonly ACTIVE: 1;
     readonly DECLARED: 2;
 };
 
-/** What becomes of a data segment. */
+/** The kind of a data segment. */
 export declare const DataKind: {
     readonly PASSIVE: 0;
     readonly ACTIVE: 1;
 };
 
-/** The custom section that a name is that of. */
+/** The kind of a custom section, by its name. */
 export declare const CustomKind: {
     readonly UNKNOWN: 0;
     readonly NAME: 1;
@@ -202,7 +202,7 @@ export declare const CustomKind: {
     readonly CORE_STACK: 10;
 };
 
-/** What a symbol is. */
+/** The kind of a symbol. */
 export declare const SymbolKind: {
     readonly FUNC: 0;
     readonly DATA: 1;
@@ -212,7 +212,7 @@ export declare const SymbolKind: {
     readonly TABLE: 5;
 };
 
-/** What a symbol of a comdat is. */
+/** The kind of a symbol of a comdat. */
 export declare const ComdatKind: {
     readonly DATA: 0;
     readonly FUNC: 1;
@@ -222,7 +222,7 @@ export declare const ComdatKind: {
     readonly SECTION: 5;
 };
 
-/** What a relocation fills in. */
+/** The type of a relocation. */
 export declare const RelocationKind: {
     readonly FUNCTION_INDEX_LEB: 0;
     readonly TABLE_INDEX_SLEB: 1;
@@ -253,7 +253,7 @@ export declare const RelocationKind: {
     readonly FUNCTION_INDEX_I32: 26;
 };
 
-/** What a value of a core dump is. */
+/** The kind of a value of a core dump. */
 export declare const CoreValueKind: {
     readonly MISSING: 0;
     readonly I32: 1;
@@ -299,7 +299,7 @@ export declare const DylinkId: {
     readonly TARGET_ARCH: 6;
 };
 
-/** The opcode of an instruction of a constant expression. */
+/** The opcode of an instruction of a constant expression. An opcode of two parts is 256 times the first plus the second. */
 export declare const Opcode: {
     readonly END: 11;
     readonly GLOBAL_GET: 35;

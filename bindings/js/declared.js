@@ -3,7 +3,7 @@
 
 export const VERSION = "0.2.0";
 
-// What an event is.
+// The kind of an event.
 export const EventKind = Object.freeze({
     NEED_MORE: 0,
     VERSION: 1,
@@ -18,7 +18,7 @@ export const EventKind = Object.freeze({
     FAULT: 10,
 });
 
-// What a fault is.
+// The kind of a fault.
 export const FaultKind = Object.freeze({
     OUT_OF_MEMORY: 1,
     UNEXPECTED_EOF: 2,
@@ -70,7 +70,7 @@ export const FaultKind = Object.freeze({
     SUPERTYPES: 48,
 });
 
-// Of NUMBER_TOO_LONG and NUMBER_TOO_LARGE, the kind of the number.
+// The kind of the number of NUMBER_TOO_LONG and NUMBER_TOO_LARGE.
 export const NumberKind = Object.freeze({
     VAR_U32: 0,
     VAR_I32: 1,
@@ -79,7 +79,7 @@ export const NumberKind = Object.freeze({
     VAR_S33: 4,
 });
 
-// Of LEADING_BYTE, what the byte begins.
+// What the byte of LEADING_BYTE should have begun.
 export const Lead = Object.freeze({
     BRANCH_HINT: 0,
     BRANCH_TAKEN: 1,
@@ -94,7 +94,7 @@ export const Lead = Object.freeze({
     MUTABILITY: 10,
 });
 
-// Of CORE_START_BYTE, the part of a core dump that begins with the byte.
+// The part of a core dump that the byte of CORE_START_BYTE should have begun.
 export const CoreStart = Object.freeze({
     NAME: 0,
     MODULE: 1,
@@ -133,7 +133,7 @@ export const TypeKind = Object.freeze({
     I16: 7,
 });
 
-// What a reference refers to.
+// The type of what a reference refers to.
 export const HeapKind = Object.freeze({
     FUNC: 0,
     EXTERN: 1,
@@ -150,14 +150,14 @@ export const HeapKind = Object.freeze({
     CONCRETE: 12,
 });
 
-// What a subtype defines.
+// The kind of a composite type.
 export const CompositeKind = Object.freeze({
     FUNC: 0,
     ARRAY: 1,
     STRUCT: 2,
 });
 
-// What is imported or exported.
+// The kind of an import or export.
 export const ExternalKind = Object.freeze({
     FUNC: 0,
     TABLE: 1,
@@ -167,27 +167,27 @@ export const ExternalKind = Object.freeze({
     FUNC_EXACT: 5,
 });
 
-// An import, a bundle of imports of one module, or a bundle of one module and one type.
+// The kind of an item of an import section.
 export const ImportKind = Object.freeze({
     SINGLE: 0,
     BUNDLE: 1,
     BUNDLE_OF_TYPE: 2,
 });
 
-// What becomes of an element segment.
+// The kind of an element segment.
 export const ElementKind = Object.freeze({
     PASSIVE: 0,
     ACTIVE: 1,
     DECLARED: 2,
 });
 
-// What becomes of a data segment.
+// The kind of a data segment.
 export const DataKind = Object.freeze({
     PASSIVE: 0,
     ACTIVE: 1,
 });
 
-// The custom section that a name is that of.
+// The kind of a custom section, by its name.
 export const CustomKind = Object.freeze({
     UNKNOWN: 0,
     NAME: 1,
@@ -202,7 +202,7 @@ export const CustomKind = Object.freeze({
     CORE_STACK: 10,
 });
 
-// What a symbol is.
+// The kind of a symbol.
 export const SymbolKind = Object.freeze({
     FUNC: 0,
     DATA: 1,
@@ -212,7 +212,7 @@ export const SymbolKind = Object.freeze({
     TABLE: 5,
 });
 
-// What a symbol of a comdat is.
+// The kind of a symbol of a comdat.
 export const ComdatKind = Object.freeze({
     DATA: 0,
     FUNC: 1,
@@ -222,7 +222,7 @@ export const ComdatKind = Object.freeze({
     SECTION: 5,
 });
 
-// What a relocation fills in.
+// The type of a relocation.
 export const RelocationKind = Object.freeze({
     FUNCTION_INDEX_LEB: 0,
     TABLE_INDEX_SLEB: 1,
@@ -253,7 +253,7 @@ export const RelocationKind = Object.freeze({
     FUNCTION_INDEX_I32: 26,
 });
 
-// What a value of a core dump is.
+// The kind of a value of a core dump.
 export const CoreValueKind = Object.freeze({
     MISSING: 0,
     I32: 1,
@@ -299,7 +299,7 @@ export const DylinkId = Object.freeze({
     TARGET_ARCH: 6,
 });
 
-// The opcode of an instruction of a constant expression.
+// The opcode of an instruction of a constant expression. An opcode of two parts is 256 times the first plus the second.
 export const Opcode = Object.freeze({
     END: 11,
     GLOBAL_GET: 35,

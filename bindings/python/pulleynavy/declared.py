@@ -10,7 +10,7 @@ VERSION = "0.2.0"
 
 
 class EventKind(enum.IntEnum):
-    """What an event is."""
+    """The kind of an event."""
 
     NEED_MORE = 0
     VERSION = 1
@@ -26,7 +26,7 @@ class EventKind(enum.IntEnum):
 
 
 class FaultKind(enum.IntEnum):
-    """What a fault is."""
+    """The kind of a fault."""
 
     OUT_OF_MEMORY = 1
     UNEXPECTED_EOF = 2
@@ -79,7 +79,7 @@ class FaultKind(enum.IntEnum):
 
 
 class NumberKind(enum.IntEnum):
-    """Of NUMBER_TOO_LONG and NUMBER_TOO_LARGE, the kind of the number."""
+    """The kind of the number of NUMBER_TOO_LONG and NUMBER_TOO_LARGE."""
 
     VAR_U32 = 0
     VAR_I32 = 1
@@ -89,7 +89,7 @@ class NumberKind(enum.IntEnum):
 
 
 class Lead(enum.IntEnum):
-    """Of LEADING_BYTE, what the byte begins."""
+    """What the byte of LEADING_BYTE should have begun."""
 
     BRANCH_HINT = 0
     BRANCH_TAKEN = 1
@@ -105,7 +105,7 @@ class Lead(enum.IntEnum):
 
 
 class CoreStart(enum.IntEnum):
-    """Of CORE_START_BYTE, the part of a core dump that begins with the byte."""
+    """The part of a core dump that the byte of CORE_START_BYTE should have begun."""
 
     NAME = 0
     MODULE = 1
@@ -147,7 +147,7 @@ class TypeKind(enum.IntEnum):
 
 
 class HeapKind(enum.IntEnum):
-    """What a reference refers to."""
+    """The type of what a reference refers to."""
 
     FUNC = 0
     EXTERN = 1
@@ -165,7 +165,7 @@ class HeapKind(enum.IntEnum):
 
 
 class CompositeKind(enum.IntEnum):
-    """What a subtype defines."""
+    """The kind of a composite type."""
 
     FUNC = 0
     ARRAY = 1
@@ -173,7 +173,7 @@ class CompositeKind(enum.IntEnum):
 
 
 class ExternalKind(enum.IntEnum):
-    """What is imported or exported."""
+    """The kind of an import or export."""
 
     FUNC = 0
     TABLE = 1
@@ -184,7 +184,7 @@ class ExternalKind(enum.IntEnum):
 
 
 class ImportKind(enum.IntEnum):
-    """An import, a bundle of imports of one module, or a bundle of one module and one type."""
+    """The kind of an item of an import section."""
 
     SINGLE = 0
     BUNDLE = 1
@@ -192,7 +192,7 @@ class ImportKind(enum.IntEnum):
 
 
 class ElementKind(enum.IntEnum):
-    """What becomes of an element segment."""
+    """The kind of an element segment."""
 
     PASSIVE = 0
     ACTIVE = 1
@@ -200,14 +200,14 @@ class ElementKind(enum.IntEnum):
 
 
 class DataKind(enum.IntEnum):
-    """What becomes of a data segment."""
+    """The kind of a data segment."""
 
     PASSIVE = 0
     ACTIVE = 1
 
 
 class CustomKind(enum.IntEnum):
-    """The custom section that a name is that of."""
+    """The kind of a custom section, by its name."""
 
     UNKNOWN = 0
     NAME = 1
@@ -223,7 +223,7 @@ class CustomKind(enum.IntEnum):
 
 
 class SymbolKind(enum.IntEnum):
-    """What a symbol is."""
+    """The kind of a symbol."""
 
     FUNC = 0
     DATA = 1
@@ -234,7 +234,7 @@ class SymbolKind(enum.IntEnum):
 
 
 class ComdatKind(enum.IntEnum):
-    """What a symbol of a comdat is."""
+    """The kind of a symbol of a comdat."""
 
     DATA = 0
     FUNC = 1
@@ -245,7 +245,7 @@ class ComdatKind(enum.IntEnum):
 
 
 class RelocationKind(enum.IntEnum):
-    """What a relocation fills in."""
+    """The type of a relocation."""
 
     FUNCTION_INDEX_LEB = 0
     TABLE_INDEX_SLEB = 1
@@ -277,7 +277,7 @@ class RelocationKind(enum.IntEnum):
 
 
 class CoreValueKind(enum.IntEnum):
-    """What a value of a core dump is."""
+    """The kind of a value of a core dump."""
 
     MISSING = 0
     I32 = 1
@@ -327,7 +327,7 @@ class DylinkId(enum.IntEnum):
 
 
 class Opcode(enum.IntEnum):
-    """The opcode of an instruction of a constant expression."""
+    """The opcode of an instruction of a constant expression. An opcode of two parts is 256 times the first plus the second."""
 
     END = 11
     GLOBAL_GET = 35

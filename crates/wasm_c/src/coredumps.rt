@@ -16,83 +16,84 @@ use crate::readable::{Readable, read_at};
 use crate::spans::{NO_SPAN, PlainSpan, distance, span_before};
 use wasm_parser::{BinaryReader, CoreDumpValue, CoreStart, Error, Fault, FromReader, Result};
 
-/// The name of the process of a core dump, or its fault.
+/// The name of the process of a core dump, or a fault.
 #[repr(C)]
 #[derive(Clone, Copy, Debug, PartialEq, Eq)]
 pub struct PlainCoreProcess {
-    /// The fault, whose kind is 0 where there is none.
+    /// The fault of the item, of kind 0 if there is none.
     pub fault: PlainFault,
-    /// How many bytes it takes.
+    /// The size of the item in bytes, 0 after a fault.
     pub consumed: usize,
     /// The name, which is UTF-8.
     pub name: PlainSpan,
 }
 
-/// The name of a module of a core dump, or its fault.
+/// The name of a module of a core dump, or a fault.
 #[repr(C)]
 #[derive(Clone, Copy, Debug, PartialEq, Eq)]
 pub struct PlainCoreModule {
-    /// The fault, whose kind is 0 where there is none.
+    /// The fault of the item, of kind 0 if there is none.
     pub fault: PlainFault,
-    /// How many bytes it takes.
+    /// The size of the item in bytes, 0 after a fault.
     pub consumed: usize,
     /// The name, which is UTF-8.
     pub name: PlainSpan,
 }
 
-/// The head of an instance of a core dump, or its fault.
+/// The head of an instance of a core dump, or a fault. The indices of its memories and globals follow.
 #[repr(C)]
 #[derive(Clone, Copy, Debug, PartialEq, Eq)]
 pub struct PlainCoreInstance {
-    /// The fault, whose kind is 0 where there is none.
+    /// The fault of the item, of kind 0 if there is none.
     pub fault: PlainFault,
-    /// How many bytes it takes.
+    /// The size of the item in bytes, 0 after a fault.
     pub consumed: usize,
-    /// The index of its module.
+    /// The index of the module in the section `coremodules`.
     pub module_index: u32,
 }
 
-/// The name of a thread of a core dump, or its fault.
+/// The name of a thread of a core dump, or a fault.
 #[repr(C)]
 #[derive(Clone, Copy, Debug, PartialEq, Eq)]
 pub struct PlainCoreThread {
-    /// The fault, whose kind is 0 where there is none.
+    /// The fault of the item, of kind 0 if there is none.
     pub fault: PlainFault,
-    /// How many bytes it takes.
+    /// The size of the item in bytes, 0 after a fault.
     pub consumed: usize,
     /// The name, which is UTF-8.
     pub name: PlainSpan,
 }
 
-/// The head of a frame of a core dump, or its fault.
+/// The head of a frame of a core dump, or a fault. The values of its locals and stack follow.
 #[repr(C)]
 #[derive(Clone, Copy, Debug, PartialEq, Eq)]
 pub struct PlainCoreFrame {
-    /// The fault, whose kind is 0 where there is none.
+    /// The fault of the item, of kind 0 if there is none.
     pub fault: PlainFault,
-    /// How many bytes it takes.
+    /// The size of the item in bytes, 0 after a fault.
     pub consumed: usize,
-    /// The index of its instance.
+    /// The index of the instance in the section `coreinstances`.
     pub instance: u32,
-    /// The index of its function.
+    /// The index of the function in the module of the instance.
     pub func: u32,
-    /// Where its instruction is, in bytes from the start of the function's body.
+    /// The offset of the instruction, in bytes from the start of the function's body.
     pub code_offset: u32,
 }
 
-/// A value of a core dump, or its fault.
+/// A value of a local or on the stack of a frame, or a fault.
 #[repr(C)]
 #[derive(Clone, Copy, Debug, PartialEq, Eq)]
 pub struct PlainCoreValue {
-    /// The fault, whose kind is 0 where there is none.
+    /// The fault of the item, of kind 0 if there is none.
     pub fault: PlainFault,
-    /// How many bytes it takes.
+    /// The size of the item in bytes, 0 after a fault.
     pub consumed: usize,
-    /// 0 a missing value, 1 a 32-bit integer, 2 a 64-bit integer, 3 a 32-bit float, 4 a 64-bit float.
+    /// The kind, a `pulleynavy_core_value_kind`: 0 missing, 1 a 32-bit integer, 2 a 64-bit integer, 3 a 32-bit float, 4
+    /// a 64-bit float.
     pub kind: u32,
     /// The integer, or 0.
     pub integer: i64,
-    /// The bits of a float, or 0.
+    /// The bits of the float, or 0.
     pub bits: u64,
 }
 
@@ -227,8 +228,23 @@ impl Readable for CoreProcesses {
     }
 }
 
-/// Reads the name of the process of a core dump, after a byte 0 (tool conventions, Coredump, Process Information). The bytes are
-/// the remaining bytes of its section, at `offset` of the stream. After a fault all other fields are 0.
+/// Reads the data of a section `core`: a byte 0 and the name of the process. `pulleynavy_check_custom_end` checks the
+/// bytes after it.
+///
+/// # Errors
+///
+/// `CORE_START_BYTE` with `PULLEYNAVY_CORE_START_NAME` at another first byte; `UNEXPECTED_EOF`; and the faults of
+/// `pulleynavy_read_text`.
+///
+/// ```c
+/// const uint8_t data[] = {0, 3, 'a', 'p', 'p'};
+/// pulleynavy_core_process process = pulleynavy_read_core_process(data, sizeof data, 0, PULLEYNAVY_ALL_FEATURES);
+/// size_t at = process.consumed;
+/// assert(process.name.at == 2 && process.name.size == 3);
+/// assert(!pulleynavy_check_custom_end(data + at, sizeof data - at, at).kind);
+/// ```
+///
+/// (Tool conventions, Coredump, Process Information.)
 #[unsafe(no_mangle)]
 pub extern "C" fn pulleynavy_read_core_process(
     bytes: &[u8],
@@ -273,9 +289,16 @@ impl Readable for CoreModules {
     }
 }
 
-/// Reads the name of a module of a core dump, after a byte 0 (tool conventions, Coredump, Modules and Instances). Another byte is
-/// a fault at `data_offset`, the offset of the section's data, for a later module too. The bytes are the remaining bytes of its
-/// section, at `offset` of the stream. After a fault all other fields are 0.
+/// Reads a module of a section `coremodules`, whose data is a count and as many modules: a byte 0 and a name.
+///
+/// `data_offset` is the offset of the section's data.
+///
+/// # Errors
+///
+/// `CORE_START_BYTE` with `PULLEYNAVY_CORE_START_MODULE` if the first byte is another one. Its offset is `data_offset`,
+/// whichever module it is. `UNEXPECTED_EOF`, and the faults of `pulleynavy_read_text`.
+///
+/// (Tool conventions, Coredump, Modules and Instances.)
 #[unsafe(no_mangle)]
 pub extern "C" fn pulleynavy_read_core_module(
     bytes: &[u8],
@@ -319,9 +342,17 @@ impl Readable for CoreInstances {
     }
 }
 
-/// Reads the start of an instance of a core dump (tool conventions, Coredump, Modules and Instances). A count of memories and as
-/// many indices follow, each read by `pulleynavy_read_number`, then the same of globals. The bytes are the remaining bytes of its
-/// section, at `offset` of the stream. After a fault all other fields are 0.
+/// Reads the head of an instance of a section `coreinstances`, whose data is a count and as many instances.
+///
+/// A count of memories and as many indices follow, each read by `pulleynavy_read_number`, then a count of globals and
+/// as many indices.
+///
+/// # Errors
+///
+/// `CORE_START_BYTE` with `PULLEYNAVY_CORE_START_INSTANCE` at a first byte other than 0; `UNEXPECTED_EOF`; and the
+/// faults of `pulleynavy_read_number`.
+///
+/// (Tool conventions, Coredump, Modules and Instances.)
 #[unsafe(no_mangle)]
 pub extern "C" fn pulleynavy_read_core_instance(
     bytes: &[u8],
@@ -364,8 +395,15 @@ impl Readable for CoreThreads {
     }
 }
 
-/// Reads the name of a thread of a core dump, after a byte 0 (tool conventions, Coredump, Thread(s) and Stack Frames). The bytes
-/// are the remaining bytes of its section, at `offset` of the stream. After a fault all other fields are 0.
+/// Reads the start of the data of a section `corestack`: a byte 0 and the name of the thread. A count and as many
+/// frames follow.
+///
+/// # Errors
+///
+/// `CORE_START_BYTE` with `PULLEYNAVY_CORE_START_STACK_NAME` at another first byte; `UNEXPECTED_EOF`; and the faults of
+/// `pulleynavy_read_text`.
+///
+/// (Tool conventions, Coredump, Thread(s) and Stack Frames.)
 #[unsafe(no_mangle)]
 pub extern "C" fn pulleynavy_read_core_thread(
     bytes: &[u8],
@@ -412,9 +450,17 @@ impl Readable for CoreFrames {
     }
 }
 
-/// Reads the start of a frame of a core dump (tool conventions, Coredump, Thread(s) and Stack Frames). A count of locals follows,
-/// read by `pulleynavy_read_number`, and as many values, each read by `pulleynavy_read_core_value`, then the same of the stack. The bytes
-/// are the remaining bytes of its section, at `offset` of the stream. After a fault all other fields are 0.
+/// Reads the head of a frame.
+///
+/// A count of locals follows, read by `pulleynavy_read_number`, and as many values, each read by
+/// `pulleynavy_read_core_value`; then a count of values on the stack, and these.
+///
+/// # Errors
+///
+/// `CORE_START_BYTE` with `PULLEYNAVY_CORE_START_FRAME` at a first byte other than 0; `UNEXPECTED_EOF`; and the faults
+/// of `pulleynavy_read_number`.
+///
+/// (Tool conventions, Coredump, Thread(s) and Stack Frames.)
 #[unsafe(no_mangle)]
 pub extern "C" fn pulleynavy_read_core_frame(
     bytes: &[u8],
@@ -461,8 +507,14 @@ impl Readable for CoreValues {
     }
 }
 
-/// Reads a value of a core dump, of a frame's locals or its stack (tool conventions, Coredump, Thread(s) and Stack Frames). The
-/// bytes are the remaining bytes of its section, at `offset` of the stream. After a fault all other fields are 0.
+/// Reads a value of a local or on the stack of a frame.
+///
+/// # Errors
+///
+/// `CORE_VALUE` at a first byte that is no kind of values; `UNEXPECTED_EOF`; and the faults of `pulleynavy_read_s32`
+/// and `pulleynavy_read_s64`.
+///
+/// (Tool conventions, Coredump, Thread(s) and Stack Frames.)
 #[unsafe(no_mangle)]
 pub extern "C" fn pulleynavy_read_core_value(
     bytes: &[u8],
@@ -474,8 +526,11 @@ pub extern "C" fn pulleynavy_read_core_value(
     read_at(CoreValues, bytes, offset, features)
 }
 
-/// Stores the next values of a list in `out`. Returns how many there were or there was room for: 0 at the end.
-/// `bytes` are those of the whole list.
+/// Stores the next values of a list in `out`, and returns their number.
+///
+/// # Errors
+///
+/// An item has the faults of `pulleynavy_read_core_value`; the last one `SIZE_MISMATCH` if bytes follow the list.
 #[unsafe(no_mangle)]
 pub extern "C" fn pulleynavy_next_core_values(
     items: &mut StoredItems,

@@ -10,21 +10,22 @@ use crate::readable::Readable;
 use crate::spans::{after, distance, out_of_range, reader_over};
 use wasm_parser::{Error, Fault, fits};
 
-/// A cursor over the items of a list, which keeps no pointer. Any bytes are a cursor. Each call gets the bytes of the list.
+/// A cursor over the items of a list. It keeps no pointer: pass the bytes of the list to each call. Any bytes are a
+/// valid cursor.
 #[repr(C)]
 #[derive(Clone, Copy, Debug)]
 pub struct StoredItems {
-    /// The stream offset of the next item.
+    /// The offset of the next item, in bytes from the start of the stream.
     pub offset: u64,
-    /// Where the next item begins, in bytes from the start of the bytes of the list.
+    /// The position of the next item, in bytes from the start of the bytes of the list.
     pub position: usize,
-    /// How many items are left.
+    /// The number of remaining items.
     pub remaining: u32,
-    /// The features, as bits.
+    /// The features that the items are read with, as bits.
     pub features: u32,
-    /// The index or id of the last item in order, if `has_last` isn't 0.
+    /// The greatest index or id so far, if `has_last` is not 0.
     pub last: u32,
-    /// 0 before the first item that has to be in order.
+    /// 0 before the first item whose index or id has to ascend.
     pub has_last: u8,
     /// Not 0 after the end, or after a fault that ends the list.
     pub is_ended: u8,
@@ -205,8 +206,24 @@ pub(crate) fn store_items<W: Walk>(
     count
 }
 
-/// Returns a cursor at the first item of a section that begins with a count, or at the data of a custom section. Its bytes are
-/// those from `start` to `end` of the event.
+/// Returns a cursor at the first item of a section that begins with a count, or at the data of a custom section.
+///
+/// `event` is the event of the section. The bytes of the list are those of the section's content, from `start` to `end`
+/// of the event.
+///
+/// ```c
+/// // The export "f" of function 5.
+/// const uint8_t bytes[] = {0, 'a', 's', 'm', 1, 0, 0, 0, 7, 5, 1, 1, 'f', 0, 5};
+/// pulleynavy_parser parser = pulleynavy_parser_init(0, PULLEYNAVY_ALL_FEATURES);
+/// size_t at = pulleynavy_parse(&parser, bytes, sizeof bytes, true).consumed;
+/// pulleynavy_event event = pulleynavy_parse(&parser, bytes + at, sizeof bytes - at, true);
+/// const uint8_t *section = bytes + at + event.at;
+/// pulleynavy_items items = pulleynavy_items_init(&event, PULLEYNAVY_ALL_FEATURES);
+/// pulleynavy_export out[4];
+/// assert(pulleynavy_next_exports(&items, section, event.end - event.start, out, 4) == 1);
+/// assert(out[0].index == 5 && out[0].name.size == 1 && section[out[0].name.at] == 'f');
+/// assert(pulleynavy_next_exports(&items, section, event.end - event.start, out, 4) == 0);
+/// ```
 #[unsafe(no_mangle)]
 pub extern "C" fn pulleynavy_items_init(event: &PlainEvent, features: u32) -> StoredItems
     ensures { result ≡ starting event.now.data_offset
@@ -218,8 +235,18 @@ pub extern "C" fn pulleynavy_items_init(event: &PlainEvent, features: u32) -> St
     }
 }
 
-/// Returns a cursor over a list of `count` items that begins at `offset` of the stream. Its bytes begin with the first item.
-/// A list of subsections has no count: 0 will do.
+/// Returns a cursor over a list of `count` items, of which the first is at `offset` of the stream.
+///
+/// Use it for a list inside an item or a subsection, with the count and the span that the item has. The bytes of the
+/// list begin with the first item. A list of subsections has no count: pass 0.
+///
+/// ```c
+/// const uint8_t bytes[] = {2, 5, 7};
+/// pulleynavy_number count = pulleynavy_read_number(bytes, 3, 100, PULLEYNAVY_ALL_FEATURES), out[4];
+/// pulleynavy_items items = pulleynavy_list_init(100 + count.consumed, count.value, PULLEYNAVY_ALL_FEATURES);
+/// assert(pulleynavy_next_numbers(&items, bytes + count.consumed, 3 - count.consumed, out, 4) == 2);
+/// assert(out[0].value == 5 && out[1].value == 7);
+/// ```
 #[unsafe(no_mangle)]
 pub extern "C" fn pulleynavy_list_init(offset: u64, count: u32, features: u32) -> StoredItems
     ensures { result ≡ starting offset 0 count features }

@@ -13,51 +13,51 @@ use crate::spans::{NO_SPAN, PlainSpan, distance, text_after_sized, text_span};
 use bitflags::Flags;
 use wasm_parser::{BinaryReader, Error, ExportInfo, FromReader, ImportInfo, MemInfo, Result};
 
-/// How much memory and table a library needs, or the fault of it.
+/// The memory and table space that a library needs, or a fault.
 #[repr(C)]
 #[derive(Clone, Copy, Debug, PartialEq, Eq)]
 pub struct PlainDylinkMemory {
-    /// The fault, whose kind is 0 where there is none.
+    /// The fault of the item, of kind 0 if there is none.
     pub fault: PlainFault,
-    /// How many bytes it takes.
+    /// The size of the item in bytes, 0 after a fault.
     pub consumed: usize,
-    /// How many bytes of memory.
+    /// The size of the memory area, in bytes.
     pub memory_size: u32,
-    /// Their alignment, as a power of two.
+    /// The alignment of the memory area, as the base-2 logarithm of the bytes.
     pub memory_alignment: u32,
-    /// How many elements of table.
+    /// The size of the table area, in elements.
     pub table_size: u32,
-    /// Their alignment, as a power of two.
+    /// The alignment of the table area, as the base-2 logarithm of the elements.
     pub table_alignment: u32,
 }
 
-/// What is said of an export to a dynamic linker, or its fault.
+/// The flags of an export's symbol, or a fault.
 #[repr(C)]
 #[derive(Clone, Copy, Debug, PartialEq, Eq)]
 pub struct PlainDylinkExport {
-    /// The fault, whose kind is 0 where there is none.
+    /// The fault of the item, of kind 0 if there is none.
     pub fault: PlainFault,
-    /// How many bytes it takes.
+    /// The size of the item in bytes, 0 after a fault.
     pub consumed: usize,
-    /// Its name, which is UTF-8.
+    /// The name of the export, which is UTF-8.
     pub name: PlainSpan,
-    /// Its flags, as those of a symbol.
+    /// The flags of the symbol, `pulleynavy_symbol_flags`. Unknown bits are kept.
     pub flags: u32,
 }
 
-/// What is said of an import to a dynamic linker, or its fault.
+/// The flags of an import's symbol, or a fault.
 #[repr(C)]
 #[derive(Clone, Copy, Debug, PartialEq, Eq)]
 pub struct PlainDylinkImport {
-    /// The fault, whose kind is 0 where there is none.
+    /// The fault of the item, of kind 0 if there is none.
     pub fault: PlainFault,
-    /// How many bytes it takes.
+    /// The size of the item in bytes, 0 after a fault.
     pub consumed: usize,
-    /// The name of its module, which is UTF-8.
+    /// The name of the module to import from, which is UTF-8.
     pub module_name: PlainSpan,
-    /// Its name there, which is UTF-8.
+    /// The name of the import in that module, which is UTF-8.
     pub field: PlainSpan,
-    /// Its flags, as those of a symbol.
+    /// The flags of the symbol, `pulleynavy_symbol_flags`. Unknown bits are kept.
     pub flags: u32,
 }
 
@@ -98,8 +98,19 @@ impl Readable for DylinkMemories {
     }
 }
 
-/// Reads subsection 1 of the section `dylink.0` (tool conventions, Dynamic Linking, The "dylink.0" Section). The bytes are the
-/// remaining bytes of its section, at `offset` of the stream. After a fault all other fields are 0.
+/// Reads the content of subsection 1 of the section `dylink.0`. Bytes after it are ignored.
+///
+/// # Errors
+///
+/// Those of `pulleynavy_read_number`, for any of its four numbers.
+///
+/// ```c
+/// const uint8_t contents[] = {16, 2, 1, 0};
+/// pulleynavy_dylink_memory needs = pulleynavy_read_dylink_memory(contents, 4, 0, PULLEYNAVY_ALL_FEATURES);
+/// assert(needs.memory_size == 16 && needs.memory_alignment == 2 && needs.table_size == 1);
+/// ```
+///
+/// (Tool conventions, Dynamic Linking, The "dylink.0" Section.)
 #[unsafe(no_mangle)]
 pub extern "C" fn pulleynavy_read_dylink_memory(
     bytes: &[u8],
@@ -145,8 +156,13 @@ impl Readable for DylinkExports {
     }
 }
 
-/// Reads an export of subsection 3 of the section `dylink.0`, after the count (tool conventions, Dynamic Linking, The "dylink.0"
-/// Section). The bytes are the remaining bytes of its section, at `offset` of the stream. After a fault all other fields are 0.
+/// Reads an export of subsection 3 of the section `dylink.0`, whose content is a count and as many exports.
+///
+/// # Errors
+///
+/// Those of `pulleynavy_read_text` and `pulleynavy_read_number`.
+///
+/// (Tool conventions, Dynamic Linking, The "dylink.0" Section.)
 #[unsafe(no_mangle)]
 pub extern "C" fn pulleynavy_read_dylink_export(
     bytes: &[u8],
@@ -158,8 +174,11 @@ pub extern "C" fn pulleynavy_read_dylink_export(
     read_at(DylinkExports, bytes, offset, features)
 }
 
-/// Stores the next exports of a list in `out`. Returns how many there were or there was room for: 0 at the end.
-/// `bytes` are those of the whole list.
+/// Stores the next exports of a list in `out`, and returns their number.
+///
+/// # Errors
+///
+/// An item has the faults of `pulleynavy_read_dylink_export`; the last one `SIZE_MISMATCH` if bytes follow the list.
 #[unsafe(no_mangle)]
 pub extern "C" fn pulleynavy_next_dylink_exports(
     items: &mut StoredItems,
@@ -208,8 +227,13 @@ impl Readable for DylinkImports {
     }
 }
 
-/// Reads an import of subsection 4 of the section `dylink.0`, after the count (tool conventions, Dynamic Linking, The "dylink.0"
-/// Section). The bytes are the remaining bytes of its section, at `offset` of the stream. After a fault all other fields are 0.
+/// Reads an import of subsection 4 of the section `dylink.0`, whose content is a count and as many imports.
+///
+/// # Errors
+///
+/// Those of `pulleynavy_read_text` and `pulleynavy_read_number`.
+///
+/// (Tool conventions, Dynamic Linking, The "dylink.0" Section.)
 #[unsafe(no_mangle)]
 pub extern "C" fn pulleynavy_read_dylink_import(
     bytes: &[u8],
@@ -221,8 +245,11 @@ pub extern "C" fn pulleynavy_read_dylink_import(
     read_at(DylinkImports, bytes, offset, features)
 }
 
-/// Stores the next imports of a list in `out`. Returns how many there were or there was room for: 0 at the end.
-/// `bytes` are those of the whole list.
+/// Stores the next imports of a list in `out`, and returns their number.
+///
+/// # Errors
+///
+/// An item has the faults of `pulleynavy_read_dylink_import`; the last one `SIZE_MISMATCH` if bytes follow the list.
 #[unsafe(no_mangle)]
 pub extern "C" fn pulleynavy_next_dylink_imports(
     items: &mut StoredItems,

@@ -16,8 +16,15 @@ fn end_fault(fault: Fault, left: &[u8], offset: u64) -> PlainFault
     plain_fault(Error::new(fault, offset))
 }
 
-/// Checks the end of a section of a core dump: `CUSTOM_TRAILING` if bytes are left after its last part, at `offset` of the stream
-/// (tool conventions, Coredump).
+/// Checks that no bytes remain after the last part of a core dump's section.
+///
+/// `left` are the bytes after that part, which begin at `offset` of the stream.
+///
+/// # Errors
+///
+/// `CUSTOM_TRAILING` at `offset`, if there are any bytes.
+///
+/// (Tool conventions, Coredump.)
 #[unsafe(no_mangle)]
 pub extern "C" fn pulleynavy_check_custom_end(left: &[u8], offset: u64) -> PlainFault
     ensures { result ≡ end_fault CustomTrailing left.now offset }
@@ -25,8 +32,23 @@ pub extern "C" fn pulleynavy_check_custom_end(left: &[u8], offset: u64) -> Plain
     end_fault(Fault::CustomTrailing, left, offset)
 }
 
-/// Checks the end of the subsection of a module's name: `NAME_TRAILING` if bytes are left after it, at `offset` of the stream (core
-/// specification, Appendix, Custom Sections, Name Section, Module Names).
+/// Checks that no bytes remain after the name of the module, in subsection 0 of the section `name`.
+///
+/// `left` are the bytes of the subsection after the name, which begin at `offset` of the stream.
+///
+/// # Errors
+///
+/// `NAME_TRAILING` at `offset`, if there are any bytes.
+///
+/// ```c
+/// const uint8_t contents[] = {3, 'a', 'p', 'p', 0};
+/// pulleynavy_name name = pulleynavy_read_name(contents, sizeof contents, 0, PULLEYNAVY_ALL_FEATURES);
+/// size_t at = name.consumed;
+/// pulleynavy_fault fault = pulleynavy_check_name_end(contents + at, sizeof contents - at, at);
+/// assert(fault.kind == PULLEYNAVY_FAULT_NAME_TRAILING && fault.offset == 4);
+/// ```
+///
+/// (Core specification, Appendix, Custom Sections, Name Section, Module Names.)
 #[unsafe(no_mangle)]
 pub extern "C" fn pulleynavy_check_name_end(left: &[u8], offset: u64) -> PlainFault
     ensures { result ≡ end_fault NameTrailing left.now offset }

@@ -14,37 +14,45 @@ use wasm_grammar::{
 };
 use wasm_parser::{Chunk, CustomSectionReader, Encoding, Error, Payload, Result, SectionLimited};
 
-/// What a parser returns: an event, a fault or a request for more bytes. Fields that its kind doesn't use are 0. Offsets are in
-/// bytes from the start of the whole stream (core specification, Binary format, Modules).
+/// An event of a stream, a fault or a request for more input. Fields that the kind does not use are 0.
+///
+/// Offsets are in bytes from the start of the stream.
+///
+/// (Core specification, Binary format, Modules.)
 #[repr(C)]
 #[derive(Clone, Copy, Debug, PartialEq, Eq)]
 pub struct PlainEvent {
-    /// What it is, as in `pulleynavy_event_kind`: 0 a request for more bytes, 1 a header, 2 a section that begins with a count of
-    /// items, 3 the start section, 4 the data count section, 5 the start of a code section, 6 a body, 7 a custom section, 8 a
-    /// section with an unknown id, 9 the end of the stream, 10 a fault.
+    /// The kind of the event, a `pulleynavy_event_kind`: 0 a request for more input, 1 a header, 2 a section that
+    /// begins with a count of items, 3 the start section, 4 the data count section, 5 the start of a code section, 6 a
+    /// body, 7 a custom section, 8 a section with an unknown id, 9 the end of the stream, 10 a fault.
     pub kind: u32,
-    /// The id of the section; of a header 0 for a module and 1 for a component.
+    /// The id of the section, a `pulleynavy_section_id` if it is known; for a header 0 for a module and 1 for a
+    /// component.
     pub id: u32,
-    /// The count of items, bodies or segments; the index of the start function; the version.
+    /// The announced number of items, bodies or segments; the index of the start function; for a header the 16-bit
+    /// version.
     pub count: u32,
-    /// How many bytes of a code section come after its count.
+    /// The size of a code section's content after the count, in bytes.
     pub size: u32,
-    /// The offset where it begins: the header, the section's contents, the body, the end, the fault.
+    /// The offset where it begins: the header, the section's content, the body, the end or the fault.
     pub start: u64,
-    /// The offset where it ends.
+    /// The offset where it ends. For a code section, it is the end of the content, including the bodies.
     pub end: u64,
-    /// The offset of the first item after a count, of the first body of a code section, or of the data of a custom section.
+    /// The offset of the first item after a count, of the first body of a code section, or of the data of a custom
+    /// section.
     pub data_offset: u64,
-    /// Where it begins in memory, in bytes from the first one passed to `pulleynavy_parse`, or from the start of the storage
-    /// of a feeder. Of a request, the end and a fault, where the unread bytes begin.
+    /// The position in memory where it begins: that of the byte at offset `start`.
+    ///
+    /// It counts bytes from the first one passed to `pulleynavy_parse`, or from the start of a feeder's storage. For a
+    /// request, the end and a fault it is the position of the first byte that is not consumed.
     pub at: usize,
-    /// How many bytes were consumed: 0 for a request, the end and a fault, and at least 1 otherwise.
+    /// The number of consumed bytes: 0 for a request, the end and a fault, otherwise at least 1.
     pub consumed: usize,
-    /// How many more bytes the first unfinished field is known to need, at least 1; 0 but for a request.
+    /// For a request, the number of bytes that are known to be missing, at least 1; otherwise 0.
     pub hint: usize,
-    /// How many bytes the name of a custom section has. It is just before the data.
+    /// The size of a custom section's name in bytes. The name ends where the data begins.
     pub name_size: usize,
-    /// The fault.
+    /// The fault of an event of kind 10, otherwise none.
     pub fault: PlainFault,
 }
 

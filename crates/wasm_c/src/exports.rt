@@ -11,19 +11,19 @@ use crate::readable::{Readable, read_at};
 use crate::spans::{NO_SPAN, PlainSpan, distance, text_span};
 use wasm_parser::{BinaryReader, Error, Export, ExternalKind, FromReader, Result};
 
-/// An export, or its fault.
+/// An export, or a fault.
 #[repr(C)]
 #[derive(Clone, Copy, Debug, PartialEq, Eq)]
 pub struct PlainExport {
-    /// The fault, whose kind is 0 where there is none.
+    /// The fault of the item, of kind 0 if there is none.
     pub fault: PlainFault,
-    /// How many bytes it takes.
+    /// The size of the item in bytes, 0 after a fault.
     pub consumed: usize,
-    /// Its name, which is UTF-8.
+    /// The name of the export, which is UTF-8.
     pub name: PlainSpan,
-    /// 0 a function, 1 a table, 2 a memory, 3 a global, 4 a tag.
+    /// The kind, a `pulleynavy_external_kind`: 0 a function, 1 a table, 2 a memory, 3 a global, 4 a tag.
     pub kind: u32,
-    /// Its index among those of its kind.
+    /// The index in the index space of the kind.
     pub index: u32,
 }
 
@@ -76,8 +76,23 @@ impl Readable for Exports {
     }
 }
 
-/// Reads the export at the start of `bytes` (core specification, Binary format, Modules, Export Section). The bytes are the
-/// remaining bytes of its section, at `offset` of the stream. After a fault all other fields are 0.
+/// Reads an export.
+///
+/// # Errors
+///
+/// * `LEADING_BYTE` with `PULLEYNAVY_LEAD_EXTERNAL` at a byte that is no kind of exports.
+/// * `EXACT_EXPORT` at the offset after the kind, if it is that of exact functions.
+/// * The faults of `pulleynavy_read_name` and, for the index, of `pulleynavy_read_number`.
+///
+/// ```c
+/// const uint8_t bytes[] = {3, 'a', 'd', 'd', 0, 5};
+/// pulleynavy_export item = pulleynavy_read_export(bytes, sizeof bytes, 0, PULLEYNAVY_ALL_FEATURES);
+/// assert(!item.fault.kind && item.consumed == 6);
+/// assert(item.kind == PULLEYNAVY_EXTERNAL_FUNC && item.index == 5);
+/// assert(item.name.size == 3 && !memcmp(bytes + item.name.at, "add", 3));
+/// ```
+///
+/// (Core specification, Binary format, Modules, Export Section.)
 #[unsafe(no_mangle)]
 pub extern "C" fn pulleynavy_read_export(bytes: &[u8], offset: u64, features: u32) -> PlainExport
     ensures { result ≡ item_over plain_export export_at features offset bytes.now }
@@ -85,8 +100,11 @@ pub extern "C" fn pulleynavy_read_export(bytes: &[u8], offset: u64, features: u3
     read_at(Exports, bytes, offset, features)
 }
 
-/// Stores the next exports of a list in `out`. Returns how many there were or there was room for: 0 at the end.
-/// `bytes` are those of the whole list.
+/// Stores the next exports of a list in `out`, and returns their number.
+///
+/// # Errors
+///
+/// An item has the faults of `pulleynavy_read_export`; the last one `SIZE_MISMATCH` if bytes follow the list.
 #[unsafe(no_mangle)]
 pub extern "C" fn pulleynavy_next_exports(
     items: &mut StoredItems,

@@ -6,18 +6,28 @@ ghost use Rattle.wasm_c.specs.Faults.{fault_code, lead_code, no_fault, number_co
 use wasm_parser::{CoreStart, Error, Fault, Lead, NumberKind};
 
 /// A fault, or none.
+///
+/// ```c
+/// const uint8_t bytes[] = {0x80};
+/// pulleynavy_number number = pulleynavy_read_number(bytes, 1, 100, PULLEYNAVY_ALL_FEATURES);
+/// assert(PULLEYNAVY_FAULT_KIND(number.fault.kind) == PULLEYNAVY_FAULT_UNEXPECTED_EOF);
+/// assert(number.fault.offset == 101);
+/// ```
 #[repr(C)]
 #[derive(Clone, Copy, Debug, PartialEq, Eq)]
 pub struct PlainFault {
-    /// The number of the fault, or 0 if there is none. Its lowest 8 bits are its kind, as in `pulleynavy_fault_kind`. The bits
-    /// above name what was read: of `NUMBER_TOO_LONG` and `NUMBER_TOO_LARGE` a `pulleynavy_number_kind`, of `LEADING_BYTE` a
+    /// The code of the fault, or 0 if there is none.
+    ///
+    /// `PULLEYNAVY_FAULT_KIND` returns the lowest 8 bits, a `pulleynavy_fault_kind`. `PULLEYNAVY_FAULT_DETAIL` returns
+    /// the bits above: of `NUMBER_TOO_LONG` and `NUMBER_TOO_LARGE` a `pulleynavy_number_kind`, of `LEADING_BYTE` a
     /// `pulleynavy_lead`, of `CORE_START_BYTE` a `pulleynavy_core_start`, otherwise 0.
     pub kind: u32,
-    /// 1 if a number belongs to the fault, or 0.
+    /// 1 if the fault has a number, or 0.
     pub has_number: u32,
-    /// The number that belongs to the fault, or 0.
+    /// The number of the fault, or 0: the version of `UNKNOWN_VERSION` and `LINKING_VERSION`, the length of
+    /// `SECTION_TOO_LARGE`, the byte of `LEADING_BYTE`.
     pub number: u64,
-    /// Where the fault is, in bytes from the start of the whole stream.
+    /// The offset of the fault, in bytes from the start of the stream, or 0 if there is none.
     pub offset: u64,
 }
 

@@ -8,24 +8,26 @@ use crate::parsing::{parse_stored, pulleynavy_parser_init};
 use crate::spans::{after, front};
 use crate::stored::StoredParser;
 
-/// A feeder: its parser, and where in the caller's storage the bytes are that were pushed and not consumed. Any bytes are a
-/// feeder. Between calls leave the storage alone, or move it as a whole (`realloc`): the next call reads its bytes from `mark` to
-/// `end`.
+/// A feeder: a parser for chunked input, which keeps the bytes that were pushed and not consumed in storage of the
+/// caller.
+///
+/// Any bytes are a valid feeder. Between calls leave the storage alone, or move it as a whole (`realloc`): the next
+/// call reads its bytes from `mark` to `end`.
 #[repr(C)]
 #[derive(Clone, Copy, Debug)]
 pub struct StoredFeed {
-    /// Where it is in the stream.
+    /// The parser of the stream.
     pub parser: StoredParser,
-    /// Where the bytes to be read begin, in bytes from the start of the storage.
+    /// The position of the first byte that is not consumed, in bytes from the start of the storage.
     pub mark: usize,
-    /// Where they end.
+    /// The position after the last pushed byte, in bytes from the start of the storage.
     pub end: usize,
-    /// 0 while more bytes may come after them.
+    /// 0 until the end of input is marked.
     pub is_finished: u8,
 }
 
-/// Returns a feeder of a stream that begins at this offset. Its windows have these features. It holds no bytes, so any storage
-/// will do.
+/// Returns a feeder for a stream that begins at this offset and is read with these features. It holds no bytes, so any
+/// storage will do.
 #[unsafe(no_mangle)]
 pub extern "C" fn pulleynavy_feed_init(offset: u64, features: u32) -> StoredFeed
     ensures { IsNewFeed result (initial_state offset features) }
@@ -38,9 +40,26 @@ pub extern "C" fn pulleynavy_feed_init(offset: u64, features: u32) -> StoredFeed
     }
 }
 
-/// Reads the next part of the stream from the bytes that the storage holds. A fault or a request for more bytes leaves the feeder
-/// unchanged. After a request, call `pulleynavy_feed_push` or `pulleynavy_feed_finish`, then step again. After `pulleynavy_feed_finish` it never
-/// requests more. After a fault, the next step returns the same fault.
+/// Returns the next event of the stream, a fault, or a request for more input, from the bytes in the storage.
+///
+/// After a request, call `pulleynavy_feed_push` or `pulleynavy_feed_finish`, then step again. After
+/// `pulleynavy_feed_finish` it never requests more. A fault or a request leaves the feeder unchanged. The position `at`
+/// of the event counts from the start of the storage, and is valid until the next push.
+///
+/// # Errors
+///
+/// A fault is an event of kind 10, as `pulleynavy_parse` returns it. The next step returns the same fault.
+///
+/// ```c
+/// uint8_t storage[64];
+/// pulleynavy_feed feed = pulleynavy_feed_init(0, PULLEYNAVY_ALL_FEATURES);
+/// assert(pulleynavy_feed_push(&feed, storage, sizeof storage, (const uint8_t *)"\0asm\1", 5));
+/// assert(pulleynavy_feed_step(&feed, storage, sizeof storage).kind == PULLEYNAVY_EVENT_NEED_MORE);
+/// assert(pulleynavy_feed_push(&feed, storage, sizeof storage, (const uint8_t *)"\0\0\0", 3));
+/// assert(pulleynavy_feed_step(&feed, storage, sizeof storage).kind == PULLEYNAVY_EVENT_VERSION);
+/// pulleynavy_feed_finish(&feed);
+/// assert(pulleynavy_feed_step(&feed, storage, sizeof storage).kind == PULLEYNAVY_EVENT_END);
+/// ```
 #[unsafe(no_mangle)]
 pub extern "C" fn pulleynavy_feed_step(feed: &mut StoredFeed, storage: &[u8]) -> PlainEvent
     ensures { StepsPlain feed.old storage.now result feed.new }
@@ -51,7 +70,7 @@ pub extern "C" fn pulleynavy_feed_step(feed: &mut StoredFeed, storage: &[u8]) ->
     event
 }
 
-/// Marks the end of the input: no bytes come after those that were pushed.
+/// Marks the end of input: no bytes follow those that were pushed. Truncated input is then a fault of the next step.
 #[unsafe(no_mangle)]
 pub extern "C" fn pulleynavy_feed_finish(feed: &mut StoredFeed)
     ensures { IsFinished feed.old feed.new }
@@ -59,9 +78,16 @@ pub extern "C" fn pulleynavy_feed_finish(feed: &mut StoredFeed)
     feed.is_finished = 1;
 }
 
-/// Appends the next bytes of the stream to those that the storage holds, which it moves to the front if there is no room after
-/// them. Returns false if there is no room for both, and leaves feeder and storage unchanged: call it again with more storage
-/// that begins with the same bytes.
+/// Appends the next chunk of the stream to the bytes in the storage, and returns true.
+///
+/// If there is no room after these bytes, it moves them to the front of the storage first. Push as often as you like
+/// between steps.
+///
+/// # Errors
+///
+/// It returns false if the storage has no room for both, and leaves feeder and storage unchanged. Call it again with
+/// larger storage that begins with the same bytes, as after `realloc`. A stream that ends beyond the offset 2^64 - 1 is
+/// a fault of the next step.
 #[unsafe(no_mangle)]
 pub extern "C" fn pulleynavy_feed_push(
     feed: &mut StoredFeed,

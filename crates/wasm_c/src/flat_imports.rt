@@ -13,15 +13,16 @@ use crate::imports::{
 };
 use crate::spans::after;
 
-/// A cursor over the imports of a section, those of bundles one by one. It keeps no pointer. Any bytes are such a cursor.
+/// A cursor over all imports of a section, including those of bundles one by one. It keeps no pointer. Any bytes are a
+/// valid cursor.
 #[repr(C)]
 #[derive(Clone, Copy, Debug)]
 pub struct StoredImports {
-    /// The imports and bundles of the section.
+    /// The cursor over the items of the section, imports and bundles.
     pub items: StoredItems,
-    /// The imports of the bundle that was read last.
+    /// The cursor over the imports of the last bundle.
     pub bundled: StoredItems,
-    /// That bundle.
+    /// The last bundle.
     pub bundle: PlainImport,
 }
 
@@ -119,7 +120,19 @@ impl Walk for FlatImports {
     }
 }
 
-/// Returns a cursor at the first import of an import section. Its bytes are those from `start` to `end` of the event.
+/// Returns a cursor at the first import of an import section, whose event this is.
+///
+/// The bytes of the list are those of the section's content, from `start` to `end` of the event.
+///
+/// ```c
+/// // A bundle of the module "m" with two functions of type 5, "f" and "g".
+/// const uint8_t section[] = {1, 1, 'm', 0, 0x7e, 0, 5, 2, 1, 'f', 1, 'g'};
+/// pulleynavy_event event = {.kind = PULLEYNAVY_EVENT_SECTION, .count = 1, .data_offset = 1, .end = sizeof section};
+/// pulleynavy_imports imports = pulleynavy_imports_init(&event, PULLEYNAVY_ALL_FEATURES);
+/// pulleynavy_import out[4];
+/// assert(pulleynavy_next_flat_imports(&imports, section, sizeof section, out, 4) == 2);
+/// assert(section[out[0].module_name.at] == 'm' && section[out[1].name.at] == 'g' && out[1].ty.index == 5);
+/// ```
 #[unsafe(no_mangle)]
 pub extern "C" fn pulleynavy_imports_init(event: &PlainEvent, features: u32) -> StoredImports
     ensures { result ≡ imports_from event.now features }
@@ -131,9 +144,18 @@ pub extern "C" fn pulleynavy_imports_init(event: &PlainEvent, features: u32) -> 
     }
 }
 
-/// Stores the next imports of a section in `out`, those of bundles one by one: `kind` is 0 in each (the proposal for compact
-/// imports). Returns how many there were or there was room for: 0 at the end. A malformed import of a bundle is stored with its fault,
-/// and the list continues after the bundle. `bytes` are those of the whole section.
+/// Stores the next imports of a section in `out`, including those of bundles one by one, and returns their number.
+/// `kind` is 0 in each.
+///
+/// `bytes` are the content of the section, the same in each call.
+///
+/// # Errors
+///
+/// An item has the faults of `pulleynavy_read_import` or, in a bundle, of `pulleynavy_read_bundled_import`. After a
+/// malformed import of a bundle, the list continues after the bundle. The last item is `SIZE_MISMATCH` if bytes follow
+/// the list.
+///
+/// (The bundles are of the proposal for compact imports.)
 #[unsafe(no_mangle)]
 pub extern "C" fn pulleynavy_next_flat_imports(
     imports: &mut StoredImports,

@@ -13,31 +13,31 @@ use crate::readable::{Readable, read_at};
 use crate::spans::{NO_SPAN, PlainSpan, distance, flag, items_span};
 use wasm_parser::{BinaryReader, BranchHint, BranchHintFunction, Error, FromReader, Result};
 
-/// A function that has branch hints, or its fault.
+/// A function with branch hints, or a fault.
 #[repr(C)]
 #[derive(Clone, Copy, Debug, PartialEq, Eq)]
 pub struct PlainHintedFunction {
-    /// The fault, whose kind is 0 where there is none.
+    /// The fault of the item, of kind 0 if there is none.
     pub fault: PlainFault,
-    /// How many bytes it takes.
+    /// The size of the item in bytes, 0 after a fault.
     pub consumed: usize,
     /// The index of the function.
     pub func: u32,
-    /// How many hints it has.
+    /// The number of hints.
     pub count: u32,
     /// The hints, after their count.
     pub hints: PlainSpan,
 }
 
-/// A branch hint, or its fault.
+/// A branch hint, or a fault.
 #[repr(C)]
 #[derive(Clone, Copy, Debug, PartialEq, Eq)]
 pub struct PlainBranchHint {
-    /// The fault, whose kind is 0 where there is none.
+    /// The fault of the item, of kind 0 if there is none.
     pub fault: PlainFault,
-    /// How many bytes it takes.
+    /// The size of the item in bytes, 0 after a fault.
     pub consumed: usize,
-    /// How many bytes after the start of the function's body its instruction is.
+    /// The offset of the branch instruction, in bytes from the start of the function's body.
     pub func_offset: u32,
     /// 1 if the branch is likely to be taken, or 0.
     pub taken: u32,
@@ -78,9 +78,14 @@ impl Readable for HintedFunctions {
     }
 }
 
-/// Reads the function with branch hints at the start of `bytes` (tool conventions, Code Metadata, Branch Hints). Its hints are
-/// read by `pulleynavy_read_branch_hint`, and have no fault. The bytes are the remaining bytes of its section, at `offset` of the
-/// stream. After a fault all other fields are 0.
+/// Reads a function with branch hints. Walk the hints with `pulleynavy_next_branch_hints`: they were checked, and have
+/// no fault.
+///
+/// # Errors
+///
+/// Those of `pulleynavy_read_number` and `pulleynavy_read_branch_hint`.
+///
+/// (Tool conventions, Code Metadata, Branch Hints.)
 #[unsafe(no_mangle)]
 pub extern "C" fn pulleynavy_read_hinted_function(
     bytes: &[u8],
@@ -92,8 +97,11 @@ pub extern "C" fn pulleynavy_read_hinted_function(
     read_at(HintedFunctions, bytes, offset, features)
 }
 
-/// Stores the next functions of a list in `out`. Returns how many there were or there was room for: 0 at the end.
-/// `bytes` are those of the whole list.
+/// Stores the next functions of a section `metadata.code.branch_hint` in `out`, and returns their number.
+///
+/// # Errors
+///
+/// An item has the faults of `pulleynavy_read_hinted_function`; the last one `SIZE_MISMATCH` if bytes follow the list.
 #[unsafe(no_mangle)]
 pub extern "C" fn pulleynavy_next_hinted_functions(
     items: &mut StoredItems,
@@ -139,8 +147,15 @@ impl Readable for BranchHints {
     }
 }
 
-/// Reads the branch hint at the start of `bytes` (tool conventions, Code Metadata, Branch Hints). The bytes are the remaining
-/// bytes of its section, at `offset` of the stream. After a fault all other fields are 0.
+/// Reads a branch hint.
+///
+/// # Errors
+///
+/// `LEADING_BYTE` with `PULLEYNAVY_LEAD_BRANCH_HINT` at a size of the value other than 1, or with
+/// `PULLEYNAVY_LEAD_BRANCH_TAKEN` at a value other than 0 and 1; `UNEXPECTED_EOF`; and the faults of
+/// `pulleynavy_read_number`.
+///
+/// (Tool conventions, Code Metadata, Branch Hints.)
 #[unsafe(no_mangle)]
 pub extern "C" fn pulleynavy_read_branch_hint(
     bytes: &[u8],
@@ -152,8 +167,11 @@ pub extern "C" fn pulleynavy_read_branch_hint(
     read_at(BranchHints, bytes, offset, features)
 }
 
-/// Stores the next branch hints of a list in `out`. Returns how many there were or there was room for: 0 at the end.
-/// `bytes` are those of the whole list.
+/// Stores the next branch hints of a function in `out`, and returns their number.
+///
+/// # Errors
+///
+/// An item has the faults of `pulleynavy_read_branch_hint`; the last one `SIZE_MISMATCH` if bytes follow the list.
 #[unsafe(no_mangle)]
 pub extern "C" fn pulleynavy_next_branch_hints(
     items: &mut StoredItems,

@@ -22,13 +22,14 @@ use wasm_parser::{
     BinaryReader, Error, FromReader, ImportItemCompact, Imports, Result, TypeRef, fits,
 };
 
-/// What is imported, with its type. The types that its kind doesn't name are all 0.
+/// The kind and type of an import. The fields of other kinds are 0.
 #[repr(C)]
 #[derive(Clone, Copy, Debug, PartialEq, Eq)]
 pub struct PlainImportType {
-    /// 0 a function, 1 a table, 2 a memory, 3 a global, 4 a tag, 5 a function of exactly the given type.
+    /// The kind, a `pulleynavy_external_kind`: 0 a function, 1 a table, 2 a memory, 3 a global, 4 a tag, 5 a function
+    /// of exactly the given type.
     pub kind: u32,
-    /// The index of the type of a function or a tag, or 0.
+    /// The type index of a function or a tag, or 0.
     pub index: u32,
     /// The type of a table.
     pub table: PlainTableType,
@@ -38,49 +39,50 @@ pub struct PlainImportType {
     pub global: PlainGlobalType,
 }
 
-/// An import, or a bundle of imports, or its fault.
+/// An item of an import section: an import, or a bundle of imports from one module; or a fault.
 #[repr(C)]
 #[derive(Clone, Copy, Debug, PartialEq, Eq)]
 pub struct PlainImport {
-    /// The fault, whose kind is 0 where there is none.
+    /// The fault of the item, of kind 0 if there is none.
     pub fault: PlainFault,
-    /// How many bytes it takes, those of a bundle's imports among them.
+    /// The size of the item in bytes, including the imports of a bundle; 0 after a fault.
     pub consumed: usize,
-    /// The name of the module that it comes from, which is UTF-8.
+    /// The name of the module to import from, which is UTF-8.
     pub module_name: PlainSpan,
-    /// The name of an import in its module, which is UTF-8.
+    /// The name of the import in that module, which is UTF-8; empty for a bundle.
     pub name: PlainSpan,
-    /// What is imported, but for a bundle of several types.
+    /// The kind and type of the import, or of every import of a bundle of kind 2; all 0 for a bundle of kind 1.
     pub ty: PlainImportType,
-    /// The imports of a bundle, after their count.
+    /// The imports of a bundle, after their count; empty for a single import.
     pub items: PlainSpan,
-    /// 0 an import, 1 a bundle of imports of one module, 2 a bundle of one module and one type.
+    /// The kind of the item, a `pulleynavy_import_kind`: 0 an import, 1 a bundle of imports from one module, 2 a bundle
+    /// of one module and one type.
     pub kind: u32,
-    /// How many imports it is.
+    /// The number of imports: 1 for a single import.
     pub count: u32,
 }
 
-/// An import of a bundle of one module, or its fault.
+/// An import of a bundle, or a fault.
 #[repr(C)]
 #[derive(Clone, Copy, Debug, PartialEq, Eq)]
 pub struct PlainImportItem {
-    /// The fault, whose kind is 0 where there is none.
+    /// The fault of the item, of kind 0 if there is none.
     pub fault: PlainFault,
-    /// How many bytes it takes.
+    /// The size of the item in bytes, 0 after a fault.
     pub consumed: usize,
-    /// Its name in the bundle's module, which is UTF-8.
+    /// The name of the import in the bundle's module, which is UTF-8.
     pub name: PlainSpan,
-    /// What it is.
+    /// The kind and type of the import.
     pub ty: PlainImportType,
 }
 
-/// A name, or its fault.
+/// A name or text, or a fault.
 #[repr(C)]
 #[derive(Clone, Copy, Debug, PartialEq, Eq)]
 pub struct PlainName {
-    /// The fault, whose kind is 0 where there is none.
+    /// The fault of the item, of kind 0 if there is none.
     pub fault: PlainFault,
-    /// How many bytes it takes.
+    /// The size of the item in bytes, 0 after a fault.
     pub consumed: usize,
     /// The name, which is UTF-8.
     pub name: PlainSpan,
@@ -207,10 +209,18 @@ impl Readable for Bundles {
     }
 }
 
-/// Reads the import, or the bundle of imports, at the start of `bytes` (core specification, Binary format, Modules, Import
-/// Section; the bundles are of the proposal for compact imports). The imports of a bundle are read by
-/// `pulleynavy_read_bundled_import`. The bytes are the remaining bytes of its section, at `offset` of the stream. After a fault all
-/// other fields are 0.
+/// Reads an item of an import section: an import, or a bundle of imports from one module.
+///
+/// The imports of a bundle are skipped, without checking that their names are UTF-8. `pulleynavy_read_bundled_import`
+/// reads each. To read all imports one by one, use `pulleynavy_next_flat_imports`.
+///
+/// # Errors
+///
+/// * `COMPACT_7F` or `COMPACT_7E` at the byte that begins a bundle, without `PULLEYNAVY_FEATURE_COMPACT_IMPORTS`.
+/// * `LEADING_BYTE` with `PULLEYNAVY_LEAD_EXTERNAL` at a byte that is no kind of imports.
+/// * The faults of `pulleynavy_read_name`, and of the types of tables, memories, globals and tags.
+///
+/// (Core specification, Binary format, Modules, Import Section; the bundles are of the proposal for compact imports.)
 #[unsafe(no_mangle)]
 pub extern "C" fn pulleynavy_read_import(bytes: &[u8], offset: u64, features: u32) -> PlainImport
     ensures { result ≡ item_over plain_import bundle_at features offset bytes.now }
@@ -218,8 +228,11 @@ pub extern "C" fn pulleynavy_read_import(bytes: &[u8], offset: u64, features: u3
     read_at(Bundles, bytes, offset, features)
 }
 
-/// Stores the next imports and bundles of a list in `out`. Returns how many there were or there was room for: 0 at the end.
-/// `bytes` are those of the whole list.
+/// Stores the next items of an import section, imports and bundles, in `out`, and returns their number.
+///
+/// # Errors
+///
+/// An item has the faults of `pulleynavy_read_import`; the last one `SIZE_MISMATCH` if bytes follow the list.
 #[unsafe(no_mangle)]
 pub extern "C" fn pulleynavy_next_imports(
     items: &mut StoredItems,
@@ -266,8 +279,13 @@ impl Readable for BundledItems {
     }
 }
 
-/// Reads the import of a bundle of one module at the start of `bytes` (the proposal for compact imports). The bytes are the
-/// remaining bytes of its section, at `offset` of the stream. After a fault all other fields are 0.
+/// Reads an import of a bundle of kind 1: a name and a type.
+///
+/// # Errors
+///
+/// Those of `pulleynavy_read_import`, except `COMPACT_7F` and `COMPACT_7E`.
+///
+/// (The proposal for compact imports.)
 #[unsafe(no_mangle)]
 pub extern "C" fn pulleynavy_read_import_item(
     bytes: &[u8],
@@ -311,8 +329,14 @@ impl Readable for Names {
     }
 }
 
-/// Reads the name at the start of `bytes`, of at most 100,000 bytes (core specification, Binary format, Values, Names). The bytes
-/// are the remaining bytes of its section, at `offset` of the stream. After a fault all other fields are 0.
+/// Reads a name of at most 100,000 bytes: a size, a u32, and that many bytes.
+///
+/// # Errors
+///
+/// `STRING_SIZE`, `MALFORMED_UTF8`, `UNEXPECTED_EOF` after the size, and the faults of `pulleynavy_read_number` for the
+/// size.
+///
+/// (Core specification, Binary format, Values, Names.)
 #[unsafe(no_mangle)]
 pub extern "C" fn pulleynavy_read_name(bytes: &[u8], offset: u64, features: u32) -> PlainName
     ensures { result ≡ item_over plain_name (text_at (Some name_limit)) features offset bytes.now }
@@ -320,8 +344,11 @@ pub extern "C" fn pulleynavy_read_name(bytes: &[u8], offset: u64, features: u32)
     read_at(Names, bytes, offset, features)
 }
 
-/// Stores the next names of a list in `out`. Returns how many there were or there was room for: 0 at the end.
-/// `bytes` are those of the whole list.
+/// Stores the next names of a list in `out`, and returns their number.
+///
+/// # Errors
+///
+/// An item has the faults of `pulleynavy_read_name`; the last one `SIZE_MISMATCH` if bytes follow the list.
 #[unsafe(no_mangle)]
 pub extern "C" fn pulleynavy_next_names(
     items: &mut StoredItems,
@@ -362,9 +389,13 @@ impl Readable for Texts {
     }
 }
 
-/// Reads the text at the start of `bytes`, a name of any size (core specification, Binary format, Values, Names), as the sections
-/// `producers`, `linking` and `dylink.0` have them. The bytes are the remaining bytes of its section, at `offset` of the stream.
-/// After a fault all other fields are 0.
+/// Reads a name of any length, as the sections `producers`, `linking` and `dylink.0` have them.
+///
+/// # Errors
+///
+/// Those of `pulleynavy_read_name`, except `STRING_SIZE`.
+///
+/// (Core specification, Binary format, Values, Names.)
 #[unsafe(no_mangle)]
 pub extern "C" fn pulleynavy_read_text(bytes: &[u8], offset: u64, features: u32) -> PlainName
     ensures { result ≡ item_over plain_name (text_at None) features offset bytes.now }
@@ -372,8 +403,11 @@ pub extern "C" fn pulleynavy_read_text(bytes: &[u8], offset: u64, features: u32)
     read_at(Texts, bytes, offset, features)
 }
 
-/// Stores the next texts of a list in `out`. Returns how many there were or there was room for: 0 at the end.
-/// `bytes` are those of the whole list.
+/// Stores the next texts of a list in `out`, and returns their number.
+///
+/// # Errors
+///
+/// An item has the faults of `pulleynavy_read_text`; the last one `SIZE_MISMATCH` if bytes follow the list.
 #[unsafe(no_mangle)]
 pub extern "C" fn pulleynavy_next_texts(
     items: &mut StoredItems,
@@ -416,9 +450,15 @@ impl Readable for TypedNames {
     }
 }
 
-/// Reads the import of this bundle at the start of `bytes`, whose module is the bundle's (the proposal for compact imports).
-/// Where the bundle has one type its imports are names, and the type is the bundle's. The bytes are the remaining bytes of its
-/// section, at `offset` of the stream. After a fault all other fields are 0.
+/// Reads an import of this bundle, which `pulleynavy_read_import` or `pulleynavy_next_imports` returned.
+///
+/// For a bundle of kind 2 it reads a name, and the type is that of the bundle.
+///
+/// # Errors
+///
+/// Those of `pulleynavy_read_import_item`; for a bundle of kind 2 those of `pulleynavy_read_name`.
+///
+/// (The proposal for compact imports.)
 #[unsafe(no_mangle)]
 pub extern "C" fn pulleynavy_read_bundled_import(
     bundle: &PlainImport,

@@ -12,27 +12,27 @@ use crate::values::heap_parts;
 use wasm_items::read_instruction;
 use wasm_parser::{BinaryReader, ConstOperator, Error, HeapType, Result};
 
-/// An instruction of a constant expression, or its fault.
+/// An instruction of a constant expression, or a fault.
 #[repr(C)]
 #[derive(Clone, Copy, Debug, PartialEq, Eq)]
 pub struct PlainInstruction {
-    /// The fault, whose kind is 0 where there is none.
+    /// The fault of the item, of kind 0 if there is none.
     pub fault: PlainFault,
-    /// How many bytes it takes.
+    /// The size of the item in bytes, 0 after a fault.
     pub consumed: usize,
-    /// Its opcode, as in `pulleynavy_opcode`. One of two parts is 256 times the first plus the second.
+    /// The opcode, a `pulleynavy_opcode`. An opcode of two parts is 256 times the first plus the second.
     pub opcode: u32,
     /// The index of a global, a function or a type, or 0.
     pub index: u32,
-    /// What a null reference would refer to, as in `pulleynavy_heap_kind`, or 0.
+    /// The heap type of a null reference, a `pulleynavy_heap_kind`, or 0. The index is that of the type if it is 12.
     pub heap: u32,
-    /// How many elements an array of fixed size has, or 0.
+    /// The number of elements of `array.new_fixed`, or 0.
     pub count: u32,
-    /// The integer, or 0.
+    /// The value of `i32.const` or `i64.const`, or 0.
     pub integer: i64,
-    /// The bits of a float, or 0.
+    /// The bits of `f32.const` or `f64.const`, or 0.
     pub bits: u64,
-    /// The 16 bytes of a vector.
+    /// The 16 bytes of `v128.const`, in little-endian order.
     pub bytes: PlainSpan,
 }
 
@@ -188,9 +188,23 @@ impl Readable for Instructions {
     }
 }
 
-/// Reads the instruction at the start of `bytes`, of a constant expression (core specification, Binary format, Instructions). The
-/// last one has the opcode `PULLEYNAVY_OP_END`. The bytes are the remaining bytes of its section, at `offset` of the stream. After
-/// a fault all other fields are 0.
+/// Reads an instruction of a constant expression. The last one has the opcode `PULLEYNAVY_OP_END`.
+///
+/// # Errors
+///
+/// * `NOT_CONSTANT` at the opcode of an instruction that is not constant.
+/// * `UNEXPECTED_EOF`, and the faults of operands: `pulleynavy_read_number`, `pulleynavy_read_s32`,
+///   `pulleynavy_read_s64` and `pulleynavy_read_heap_type`.
+///
+/// ```c
+/// const uint8_t bytes[] = {0x41, 5, 0x0b};
+/// pulleynavy_instruction first = pulleynavy_read_instruction(bytes, 3, 0, PULLEYNAVY_ALL_FEATURES);
+/// assert(first.opcode == PULLEYNAVY_OP_I32_CONST && first.integer == 5 && first.consumed == 2);
+/// pulleynavy_instruction last = pulleynavy_read_instruction(bytes + 2, 1, 2, PULLEYNAVY_ALL_FEATURES);
+/// assert(last.opcode == PULLEYNAVY_OP_END);
+/// ```
+///
+/// (Core specification, Binary format, Instructions.)
 #[unsafe(no_mangle)]
 pub extern "C" fn pulleynavy_read_instruction(
     bytes: &[u8],

@@ -27,107 +27,107 @@ use wasm_parser::{
     TableInit, TableType, TagType,
 };
 
-/// A table type as plain numbers (core specification, Binary format, Types, Table Types).
+/// The type of a table (core specification, Binary format, Types, Table Types).
 #[repr(C)]
 #[derive(Clone, Copy, Debug, PartialEq, Eq)]
 pub struct PlainTableType {
-    /// The type of its elements.
+    /// The type of the elements.
     pub element: PlainType,
-    /// 1 if its indices have 64 bits, or 0.
+    /// 1 if indices have 64 bits, or 0.
     pub table64: u32,
-    /// 1 if threads share it, or 0.
+    /// 1 if threads share the table, or 0.
     pub shared: u32,
     /// 1 if there is a maximum, or 0.
     pub has_maximum: u32,
-    /// How many elements it begins with.
+    /// The initial number of elements.
     pub initial: u64,
-    /// The most elements that it may have, or 0.
+    /// The maximum number of elements, or 0.
     pub maximum: u64,
 }
 
-/// A memory type as plain numbers (core specification, Binary format, Types, Memory Types).
+/// The type of a memory (core specification, Binary format, Types, Memory Types).
 #[repr(C)]
 #[derive(Clone, Copy, Debug, PartialEq, Eq)]
 pub struct PlainMemoryType {
-    /// 1 if its addresses have 64 bits, or 0.
+    /// 1 if addresses have 64 bits, or 0.
     pub memory64: u32,
-    /// 1 if threads share it, or 0.
+    /// 1 if threads share the memory, or 0.
     pub shared: u32,
     /// 1 if there is a maximum, or 0.
     pub has_maximum: u32,
-    /// 1 if the size of a page is written, or 0.
+    /// 1 if the page size is encoded, or 0. Otherwise a page has 65,536 bytes.
     pub has_page_size: u32,
-    /// The size of a page as a power of two, or 0. A page has 65,536 bytes where none is written.
+    /// The base-2 logarithm of the page size in bytes, below 64, or 0.
     pub page_size_log2: u32,
-    /// How many pages it begins with.
+    /// The initial size, in pages.
     pub initial: u64,
-    /// The most pages that it may have, or 0.
+    /// The maximum size in pages, or 0.
     pub maximum: u64,
 }
 
-/// A global type as plain numbers (core specification, Binary format, Types, Global Types).
+/// The type of a global (core specification, Binary format, Types, Global Types).
 #[repr(C)]
 #[derive(Clone, Copy, Debug, PartialEq, Eq)]
 pub struct PlainGlobalType {
-    /// The type of its value.
+    /// The type of the value.
     pub content: PlainType,
-    /// 1 if its value can be changed, or 0.
+    /// 1 if the value is mutable, or 0.
     pub is_mutable: u32,
-    /// 1 if threads share it, or 0.
+    /// 1 if threads share the global, or 0.
     pub shared: u32,
 }
 
-/// A table, or its fault.
+/// A table, or a fault.
 #[repr(C)]
 #[derive(Clone, Copy, Debug, PartialEq, Eq)]
 pub struct PlainTable {
-    /// The fault, whose kind is 0 where there is none.
+    /// The fault of the item, of kind 0 if there is none.
     pub fault: PlainFault,
-    /// How many bytes it takes.
+    /// The size of the item in bytes, 0 after a fault.
     pub consumed: usize,
-    /// Its type.
+    /// The type of the table.
     pub ty: PlainTableType,
-    /// The expression of its elements, with its end.
+    /// The constant expression of the initial elements, including its `end`, if `has_init` is 1.
     pub init: PlainSpan,
-    /// 1 if there is an expression, or 0 where its elements are null at first.
+    /// 1 if there is an expression, or 0 if the initial elements are null.
     pub has_init: u32,
 }
 
-/// A memory, or its fault.
+/// A memory, or a fault.
 #[repr(C)]
 #[derive(Clone, Copy, Debug, PartialEq, Eq)]
 pub struct PlainMemory {
-    /// The fault, whose kind is 0 where there is none.
+    /// The fault of the item, of kind 0 if there is none.
     pub fault: PlainFault,
-    /// How many bytes it takes.
+    /// The size of the item in bytes, 0 after a fault.
     pub consumed: usize,
-    /// Its type.
+    /// The type of the memory.
     pub ty: PlainMemoryType,
 }
 
-/// A tag of exceptions, or its fault.
+/// A tag of exceptions, or a fault.
 #[repr(C)]
 #[derive(Clone, Copy, Debug, PartialEq, Eq)]
 pub struct PlainTag {
-    /// The fault, whose kind is 0 where there is none.
+    /// The fault of the item, of kind 0 if there is none.
     pub fault: PlainFault,
-    /// How many bytes it takes.
+    /// The size of the item in bytes, 0 after a fault.
     pub consumed: usize,
-    /// The index of the function type whose parameters it carries.
+    /// The index of the function type whose parameters the tag carries.
     pub func_type_index: u32,
 }
 
-/// A global, or its fault.
+/// A global, or a fault.
 #[repr(C)]
 #[derive(Clone, Copy, Debug, PartialEq, Eq)]
 pub struct PlainGlobal {
-    /// The fault, whose kind is 0 where there is none.
+    /// The fault of the item, of kind 0 if there is none.
     pub fault: PlainFault,
-    /// How many bytes it takes.
+    /// The size of the item in bytes, 0 after a fault.
     pub consumed: usize,
-    /// Its type.
+    /// The type of the global.
     pub ty: PlainGlobalType,
-    /// The expression of its first value, with its end.
+    /// The constant expression of the initial value, including its `end`; empty for `pulleynavy_read_global_type`.
     pub init: PlainSpan,
 }
 
@@ -274,8 +274,16 @@ impl Readable for Tables {
     }
 }
 
-/// Reads the table at the start of `bytes` (core specification, Binary format, Modules, Table Section). The bytes are the
-/// remaining bytes of its section, at `offset` of the stream. After a fault all other fields are 0.
+/// Reads a table. With `PULLEYNAVY_FEATURE_MEMORY64` limits are 64-bit numbers, without it 32-bit numbers.
+///
+/// # Errors
+///
+/// * `TABLE_ENCODING` at a byte after 0x40 that is not 0.
+/// * `TABLE_FLAGS` at flags above 7.
+/// * The faults of `pulleynavy_read_reference_type`, of the limits (`pulleynavy_read_number` or `pulleynavy_read_u64`)
+///   and of `pulleynavy_read_expression`.
+///
+/// (Core specification, Binary format, Modules, Table Section.)
 #[unsafe(no_mangle)]
 pub extern "C" fn pulleynavy_read_table(bytes: &[u8], offset: u64, features: u32) -> PlainTable
     ensures { result ≡ item_over plain_table table_at features offset bytes.now }
@@ -283,8 +291,11 @@ pub extern "C" fn pulleynavy_read_table(bytes: &[u8], offset: u64, features: u32
     read_at(Tables, bytes, offset, features)
 }
 
-/// Stores the next tables of a list in `out`. Returns how many there were or there was room for: 0 at the end.
-/// `bytes` are those of the whole list.
+/// Stores the next tables of a list in `out`, and returns their number.
+///
+/// # Errors
+///
+/// An item has the faults of `pulleynavy_read_table`; the last one `SIZE_MISMATCH` if bytes follow the list.
 #[unsafe(no_mangle)]
 pub extern "C" fn pulleynavy_next_tables(
     items: &mut StoredItems,
@@ -328,8 +339,15 @@ impl Readable for Memories {
     }
 }
 
-/// Reads the memory at the start of `bytes` (core specification, Binary format, Modules, Memory Section). The bytes are the
-/// remaining bytes of its section, at `offset` of the stream. After a fault all other fields are 0.
+/// Reads a memory. With `PULLEYNAVY_FEATURE_MEMORY64` limits are 64-bit numbers, without it 32-bit numbers.
+///
+/// # Errors
+///
+/// * `MEMORY_FLAGS` at flags above 15.
+/// * `PAGE_SIZE` at the flags, if the page size is 2^64 bytes or more.
+/// * `UNEXPECTED_EOF`, and the faults of the limits (`pulleynavy_read_number` or `pulleynavy_read_u64`).
+///
+/// (Core specification, Binary format, Modules, Memory Section.)
 #[unsafe(no_mangle)]
 pub extern "C" fn pulleynavy_read_memory(bytes: &[u8], offset: u64, features: u32) -> PlainMemory
     ensures { result ≡ item_over plain_memory memory_type_at features offset bytes.now }
@@ -337,8 +355,11 @@ pub extern "C" fn pulleynavy_read_memory(bytes: &[u8], offset: u64, features: u3
     read_at(Memories, bytes, offset, features)
 }
 
-/// Stores the next memories of a list in `out`. Returns how many there were or there was room for: 0 at the end.
-/// `bytes` are those of the whole list.
+/// Stores the next memories of a list in `out`, and returns their number.
+///
+/// # Errors
+///
+/// An item has the faults of `pulleynavy_read_memory`; the last one `SIZE_MISMATCH` if bytes follow the list.
 #[unsafe(no_mangle)]
 pub extern "C" fn pulleynavy_next_memories(
     items: &mut StoredItems,
@@ -382,8 +403,14 @@ impl Readable for Tags {
     }
 }
 
-/// Reads the tag at the start of `bytes` (core specification, Binary format, Modules, Tag Section). The bytes are the remaining
-/// bytes of its section, at `offset` of the stream. After a fault all other fields are 0.
+/// Reads a tag.
+///
+/// # Errors
+///
+/// `TAG_ATTRIBUTES` at a first byte other than 0; `UNEXPECTED_EOF`; and the faults of `pulleynavy_read_number` for the
+/// index.
+///
+/// (Core specification, Binary format, Modules, Tag Section.)
 #[unsafe(no_mangle)]
 pub extern "C" fn pulleynavy_read_tag(bytes: &[u8], offset: u64, features: u32) -> PlainTag
     ensures { result ≡ item_over plain_tag tag_type_at features offset bytes.now }
@@ -391,8 +418,11 @@ pub extern "C" fn pulleynavy_read_tag(bytes: &[u8], offset: u64, features: u32) 
     read_at(Tags, bytes, offset, features)
 }
 
-/// Stores the next tags of a list in `out`. Returns how many there were or there was room for: 0 at the end.
-/// `bytes` are those of the whole list.
+/// Stores the next tags of a list in `out`, and returns their number.
+///
+/// # Errors
+///
+/// An item has the faults of `pulleynavy_read_tag`; the last one `SIZE_MISMATCH` if bytes follow the list.
 #[unsafe(no_mangle)]
 pub extern "C" fn pulleynavy_next_tags(
     items: &mut StoredItems,
@@ -438,8 +468,14 @@ impl Readable for Globals {
     }
 }
 
-/// Reads the global at the start of `bytes` (core specification, Binary format, Modules, Global Section). The bytes are the
-/// remaining bytes of its section, at `offset` of the stream. After a fault all other fields are 0.
+/// Reads a global.
+///
+/// # Errors
+///
+/// `GLOBAL_FLAGS` at flags above 3; `UNEXPECTED_EOF`; and the faults of `pulleynavy_read_value_type` and
+/// `pulleynavy_read_expression`.
+///
+/// (Core specification, Binary format, Modules, Global Section.)
 #[unsafe(no_mangle)]
 pub extern "C" fn pulleynavy_read_global(bytes: &[u8], offset: u64, features: u32) -> PlainGlobal
     ensures { result ≡ item_over plain_global global_at features offset bytes.now }
@@ -447,8 +483,11 @@ pub extern "C" fn pulleynavy_read_global(bytes: &[u8], offset: u64, features: u3
     read_at(Globals, bytes, offset, features)
 }
 
-/// Stores the next globals of a list in `out`. Returns how many there were or there was room for: 0 at the end.
-/// `bytes` are those of the whole list.
+/// Stores the next globals of a list in `out`, and returns their number.
+///
+/// # Errors
+///
+/// An item has the faults of `pulleynavy_read_global`; the last one `SIZE_MISMATCH` if bytes follow the list.
 #[unsafe(no_mangle)]
 pub extern "C" fn pulleynavy_next_globals(
     items: &mut StoredItems,
@@ -490,8 +529,13 @@ impl Readable for TableTypes {
     }
 }
 
-/// Reads the table type at the start of `bytes` (core specification, Binary format, Types, Table Types): a table without an
-/// expression. The bytes are the remaining bytes of its section, at `offset` of the stream. After a fault all other fields are 0.
+/// Reads a table type, as a table without an expression.
+///
+/// # Errors
+///
+/// Those of `pulleynavy_read_table`, except `TABLE_ENCODING` and those of the expression.
+///
+/// (Core specification, Binary format, Types, Table Types.)
 #[unsafe(no_mangle)]
 pub extern "C" fn pulleynavy_read_table_type(bytes: &[u8], offset: u64, features: u32) -> PlainTable
     ensures { result ≡ item_over plain_table_alone table_type_at features offset bytes.now }
@@ -527,8 +571,13 @@ impl Readable for GlobalTypes {
     }
 }
 
-/// Reads the global type at the start of `bytes` (core specification, Binary format, Types, Global Types): a global without an
-/// expression. The bytes are the remaining bytes of its section, at `offset` of the stream. After a fault all other fields are 0.
+/// Reads a global type, as a global without an expression.
+///
+/// # Errors
+///
+/// Those of `pulleynavy_read_global`, except those of the expression.
+///
+/// (Core specification, Binary format, Types, Global Types.)
 #[unsafe(no_mangle)]
 pub extern "C" fn pulleynavy_read_global_type(
     bytes: &[u8],

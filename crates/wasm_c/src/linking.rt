@@ -17,65 +17,65 @@ use wasm_parser::{
     Segment,
 };
 
-/// A data segment for linkers, or its fault.
+/// The name, alignment and flags of a data segment, or a fault.
 #[repr(C)]
 #[derive(Clone, Copy, Debug, PartialEq, Eq)]
 pub struct PlainLinkingSegment {
-    /// The fault, whose kind is 0 where there is none.
+    /// The fault of the item, of kind 0 if there is none.
     pub fault: PlainFault,
-    /// How many bytes it takes.
+    /// The size of the item in bytes, 0 after a fault.
     pub consumed: usize,
-    /// Its name, which is UTF-8.
+    /// The name of the segment, which is UTF-8.
     pub name: PlainSpan,
-    /// Its alignment, as a power of two.
+    /// The alignment of the segment, as the base-2 logarithm of the bytes.
     pub alignment: u32,
-    /// Its flags, as bits: 1 `STRINGS`, 2 `TLS`. Other bits are as they were read.
+    /// The flags of the segment, `pulleynavy_segment_flags`. Unknown bits are kept.
     pub flags: u32,
 }
 
-/// A function that is called at first, or its fault.
+/// A function to call at startup, or a fault.
 #[repr(C)]
 #[derive(Clone, Copy, Debug, PartialEq, Eq)]
 pub struct PlainInitFunction {
-    /// The fault, whose kind is 0 where there is none.
+    /// The fault of the item, of kind 0 if there is none.
     pub fault: PlainFault,
-    /// How many bytes it takes.
+    /// The size of the item in bytes, 0 after a fault.
     pub consumed: usize,
-    /// Its priority.
+    /// The priority: lower numbers are called first.
     pub priority: u32,
-    /// The index of its symbol.
+    /// The index of the function's symbol in the symbol table.
     pub symbol: u32,
 }
 
-/// A comdat, or its fault.
+/// A comdat, or a fault.
 #[repr(C)]
 #[derive(Clone, Copy, Debug, PartialEq, Eq)]
 pub struct PlainComdat {
-    /// The fault, whose kind is 0 where there is none.
+    /// The fault of the item, of kind 0 if there is none.
     pub fault: PlainFault,
-    /// How many bytes it takes.
+    /// The size of the item in bytes, 0 after a fault.
     pub consumed: usize,
-    /// Its name, which is UTF-8.
+    /// The name of the comdat, which is UTF-8.
     pub name: PlainSpan,
-    /// Its flags.
+    /// The flags. None is defined; they are not checked.
     pub flags: u32,
-    /// How many symbols it has.
+    /// The number of symbols.
     pub count: u32,
     /// The symbols, after their count.
     pub symbols: PlainSpan,
 }
 
-/// A symbol of a comdat, or its fault.
+/// A symbol of a comdat, or a fault.
 #[repr(C)]
 #[derive(Clone, Copy, Debug, PartialEq, Eq)]
 pub struct PlainComdatSymbol {
-    /// The fault, whose kind is 0 where there is none.
+    /// The fault of the item, of kind 0 if there is none.
     pub fault: PlainFault,
-    /// How many bytes it takes.
+    /// The size of the item in bytes, 0 after a fault.
     pub consumed: usize,
-    /// 0 a data segment, 1 a function, 2 a global, 3 an event, 4 a table, 5 a section.
+    /// The kind, a `pulleynavy_comdat_kind`: 0 data, 1 a function, 2 a global, 3 an event, 4 a table, 5 a section.
     pub kind: u32,
-    /// Its index among those of its kind.
+    /// The index in the index space of the kind.
     pub index: u32,
 }
 
@@ -128,9 +128,13 @@ impl Readable for LinkingSegments {
     }
 }
 
-/// Reads a data segment of subsection 5 of the section `linking`, after the count (tool conventions, Linking, Segment Info
-/// Subsection). The bytes are the remaining bytes of its section, at `offset` of the stream. After a fault all other fields are
-/// 0.
+/// Reads a data segment of subsection 5 of the section `linking`, whose content is a count and as many segments.
+///
+/// # Errors
+///
+/// Those of `pulleynavy_read_text` and `pulleynavy_read_number`.
+///
+/// (Tool conventions, Linking, Segment Info Subsection.)
 #[unsafe(no_mangle)]
 pub extern "C" fn pulleynavy_read_linking_segment(
     bytes: &[u8],
@@ -142,8 +146,11 @@ pub extern "C" fn pulleynavy_read_linking_segment(
     read_at(LinkingSegments, bytes, offset, features)
 }
 
-/// Stores the next segments of a list in `out`. Returns how many there were or there was room for: 0 at the end.
-/// `bytes` are those of the whole list.
+/// Stores the next segments of a list in `out`, and returns their number.
+///
+/// # Errors
+///
+/// An item has the faults of `pulleynavy_read_linking_segment`; the last one `SIZE_MISMATCH` if bytes follow the list.
 #[unsafe(no_mangle)]
 pub extern "C" fn pulleynavy_next_linking_segments(
     items: &mut StoredItems,
@@ -189,9 +196,14 @@ impl Readable for InitFunctions {
     }
 }
 
-/// Reads the function to be called at first at the start of `bytes`, in subsection 6 of the section `linking` after its count
-/// (tool conventions, Linking, Init Functions Subsection). The bytes are the remaining bytes of its section, at `offset` of the
-/// stream. After a fault all other fields are 0.
+/// Reads a function of subsection 6 of the section `linking`, whose content is a count and as many functions to call at
+/// startup.
+///
+/// # Errors
+///
+/// Those of `pulleynavy_read_number`.
+///
+/// (Tool conventions, Linking, Init Functions Subsection.)
 #[unsafe(no_mangle)]
 pub extern "C" fn pulleynavy_read_init_function(
     bytes: &[u8],
@@ -203,8 +215,11 @@ pub extern "C" fn pulleynavy_read_init_function(
     read_at(InitFunctions, bytes, offset, features)
 }
 
-/// Stores the next functions of a list in `out`. Returns how many there were or there was room for: 0 at the end.
-/// `bytes` are those of the whole list.
+/// Stores the next functions of a list in `out`, and returns their number.
+///
+/// # Errors
+///
+/// An item has the faults of `pulleynavy_read_init_function`; the last one `SIZE_MISMATCH` if bytes follow the list.
 #[unsafe(no_mangle)]
 pub extern "C" fn pulleynavy_next_init_functions(
     items: &mut StoredItems,
@@ -255,9 +270,15 @@ impl Readable for Comdats {
     }
 }
 
-/// Reads the comdat at the start of `bytes`, in subsection 7 of the section `linking` after its count (tool conventions, Linking,
-/// COMDAT Subsection). Its symbols are read by `pulleynavy_read_comdat_symbol`, and have no fault. The bytes are the remaining bytes
-/// of its section, at `offset` of the stream. After a fault all other fields are 0.
+/// Reads a comdat of subsection 7 of the section `linking`, whose content is a count and as many comdats.
+///
+/// Walk the symbols with `pulleynavy_next_comdat_symbols`: they were checked, and have no fault.
+///
+/// # Errors
+///
+/// Those of `pulleynavy_read_text`, `pulleynavy_read_number` and `pulleynavy_read_comdat_symbol`.
+///
+/// (Tool conventions, Linking, COMDAT Subsection.)
 #[unsafe(no_mangle)]
 pub extern "C" fn pulleynavy_read_comdat(bytes: &[u8], offset: u64, features: u32) -> PlainComdat
     ensures { result ≡ item_over plain_comdat comdat_at features offset bytes.now }
@@ -265,8 +286,11 @@ pub extern "C" fn pulleynavy_read_comdat(bytes: &[u8], offset: u64, features: u3
     read_at(Comdats, bytes, offset, features)
 }
 
-/// Stores the next comdats of a list in `out`. Returns how many there were or there was room for: 0 at the end.
-/// `bytes` are those of the whole list.
+/// Stores the next comdats of a list in `out`, and returns their number.
+///
+/// # Errors
+///
+/// An item has the faults of `pulleynavy_read_comdat`; the last one `SIZE_MISMATCH` if bytes follow the list.
 #[unsafe(no_mangle)]
 pub extern "C" fn pulleynavy_next_comdats(
     items: &mut StoredItems,
@@ -312,8 +336,14 @@ impl Readable for ComdatSymbols {
     }
 }
 
-/// Reads the symbol of a comdat at the start of `bytes` (tool conventions, Linking, COMDAT Subsection). The bytes are the
-/// remaining bytes of its section, at `offset` of the stream. After a fault all other fields are 0.
+/// Reads a symbol of a comdat.
+///
+/// # Errors
+///
+/// `LEADING_BYTE` with `PULLEYNAVY_LEAD_COMDAT_SYMBOL` at a kind above 5; `UNEXPECTED_EOF`; and the faults of
+/// `pulleynavy_read_number`.
+///
+/// (Tool conventions, Linking, COMDAT Subsection.)
 #[unsafe(no_mangle)]
 pub extern "C" fn pulleynavy_read_comdat_symbol(
     bytes: &[u8],
@@ -325,8 +355,11 @@ pub extern "C" fn pulleynavy_read_comdat_symbol(
     read_at(ComdatSymbols, bytes, offset, features)
 }
 
-/// Stores the next symbols of a list in `out`. Returns how many there were or there was room for: 0 at the end.
-/// `bytes` are those of the whole list.
+/// Stores the next symbols of a comdat in `out`, and returns their number.
+///
+/// # Errors
+///
+/// An item has the faults of `pulleynavy_read_comdat_symbol`; the last one `SIZE_MISMATCH` if bytes follow the list.
 #[unsafe(no_mangle)]
 pub extern "C" fn pulleynavy_next_comdat_symbols(
     items: &mut StoredItems,

@@ -99,8 +99,20 @@ fn write_message(fault: Fault, out: &mut [u8]) -> usize
     write_text(Error::new(fault, 0).message().as_bytes(), out)
 }
 
-/// Writes the text of the fault with this number, without a zero byte and as far as `out` has room. Returns the length of the
-/// whole text, at most 80 bytes, or 0 if no fault has this number.
+/// Writes the text of the fault with this code, and returns the length of the whole text in bytes, at most 80.
+///
+/// The text is ASCII, without a zero byte at the end. If `out` is shorter, it gets the first `out_size` bytes. The text
+/// has neither the number nor the offset of the fault.
+///
+/// # Errors
+///
+/// It returns 0, and writes nothing, if no fault has this code.
+///
+/// ```c
+/// uint8_t text[80];
+/// size_t size = pulleynavy_format_message(PULLEYNAVY_FAULT_UNEXPECTED_EOF, text, sizeof text);
+/// assert(size == 22 && !memcmp(text, "unexpected end-of-file", size));
+/// ```
 #[unsafe(no_mangle)]
 pub extern "C" fn pulleynavy_format_message(kind: u32, out: &mut [u8]) -> usize
     ensures { SaysMessage kind out.old result out.new }

@@ -25,47 +25,48 @@ use wasm_parser::{
     BinaryReader, Error, Fault, FromReader, IndirectNaming, Naming, Result, SectionLimited, fits,
 };
 
-/// A subsection, or its fault.
+/// A subsection, or a fault.
 #[repr(C)]
 #[derive(Clone, Copy, Debug, PartialEq, Eq)]
 pub struct PlainSubsection {
-    /// The fault, whose kind is 0 where there is none.
+    /// The fault of the item, of kind 0 if there is none.
     pub fault: PlainFault,
-    /// How many bytes it takes.
+    /// The size of the item in bytes, 0 after a fault.
     pub consumed: usize,
-    /// Its id.
+    /// The id, below 128: of the section `name` a `pulleynavy_name_id`, of `linking` a `pulleynavy_linking_id`, of
+    /// `dylink.0` a `pulleynavy_dylink_id`.
     pub id: u32,
-    /// Its bytes.
+    /// The content, without the id and the size.
     pub contents: PlainSpan,
 }
 
-/// An index and its name, or its fault.
+/// An index and a name, or a fault.
 #[repr(C)]
 #[derive(Clone, Copy, Debug, PartialEq, Eq)]
 pub struct PlainNaming {
-    /// The fault, whose kind is 0 where there is none.
+    /// The fault of the item, of kind 0 if there is none.
     pub fault: PlainFault,
-    /// How many bytes it takes.
+    /// The size of the item in bytes, 0 after a fault.
     pub consumed: usize,
-    /// The index of what is named.
+    /// The index of the named item, in the index space of the map.
     pub index: u32,
-    /// Its name, which is UTF-8.
+    /// The name, which is UTF-8.
     pub name: PlainSpan,
 }
 
-/// An index and the names of what it has, or its fault.
+/// An index and a name map, or a fault.
 #[repr(C)]
 #[derive(Clone, Copy, Debug, PartialEq, Eq)]
 pub struct PlainIndirectNaming {
-    /// The fault, whose kind is 0 where there is none.
+    /// The fault of the item, of kind 0 if there is none.
     pub fault: PlainFault,
-    /// How many bytes it takes, those of the names among them.
+    /// The size of the item in bytes, including the name map; 0 after a fault.
     pub consumed: usize,
-    /// The index of what has the names, as a function.
+    /// The index of the item whose parts are named, such as a function.
     pub index: u32,
-    /// How many names it has.
+    /// The number of names.
     pub count: u32,
-    /// The names, after their count.
+    /// The names of the parts, such as the locals of the function, after their count.
     pub names: PlainSpan,
 }
 
@@ -122,9 +123,14 @@ impl Readable for AnySubsections {
     }
 }
 
-/// Reads the subsection at the start of `bytes`: an id below 128, a size and this many bytes (core specification, Appendix, Custom
-/// Sections, Name Section, Subsections; tool conventions, Linking). The bytes are the remaining bytes of its section, at `offset`
-/// of the stream. After a fault all other fields are 0.
+/// Reads a subsection of the section `name`, `linking` or `dylink.0`: an id below 128, a size, a u32, and that many
+/// bytes.
+///
+/// # Errors
+///
+/// `INVALID_U7` at an id of 128 or above; `UNEXPECTED_EOF`; and the faults of `pulleynavy_read_number` for the size.
+///
+/// (Core specification, Appendix, Custom Sections, Name Section, Subsections; tool conventions, Linking.)
 #[unsafe(no_mangle)]
 pub extern "C" fn pulleynavy_read_subsection(
     bytes: &[u8],
@@ -170,9 +176,13 @@ impl Readable for Namings {
     }
 }
 
-/// Reads the index and the name at the start of `bytes` (core specification, Appendix, Custom Sections, Name Section, Name Maps).
-/// That indices ascend isn't looked at. The bytes are the remaining bytes of its section, at `offset` of the stream. After a
-/// fault all other fields are 0.
+/// Reads an index and a name of any length, an entry of a name map. It does not check that indices ascend.
+///
+/// # Errors
+///
+/// Those of `pulleynavy_read_number` and `pulleynavy_read_text`.
+///
+/// (Core specification, Appendix, Custom Sections, Name Section, Name Maps.)
 #[unsafe(no_mangle)]
 pub extern "C" fn pulleynavy_read_naming(bytes: &[u8], offset: u64, features: u32) -> PlainNaming
     ensures { result ≡ item_over plain_naming naming_at features offset bytes.now }
@@ -180,9 +190,13 @@ pub extern "C" fn pulleynavy_read_naming(bytes: &[u8], offset: u64, features: u3
     read_at(Namings, bytes, offset, features)
 }
 
-/// Stores the next names of a name map in `out`. One whose index isn't above that of every name before it is `NAMES_ORDER`, and
-/// the next one follows. Returns how many there were or there was room for: 0 at the end.
-/// `bytes` are those of the whole list.
+/// Stores the next entries of a name map in `out`, and returns their number.
+///
+/// # Errors
+///
+/// An item has the faults of `pulleynavy_read_naming`. An entry whose index is not above that of every earlier entry
+/// without a fault has the fault `NAMES_ORDER` at the start of the entry, and the next one follows. The last item is
+/// `SIZE_MISMATCH` if bytes follow the list.
 #[unsafe(no_mangle)]
 pub extern "C" fn pulleynavy_next_namings(
     items: &mut StoredItems,
@@ -243,9 +257,15 @@ impl Readable for IndirectNamings {
     }
 }
 
-/// Reads the index at the start of `bytes`, and the names of what it has (core specification, Appendix, Custom Sections, Name
-/// Section, Indirect Name Maps), which are read by `pulleynavy_read_naming`. That indices ascend isn't looked at. The bytes are the
-/// remaining bytes of its section, at `offset` of the stream. After a fault all other fields are 0.
+/// Reads an index and a name map, an entry of an indirect name map. It does not check that indices ascend.
+///
+/// The names are skipped, without checking that they are UTF-8. Walk them with `pulleynavy_next_namings`.
+///
+/// # Errors
+///
+/// Those of `pulleynavy_read_number`; and `STRING_SIZE` and `UNEXPECTED_EOF` for the names.
+///
+/// (Core specification, Appendix, Custom Sections, Name Section, Indirect Name Maps.)
 #[unsafe(no_mangle)]
 pub extern "C" fn pulleynavy_read_indirect_naming(
     bytes: &[u8],
@@ -257,9 +277,13 @@ pub extern "C" fn pulleynavy_read_indirect_naming(
     read_at(IndirectNamings, bytes, offset, features)
 }
 
-/// Stores the next indices of an indirect name map in `out`. One that isn't above every index before it is `INDIRECT_ORDER`, and
-/// the next one follows. Returns how many there were or there was room for: 0 at the end.
-/// `bytes` are those of the whole list.
+/// Stores the next entries of an indirect name map in `out`, and returns their number.
+///
+/// # Errors
+///
+/// An item has the faults of `pulleynavy_read_indirect_naming`. An entry whose index is not above that of every earlier
+/// entry without a fault has the fault `INDIRECT_ORDER` at the start of the entry, and the next one follows. The last
+/// item is `SIZE_MISMATCH` if bytes follow the list.
 #[unsafe(no_mangle)]
 pub extern "C" fn pulleynavy_next_indirect_namings(
     items: &mut StoredItems,
@@ -383,8 +407,14 @@ impl Walk for NameSubsections {
     }
 }
 
-/// Stores the next subsections of a section `linking` or `dylink.0` in `out`. After one that can't be read the next one follows.
-/// Returns how many there were or there was room for: 0 at the end. `bytes` are those of the whole section.
+/// Stores the next subsections of a section `linking` or `dylink.0` in `out`, and returns their number.
+///
+/// `bytes` are the content of the section, the same in each call. For `linking` the cursor begins after the version,
+/// and for a cursor of `pulleynavy_list_init` so do the bytes.
+///
+/// # Errors
+///
+/// An item has the faults of `pulleynavy_read_subsection`. After a malformed one, the next one follows.
 #[unsafe(no_mangle)]
 pub extern "C" fn pulleynavy_next_subsections(
     items: &mut StoredItems,
@@ -396,8 +426,28 @@ pub extern "C" fn pulleynavy_next_subsections(
     store_items(Subsections, items, bytes, out)
 }
 
-/// Stores the next subsections of a section `name` in `out`, as `pulleynavy_next_subsections`. One whose id isn't above every id
-/// before it is `NAME_SECTION_ORDER`, and the next one follows.
+/// Stores the next subsections of a section `name` in `out`, and returns their number.
+///
+/// # Errors
+///
+/// An item has the faults of `pulleynavy_read_subsection`. A subsection whose id is not above that of every earlier one
+/// without a fault has the fault `NAME_SECTION_ORDER` at the start of the subsection. After either, the next one
+/// follows.
+///
+/// ```c
+/// // The name "f" for function 5, in subsection 1.
+/// const uint8_t data[] = {1, 4, 1, 5, 1, 'f'};
+/// pulleynavy_items items = pulleynavy_list_init(0, 0, PULLEYNAVY_ALL_FEATURES);
+/// pulleynavy_subsection part;
+/// assert(pulleynavy_next_name_subsections(&items, data, sizeof data, &part, 1) == 1 && part.id == PULLEYNAVY_NAME_FUNCTION);
+/// const uint8_t *map = data + part.contents.at;
+/// pulleynavy_number count = pulleynavy_read_number(map, part.contents.size, part.contents.at, PULLEYNAVY_ALL_FEATURES);
+/// pulleynavy_items names = pulleynavy_list_init(part.contents.at + count.consumed, count.value, PULLEYNAVY_ALL_FEATURES);
+/// pulleynavy_naming naming;
+/// map += count.consumed;
+/// assert(pulleynavy_next_namings(&names, map, part.contents.size - count.consumed, &naming, 1) == 1);
+/// assert(naming.index == 5 && map[naming.name.at] == 'f');
+/// ```
 #[unsafe(no_mangle)]
 pub extern "C" fn pulleynavy_next_name_subsections(
     items: &mut StoredItems,

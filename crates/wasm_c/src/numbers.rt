@@ -15,25 +15,25 @@ use crate::readable::{Readable, read_at};
 use crate::spans::distance;
 use wasm_parser::{BinaryReader, Error, Result};
 
-/// A number, or its fault.
+/// An unsigned number, or a fault.
 #[repr(C)]
 #[derive(Clone, Copy, Debug, PartialEq, Eq)]
 pub struct PlainNumber {
-    /// The fault, whose kind is 0 where there is none.
+    /// The fault of the item, of kind 0 if there is none.
     pub fault: PlainFault,
-    /// How many bytes it takes.
+    /// The size of the item in bytes, 0 after a fault.
     pub consumed: usize,
     /// The number.
     pub value: u64,
 }
 
-/// A number with a sign, or its fault.
+/// A signed number, or a fault.
 #[repr(C)]
 #[derive(Clone, Copy, Debug, PartialEq, Eq)]
 pub struct PlainSigned {
-    /// The fault, whose kind is 0 where there is none.
+    /// The fault of the item, of kind 0 if there is none.
     pub fault: PlainFault,
-    /// How many bytes it takes.
+    /// The size of the item in bytes, 0 after a fault.
     pub consumed: usize,
     /// The number.
     pub value: i64,
@@ -70,9 +70,20 @@ impl Readable for Numbers {
     }
 }
 
-/// Reads the number at the start of `bytes`, a u32: the count of a list, an index of a type in a function section or of a
-/// function in a list of elements (core specification, Binary format, Values, Integers). The bytes are the remaining bytes of its
-/// section, at `offset` of the stream. After a fault all other fields are 0.
+/// Reads a u32 in LEB128: the count of a list, the type index of a function, or the index of a function in an element
+/// segment.
+///
+/// # Errors
+///
+/// `UNEXPECTED_EOF`, `NUMBER_TOO_LONG` or `NUMBER_TOO_LARGE`, the latter two with `PULLEYNAVY_NUMBER_VAR_U32`.
+///
+/// ```c
+/// const uint8_t bytes[] = {0x80, 0x01};
+/// pulleynavy_number number = pulleynavy_read_number(bytes, 2, 0, PULLEYNAVY_ALL_FEATURES);
+/// assert(number.fault.kind == 0 && number.value == 128 && number.consumed == 2);
+/// ```
+///
+/// (Core specification, Binary format, Values, Integers.)
 #[unsafe(no_mangle)]
 pub extern "C" fn pulleynavy_read_number(bytes: &[u8], offset: u64, features: u32) -> PlainNumber
     ensures { result ≡ item_over plain_number (unsigned_at VarU32) features offset bytes.now }
@@ -80,8 +91,11 @@ pub extern "C" fn pulleynavy_read_number(bytes: &[u8], offset: u64, features: u3
     read_at(Numbers, bytes, offset, features)
 }
 
-/// Stores the next numbers of a list in `out`. Returns how many there were or there was room for: 0 at the end.
-/// `bytes` are those of the whole list.
+/// Stores the next numbers of a list in `out`, and returns their number.
+///
+/// # Errors
+///
+/// An item has the faults of `pulleynavy_read_number`; the last one `SIZE_MISMATCH` if bytes follow the list.
 #[unsafe(no_mangle)]
 pub extern "C" fn pulleynavy_next_numbers(
     items: &mut StoredItems,
@@ -121,8 +135,13 @@ impl Readable for LongNumbers {
     }
 }
 
-/// Reads the u64 in LEB128 at the start of `bytes` (core specification, Binary format, Values, Integers).
-/// The bytes are the remaining bytes of its section, at `offset` of the stream. After a fault all other fields are 0.
+/// Reads a u64 in LEB128.
+///
+/// # Errors
+///
+/// `UNEXPECTED_EOF`, `NUMBER_TOO_LONG` or `NUMBER_TOO_LARGE`, the latter two with `PULLEYNAVY_NUMBER_VAR_U64`.
+///
+/// (Core specification, Binary format, Values, Integers.)
 #[unsafe(no_mangle)]
 pub extern "C" fn pulleynavy_read_u64(bytes: &[u8], offset: u64, features: u32) -> PlainNumber
     ensures { result ≡ item_over plain_number (unsigned_at VarU64) features offset bytes.now }
@@ -168,8 +187,13 @@ impl Readable for SignedNumbers {
     }
 }
 
-/// Reads the s32 in LEB128 at the start of `bytes` (core specification, Binary format, Values, Integers).
-/// The bytes are the remaining bytes of its section, at `offset` of the stream. After a fault all other fields are 0.
+/// Reads a signed 32-bit number in LEB128.
+///
+/// # Errors
+///
+/// `UNEXPECTED_EOF`, `NUMBER_TOO_LONG` or `NUMBER_TOO_LARGE`, the latter two with `PULLEYNAVY_NUMBER_VAR_I32`.
+///
+/// (Core specification, Binary format, Values, Integers.)
 #[unsafe(no_mangle)]
 pub extern "C" fn pulleynavy_read_s32(bytes: &[u8], offset: u64, features: u32) -> PlainSigned
     ensures { result ≡ item_over plain_signed (signed_at VarI32) features offset bytes.now }
@@ -204,8 +228,13 @@ impl Readable for BlockTypes {
     }
 }
 
-/// Reads the s33 in LEB128 at the start of `bytes` (core specification, Binary format, Values, Integers).
-/// The bytes are the remaining bytes of its section, at `offset` of the stream. After a fault all other fields are 0.
+/// Reads a signed 33-bit number in LEB128, such as a block type.
+///
+/// # Errors
+///
+/// `UNEXPECTED_EOF`, `NUMBER_TOO_LONG` or `NUMBER_TOO_LARGE`, the latter two with `PULLEYNAVY_NUMBER_VAR_S33`.
+///
+/// (Core specification, Binary format, Values, Integers.)
 #[unsafe(no_mangle)]
 pub extern "C" fn pulleynavy_read_s33(bytes: &[u8], offset: u64, features: u32) -> PlainSigned
     ensures { result ≡ item_over plain_signed (signed_at VarS33) features offset bytes.now }
@@ -240,8 +269,13 @@ impl Readable for LongSignedNumbers {
     }
 }
 
-/// Reads the s64 in LEB128 at the start of `bytes` (core specification, Binary format, Values, Integers).
-/// The bytes are the remaining bytes of its section, at `offset` of the stream. After a fault all other fields are 0.
+/// Reads a signed 64-bit number in LEB128.
+///
+/// # Errors
+///
+/// `UNEXPECTED_EOF`, `NUMBER_TOO_LONG` or `NUMBER_TOO_LARGE`, the latter two with `PULLEYNAVY_NUMBER_VAR_I64`.
+///
+/// (Core specification, Binary format, Values, Integers.)
 #[unsafe(no_mangle)]
 pub extern "C" fn pulleynavy_read_s64(bytes: &[u8], offset: u64, features: u32) -> PlainSigned
     ensures { result ≡ item_over plain_signed (signed_at VarI64) features offset bytes.now }

@@ -11,7 +11,7 @@ use crate::text::write_text;
 use bitflags::Flags;
 use wasm_parser::{Chunk, Parser, Result, WasmFeatures};
 
-/// Returns a parser of a stream that begins at this offset. Its windows have these features.
+/// Returns a parser for a stream that begins at this offset and is read with these features.
 #[unsafe(no_mangle)]
 pub extern "C" fn pulleynavy_parser_init(offset: u64, features: u32) -> StoredParser
     ensures { parser_of result ≡ initial_state offset features }
@@ -52,10 +52,40 @@ pub(crate) fn parse_stored(
     }
 }
 
-/// Reads the next part of a stream. `bytes` are its remaining bytes, or with `is_all` false a prefix of them; call it next with
-/// the bytes after those that were consumed. A fault or a request for more bytes leaves the parser unchanged. After a request,
-/// call it again with the same bytes and more after them, or at the end of the input with `is_all` true, where it never requests
-/// more. After a fault, the same call returns the same fault.
+/// Returns the next event of a stream, a fault, or a request for more input.
+///
+/// `bytes` are the remaining bytes of the stream or, if `is_all` is false, a prefix of them. Pass the bytes after the
+/// consumed ones in the next call. After a request, call again with more bytes after the same ones, or at the end of
+/// input with `is_all` true: the parser then never requests more. A fault or a request leaves the parser unchanged.
+/// After the end, it returns the end again.
+///
+/// # Errors
+///
+/// A fault is an event of kind 10. Its `fault` has the kind and the offset; the same call returns it again. Kinds 2 to
+/// 21 can occur:
+///
+/// * `BAD_MAGIC`, `UNKNOWN_VERSION`, `MAGIC_AT_SECTION`, `MALFORMED_SECTION_ID`, `NUMBER_TOO_LONG`, `NUMBER_TOO_LARGE`
+///   and `SECTION_TOO_LARGE` at the malformed field.
+/// * `UNEXPECTED_EOF` where a header, a section, a body or one of their fields is truncated, or overruns the section
+///   around it.
+/// * `OUT_OF_ORDER`, `FUNCTION_CODE_DIFFER` and `CODE_WITHOUT_FUNCTION` at the content of the section.
+/// * `DATA_COUNT_DIFFER` at the end of the data section; `FUNCTION_WITHOUT_CODE` and `DATA_COUNT_WITHOUT_DATA` at the
+///   end of the stream.
+/// * `START_CONTENT`, `DATA_COUNT_CONTENT` and `TRAILING_CODE` at the first trailing byte of a section.
+/// * `STRING_SIZE` and `MALFORMED_UTF8` in the name of a custom section.
+/// * `OFFSET_RANGE` at the offset of the parser, if `bytes` end beyond the offset 2^64 - 1.
+///
+/// ```c
+/// const uint8_t bytes[] = {0, 'a', 's', 'm', 1, 0, 0, 0, 3, 2, 1, 0};
+/// pulleynavy_parser parser = pulleynavy_parser_init(0, PULLEYNAVY_ALL_FEATURES);
+/// pulleynavy_event header = pulleynavy_parse(&parser, bytes, 12, true);
+/// assert(header.kind == PULLEYNAVY_EVENT_VERSION && header.consumed == 8);
+/// pulleynavy_event section = pulleynavy_parse(&parser, bytes + 8, 4, true);
+/// assert(section.kind == PULLEYNAVY_EVENT_SECTION && section.id == PULLEYNAVY_SECTION_FUNCTION && section.count == 1);
+/// // A function was declared, but there is no code section.
+/// pulleynavy_event last = pulleynavy_parse(&parser, bytes + 12, 0, true);
+/// assert(last.fault.kind == PULLEYNAVY_FAULT_FUNCTION_WITHOUT_CODE && last.fault.offset == 12);
+/// ```
 #[unsafe(no_mangle)]
 pub extern "C" fn pulleynavy_parse(
     parser: &mut StoredParser,
@@ -67,8 +97,19 @@ pub extern "C" fn pulleynavy_parse(
     parse_stored(parser, bytes, is_all, 0)
 }
 
-/// Skips the remaining bytes of a code section and returns how many these are: call `pulleynavy_parse` next with the bytes after
-/// them. Outside a code section it returns 0 and leaves the parser unchanged.
+/// Skips the remaining bytes of a code section, and returns their number. Pass the bytes after them to the next
+/// `pulleynavy_parse`.
+///
+/// Call it after the start of a code section or after a body. Elsewhere it returns 0 and leaves the parser unchanged.
+///
+/// ```c
+/// const uint8_t bytes[] = {0, 'a', 's', 'm', 1, 0, 0, 0, 3, 2, 1, 0, 10, 4, 1, 2, 0, 11};
+/// pulleynavy_parser parser = pulleynavy_parser_init(0, PULLEYNAVY_ALL_FEATURES);
+/// size_t at = 0;
+/// for (int i = 0; i < 3; i++) at += pulleynavy_parse(&parser, bytes + at, 18 - at, true).consumed;
+/// at += pulleynavy_skip_section(&parser);
+/// assert(at == 18 && pulleynavy_parse(&parser, bytes + at, 0, true).kind == PULLEYNAVY_EVENT_END);
+/// ```
 #[unsafe(no_mangle)]
 pub extern "C" fn pulleynavy_skip_section(parser: &mut StoredParser) -> u32
     ensures { skipped_of (parser_of parser.old) ≡ (result, parser_of parser.new) }
@@ -84,8 +125,15 @@ pub extern "C" fn pulleynavy_skip_section(parser: &mut StoredParser) -> u32
     }
 }
 
-/// Writes the text of the fault that `pulleynavy_parse` returns for the same arguments, without a zero byte and as far as `out`
-/// has room. Returns the length of the whole text, at most 80 bytes, or 0 if there is no fault. The parser stays as it is.
+/// Writes the text of the fault that `pulleynavy_parse` returns for the same arguments, and returns the length of the
+/// whole text.
+///
+/// The text is that of `pulleynavy_format_message`, at most 80 bytes, without a zero byte at the end. If `out` is
+/// shorter, it gets the first `out_size` bytes. The parser is unchanged.
+///
+/// # Errors
+///
+/// It returns 0, and writes nothing, if `pulleynavy_parse` returns no fault.
 #[unsafe(no_mangle)]
 pub extern "C" fn pulleynavy_format_fault(
     parser: &StoredParser,

@@ -11,33 +11,33 @@ use crate::readable::{Readable, read_at};
 use crate::spans::{NO_SPAN, PlainSpan, distance, items_span, text_after_sized, text_span};
 use wasm_parser::{BinaryReader, Error, FromReader, ProducersField, ProducersFieldValue, Result};
 
-/// A field of the producers section, or its fault.
+/// A field of the producers section, or a fault.
 #[repr(C)]
 #[derive(Clone, Copy, Debug, PartialEq, Eq)]
 pub struct PlainProducersField {
-    /// The fault, whose kind is 0 where there is none.
+    /// The fault of the item, of kind 0 if there is none.
     pub fault: PlainFault,
-    /// How many bytes it takes.
+    /// The size of the item in bytes, 0 after a fault.
     pub consumed: usize,
-    /// Its name: `language`, `sdk` or `processed-by`.
+    /// The name of the field: `language`, `sdk` or `processed-by`.
     pub name: PlainSpan,
-    /// How many values it has.
+    /// The number of values.
     pub count: u32,
     /// The values, after their count.
     pub values: PlainSpan,
 }
 
-/// A value of a field of the producers section, or its fault.
+/// A value of a field of the producers section, or a fault.
 #[repr(C)]
 #[derive(Clone, Copy, Debug, PartialEq, Eq)]
 pub struct PlainProducersValue {
-    /// The fault, whose kind is 0 where there is none.
+    /// The fault of the item, of kind 0 if there is none.
     pub fault: PlainFault,
-    /// How many bytes it takes.
+    /// The size of the item in bytes, 0 after a fault.
     pub consumed: usize,
-    /// The name of a tool, which is UTF-8.
+    /// The name of a language or tool, which is UTF-8.
     pub name: PlainSpan,
-    /// Its version, which is UTF-8.
+    /// The version, which is UTF-8, possibly empty.
     pub version: PlainSpan,
 }
 
@@ -77,9 +77,26 @@ impl Readable for ProducersFields {
     }
 }
 
-/// Reads the field of a producers section at the start of `bytes` (tool conventions, Producers Section). Its values are read by
-/// `pulleynavy_read_producers_value`. The bytes are the remaining bytes of its section, at `offset` of the stream. After a fault all
-/// other fields are 0.
+/// Reads a field of a producers section. Its values are skipped, without checking that they are UTF-8; walk them with
+/// `pulleynavy_next_producers_values`.
+///
+/// # Errors
+///
+/// `PRODUCERS_FIELD` at the start of the field, if its name is another one than the three; the faults of
+/// `pulleynavy_read_text` and `pulleynavy_read_number`; and `STRING_SIZE` and `UNEXPECTED_EOF` for the values.
+///
+/// ```c
+/// const uint8_t bytes[] = {3, 's', 'd', 'k', 1, 1, 'X', 1, '2'};
+/// pulleynavy_producers_field field = pulleynavy_read_producers_field(bytes, sizeof bytes, 0, PULLEYNAVY_ALL_FEATURES);
+/// assert(field.name.size == 3 && field.count == 1);
+/// pulleynavy_items values = pulleynavy_list_init(field.values.at, field.count, PULLEYNAVY_ALL_FEATURES);
+/// pulleynavy_producers_value value;
+/// const uint8_t *list = bytes + field.values.at;
+/// assert(pulleynavy_next_producers_values(&values, list, field.values.size, &value, 1) == 1);
+/// assert(list[value.name.at] == 'X' && list[value.version.at] == '2');
+/// ```
+///
+/// (Tool conventions, Producers Section.)
 #[unsafe(no_mangle)]
 pub extern "C" fn pulleynavy_read_producers_field(
     bytes: &[u8],
@@ -91,8 +108,11 @@ pub extern "C" fn pulleynavy_read_producers_field(
     read_at(ProducersFields, bytes, offset, features)
 }
 
-/// Stores the next fields of a list in `out`. Returns how many there were or there was room for: 0 at the end.
-/// `bytes` are those of the whole list.
+/// Stores the next fields of a producers section in `out`, and returns their number.
+///
+/// # Errors
+///
+/// An item has the faults of `pulleynavy_read_producers_field`; the last one `SIZE_MISMATCH` if bytes follow the list.
 #[unsafe(no_mangle)]
 pub extern "C" fn pulleynavy_next_producers_fields(
     items: &mut StoredItems,
@@ -139,8 +159,13 @@ impl Readable for ProducersValues {
     }
 }
 
-/// Reads the value of a field of a producers section at the start of `bytes` (tool conventions, Producers Section). The bytes are
-/// the remaining bytes of its section, at `offset` of the stream. After a fault all other fields are 0.
+/// Reads a value of a field of a producers section: a name and a version.
+///
+/// # Errors
+///
+/// Those of `pulleynavy_read_text`.
+///
+/// (Tool conventions, Producers Section.)
 #[unsafe(no_mangle)]
 pub extern "C" fn pulleynavy_read_producers_value(
     bytes: &[u8],
@@ -152,8 +177,11 @@ pub extern "C" fn pulleynavy_read_producers_value(
     read_at(ProducersValues, bytes, offset, features)
 }
 
-/// Stores the next values of a list in `out`. Returns how many there were or there was room for: 0 at the end.
-/// `bytes` are those of the whole list.
+/// Stores the next values of a field in `out`, and returns their number.
+///
+/// # Errors
+///
+/// An item has the faults of `pulleynavy_read_producers_value`; the last one `SIZE_MISMATCH` if bytes follow the list.
 #[unsafe(no_mangle)]
 pub extern "C" fn pulleynavy_next_producers_values(
     items: &mut StoredItems,

@@ -12,23 +12,23 @@ use crate::readable::{Readable, read_at};
 use crate::spans::distance;
 use wasm_parser::{BinaryReader, Error, FromReader, RelocationEntry, RelocationType, Result};
 
-/// A relocation, or its fault.
+/// A relocation, or a fault.
 #[repr(C)]
 #[derive(Clone, Copy, Debug, PartialEq, Eq)]
 pub struct PlainRelocation {
-    /// The fault, whose kind is 0 where there is none.
+    /// The fault of the item, of kind 0 if there is none.
     pub fault: PlainFault,
-    /// How many bytes it takes.
+    /// The size of the item in bytes, 0 after a fault.
     pub consumed: usize,
-    /// The number of its type, from 0 to 26.
+    /// The type, a `pulleynavy_relocation_kind` from 0 to 26.
     pub kind: u32,
-    /// How many bytes it fills in: 4, 5, 8 or 10.
+    /// The number of bytes that the relocation fills in: 4, 5, 8 or 10.
     pub extent: u32,
-    /// Where it fills them in, in bytes from the start of the content of its section.
+    /// The offset of these bytes, in bytes from the start of the relocated section's content.
     pub offset: u32,
-    /// The index of its symbol, or of its type.
+    /// The index of the symbol, or of the type for `TYPE_INDEX_LEB`.
     pub index: u32,
-    /// What is added to the value of the symbol, or 0.
+    /// The addend, which is added to the value of the symbol; 0 if the type has none.
     pub addend: i64,
 }
 
@@ -112,9 +112,24 @@ impl Readable for Relocations {
     }
 }
 
-/// Reads the relocation at the start of `bytes` (tool conventions, Linking, Relocation Sections). A section of relocations begins
-/// with the index of the section that they are of and their count, which `pulleynavy_read_number` reads. The bytes are the remaining
-/// bytes of its section, at `offset` of the stream. After a fault all other fields are 0.
+/// Reads a relocation.
+///
+/// The data of a section `reloc.*` is the index of the relocated section, the count of relocations, and the
+/// relocations. `pulleynavy_read_number` reads the first two.
+///
+/// # Errors
+///
+/// `LEADING_BYTE` with `PULLEYNAVY_LEAD_RELOC` at a type above 26; `UNEXPECTED_EOF`; and the faults of
+/// `pulleynavy_read_number`, `pulleynavy_read_s32` and `pulleynavy_read_s64`.
+///
+/// ```c
+/// // The address of symbol 2 plus 8, at offset 6.
+/// const uint8_t bytes[] = {3, 6, 2, 8};
+/// pulleynavy_relocation item = pulleynavy_read_relocation(bytes, 4, 0, PULLEYNAVY_ALL_FEATURES);
+/// assert(item.kind == PULLEYNAVY_RELOCATION_MEMORY_ADDR_LEB && item.offset == 6 && item.extent == 5 && item.addend == 8);
+/// ```
+///
+/// (Tool conventions, Linking, Relocation Sections.)
 #[unsafe(no_mangle)]
 pub extern "C" fn pulleynavy_read_relocation(
     bytes: &[u8],
@@ -126,8 +141,11 @@ pub extern "C" fn pulleynavy_read_relocation(
     read_at(Relocations, bytes, offset, features)
 }
 
-/// Stores the next relocations of a list in `out`. Returns how many there were or there was room for: 0 at the end.
-/// `bytes` are those of the whole list.
+/// Stores the next relocations of a list in `out`, and returns their number.
+///
+/// # Errors
+///
+/// An item has the faults of `pulleynavy_read_relocation`; the last one `SIZE_MISMATCH` if bytes follow the list.
 #[unsafe(no_mangle)]
 pub extern "C" fn pulleynavy_next_relocations(
     items: &mut StoredItems,

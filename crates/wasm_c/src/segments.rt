@@ -21,57 +21,57 @@ use wasm_parser::{
     RefType, Result,
 };
 
-/// A constant expression, or its fault.
+/// A constant expression, or a fault.
 #[repr(C)]
 #[derive(Clone, Copy, Debug, PartialEq, Eq)]
 pub struct PlainExpression {
-    /// The fault, whose kind is 0 where there is none.
+    /// The fault of the item, of kind 0 if there is none.
     pub fault: PlainFault,
-    /// How many bytes it takes, its end among them.
+    /// The size of the expression in bytes, including its `end`; 0 after a fault.
     pub consumed: usize,
 }
 
-/// An element segment, or its fault.
+/// An element segment, or a fault.
 #[repr(C)]
 #[derive(Clone, Copy, Debug, PartialEq, Eq)]
 pub struct PlainElement {
-    /// The fault, whose kind is 0 where there is none.
+    /// The fault of the item, of kind 0 if there is none.
     pub fault: PlainFault,
-    /// How many bytes it takes.
+    /// The size of the item in bytes, 0 after a fault.
     pub consumed: usize,
-    /// 0 a passive segment, 1 an active one, 2 a declared one.
+    /// The kind of the segment, a `pulleynavy_element_kind`: 0 passive, 1 active, 2 declarative.
     pub kind: u32,
-    /// 1 if the index of a table is written, or 0.
+    /// 1 if the index of a table is encoded, or 0.
     pub has_table: u32,
-    /// The index of the table, or 0.
+    /// The index of the table of an active segment; 0 if none is encoded.
     pub table: u32,
-    /// 0 where the elements are indices of functions, 1 where they are expressions.
+    /// 1 if the elements are constant expressions, or 0 if they are function indices.
     pub has_expressions: u32,
-    /// The expression of an active segment's offset, with its end.
+    /// The expression of an active segment's offset in the table, including its `end`; otherwise empty.
     pub offset_expression: PlainSpan,
-    /// The type of the elements.
+    /// The type of the elements; `funcref` for function indices.
     pub ty: PlainType,
     /// The elements, after their count.
     pub items: PlainSpan,
-    /// How many elements there are.
+    /// The number of elements.
     pub count: u32,
 }
 
-/// A data segment, or its fault.
+/// A data segment, or a fault.
 #[repr(C)]
 #[derive(Clone, Copy, Debug, PartialEq, Eq)]
 pub struct PlainData {
-    /// The fault, whose kind is 0 where there is none.
+    /// The fault of the item, of kind 0 if there is none.
     pub fault: PlainFault,
-    /// How many bytes it takes.
+    /// The size of the item in bytes, 0 after a fault.
     pub consumed: usize,
-    /// 0 a passive segment, 1 an active one.
+    /// The kind of the segment, a `pulleynavy_data_kind`: 0 passive, 1 active.
     pub kind: u32,
     /// The index of an active segment's memory, or 0.
     pub memory: u32,
-    /// The expression of an active segment's offset, with its end.
+    /// The expression of an active segment's address in the memory, including its `end`; otherwise empty.
     pub offset_expression: PlainSpan,
-    /// Its bytes.
+    /// The bytes of the segment.
     pub bytes: PlainSpan,
 }
 
@@ -104,9 +104,14 @@ impl Readable for Expressions {
     }
 }
 
-/// Reads the constant expression at the start of `bytes` (core specification, Binary format, Instructions, Expressions): an
-/// element of a segment, for one. The bytes are the remaining bytes of its section, at `offset` of the stream. After a fault all
-/// other fields are 0.
+/// Reads a constant expression, such as an element of a segment. `pulleynavy_read_instruction` reads each of its
+/// instructions.
+///
+/// # Errors
+///
+/// Those of `pulleynavy_read_instruction`, for any of its instructions.
+///
+/// (Core specification, Binary format, Instructions, Expressions.)
 #[unsafe(no_mangle)]
 pub extern "C" fn pulleynavy_read_expression(
     bytes: &[u8],
@@ -118,8 +123,12 @@ pub extern "C" fn pulleynavy_read_expression(
     read_at(Expressions, bytes, offset, features)
 }
 
-/// Stores the next constant expressions of a list in `out`. Returns how many there were or there was room for: 0 at the end.
-/// `bytes` are those of the whole list.
+/// Stores the next constant expressions of a list in `out`, and returns their number. Each begins where the one before
+/// it ends.
+///
+/// # Errors
+///
+/// An item has the faults of `pulleynavy_read_expression`; the last one `SIZE_MISMATCH` if bytes follow the list.
 #[unsafe(no_mangle)]
 pub extern "C" fn pulleynavy_next_expressions(
     items: &mut StoredItems,
@@ -253,9 +262,27 @@ impl Readable for ElementSegments {
     }
 }
 
-/// Reads the element segment at the start of `bytes` (core specification, Binary format, Modules, Element Section). Its elements
-/// are read by `pulleynavy_read_number` or `pulleynavy_read_expression`, and have no fault. The bytes are the remaining bytes of its
-/// section, at `offset` of the stream. After a fault all other fields are 0.
+/// Reads an element segment. Walk its elements with `pulleynavy_next_numbers` or `pulleynavy_next_expressions`: they
+/// were checked, and have no fault.
+///
+/// # Errors
+///
+/// * `ELEMENT_FLAGS` at the last byte of flags above 7.
+/// * `ELEMENT_FUNCTION_ONLY` at an element kind other than that of functions.
+/// * `LEADING_BYTE` with `PULLEYNAVY_LEAD_EXTERNAL` at a byte that is no kind of elements.
+/// * The faults of `pulleynavy_read_number`, `pulleynavy_read_reference_type` and `pulleynavy_read_expression`.
+///
+/// ```c
+/// // Active, in table 0 at index 0, with the functions 5 and 6.
+/// const uint8_t bytes[] = {0, 0x41, 0, 0x0b, 2, 5, 6};
+/// pulleynavy_element item = pulleynavy_read_element(bytes, sizeof bytes, 0, PULLEYNAVY_ALL_FEATURES);
+/// assert(item.kind == PULLEYNAVY_ELEMENT_ACTIVE && !item.has_expressions && item.count == 2);
+/// pulleynavy_items items = pulleynavy_list_init(item.items.at, item.count, PULLEYNAVY_ALL_FEATURES);
+/// pulleynavy_number out[4];
+/// assert(pulleynavy_next_numbers(&items, bytes + item.items.at, item.items.size, out, 4) == 2 && out[1].value == 6);
+/// ```
+///
+/// (Core specification, Binary format, Modules, Element Section.)
 #[unsafe(no_mangle)]
 pub extern "C" fn pulleynavy_read_element(bytes: &[u8], offset: u64, features: u32) -> PlainElement
     ensures { result ≡ item_over plain_element element_at features offset bytes.now }
@@ -263,8 +290,11 @@ pub extern "C" fn pulleynavy_read_element(bytes: &[u8], offset: u64, features: u
     read_at(ElementSegments, bytes, offset, features)
 }
 
-/// Stores the next element segments of a list in `out`. Returns how many there were or there was room for: 0 at the end.
-/// `bytes` are those of the whole list.
+/// Stores the next element segments of a list in `out`, and returns their number.
+///
+/// # Errors
+///
+/// An item has the faults of `pulleynavy_read_element`; the last one `SIZE_MISMATCH` if bytes follow the list.
 #[unsafe(no_mangle)]
 pub extern "C" fn pulleynavy_next_elements(
     items: &mut StoredItems,
@@ -342,8 +372,14 @@ impl Readable for DataSegments {
     }
 }
 
-/// Reads the data segment at the start of `bytes` (core specification, Binary format, Modules, Data Section). The bytes are the
-/// remaining bytes of its section, at `offset` of the stream. After a fault all other fields are 0.
+/// Reads a data segment.
+///
+/// # Errors
+///
+/// `DATA_FLAGS` at the start of the segment, if the flags are above 2; `UNEXPECTED_EOF` after the size if bytes are
+/// missing; and the faults of `pulleynavy_read_number` and `pulleynavy_read_expression`.
+///
+/// (Core specification, Binary format, Modules, Data Section.)
 #[unsafe(no_mangle)]
 pub extern "C" fn pulleynavy_read_data(bytes: &[u8], offset: u64, features: u32) -> PlainData
     ensures { result ≡ item_over plain_data data_at features offset bytes.now }
@@ -351,8 +387,11 @@ pub extern "C" fn pulleynavy_read_data(bytes: &[u8], offset: u64, features: u32)
     read_at(DataSegments, bytes, offset, features)
 }
 
-/// Stores the next data segments of a list in `out`. Returns how many there were or there was room for: 0 at the end.
-/// `bytes` are those of the whole list.
+/// Stores the next data segments of a list in `out`, and returns their number.
+///
+/// # Errors
+///
+/// An item has the faults of `pulleynavy_read_data`; the last one `SIZE_MISMATCH` if bytes follow the list.
 #[unsafe(no_mangle)]
 pub extern "C" fn pulleynavy_next_data(
     items: &mut StoredItems,

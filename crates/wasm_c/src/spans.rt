@@ -11,13 +11,13 @@ ghost use Rattle.wasm_base.specs.declared.fault.Fault.TheVariants.{OffsetRange};
 use bitflags::Flags;
 use wasm_parser::{BinaryReader, Error, Fault, SectionLimited, WasmFeatures};
 
-/// A run of the bytes passed to a call.
+/// A run of the bytes that a call was passed: a name, an expression or a list.
 #[repr(C)]
 #[derive(Clone, Copy, Debug, PartialEq, Eq)]
 pub struct PlainSpan {
-    /// Where it begins, in bytes from the first of those passed.
+    /// The position of the first byte, counted from the first byte that the call was passed.
     pub at: usize,
-    /// How many bytes it has.
+    /// The size in bytes.
     pub size: usize,
 }
 

@@ -4,19 +4,33 @@ ghost use Rattle.wasm_c.specs.Strips.{StripsPlain};
 use crate::faults::{NO_FAULT, PlainFault, plain_fault};
 use wasm_feed::{Keep, strip_to_front};
 
-/// The result of stripping a stream.
+/// The result of stripping a stream: its size, or a fault.
 #[repr(C)]
 #[derive(Clone, Copy, Debug)]
 pub struct PlainStripped {
-    /// The fault of a stream that isn't accepted, or none.
+    /// The fault at which the stream stops, of kind 0 if there is none.
     pub fault: PlainFault,
-    /// How many bytes the stripped stream has, 0 after a fault.
+    /// The size of the stripped stream in bytes, 0 after a fault.
     pub size: usize,
 }
 
-/// Removes the custom sections from a whole stream that begins at offset 0, in place. The first `size` bytes are then
-/// the remaining stream, and the bytes after them mean nothing. With `keep_names` the sections named `name` stay. A stream that
-/// isn't accepted is left unchanged, and its fault is returned with a size of 0.
+/// Removes the custom sections from a whole stream, in place. With `keep_names` the sections named `name` stay.
+///
+/// The first `size` bytes are then the stripped stream, and the bytes after them are unspecified. The stream begins at
+/// offset 0.
+///
+/// # Errors
+///
+/// The fault at which the stream stops, as `pulleynavy_parse` returns it. The size is then 0, and the bytes are
+/// unchanged.
+///
+/// ```c
+/// uint8_t bytes[] = {0, 'a', 's', 'm', 1, 0, 0, 0, 0, 2, 1, 'a', 1, 1, 0};
+/// pulleynavy_stripped stripped = pulleynavy_strip(bytes, sizeof bytes, false);
+/// assert(stripped.fault.kind == 0 && stripped.size == 11 && bytes[8] == PULLEYNAVY_SECTION_TYPE);
+/// ```
+///
+/// (Core specification, Binary format, Modules, Custom Section.)
 #[unsafe(no_mangle)]
 pub extern "C" fn pulleynavy_strip(bytes: &mut [u8], keep_names: bool) -> PlainStripped
     ensures { StripsPlain keep_names bytes.old result bytes.new }

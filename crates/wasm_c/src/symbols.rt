@@ -20,30 +20,29 @@ use wasm_parser::{
     BinaryReader, DefinedDataSymbol, Error, Fault, FromReader, Result, SymbolFlags, SymbolInfo,
 };
 
-/// A symbol, or its fault.
+/// A symbol of the symbol table, or a fault.
 #[repr(C)]
 #[derive(Clone, Copy, Debug, PartialEq, Eq)]
 pub struct PlainSymbol {
-    /// The fault, whose kind is 0 where there is none.
+    /// The fault of the item, of kind 0 if there is none.
     pub fault: PlainFault,
-    /// How many bytes it takes.
+    /// The size of the item in bytes, 0 after a fault.
     pub consumed: usize,
-    /// Its name, which is UTF-8.
+    /// The name of the symbol, which is UTF-8, if `has_name` is 1.
     pub name: PlainSpan,
-    /// 0 a function, 1 data, 2 a global, 3 a section, 4 an event, 5 a table.
+    /// The kind, a `pulleynavy_symbol_kind`: 0 a function, 1 data, 2 a global, 3 a section, 4 an event, 5 a table.
     pub kind: u32,
-    /// Its flags: 1 weak, 2 local, 4 hidden, 16 undefined, 32 exported, 64 a name of its own, 128 kept, 256 thread-local, 512
-    /// absolute.
+    /// The flags, `pulleynavy_symbol_flags`. Unknown bits are kept.
     pub flags: u32,
-    /// The index of the function, global, section, event or table, or of the segment of data that is defined.
+    /// The index of the function, global, section, event or table, or of the data segment of a defined data symbol.
     pub index: u32,
-    /// 1 if its name is written, or 0.
+    /// 1 if the name is encoded, or 0. An undefined symbol without a name has that of its import.
     pub has_name: u32,
-    /// 1 if it is data that is defined, or 0.
+    /// 1 for a data symbol that is defined in this module, otherwise 0.
     pub is_defined: u32,
-    /// Where data is in its segment, in bytes.
+    /// The offset of the data, in bytes from the start of the segment, if `is_defined` is 1.
     pub data_offset: u32,
-    /// How many bytes data has.
+    /// The size of the data in bytes, if `is_defined` is 1.
     pub data_size: u32,
 }
 
@@ -101,9 +100,25 @@ impl Readable for LinkingVersions {
     }
 }
 
-/// Reads the version at the start of the data of a section `linking`, which is 2 (tool conventions, Linking, Linking Metadata
-/// Section). Its subsections follow, each read by `pulleynavy_read_subsection`. The bytes are the remaining bytes of its section, at
-/// `offset` of the stream. After a fault all other fields are 0.
+/// Reads the version at the start of the data of a section `linking`, which has to be 2. The subsections follow.
+///
+/// # Errors
+///
+/// `LINKING_VERSION` at the version, which is the number of the fault, if it is not 2; and the faults of
+/// `pulleynavy_read_number`.
+///
+/// ```c
+/// // Version 2, and a subsection with the function symbol 4 to call at startup.
+/// const uint8_t data[] = {2, 6, 3, 1, 10, 4};
+/// pulleynavy_number version = pulleynavy_read_linking_version(data, sizeof data, 0, PULLEYNAVY_ALL_FEATURES);
+/// assert(version.value == 2);
+/// pulleynavy_items items = pulleynavy_list_init(version.consumed, 0, PULLEYNAVY_ALL_FEATURES);
+/// pulleynavy_subsection part;
+/// assert(pulleynavy_next_subsections(&items, data + 1, sizeof data - 1, &part, 1) == 1);
+/// assert(part.id == PULLEYNAVY_LINKING_INIT_FUNCS && part.contents.size == 3);
+/// ```
+///
+/// (Tool conventions, Linking, Linking Metadata Section.)
 #[unsafe(no_mangle)]
 pub extern "C" fn pulleynavy_read_linking_version(
     bytes: &[u8],
@@ -247,9 +262,14 @@ impl Readable for Symbols {
     }
 }
 
-/// Reads the symbol at the start of `bytes`, in subsection 8 of the section `linking` after its count (tool conventions, Linking,
-/// Symbol Table Subsection). The bytes are the remaining bytes of its section, at `offset` of the stream. After a fault all other
-/// fields are 0.
+/// Reads a symbol of subsection 8 of the section `linking`, whose content is a count and as many symbols.
+///
+/// # Errors
+///
+/// `LEADING_BYTE` with `PULLEYNAVY_LEAD_SYMBOL` at a kind above 5, if the flags after it can be read; `UNEXPECTED_EOF`;
+/// and the faults of `pulleynavy_read_number` and `pulleynavy_read_text`.
+///
+/// (Tool conventions, Linking, Symbol Table Subsection.)
 #[unsafe(no_mangle)]
 pub extern "C" fn pulleynavy_read_symbol(bytes: &[u8], offset: u64, features: u32) -> PlainSymbol
     ensures { result ≡ item_over plain_symbol symbol_at features offset bytes.now }
@@ -257,8 +277,11 @@ pub extern "C" fn pulleynavy_read_symbol(bytes: &[u8], offset: u64, features: u3
     read_at(Symbols, bytes, offset, features)
 }
 
-/// Stores the next symbols of a list in `out`. Returns how many there were or there was room for: 0 at the end.
-/// `bytes` are those of the whole list.
+/// Stores the next symbols of a list in `out`, and returns their number.
+///
+/// # Errors
+///
+/// An item has the faults of `pulleynavy_read_symbol`; the last one `SIZE_MISMATCH` if bytes follow the list.
 #[unsafe(no_mangle)]
 pub extern "C" fn pulleynavy_next_symbols(
     items: &mut StoredItems,

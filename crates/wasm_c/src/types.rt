@@ -14,37 +14,37 @@ use crate::spans::{distance, flag};
 use wasm_base::leading_byte_error;
 use wasm_parser::{BinaryReader, Error, Fault, Lead, Result};
 
-/// The head of a group of types, or its fault.
+/// The head of a recursive group of types, or a fault. The subtypes of the group follow.
 #[repr(C)]
 #[derive(Clone, Copy, Debug, PartialEq, Eq)]
 pub struct PlainTypeGroup {
-    /// The fault, whose kind is 0 where there is none.
+    /// The fault of the item, of kind 0 if there is none.
     pub fault: PlainFault,
-    /// How many bytes it takes.
+    /// The size of the head in bytes, without the subtypes; 0 after a fault, and for a single type.
     pub consumed: usize,
-    /// 1 if the group is written as one, or 0 for a single type.
+    /// 1 if the group is encoded as a group, or 0 for a single type.
     pub is_explicit: u32,
-    /// How many subtypes come after it.
+    /// The number of subtypes that follow.
     pub count: u32,
 }
 
-/// The head of a subtype, or its fault.
+/// The head of a subtype, or a fault. The parameters and results, or the fields, follow.
 #[repr(C)]
 #[derive(Clone, Copy, Debug, PartialEq, Eq)]
 pub struct PlainSubtype {
-    /// The fault, whose kind is 0 where there is none.
+    /// The fault of the item, of kind 0 if there is none.
     pub fault: PlainFault,
-    /// How many bytes it takes.
+    /// The size of the head in bytes, up to and including the count; 0 after a fault.
     pub consumed: usize,
-    /// 1 if no type may extend it, or 0.
+    /// 1 if no type may extend the type, or 0.
     pub is_final: u32,
-    /// 1 if it extends a type, or 0.
+    /// 1 if the type extends another one, or 0.
     pub has_supertype: u32,
-    /// The index of that type, or 0.
+    /// The index of the extended type, or 0.
     pub supertype: u32,
-    /// 0 for functions, 1 for arrays, 2 for structures.
+    /// The kind of the type, a `pulleynavy_composite_kind`: 0 functions, 1 arrays, 2 structures.
     pub kind: u32,
-    /// How many parameters or fields come after it.
+    /// The number of parameters or fields that follow; 1 for an array.
     pub count: u32,
 }
 
@@ -192,9 +192,30 @@ impl Readable for TypeGroups {
     }
 }
 
-/// Reads the head of the group of types at the start of `bytes` (core specification, Binary format, Types, Recursive Types;
-/// Modules, Type Section). Its subtypes follow, each read by `pulleynavy_read_subtype`. The bytes are the remaining bytes of its
-/// section, at `offset` of the stream. After a fault all other fields are 0.
+/// Reads the head of a recursive group of types. As many subtypes as `count` says follow; `pulleynavy_read_subtype`
+/// reads each.
+///
+/// # Errors
+///
+/// `UNEXPECTED_EOF` if there are no bytes; and for an explicit group the faults of `pulleynavy_read_number` for the
+/// count.
+///
+/// ```c
+/// // One function type: from an i32 to nothing.
+/// const uint8_t bytes[] = {0x60, 1, 0x7f, 0};
+/// pulleynavy_type_group group = pulleynavy_read_type_group(bytes, 4, 0, PULLEYNAVY_ALL_FEATURES);
+/// assert(!group.fault.kind && group.count == 1);
+/// size_t at = group.consumed;
+/// pulleynavy_subtype type = pulleynavy_read_subtype(bytes + at, 4 - at, at, PULLEYNAVY_ALL_FEATURES);
+/// assert(type.kind == PULLEYNAVY_COMPOSITE_FUNC && type.count == 1);
+/// at += type.consumed;
+/// pulleynavy_value parameter = pulleynavy_read_value_type(bytes + at, 4 - at, at, PULLEYNAVY_ALL_FEATURES);
+/// assert(parameter.ty.kind == PULLEYNAVY_TYPE_I32);
+/// at += parameter.consumed;
+/// assert(pulleynavy_read_number(bytes + at, 4 - at, at, PULLEYNAVY_ALL_FEATURES).value == 0);
+/// ```
+///
+/// (Core specification, Binary format, Types, Recursive Types; Modules, Type Section.)
 #[unsafe(no_mangle)]
 pub extern "C" fn pulleynavy_read_type_group(
     bytes: &[u8],
@@ -245,10 +266,19 @@ impl Readable for Subtypes {
     }
 }
 
-/// Reads the head of the subtype at the start of `bytes` (core specification, Binary format, Types, Recursive Types and
-/// Composite Types). After it come this many parameters, each read by `pulleynavy_read_value_type`, then a count of results, by
-/// `pulleynavy_read_number`, and that many results; or this many fields, each by `pulleynavy_read_field_type`. The bytes are the
-/// remaining bytes of its section, at `offset` of the stream. After a fault all other fields are 0.
+/// Reads the head of a subtype.
+///
+/// For functions `count` parameters follow, each read by `pulleynavy_read_value_type`, then a count of results, read by
+/// `pulleynavy_read_number`, and that many results. For structures and arrays `count` fields follow, each read by
+/// `pulleynavy_read_field_type`.
+///
+/// # Errors
+///
+/// * `SUPERTYPES` at the count of supertypes if it is above 1.
+/// * `LEADING_BYTE` with `PULLEYNAVY_LEAD_COMPOSITE` at a byte that begins no composite type.
+/// * `UNEXPECTED_EOF`, and the faults of `pulleynavy_read_number` for the counts and the supertype.
+///
+/// (Core specification, Binary format, Types, Recursive Types and Composite Types.)
 #[unsafe(no_mangle)]
 pub extern "C" fn pulleynavy_read_subtype(bytes: &[u8], offset: u64, features: u32) -> PlainSubtype
     ensures { result ≡ item_over plain_subtype subtype_head_at features offset bytes.now }

@@ -18,45 +18,46 @@ use wasm_parser::{
     BinaryReader, Error, FieldType, FromReader, HeapType, RefType, Result, StorageType, ValType,
 };
 
-/// A type of values, or of what a field holds, as plain numbers (core specification, Binary format, Types).
+/// The type of a value, or of what a field stores (core specification, Binary format, Types).
 #[repr(C)]
 #[derive(Clone, Copy, Debug, PartialEq, Eq)]
 pub struct PlainType {
-    /// 0 a 32-bit integer, 1 a 64-bit integer, 2 a 32-bit float, 3 a 64-bit float, 4 a vector of 128 bits, 5 a reference, 6 an
-    /// integer of 8 bits and 7 one of 16 in a field.
+    /// The kind of the type, a `pulleynavy_type_kind`: 0 `i32`, 1 `i64`, 2 `f32`, 3 `f64`, 4 `v128`, 5 a reference; in
+    /// a field also 6 `i8` and 7 `i16`.
     pub kind: u32,
     /// 1 if a reference may be null, or 0.
     pub nullable: u32,
-    /// What a reference refers to: 0 `func`, 1 `extern`, 2 `any`, 3 `eq`, 4 `i31`, 5 `struct`, 6 `array`, 7 `exn`, 8 `none`, 9
-    /// `noextern`, 10 `nofunc`, 11 `noexn`, 12 the type with the index.
+    /// The type of what a reference refers to, a `pulleynavy_heap_kind`: 0 `func`, 1 `extern`, 2 `any`, 3 `eq`, 4
+    /// `i31`, 5 `struct`, 6 `array`, 7 `exn`, 8 `none`, 9 `noextern`, 10 `nofunc`, 11 `noexn`, 12 the type with the
+    /// index.
     pub heap: u32,
-    /// The index of the type that it refers to, or 0.
+    /// The index of the type that a reference refers to if `heap` is 12, or 0.
     pub index: u32,
 }
 
-/// A value type, or its fault.
+/// A value type, or a fault.
 #[repr(C)]
 #[derive(Clone, Copy, Debug, PartialEq, Eq)]
 pub struct PlainValue {
-    /// The fault, whose kind is 0 where there is none.
+    /// The fault of the item, of kind 0 if there is none.
     pub fault: PlainFault,
-    /// How many bytes it takes.
+    /// The size of the item in bytes, 0 after a fault.
     pub consumed: usize,
     /// The type.
     pub ty: PlainType,
 }
 
-/// A field of a structure or the element of an array, or its fault.
+/// A field of a structure or the element of an array, or a fault.
 #[repr(C)]
 #[derive(Clone, Copy, Debug, PartialEq, Eq)]
 pub struct PlainField {
-    /// The fault, whose kind is 0 where there is none.
+    /// The fault of the item, of kind 0 if there is none.
     pub fault: PlainFault,
-    /// How many bytes it takes.
+    /// The size of the item in bytes, 0 after a fault.
     pub consumed: usize,
-    /// What it holds.
+    /// The type of the stored values.
     pub ty: PlainType,
-    /// 1 if it can be changed, or 0.
+    /// 1 if the field is mutable, or 0.
     pub is_mutable: u32,
 }
 
@@ -170,9 +171,14 @@ impl Readable for ValueTypes {
     }
 }
 
-/// Reads the value type at the start of `bytes` (core specification, Binary format, Types, Value Types): a parameter or a result
-/// of a function's type. The bytes are the remaining bytes of its section, at `offset` of the stream. After a fault all other
-/// fields are 0.
+/// Reads a value type: a parameter or a result of a function type.
+///
+/// # Errors
+///
+/// `LEADING_BYTE` with `PULLEYNAVY_LEAD_VALUE` at a first byte that begins no value type; and the faults of
+/// `pulleynavy_read_heap_type`.
+///
+/// (Core specification, Binary format, Types, Value Types.)
 #[unsafe(no_mangle)]
 pub extern "C" fn pulleynavy_read_value_type(bytes: &[u8], offset: u64, features: u32) -> PlainValue
     ensures { result ≡ item_over plain_value val_type_at features offset bytes.now }
@@ -180,8 +186,11 @@ pub extern "C" fn pulleynavy_read_value_type(bytes: &[u8], offset: u64, features
     read_at(ValueTypes, bytes, offset, features)
 }
 
-/// Stores the next value types of a list in `out`. Returns how many there were or there was room for: 0 at the end.
-/// `bytes` are those of the whole list.
+/// Stores the next value types of a list in `out`, and returns their number.
+///
+/// # Errors
+///
+/// An item has the faults of `pulleynavy_read_value_type`; the last one `SIZE_MISMATCH` if bytes follow the list.
 #[unsafe(no_mangle)]
 pub extern "C" fn pulleynavy_next_value_types(
     items: &mut StoredItems,
@@ -234,8 +243,14 @@ impl Readable for HeapTypes {
     }
 }
 
-/// Reads the heap type at the start of `bytes` (core specification, Binary format, Types, Heap Types): a reference that is not
-/// nullable. The bytes are the remaining bytes of its section, at `offset` of the stream. After a fault all other fields are 0.
+/// Reads a heap type, and returns the type of references to it that are not nullable.
+///
+/// # Errors
+///
+/// `LEADING_BYTE` with `PULLEYNAVY_LEAD_HEAP` at the first byte of a negative number; and the faults of
+/// `pulleynavy_read_s33`.
+///
+/// (Core specification, Binary format, Types, Heap Types.)
 #[unsafe(no_mangle)]
 pub extern "C" fn pulleynavy_read_heap_type(bytes: &[u8], offset: u64, features: u32) -> PlainValue
     ensures { result ≡ item_over plain_heap_type heap_type_at features offset bytes.now }
@@ -270,8 +285,14 @@ impl Readable for ReferenceTypes {
     }
 }
 
-/// Reads the reference type at the start of `bytes` (core specification, Binary format, Types, Reference Types). The bytes are the
-/// remaining bytes of its section, at `offset` of the stream. After a fault all other fields are 0.
+/// Reads a reference type.
+///
+/// # Errors
+///
+/// `LEADING_BYTE` with `PULLEYNAVY_LEAD_REFERENCE` at a first byte that begins no reference type; and the faults of
+/// `pulleynavy_read_heap_type`.
+///
+/// (Core specification, Binary format, Types, Reference Types.)
 #[unsafe(no_mangle)]
 pub extern "C" fn pulleynavy_read_reference_type(
     bytes: &[u8],
@@ -316,8 +337,14 @@ impl Readable for FieldTypes {
     }
 }
 
-/// Reads the field at the start of `bytes`, of a structure or an array (core specification, Binary format, Types, Composite
-/// Types). The bytes are the remaining bytes of its section, at `offset` of the stream. After a fault all other fields are 0.
+/// Reads a field of a structure, or the element of an array.
+///
+/// # Errors
+///
+/// `LEADING_BYTE` with `PULLEYNAVY_LEAD_MUTABILITY` at a byte after the type that is not 0 or 1; and the faults of
+/// `pulleynavy_read_value_type`.
+///
+/// (Core specification, Binary format, Types, Composite Types.)
 #[unsafe(no_mangle)]
 pub extern "C" fn pulleynavy_read_field_type(bytes: &[u8], offset: u64, features: u32) -> PlainField
     ensures { result ≡ item_over plain_field field_type_at features offset bytes.now }
@@ -325,8 +352,11 @@ pub extern "C" fn pulleynavy_read_field_type(bytes: &[u8], offset: u64, features
     read_at(FieldTypes, bytes, offset, features)
 }
 
-/// Stores the next fields of a list in `out`. Returns how many there were or there was room for: 0 at the end.
-/// `bytes` are those of the whole list.
+/// Stores the next fields of a list in `out`, and returns their number.
+///
+/// # Errors
+///
+/// An item has the faults of `pulleynavy_read_field_type`; the last one `SIZE_MISMATCH` if bytes follow the list.
 #[unsafe(no_mangle)]
 pub extern "C" fn pulleynavy_next_field_types(
     items: &mut StoredItems,

@@ -10,17 +10,22 @@ use std::alloc::{AllocError, Global};
 use std::io::{Error, ErrorKind, Write};
 use wasm_feed::{ListError, Sink, WriteSink, write_all};
 
-/// How many bytes of the input are read at once.
+/// The number of bytes of the input that are read at once, at most.
 pub const PIECE: usize = 65_536;
 
-/// Room for them.
+/// Allocates a buffer of `PIECE` bytes to read into.
+///
+/// # Errors
+///
+/// `AllocError` when the allocation fails.
 pub fn read_buffer(alloc: Global) -> Result<Vec<u8>, AllocError>
     ensures { IfOk result (λ buffer. vec_len buffer ≡ 65536) }
 {
     vec![in alloc; 0u8; PIECE]
 }
 
-/// Whether an argument is not valid UTF-8. The only other error of fetching arguments is out of memory.
+/// Returns whether the error of fetching arguments says that one is not valid UTF-8. The only other error is out of
+/// memory.
 pub fn is_no_text(error: &Error) -> bool
     ensures { result ≡ is_no_text_of (error_kind error.now) }
 {
@@ -30,7 +35,15 @@ pub fn is_no_text(error: &Error) -> bool
     }
 }
 
-/// Prints the reason and returns the exit status of a failure.
+/// Writes the reason of a failure to `errors`, and returns the exit status 3.
+///
+/// The messages are `input failed`, `output failed` and `out of memory`, each with a line feed.
+///
+/// ```rattle
+/// let mut errors = BoundedSink::new(alloc, 100)?;
+/// assert_eq!(rt; give_up(&mut errors, ListError::Input), 3);
+/// assert_eq!(rt; errors.written(), b"input failed\n".as_slice());
+/// ```
 pub fn give_up<E: Sink>(errors: &mut E, why: ListError) -> u8
     ensures status { result ≡ 3 }
     ensures says { Says (device_of E.taken E.has_failed errors.old errors.new) (complaint_of why) }
@@ -39,7 +52,7 @@ pub fn give_up<E: Sink>(errors: &mut E, why: ListError) -> u8
     3
 }
 
-/// Writes a message, as far as the sink takes it.
+/// Writes a message to `errors`, as far as the sink takes it. A sink that fails is ignored.
 pub fn complain<E: Sink>(errors: &mut E, message: &[u8])
     ensures { Says (device_of E.taken E.has_failed errors.old errors.new) message.now }
 {
@@ -57,7 +70,11 @@ fn message(error: ListError) -> &'static [u8]
     }
 }
 
-/// Flushes the output after a status of 0 or 1, and returns the exit status.
+/// Flushes the output after the status 0 or 1, and returns the exit status of the program.
+///
+/// # Errors
+///
+/// If flushing fails, it writes `output failed` to `errors` and returns 3. Other statuses are returned unchanged.
 pub fn finish<W: Write, E: Sink>(status: u8, output: &mut WriteSink<W>, errors: &mut E) -> u8
     ensures { Finishes status output.new.forwarded
         (writer_device W.contents output.old output.new)

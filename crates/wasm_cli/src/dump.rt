@@ -1,4 +1,4 @@
-//! The program that shows every item of a WebAssembly stream, over any devices.
+//! The program `wasm_dump`, which shows every item of a WebAssembly module, over any devices.
 mod colored;
 mod command;
 mod files;

@@ -1,5 +1,5 @@
-//! What the programs are made of: their arguments, messages and exit statuses; the listing program and the dump program over any
-//! devices.
+//! The programs `wasm_list` and `wasm_dump` as functions over any devices, with their arguments, messages and exit
+//! statuses.
 #![tactic(auto)]
 
 mod common;

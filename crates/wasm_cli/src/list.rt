@@ -1,4 +1,5 @@
-//! The program that lists the sections of a WebAssembly stream, or strips it of its custom sections, over any devices.
+//! The program `wasm_list`, which lists the parts of a WebAssembly module or strips it of its custom sections, over any
+//! devices.
 mod command;
 mod options;
 mod program;

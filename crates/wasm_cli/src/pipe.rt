@@ -5,7 +5,7 @@ use std::io::{self, ErrorKind, Write};
 use std::sync::atomic::{AtomicBool, Ordering};
 use wasm_feed::{Failed, Sink};
 
-/// A writer that notes when its reader has closed the pipe.
+/// A writer that sets a flag when its reader has closed the pipe.
 #[derive(Drop)]
 pub struct Piped<'a, W> {
     writer: W,
@@ -13,7 +13,7 @@ pub struct Piped<'a, W> {
 }
 
 impl<'a, W: Write> Piped<'a, W> {
-    /// Writes to this writer, and sets the flag when the pipe is closed.
+    /// Creates a writer that forwards to this one, and sets the flag when the pipe is closed.
     pub fn new(writer: W, is_closed: &'a AtomicBool) -> Self {
         Piped { writer, is_closed }
     }
@@ -35,7 +35,7 @@ impl<W: Write> Write for Piped<'_, W> {
     }
 }
 
-/// Messages, which are discarded once the pipe of the output is closed.
+/// A sink for messages that discards them once a flag is set, which says that the pipe of the output is closed.
 #[derive(Drop)]
 pub struct Messages<'a, E> {
     sink: E,
@@ -43,7 +43,7 @@ pub struct Messages<'a, E> {
 }
 
 impl<'a, E: Sink> Messages<'a, E> {
-    /// Writes messages to this sink until the flag is set.
+    /// Creates a sink that forwards messages to this one until the flag is set.
     pub fn new(sink: E, is_closed: &'a AtomicBool) -> Self {
         Messages { sink, is_closed }
     }

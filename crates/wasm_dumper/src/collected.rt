@@ -198,10 +198,21 @@ fn collect_into<R: Source>(
     Ok(())
 }
 
-/// Reads the input, and returns the names of items that its custom sections `name` have: those before the first fault of the
-/// stream, of a name section or of the source. Of two names of one item it is the first.
+/// Reads a whole stream, and returns the names that its custom sections `name` have for items.
 ///
-/// `Memory` when an allocation failed, and no other error.
+/// These are the names before the first fault of the stream, of a name section or of the source. If an item has two
+/// names, the first one counts. It reads at most 65,536 bytes at once.
+///
+/// # Errors
+///
+/// `Memory` when an allocation fails. There is no other error: a fault ends the names.
+///
+/// ```rattle
+/// // The name "f" for function 5.
+/// let bytes = b"\0asm\x01\0\0\0\0\x0b\x04name\x01\x04\x01\x05\x01f";
+/// let names = collect_names(alloc, &mut SliceSource::new(bytes))?;
+/// assert_eq!(rt; names.of(Space::Functions, 5), Some("f"));
+/// ```
 pub fn collect_names<R: Source>(alloc: Global, input: &mut R) -> Result<ItemNames, ListError>
     ensures { IfErr result (λ why. why ≡ Memory) }
 {

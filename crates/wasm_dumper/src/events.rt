@@ -18,23 +18,35 @@ use wasm_lines::{ShortText, encoding_name, write_payload, write_word};
 use wasm_parser::{Encoding, Payload};
 use wasm_tree::{Counts, Space, Style, Tree, write_item};
 
-/// Which events a dump shows. It shows those that any of several choices chooses, and always the last one.
+/// A choice of events for a dump.
+///
+/// ```rattle
+/// // Only the import section, without bytes.
+/// let only = [Only::Id(2)];
+/// let shown = Shown { only: &only, has_bytes: false };
+/// let mut input = SliceSource::new(b"\0asm\x01\0\0\0\x01\x01\0\x02\x01\0");
+/// let mut out = Lines::new(alloc, BoundedSink::new(alloc, 1000)?);
+/// let ended = dump(alloc, shown, &mut input, &mut out, 4096);
+/// let wanted = b"section 2 13 14 0 import\nend 14\n";
+/// assert_eq!(rt; out.into_output().written(), wanted.as_slice());
+/// assert_eq!(rt; ended, Ok(Ended::End));
+/// ```
 #[derive(Clone, Copy)]
 pub enum Only<'n> {
-    /// All.
+    /// All events.
     All,
-    /// Those of the sections with this id (core specification, Binary format, Modules, Sections).
+    /// The events of sections with this id (core specification, Binary format, Modules, Sections).
     Id(u8),
     /// The custom sections with this name.
     Name(&'n str),
 }
 
-/// What a dump shows.
+/// What a dump shows: the choice of events, and whether with their bytes.
 #[derive(Clone, Copy)]
 pub struct Shown<'n> {
-    /// The events that any of these chooses, and the last one.
+    /// The choices. A dump shows the events that any of them chooses, and always the last one.
     pub only: &'n [Only<'n>],
-    /// Whether the bytes of these are shown too.
+    /// Whether the dump shows the bytes of these events.
     pub has_bytes: bool,
 }
 

@@ -2,8 +2,8 @@
 ghost use Rattle.wasm_grammar.specs.Reading.{Report};
 ghost use Rattle.wasm_dumper.specs.Chosen.{BeginAlike};
 
-/// The line of an event begins with its text in a listing, after which only the name of its section comes, or the number of its
-/// function.
+/// The line of an event begins with its text in a listing, after which only the name of its section comes, or the
+/// number of its function.
 pub fn lines_begin_with_the_listing()
     ensures { (report : Report) → BeginAlike report }
 {}

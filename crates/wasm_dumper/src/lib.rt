@@ -1,4 +1,5 @@
-//! The dump of a stream: a line for each event, or an object of JSON, and under it a line for each item, with its number.
+//! The dump of a stream: a line for each event, and under it a line for each item, with its number. Each line can be a
+//! JSON object.
 #![tactic(auto)]
 
 mod collected;

@@ -8,7 +8,23 @@ use wasm_parser::Payload;
 use wasm_show::{show_custom, show_section};
 use wasm_tree::{Counts, Offsets, Space, Tree};
 
-/// Writes the items of a payload under its line, each with its number after earlier items.
+/// Writes the items of a payload on lines of level 1, with their numbers in their index spaces.
+///
+/// `counts` are those of the payloads before. A fault of an item is a line in its place. Payloads without items write
+/// nothing.
+///
+/// ```rattle
+/// let mut out = Lines::new(alloc, BoundedSink::new(alloc, 1000)?);
+/// let counts = Counts::new();
+/// for payload in Parser::new(0).parse_all(b"\0asm\x01\0\0\0\x07\x05\x01\x01f\0\x05") {
+///     if let Ok(payload) = payload {
+///         show_payload(alloc, &counts, &payload, &mut out);
+///     }
+/// }
+/// out.write_out();
+/// let wanted = b"  11 name=\"f\" kind=func index=5\n";
+/// assert_eq!(rt; out.into_output().written(), wanted.as_slice());
+/// ```
 pub fn show_payload<O: Tree>(alloc: Global, counts: &Counts, payload: &Payload<'_>, out: &mut O)
     ensures { ItemsBegin payload.now
         → ShowsItems counts.now (report_of payload.now) (O.writing out.old) (O.writing out.new) }
@@ -29,7 +45,8 @@ pub fn show_payload<O: Tree>(alloc: Global, counts: &Counts, payload: &Payload<'
     }
 }
 
-/// The offsets at which items begin that are shown under a payload, in the order of their lines; `None` where an allocation failed.
+/// The offsets at which items begin that are shown under a payload, in the order of their lines; `None` where an
+/// allocation failed.
 pub(crate) fn offsets_of_items(
     alloc: Global,
     counts: &Counts,

@@ -179,18 +179,38 @@ fn dump_into<R: Source, O: Tree>(
     }
 }
 
-/// Reads the input, at most `piece` bytes at once and at least one, and writes its contents as text. Each event that is shown
-/// has its line, as `list` writes it and with the name of its section, or the number of its function, and under it a line for each
-/// item, indented by two blanks a level, with its number in its index space. Offsets count bytes from the start of the stream, which
-/// is at 0. If bytes are shown, they are in rows before the lines that are read from them. In the style of objects each line is
-/// an object of JSON. The tree must not have written anything.
+/// Reads a stream from a source and writes its dump on a tree, and returns how the stream ended.
 ///
-/// It buffers the undecided bytes, the last chunk, and the lines that are not written yet, whose bytes the tree's invariant bounds; if
-/// bytes are shown, also a copy of the current part and the offsets of its items.
+/// Each chosen event has its line, as `list` writes it, with the name of its section or the number of its function.
+/// Under it each item has a line, indented by two blanks a level, with its number in its index space. Offsets are in
+/// bytes from the start of the stream. If bytes are shown, they are in rows before the lines that are read from them.
+/// On a tree of objects each line is a JSON object.
 ///
-/// A fault of the stream ends it; a fault of an item is a line at its place. An error leaves a prefix of the dump written:
-/// `Input` if the source failed, all of what it returned but the last event; `Output` if the sink did; `Memory` if an allocation
-/// failed. A device that had failed before the call is still known to have failed.
+/// It reads at most `piece` bytes at once, which must be at least 1. The tree must not have written anything. It
+/// buffers the undecided bytes, the last chunk, and the lines that are not written yet, at most 65,536 bytes; if bytes
+/// are shown, also a copy of the current part and the offsets of its items.
+///
+/// A fault of the stream is no error: its line is written, and `Ended::Fault` is returned. A fault of an item is a line
+/// in its place.
+///
+/// # Errors
+///
+/// A prefix of the dump has been written.
+///
+/// * `Input` if the source failed. The dump of the bytes read so far has been written, without its last event, the end
+///   or fault.
+/// * `Output` if the sink of the tree failed.
+/// * `Memory` when an allocation fails.
+///
+/// ```rattle
+/// let mut input = SliceSource::new(b"\0asm\x01\0\0\0\x07\x05\x01\x01f\0\x05");
+/// let mut out = Lines::new(alloc, BoundedSink::new(alloc, 1000)?);
+/// let shown = Shown { only: &[Only::All], has_bytes: false };
+/// let ended = dump(alloc, shown, &mut input, &mut out, 4096);
+/// let wanted = b"version 0 8 1 module\nsection 7 10 15 1 export\n  11 name=\"f\" kind=func index=5\nend 15\n";
+/// assert_eq!(rt; out.into_output().written(), wanted.as_slice());
+/// assert_eq!(rt; ended, Ok(Ended::End));
+/// ```
 pub fn dump<R: Source, O: Tree>(
     alloc: Global,
     shown: Shown<'_>,

@@ -47,7 +47,20 @@ impl Show for NameSectionReader<'_> {
     }
 }
 
-/// Writes the name of a custom section, and under it, if its data is known, what that says.
+/// Writes a custom section under the line of its event: a line with its name and, if it is known, its contents under
+/// that line.
+///
+/// An unknown section, or one whose data its reader rejects, is shown as `unknown`. The tree stops if an allocation
+/// fails.
+///
+/// ```rattle
+/// let section = CustomSectionReader::new(BinaryReader::new(b"\x04core\x00\x03app", 0))?;
+/// let mut out = Lines::new(alloc, BoundedSink::new(alloc, 1000)?);
+/// show_custom(alloc, &section, &mut out);
+/// out.write_out();
+/// let wanted = b"  section name=\"core\" process=\"app\"\n";
+/// assert_eq!(rt; out.into_output().written(), wanted.as_slice());
+/// ```
 pub fn show_custom<O: Tree>(alloc: Global, section: &CustomSectionReader<'_>, out: &mut O)
     ensures { Adds (O.writing out.old) (O.writing out.new) }
 {

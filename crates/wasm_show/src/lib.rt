@@ -1,4 +1,8 @@
-//! Items as text: each item of a module's sections and of custom sections, on a line of a tree and the lines under it.
+//! The fields of each item, written on a tree: an item takes a line, and the items of its lists the lines under it.
+//!
+//! `Show` is implemented for the items of `wasm_items` and `wasm_custom`. `show_section` writes the items of a section,
+//! `show_custom` a custom section with its contents. A fault of an item is a line in its place. No call returns an
+//! error: the tree stops if an allocation or its sink fails.
 #![tactic(auto)]
 
 mod coredumps;

@@ -14,16 +14,31 @@ use wasm_custom::{IndirectNameMap, IndirectNaming, Name, NameMap, NameSectionRea
 use wasm_items::{Import, IntoImportsWithOffsets};
 use wasm_tree::Tree;
 
-/// Items that come one after the other, fewer than 2^64 of them.
+/// An iterator over items that can be shown, fewer than 2^64 of them.
+///
+/// It is implemented for the iterators over sections, subsections and name maps.
 pub trait Items: Drop {
-    /// What one of them is.
+    /// The type of the items.
     type Item: Show;
 
-    /// The next one, or the fault in its place, and the offset in the whole stream at which its bytes begin.
+    /// Returns the next item, after the offset of its bytes from the start of the stream, or the fault in its place;
+    /// `None` at the end.
     fn next_item(&mut self) -> Option<Result<(u64, Self::Item)>>;
 }
 
-/// Writes the items of a list, each on a line at this level, with its offset. A fault is a line in the place of its item.
+/// Writes items, each on a line at this level that begins with its offset.
+///
+/// A fault is a line in the place of its item. It stops early if the tree has stopped.
+///
+/// ```rattle
+/// let bytes = b"\x01\x01m\x01f\x00\x05";
+/// let section = ImportSectionReader::new(BinaryReader::new(bytes, 100))?;
+/// let mut out = Lines::new(alloc, BoundedSink::new(alloc, 1000)?);
+/// show_items(1, section.into_imports_with_offsets(), &mut out);
+/// out.write_out();
+/// let wanted = b"  101 module=\"m\" name=\"f\" ty=func index=5\n";
+/// assert_eq!(rt; out.into_output().written(), wanted.as_slice());
+/// ```
 pub fn show_items<I: Items, O: Tree>(level: usize, mut items: I, out: &mut O)
     ensures { Adds (O.writing out.old) (O.writing out.new) }
 {
@@ -51,7 +66,7 @@ fn show_item<T: Show, O: Tree>(level: usize, item: &Result<(u64, T)>, out: &mut 
     }
 }
 
-/// Writes a fault. That there is no memory is no fault of a stream: the tree stops.
+/// Writes a line for a fault, at this level. `OutOfMemory` is no fault of a stream: the tree stops instead.
 pub fn show_fault<O: Tree>(level: usize, error: &Error, out: &mut O)
     ensures { Adds (O.writing out.old) (O.writing out.new) }
 {
@@ -76,7 +91,17 @@ pub(crate) fn show_extent<T, O: Tree>(name: &str, section: &SectionLimited<'_, T
     out.number("count", u64::from(section.count()));
 }
 
-/// Writes the items of a section, each on a line at this level, with its offset.
+/// Writes the items of a section, each on a line at this level that begins with its offset.
+///
+/// A fault is a line in the place of its item.
+///
+/// ```rattle
+/// let section = FunctionSectionReader::new(BinaryReader::new(&[2, 5, 7], 100))?;
+/// let mut out = Lines::new(alloc, BoundedSink::new(alloc, 1000)?);
+/// show_section(1, &section, &mut out);
+/// out.write_out();
+/// assert_eq!(rt; out.into_output().written(), b"  101 index=5\n  102 index=7\n".as_slice());
+/// ```
 pub fn show_section<'a, T: FromReader<'a> + Show, O: Tree>(
     level: usize,
     section: &SectionLimited<'a, T>,
@@ -91,7 +116,10 @@ pub fn show_section<'a, T: FromReader<'a> + Show, O: Tree>(
     );
 }
 
-/// Writes the offsets of a section and its count on the line that is begun, which is at this level, and the items under it.
+/// Writes a list inside an item: a field with its offsets and its count on the current line, and the items under that
+/// line.
+///
+/// `name` is the name of the field, without a line feed. The current line is at `level`.
 pub fn show_list<'a, T: FromReader<'a> + Show, O: Tree>(
     name: &str,
     level: usize,

@@ -5,21 +5,43 @@ ghost use Rattle.wasm_tree.specs.Tree.{Adds};
 
 use wasm_tree::Tree;
 
-/// An item that can be shown.
+/// An item whose fields can be written on a tree.
+///
+/// Implement it to show your own items. `show` is called after the line of the item was begun.
+///
+/// ```rattle
+/// let mut reader = BinaryReader::new(b"\x03add\x00\x05", 0);
+/// let export = Export::from_reader(&mut reader)?;
+/// let mut out = Lines::new(alloc, BoundedSink::new(alloc, 1000)?);
+/// out.item(1, 0);
+/// export.show(1, &mut out);
+/// out.write_out();
+/// let wanted = b"  0 name=\"add\" kind=func index=5\n";
+/// assert_eq!(rt; out.into_output().written(), wanted.as_slice());
+/// ```
 pub trait Show: Drop {
-    /// Writes its text on the line that is begun, and under that line, which is at this level, the items of its lists.
+    /// Writes the fields of the item on the current line, which is at this level, and the items of its lists on lines
+    /// under it.
     fn show<O: Tree>(&self, level: usize, out: &mut O)
         ensures { Adds (O.writing out.old) (O.writing out.new) };
 }
 
-/// What is part of an item's text, without a name.
+/// A part of an item that is written without the name of a field, such as a type.
+///
+/// ```rattle
+/// let mut out = Lines::new(alloc, BoundedSink::new(alloc, 1000)?);
+/// out.line_field(1, "ty");
+/// RefType::FUNCREF.text(&mut out);
+/// out.write_out();
+/// assert_eq!(rt; out.into_output().written(), b"  ty=(ref null func)\n".as_slice());
+/// ```
 pub trait Text: Drop {
     ghost use Rattle.std.specs.Prelude.{ℕ, List};
 
     /// What it is.
     ghost words: { Self → List ℕ };
 
-    /// Writes it on the line that is begun.
+    /// Writes the part on the current line. It has no line feed.
     fn text<O: Tree>(&self, out: &mut O)
         ensures adds { Adds (O.writing out.old) (O.writing out.new) }
         ensures says { Says (words self.now) (O.writing out.old) (O.writing out.new) };

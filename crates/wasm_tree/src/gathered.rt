@@ -3,7 +3,14 @@ ghost use Rattle.std.specs.Prelude.{◌≡◌, ◌≤◌, ◌+◌, ◌++◌, [],
 
 use std::marker::Model;
 
-/// Bytes that are gathered, at most `N` of them, without an allocation.
+/// A byte string of at most `N` bytes, which never allocates.
+///
+/// ```rattle
+/// let mut gathered = Gathered::<8>::new();
+/// gathered.put(b"ab");
+/// gathered.put(b"c");
+/// assert_eq!(rt; gathered.as_bytes(), b"abc".as_slice());
+/// ```
 #[derive(Drop)]
 pub struct Gathered<const N: usize> {
     bytes: [u8; N],
@@ -21,7 +28,7 @@ impl<const N: usize> Model for Gathered<N> {
 }
 
 impl<const N: usize> Gathered<N> {
-    /// None yet.
+    /// Creates an empty string.
     pub fn new() -> Gathered<N>
         ensures { result ≡ [] }
     {
@@ -31,14 +38,14 @@ impl<const N: usize> Gathered<N> {
         }
     }
 
-    /// How many they are.
+    /// Returns the number of bytes.
     pub fn len(&self) -> usize
         ensures { result ≡ length self.now }
     {
         self.len
     }
 
-    /// Puts bytes after them, for which there must be room.
+    /// Appends bytes. There must be room for them: the string has at most `N` bytes afterwards.
     pub fn put(&mut self, bytes: &[u8])
         requires { length self.old + length bytes.now ≤ N }
         ensures { self.new ≡ self.old ++ bytes.now }
@@ -49,7 +56,7 @@ impl<const N: usize> Gathered<N> {
         self.len = end;
     }
 
-    /// The bytes.
+    /// Returns the bytes.
     pub fn as_bytes(&self) -> &[u8]
         ensures bytes { result.now ≡ self.now }
         ensures short { length result.now ≤ N }

@@ -10,7 +10,15 @@ use std::collections::BTreeMap;
 use std::marker::Model;
 use wasm_lines::ListError;
 
-/// Names of items, each by its number. Of two names of one item it keeps the first that was added.
+/// The names of items, by index space and index. The first name that was added for an item counts.
+///
+/// ```rattle
+/// let mut names = ItemNames::new(alloc);
+/// names.add(alloc, Space::Functions, 5, "f")?;
+/// names.add(alloc, Space::Functions, 5, "g")?;
+/// assert_eq!(rt; names.of(Space::Functions, 5), Some("f"));
+/// assert_eq!(rt; names.of(Space::Tables, 5), None);
+/// ```
 #[derive(Drop)]
 pub struct ItemNames<A: Allocator = Global> {
     names: BTreeMap<(u8, u32), String<A>, A>,
@@ -41,7 +49,7 @@ fn rank_of(space: Space) -> u8
 }
 
 impl ItemNames {
-    /// No names. Does not allocate.
+    /// Creates an empty map. Allocates nothing yet.
     pub fn new(alloc: Global) -> ItemNames
         ensures { result ≡ [] }
     {
@@ -50,7 +58,7 @@ impl ItemNames {
 }
 
 impl<A: Allocator> ItemNames<A> {
-    /// No names, with memory from any allocator.
+    /// Creates an empty map with any allocator.
     pub fn new_in(alloc: A) -> ItemNames<A>
         ensures { result ≡ [] }
     {
@@ -59,8 +67,11 @@ impl<A: Allocator> ItemNames<A> {
         }
     }
 
-    /// Adds the name of an item, unless it has one. `Memory` where a growth was refused, and no other error: the names are then
-    /// what they were.
+    /// Adds the name of an item, which is copied, unless the item has a name already.
+    ///
+    /// # Errors
+    ///
+    /// `Memory` when an allocation fails. The names are then unchanged.
     pub fn add(&mut self, alloc: A, space: Space, index: u32, name: &str) -> Result<(), ListError>
     where
         A: Clone,
@@ -79,7 +90,7 @@ impl<A: Allocator> ItemNames<A> {
         }
     }
 
-    /// The name of an item, if it has one.
+    /// Returns the name of an item, if it has one.
     pub fn of(&self, space: Space, index: u64) -> Option<&str>
         ensures { option_copied result ≡ named self.now (item space index) }
     {

@@ -1,5 +1,10 @@
-//! Lines of text, some of them under others, or objects of JSON: a tree puts them together from fields and hands them to a sink. With
-//! them go the numbers of items in their index spaces, and the names of items.
+//! Trees of lines: text in which lines are indented under others, or one JSON object on each line.
+//!
+//! `Tree` is the trait of what writes such a dump from fields. `Lines` writes text and `Objects` writes JSON to a sink;
+//! `Offsets` only records where items begin. `Counts` numbers items in their index spaces, and `ItemNames` has their
+//! names.
+//!
+//! No call of a tree returns an error. A tree stops when its sink or an allocation fails, and `stopped` returns why.
 #![tactic(auto)]
 
 mod escapes;

@@ -18,11 +18,21 @@ use crate::tree::{Start, Style, Tree, Value, is_default};
 use std::alloc::Global;
 use wasm_lines::{ListError, ShortText, Sink};
 
-/// Writes lines of text, each one under another by two blanks a level. They wait until there are many, so that the sink is called
-/// seldom.
+/// A tree that writes lines of text to a sink, indented by two blanks a level. It buffers at most 65,536 bytes.
 ///
-/// Items that have a name have it after their numbers, and the bytes of the stream are in rows before the lines that are read from
-/// them, if they are to be shown.
+/// Items with a name have it after their numbers. If the bytes of the stream are shown, they are in rows before the
+/// lines that are read from them. Call `write_out` at the end to write the buffered lines.
+///
+/// ```rattle
+/// let mut out = Lines::new(alloc, BoundedSink::new(alloc, 1000)?);
+/// out.first(b"section 2 10 20 1 import\n");
+/// out.item(1, 11);
+/// out.quoted("module", "env");
+/// out.number("index", 5);
+/// out.write_out();
+/// let wanted = b"section 2 10 20 1 import\n  11 module=\"env\" index=5\n";
+/// assert_eq!(rt; out.into_output().written(), wanted.as_slice());
+/// ```
 pub struct Lines<W: Sink> {
     output: Output<W>,
     is_begun: bool,
@@ -31,14 +41,14 @@ pub struct Lines<W: Sink> {
 }
 
 impl<W: Sink> Lines<W> {
-    /// Writes lines to this sink. Nothing is written yet.
+    /// Creates a tree of lines without names of items. Nothing is written yet.
     pub fn new(alloc: Global, output: W) -> Lines<W>
         ensures { lines result ≡ starts (W.taken output) (W.has_failed output) }
     {
         Lines::with_names(alloc, output, None)
     }
 
-    /// Like `new`, with these names of items, if there are any.
+    /// Creates a tree of lines, with names for items if there are any.
     pub fn with_names(alloc: Global, output: W, names: Option<ItemNames>) -> Lines<W>
         ensures { lines result ≡ starts (W.taken output) (W.has_failed output) }
     {
@@ -50,7 +60,7 @@ impl<W: Sink> Lines<W> {
         }
     }
 
-    /// The sink, with what was written to it. What waits is not.
+    /// Returns the sink, with what was written to it. Buffered bytes are dropped: call `write_out` first.
     pub fn into_output(self) -> W
         ensures taken { W.taken result ≡ (lines self).taken }
         ensures failed { W.has_failed result ≡ (lines self).has_failed }
@@ -64,7 +74,7 @@ impl<W: Sink> Lines<W> {
         output.into_sink()
     }
 
-    /// How many bytes wait to be written: never more than 65,536.
+    /// Returns the number of buffered bytes, at most 65,536.
     pub fn waits(&self) -> usize
         ensures waits { result ≡ length (lines self.now).waiting }
         ensures bounded { result ≤ 65536 }
@@ -72,7 +82,9 @@ impl<W: Sink> Lines<W> {
         self.output.waits()
     }
 
-    /// Writes a line of the first level, which has its line feed, and at most 65,536 bytes. It may end with numbers of items.
+    /// Writes a line of the first level. It ends with a line feed, and has at most 65,536 bytes.
+    ///
+    /// The line may end with numbers of items.
     pub fn first(&mut self, line: &[u8])
         requires { length line.now ≤ 65536 }
         ensures { AddsFirst line.now (lines self.old) (lines self.new) }

@@ -12,21 +12,21 @@ use wasm_parser::Payload;
 /// An index space (core specification, Binary format, Modules, Indices).
 #[derive(Clone, Copy)]
 pub enum Space {
-    /// That of types.
+    /// The index space of types.
     Types,
-    /// That of functions.
+    /// The index space of functions.
     Functions,
-    /// That of tables.
+    /// The index space of tables.
     Tables,
-    /// That of memories.
+    /// The index space of memories.
     Memories,
-    /// That of tags.
+    /// The index space of tags.
     Tags,
-    /// That of globals.
+    /// The index space of globals.
     Globals,
-    /// That of element segments.
+    /// The index space of element segments.
     Elements,
-    /// That of data segments.
+    /// The index space of data segments.
     DataSegments,
 }
 
@@ -47,8 +47,16 @@ pub(crate) fn space_word(space: Space) -> &'static str
     }
 }
 
-/// Writes the number of an item over the bytes from this place on, of which there must be 28, and says where it ends: the word of
-/// its index space, and its index in brackets.
+/// Writes the number of an item into `bytes` at this place, and returns the place after it: a word for the index space,
+/// and the index in brackets.
+///
+/// There must be at least 28 bytes from the place on.
+///
+/// ```rattle
+/// let mut bytes = [0; 28];
+/// let end = write_item(&mut bytes, 0, Space::Functions, 5);
+/// assert_eq!(rt; &bytes[..end], b"func[5]".as_slice());
+/// ```
 #[inline(always)]
 pub fn write_item(bytes: &mut [u8], at: usize, space: Space, index: u64) -> usize
     requires { at + 28 ≤ length bytes.old }
@@ -81,24 +89,33 @@ impl ShortText for ItemNumber {
     }
 }
 
-/// How many items there were of each kind that later items of its index space follow: imports, and bodies, each with its function.
+/// The number of items so far that come before later items in the same index space: imports, and function bodies.
+///
+/// ```rattle
+/// let mut counts = Counts::new();
+/// for payload in Parser::new(0).parse_all(b"\0asm\x01\0\0\0\x02\x07\x01\x01m\x01f\0\0") {
+///     counts.pass(&payload?);
+/// }
+/// // The first function of the module itself has index 1.
+/// assert_eq!(rt; counts.of(Space::Functions), 1);
+/// ```
 #[derive(Clone, Copy)]
 pub struct Counts {
-    /// Imported functions.
+    /// The number of imported functions.
     pub functions: u64,
-    /// Imported tables.
+    /// The number of imported tables.
     pub tables: u64,
-    /// Imported memories.
+    /// The number of imported memories.
     pub memories: u64,
-    /// Imported tags.
+    /// The number of imported tags.
     pub tags: u64,
-    /// Imported globals.
+    /// The number of imported globals.
     pub globals: u64,
-    /// Imported functions, and bodies.
+    /// The number of imported functions and of bodies: the function index of the next body.
     pub bodies: u64,
 }
 
-/// The index space of what is imported.
+/// Returns the index space that an import of this type belongs to.
 pub fn import_space(ty: &TypeRef) -> Space
     ensures { result ≡ space_of ty.now }
 {
@@ -112,7 +129,7 @@ pub fn import_space(ty: &TypeRef) -> Space
 }
 
 impl Counts {
-    /// No items yet.
+    /// Returns counts before any items, all 0.
     pub fn new() -> Counts
         ensures { result ≡ no_counts }
     {
@@ -126,7 +143,8 @@ impl Counts {
         }
     }
 
-    /// The index of the next item of a space, which comes after the imports of that space.
+    /// Returns the index of the first item of the module itself in an index space, which is the number of its imports
+    /// so far.
     pub fn of(&self, space: Space) -> u64
         ensures { result ≡ count_of self.now space }
     {
@@ -140,7 +158,7 @@ impl Counts {
         }
     }
 
-    /// Counts an import of a space.
+    /// Counts an import into an index space.
     pub fn add(&mut self, space: Space)
         ensures { self.new ≡ with_one self.old space }
     {
@@ -168,7 +186,7 @@ impl Counts {
         }
     }
 
-    /// Counts what a payload holds.
+    /// Counts the items of a payload: the imports of an import section without errors, or a body.
     pub fn pass(&mut self, payload: &Payload<'_>)
         ensures { ItemsBegin payload.now → self.new ≡ after self.old (report_of payload.now) }
     {

@@ -66,9 +66,21 @@ fn control_escape(byte: u8) -> [u8; 6]
     [b'\\', b'u', b'0', b'0', digits[0], digits[1]]
 }
 
-/// Writes objects of JSON, each on a line. They wait until there are many, so that the sink is called seldom.
+/// A tree that writes JSON objects to a sink, each on a line (RFC 8259). It buffers at most 65,536 bytes.
 ///
-/// An object has a member for each field; texts outside of fields are left out.
+/// An object has a member for each field. Texts outside of fields are left out. Call `write_out` at the end to write
+/// the buffered objects.
+///
+/// ```rattle
+/// let mut out = Objects::new(alloc, BoundedSink::new(alloc, 1000)?);
+/// out.line(1, "import");
+/// out.quoted("module", "env");
+/// out.number("index", 5);
+/// out.write_out();
+/// let output = out.into_output();
+/// let wanted = b"{\"level\":1,\"line\":\"import\",\"module\":\"env\",\"index\":5}\n";
+/// assert_eq!(rt; output.written(), wanted.as_slice());
+/// ```
 pub struct Objects<W: Sink> {
     output: Output<W>,
     spot: Spot,
@@ -76,14 +88,14 @@ pub struct Objects<W: Sink> {
 }
 
 impl<W: Sink> Objects<W> {
-    /// Writes objects to this sink. Nothing is written yet.
+    /// Creates a tree of objects without names of items. Nothing is written yet.
     pub fn new(alloc: Global, output: W) -> Objects<W>
         ensures { objects result ≡ starts_objects (W.taken output) (W.has_failed output) }
     {
         Objects::with_names(alloc, output, None)
     }
 
-    /// Like `new`, with these names of items, if there are any.
+    /// Creates a tree of objects, with names for items if there are any.
     pub fn with_names(alloc: Global, output: W, names: Option<ItemNames>) -> Objects<W>
         ensures { objects result ≡ starts_objects (W.taken output) (W.has_failed output) }
     {
@@ -94,7 +106,7 @@ impl<W: Sink> Objects<W> {
         }
     }
 
-    /// The sink, with what was written to it. What waits is not.
+    /// Returns the sink, with what was written to it. Buffered bytes are dropped: call `write_out` first.
     pub fn into_output(self) -> W
         ensures taken { W.taken result ≡ (objects self).taken }
         ensures failed { W.has_failed result ≡ (objects self).has_failed }
@@ -107,7 +119,7 @@ impl<W: Sink> Objects<W> {
         output.into_sink()
     }
 
-    /// How many bytes wait to be written: never more than 65,536.
+    /// Returns the number of buffered bytes, at most 65,536.
     pub fn waits(&self) -> usize
         ensures waits { result ≡ length (objects self.now).waiting }
         ensures bounded { result ≤ 65536 }

@@ -8,7 +8,15 @@ use crate::tree::{Start, Style, Tree, Value};
 use std::alloc::Global;
 use wasm_lines::{ListError, ShortText};
 
-/// Writes nothing, and notes where items begin.
+/// A tree that writes nothing, and records the offsets at which items begin.
+///
+/// ```rattle
+/// let mut offsets = Offsets::new(alloc);
+/// offsets.item(1, 10);
+/// offsets.item(1, 14);
+/// let noted = offsets.into_noted().ok_or("out of memory")?;
+/// assert_eq!(rt; noted.as_slice(), [10, 14].as_slice());
+/// ```
 #[derive(Drop)]
 pub struct Offsets {
     noted: Vec<u64>,
@@ -16,7 +24,7 @@ pub struct Offsets {
 }
 
 impl Offsets {
-    /// None yet.
+    /// Creates a tree without offsets. Allocates nothing yet.
     pub fn new(alloc: Global) -> Offsets
         ensures { noted_by result ≡ Some [] }
     {
@@ -26,7 +34,8 @@ impl Offsets {
         }
     }
 
-    /// The offsets in the whole stream at which items began, in the order of their lines; `None` where an allocation failed.
+    /// Returns the recorded offsets, in bytes from the start of the stream, in the order of their lines; `None` if an
+    /// allocation failed.
     pub fn into_noted(self) -> Option<Vec<u64>>
         ensures { option_map (λ noted. noted.items) result ≡ noted_by self }
     {

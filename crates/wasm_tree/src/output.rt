@@ -6,8 +6,8 @@ use std::alloc::Global;
 use std::marker::Model;
 use wasm_lines::{ListError, Page, ShortText, Sink};
 
-/// A sink, and the bytes that wait for it until there are many. Where the sink fails, or an allocation does, it stops, and
-/// nothing more is written.
+/// A sink, and the bytes that wait for it until there are many. Where the sink fails, or an allocation does, it stops,
+/// and nothing more is written.
 pub(crate) struct Output<W: Sink> {
     sink: W,
     page: Page,

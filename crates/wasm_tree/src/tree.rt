@@ -30,42 +30,43 @@ fn first_bytes(bytes: &[u8]) -> &[u8]
     }
 }
 
-/// How a tree writes.
+/// The format of what a tree writes.
 #[derive(Clone, Copy)]
 pub enum Style {
-    /// Lines of text, each one under another by two blanks a level.
+    /// Lines of text, indented by two blanks a level.
     Lines,
     /// Lines of JSON (RFC 8259), each one object.
     Objects,
 }
 
-/// What a line under another begins with.
+/// The start of a line under another one.
 #[derive(Clone, Copy)]
 pub enum Start<'a> {
-    /// Nothing yet.
+    /// No start: the next calls write the line.
     Empty,
-    /// The offset in the whole stream at which the bytes of an item begin.
+    /// The offset at which an item begins, in bytes from the start of the stream.
     Item(u64),
-    /// A word, of what has no offset of its own.
+    /// A word, for a line without an offset.
     Word(&'a str),
-    /// A field of this name, whose value is the texts that come next.
+    /// A field with this name, whose value is the texts that the next calls write.
     Field(&'a str),
 }
 
-/// What a field says.
+/// The value of a field.
 #[derive(Clone, Copy)]
 pub enum Value<'a> {
-    /// A number.
+    /// An unsigned number.
     Number(u64),
-    /// A number with a sign.
+    /// A signed number.
     Signed(i64),
     /// `true` or `false`. Lines leave out a field that is `false`.
     Flag(bool),
-    /// A word, which has no line feed.
+    /// A word, without a line feed.
     Word(&'a str),
-    /// A text. In lines it is in double quotes, where `"`, `\` and bytes outside 32 to 126 are `\` and two hexadecimal digits.
+    /// A text. In lines it is in double quotes, where `"`, `\` and bytes outside 32 to 126 are `\` and two hexadecimal
+    /// digits.
     Quoted(&'a str),
-    /// From one offset in the whole stream to another: `start..end` in lines.
+    /// A range of offsets, in bytes from the start of the stream: `start..end` in lines.
     Range(u64, u64),
     /// No value. Lines leave out such a field.
     Nothing,
@@ -82,46 +83,64 @@ pub(crate) fn is_default(value: Value<'_>) -> bool
     }
 }
 
-/// Lines, each one under another, that are put together from fields.
+/// A writer of lines under other lines, composed of fields.
 ///
-/// A line under another is begun by `begin_line`, put together from the parts that the other calls write, and ended by `end` or by
-/// the next one. Where a tree can't go on, it stops and writes nothing more: `stopped` says why.
+/// `begin_line` begins a line, the other calls write its parts, and `end` or the next `begin_line` ends it. Names,
+/// words and texts must not have line feeds. Lines are buffered; call `write_out` at the end.
+///
+/// # Errors
+///
+/// No call returns an error. When the sink or an allocation fails, the tree stops and writes nothing more. `stopped`
+/// then returns `Output` or `Memory`.
+///
+/// ```rattle
+/// let mut out = Lines::new(alloc, BoundedSink::new(alloc, 1000)?);
+/// out.line(1, "memory");
+/// out.number("initial", 2);
+/// out.flag("shared", false);
+/// out.end();
+/// out.write_out();
+/// assert_eq!(rt; out.stopped(), None);
+/// assert_eq!(rt; out.into_output().written(), b"  memory initial=2\n".as_slice());
+/// ```
 pub trait Tree {
     /// What it has written.
     ghost writing: { Self → Writing };
 
-    /// Why the tree has stopped, if it has.
+    /// Returns why the tree has stopped, if it has: `Output` or `Memory`.
     fn stopped(&self) -> Option<ListError>
         ensures { result ≡ (writing self.now).why };
 
-    /// How the tree writes.
+    /// Returns the format of what the tree writes.
     fn style(&self) -> Style
         ensures { result ≡ (writing self.now).style };
 
-    /// Stops, since an allocation failed.
+    /// Stops the tree because an allocation failed.
     fn out_of_memory(&mut self)
         ensures adds { Adds (writing self.old) (writing self.new) }
         ensures style { (writing self.new).style ≡ (writing self.old).style }
         ensures stops { is_some (writing self.new).why ≡ true };
 
-    /// Writes what waits. A line that is begun is ended first, and the bytes of the stream that are to be shown are.
+    /// Writes the buffered bytes to the sink. Ends the current line first, and shows the remaining bytes of
+    /// `begin_part`.
     fn write_out(&mut self)
         ensures adds { Adds (writing self.old) (writing self.new) }
         ensures out { IsOut (writing self.new) };
 
-    /// Ends the line that is begun, if one is.
+    /// Ends the current line, if one is begun.
     fn end(&mut self)
         ensures adds { Adds (writing self.old) (writing self.new) }
         ensures style { (writing self.new).style ≡ (writing self.old).style }
         ensures ended { (writing self.new).style ≡ Lines → (writing self.new).is_begun ≡ false }
         ensures outside { (writing self.new).style ≡ Objects → (writing self.new).spot ≡ Outside };
 
-    /// Begins a line under another, at this level. At level 1 it is under a line of the first level.
+    /// Begins a line at this level. A line of level 1 is under a line of the first level, and so on. Ends the current
+    /// line first.
     fn begin_line(&mut self, level: usize, start: Start<'_>)
         requires one_line { start_breaks_line start ≡ false }
         ensures { Adds (writing self.old) (writing self.new) };
 
-    /// Writes bytes of a text, without a line feed, as they are. In objects they belong to the field that is begun.
+    /// Writes bytes of a text, without a line feed, as they are. In objects they belong to the current field.
     fn bytes(&mut self, bytes: &[u8])
         requires one_line { has_line_feed bytes.now ≡ false }
         ensures adds { Adds (writing self.old) (writing self.new) }
@@ -134,14 +153,14 @@ pub trait Tree {
         ensures says { Says (decimal number) (writing self.old) (writing self.new) }
         ensures some { SaysSome (writing self.old) (writing self.new) };
 
-    /// Begins a field, whose value is the texts that come next: in lines, writes a blank, its name, and `=`.
+    /// Begins a field, whose value is the texts that the next calls write. In lines, writes a blank, the name and `=`.
     fn begin_field(&mut self, name: &str)
         requires one_line { has_line_feed name.now ≡ false }
         ensures adds { Adds (writing self.old) (writing self.new) }
         ensures says { Says (field_start name.now) (writing self.old) (writing self.new) }
         ensures some { SaysSome (writing self.old) (writing self.new) };
 
-    /// Writes a field.
+    /// Writes a field: its name and its value.
     fn field(&mut self, name: &str, value: Value<'_>)
         requires name_line { has_line_feed name.now ≡ false }
         requires value_line { breaks_line value ≡ false }
@@ -149,47 +168,50 @@ pub trait Tree {
         ensures says { Says (field_text (named name.now (value_of value.entry)))
             (writing self.old) (writing self.new) };
 
-    /// Writes a word on its own, without the name of its field, which an object has.
+    /// Writes a word as the value of a field, without the name of the field in lines.
     fn label(&mut self, name: &str, word: &str)
         requires name_line { has_line_feed name.now ≡ false }
         requires word_line { has_line_feed word.now ≡ false }
         ensures adds { Adds (writing self.old) (writing self.new) }
         ensures says { Says (field_text (alone word.now)) (writing self.old) (writing self.new) };
 
-    /// Writes the number of an item: the word of its index space, and its index in brackets. Where the tree has a name of the
-    /// item, this comes after it, in quotes.
+    /// Writes the number of an item, as `func[5]`, and its name after it, if the tree has one.
     fn item_number(&mut self, space: Space, index: u64)
         ensures { AddsNumber space index (writing self.old) (writing self.new) };
 
-    /// Writes the name of an item, if the tree has it: in lines after a blank, in objects as a field.
+    /// Writes the name of an item, if the tree has one: in lines after a blank, in objects as a field.
     fn item_name(&mut self, space: Space, index: u64)
         ensures { Adds (writing self.old) (writing self.new) };
 
-    /// Writes a line of the first level: this text, and after it the name of the function with this number, if there is a number
-    /// and the tree has a name. The text may end with numbers of items. A tree of objects writes nothing.
+    /// Writes a line of the first level: this text, and the name of the function with this index, if the tree has one.
+    ///
+    /// The text may end with numbers of items. A tree of objects writes nothing.
     fn first_of_function<T: ShortText>(&mut self, text: &T, function: Option<u64>)
         ensures { AddsFirst (T.text text.now ++ codes "\n") (writing self.old) (writing self.new) };
 
-    /// Shows these bytes, which begin at this offset in the whole stream, in rows: before a line those up to the next of these
-    /// offsets, at which items begin, and after the last one all. A tree of objects does not show them.
+    /// Shows the bytes of a part of the stream, in rows of hexadecimal digits, between the lines that follow.
+    ///
+    /// The bytes begin at `offset` of the stream. Before each line the tree shows those up to the next of `cuts`, the
+    /// offsets at which items begin; `write_out`, or the next part, shows the rest. A tree of objects does not show
+    /// bytes.
     fn begin_part(&mut self, alloc: Global, offset: u64, bytes: &[u8], cuts: Vec<u64>)
         ensures { AddsBytes bytes.now (writing self.old) (writing self.new) };
 
-    /// Whether the tree has stopped.
+    /// Returns whether the tree has stopped.
     final fn has_stopped(&self) -> bool
         ensures { result ≡ is_some (writing self.now).why }
     {
         self.stopped().is_some()
     }
 
-    /// Begins the line of an item whose bytes begin at this offset in the whole stream.
+    /// Begins the line of an item whose bytes begin at this offset, in bytes from the start of the stream.
     final fn item(&mut self, level: usize, offset: u64)
         ensures { Adds (writing self.old) (writing self.new) }
     {
         self.begin_line(level, Start::Item(offset));
     }
 
-    /// Begins a line under another, with this word.
+    /// Begins a line with this word.
     final fn line(&mut self, level: usize, word: &str)
         requires one_line { has_line_feed word.now ≡ false }
         ensures { Adds (writing self.old) (writing self.new) }
@@ -197,7 +219,7 @@ pub trait Tree {
         self.begin_line(level, Start::Word(word));
     }
 
-    /// Begins a line under another, with a field of this name.
+    /// Begins a line with a field of this name, whose value is the texts that the next calls write.
     final fn line_field(&mut self, level: usize, name: &str)
         requires one_line { has_line_feed name.now ≡ false }
         ensures { Adds (writing self.old) (writing self.new) }
@@ -205,7 +227,7 @@ pub trait Tree {
         self.begin_line(level, Start::Field(name));
     }
 
-    /// Writes a text, which has no line feed, as it is.
+    /// Writes a text as it is.
     final fn text(&mut self, text: &str)
         requires one_line { has_line_feed text.now ≡ false }
         ensures adds { Adds (writing self.old) (writing self.new) }
@@ -226,7 +248,7 @@ pub trait Tree {
         self.text(word);
     }
 
-    /// Writes a number in decimal digits, with a sign if it is below 0.
+    /// Writes a signed number in decimal digits.
     final fn integer(&mut self, number: i64)
         ensures adds { Adds (writing self.old) (writing self.new) }
         ensures some { SaysSome (writing self.old) (writing self.new) }
@@ -248,7 +270,7 @@ pub trait Tree {
         }
     }
 
-    /// Writes a field that is a word.
+    /// Writes a field with a word as its value.
     final fn word_field(&mut self, name: &str, word: &str)
         requires name_line { has_line_feed name.now ≡ false }
         requires word_line { has_line_feed word.now ≡ false }
@@ -259,7 +281,7 @@ pub trait Tree {
         self.field(name, Value::Word(word));
     }
 
-    /// Writes a field that is a number.
+    /// Writes a field with an unsigned number as its value.
     final fn number(&mut self, name: &str, number: u64)
         requires one_line { has_line_feed name.now ≡ false }
         ensures adds { Adds (writing self.old) (writing self.new) }
@@ -269,7 +291,7 @@ pub trait Tree {
         self.field(name, Value::Number(number));
     }
 
-    /// Writes a field that is a number with a sign.
+    /// Writes a field with a signed number as its value.
     final fn signed(&mut self, name: &str, number: i64)
         requires one_line { has_line_feed name.now ≡ false }
         ensures adds { Adds (writing self.old) (writing self.new) }
@@ -279,7 +301,7 @@ pub trait Tree {
         self.field(name, Value::Signed(number));
     }
 
-    /// Writes a field that is a number, or has no value.
+    /// Writes a field with an optional number as its value.
     final fn number_if_any(&mut self, name: &str, number: Option<u64>)
         requires one_line { has_line_feed name.now ≡ false }
         ensures adds { Adds (writing self.old) (writing self.new) }
@@ -292,7 +314,7 @@ pub trait Tree {
         }
     }
 
-    /// Writes a field that has no value.
+    /// Writes a field without a value, which lines leave out.
     final fn nothing(&mut self, name: &str)
         requires one_line { has_line_feed name.now ≡ false }
         ensures adds { Adds (writing self.old) (writing self.new) }
@@ -302,7 +324,7 @@ pub trait Tree {
         self.field(name, Value::Nothing);
     }
 
-    /// Writes a field that is `true` or `false`.
+    /// Writes a field with a truth value, which lines leave out if it is `false`.
     final fn flag(&mut self, name: &str, flag: bool)
         requires one_line { has_line_feed name.now ≡ false }
         ensures adds { Adds (writing self.old) (writing self.new) }
@@ -312,7 +334,7 @@ pub trait Tree {
         self.field(name, Value::Flag(flag));
     }
 
-    /// Writes a field that is a text.
+    /// Writes a field with a text as its value, which lines quote and escape.
     final fn quoted(&mut self, name: &str, text: &str)
         requires one_line { has_line_feed name.now ≡ false }
         ensures adds { Adds (writing self.old) (writing self.new) }
@@ -322,7 +344,7 @@ pub trait Tree {
         self.field(name, Value::Quoted(text));
     }
 
-    /// Writes a field that is raw bytes: their count, a colon, and the first 16 in hexadecimal.
+    /// Writes a field with bytes as its value: their number, a colon, and the first 16 in hexadecimal.
     final fn raw(&mut self, name: &str, bytes: &[u8])
         requires one_line { has_line_feed name.now ≡ false }
         ensures adds { Adds (writing self.old) (writing self.new) }
@@ -335,7 +357,7 @@ pub trait Tree {
         self.hexadecimals(first_bytes(bytes));
     }
 
-    /// Writes a field that is a range of offsets in the whole stream.
+    /// Writes a field with a range of offsets as its value, in bytes from the start of the stream.
     final fn range(&mut self, name: &str, start: u64, end: u64)
         requires one_line { has_line_feed name.now ≡ false }
         ensures adds { Adds (writing self.old) (writing self.new) }
@@ -345,7 +367,7 @@ pub trait Tree {
         self.field(name, Value::Range(start, end));
     }
 
-    /// Writes a line that is a fault.
+    /// Writes a line for a fault, at this level.
     final fn fault(&mut self, level: usize, error: &Error)
         ensures { Adds (writing self.old) (writing self.new) }
     {
@@ -356,7 +378,8 @@ pub trait Tree {
         }
     }
 
-    /// Writes a fault as fields: its message, its offset in the whole stream, and its number, if it has one.
+    /// Writes a fault as fields: its message, its offset in bytes from the start of the stream, and its number, if it
+    /// has one.
     final fn fault_fields(&mut self, error: &Error)
         ensures { Adds (writing self.old) (writing self.new) }
     {
@@ -365,7 +388,8 @@ pub trait Tree {
         self.number_if_any("number", error.number());
     }
 
-    /// Writes a fault: `fault`, its offset in the whole stream, its message, and its number, if it has one.
+    /// Writes a fault as text: `fault`, its offset in bytes from the start of the stream, its message, and its number,
+    /// if it has one.
     final fn fault_text(&mut self, error: &Error)
         ensures adds { Adds (writing self.old) (writing self.new) }
         ensures some { SaysSome (writing self.old) (writing self.new) }

@@ -8,10 +8,17 @@ use super::inks::{Spot, sequence};
 use super::plain::{ESC, count_plain};
 use wasm_feed::{Failed, Sink, write_all};
 
-/// A sink that hands text on to another one, with sequences that set colours between its bytes. Its bytes are those that
-/// the other one has without them.
+/// A sink that forwards text to another one, with escape sequences between the bytes that set colors.
 ///
-/// Each line ends in the terminal's own colour. An ESC of the text is followed by a `\`, so that it sets none.
+/// The bytes that it has taken are those of the other sink without the sequences. Each line ends in the terminal's own
+/// color. An ESC in the text is followed by a `\`, so that it begins no sequence.
+///
+/// ```rattle
+/// let mut output = dump::Colored::new(BoundedSink::new(alloc, 1000)?);
+/// write_all(&mut output, b"end 8\n").ok().ok_or("no room")?;
+/// let colored = output.into_inner();
+/// assert!(rt; colored.written().len() > 6);
+/// ```
 #[derive(Drop)]
 pub struct Colored<W> {
     inner: W,
@@ -19,7 +26,7 @@ pub struct Colored<W> {
 }
 
 impl<W: Sink> Colored<W> {
-    /// A sink that hands text on to this one.
+    /// Creates a sink that forwards text to this one.
     pub fn new(inner: W) -> Self
         ensures { result.inner ≡ inner }
     {
@@ -29,7 +36,7 @@ impl<W: Sink> Colored<W> {
         }
     }
 
-    /// The other sink, with what it has taken.
+    /// Returns the other sink, with what it has taken.
     pub fn into_inner(self) -> W
         ensures { result ≡ self.inner }
     {

@@ -226,8 +226,8 @@ fn command_after_name(alloc: Global, mut arguments: Args) -> Option<Command>
     }
 }
 
-/// What these arguments ask for, or `None` when an allocation fails. An argument that is not valid UTF-8 makes the command
-/// unknown.
+/// What these arguments ask for, or `None` when an allocation fails. An argument that is not valid UTF-8 makes the
+/// command unknown.
 pub(super) fn command_asked(alloc: Global, arguments: io::Result<Args>) -> Option<Command>
     ensures some { IfSome result (λ command. Some (asked_of command)
         ≡ asked_if_any (λ args. map string_bytes (into_iter_items args)) arguments) }

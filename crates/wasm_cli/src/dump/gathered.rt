@@ -23,7 +23,8 @@ fn put_byte(gathered: &mut Gathered, last: Ink, ink: Ink, byte: u8)
     gathered.put(&[byte]);
 }
 
-/// Gathers the first byte of a text and a prefix of the rest, with the colors of all but the first byte. It ends before an ESC.
+/// Gathers the first byte of a text and a prefix of the rest, with the colors of all but the first byte. It ends before
+/// an ESC.
 pub(super) fn gather(spot: Spot, first: u8, later: &[u8]) -> Gathered
     requires { first ≢ 27 }
     ensures { IsColored first later.now result }

@@ -2,8 +2,8 @@
 ghost use Rattle.std.specs.Prelude.{◌≡◌, ◌≤◌, length};
 ghost use Rattle.wasm_cli.specs.Colors.{IsSequence};
 
-/// Where in a line of a dump the bytes are that come next. The first word of a line is bold, or its offset dim; texts in quotes are
-/// green, and what a fault says is red.
+/// Where in a line of a dump the bytes are that come next. The first word of a line is bold, or its offset dim; texts
+/// in quotes are green, and what a fault says is red.
 #[derive(Clone, Copy)]
 pub(super) enum Spot {
     /// At the start of a line.

@@ -5,16 +5,21 @@ ghost use Rattle.wasm_cli.specs.Options.{contradict, mark_named, no_options, say
 use wasm_dumper::{Only, Shown};
 use wasm_tree::Style;
 
-/// How a dump is to look, and what it is to show besides the items.
+/// The format of a dump, and what it shows besides the items.
+///
+/// ```rattle
+/// let options = dump::Options { is_json: true, ..dump::Options::new() };
+/// assert!(rt; !options.is_colored);
+/// ```
 #[derive(Clone, Copy)]
 pub struct Options {
-    /// With colours, as a terminal shows them.
+    /// Whether the text has colors, as a terminal shows them (`--color`).
     pub is_colored: bool,
-    /// With the names that custom sections have for items.
+    /// Whether items have the names that custom sections have for them (`--names`).
     pub is_named: bool,
-    /// As objects of JSON, one on each line.
+    /// Whether each line is a JSON object (`--json`).
     pub is_json: bool,
-    /// With the bytes that each line is read from.
+    /// Whether the bytes that a line is read from come before it (`--bytes`).
     pub has_bytes: bool,
 }
 
@@ -45,7 +50,7 @@ pub(super) fn mark_of(word: &str) -> Option<Mark>
 }
 
 impl Options {
-    /// No option.
+    /// Returns the options of a dump without any: text without colors, names and bytes.
     pub fn new() -> Options
         ensures { result ≡ no_options }
     {

@@ -84,8 +84,9 @@ fn version() -> &'static [u8]
     VERSION
 }
 
-/// The program over files, if some are named, and else over the standard streams. It prints no message when the reader of its output
-/// has closed the pipe.
+/// Runs `wasm_dump` over the files that are named, or over the standard streams, and returns its exit status.
+///
+/// It prints no message if the reader of its output has closed the pipe.
 pub fn run_host(rt: HostRuntime) -> ExitCode {
     let is_closed = AtomicBool::new(false);
     let output = WriteSink::new(Piped::new(rt.stdout(), &is_closed));
@@ -101,11 +102,18 @@ pub fn run_host(rt: HostRuntime) -> ExitCode {
     ExitCode::from(status)
 }
 
-/// The whole program: reads the arguments after the program's own name, shows the input, flushes the output, and returns the
-/// exit status and the output.
+/// Runs `wasm_dump` over the input, with arguments as the system has them, flushes the output, and returns the exit
+/// status and the output.
 ///
-/// An argument that is not valid UTF-8 is another argument; if the arguments can't be fetched, memory ran out. Arguments that name
-/// files are refused here, since `run_host` opens them.
+/// `arguments` are those after the name of the program. One that is not valid UTF-8 is a wrong argument. Arguments that
+/// name files are refused: only `run_host` opens files.
+///
+/// # Errors
+///
+/// * 1 at a fault of the stream. The dump ends with the fault.
+/// * 2 for wrong arguments. A message is written to `errors`.
+/// * 3 if the input, the output or an allocation failed, or the arguments can't be fetched. The reason is written to
+///   `errors`.
 pub fn run_program<R: Source, W: Write, E: Sink>(
     alloc: Global,
     arguments: io::Result<Args>,
@@ -221,7 +229,8 @@ fn show_chosen<R: Source, W: Write, E: Sink>(
     }
 }
 
-/// Shows these sections of the input, and returns the status. A message goes to `errors` if a device or an allocation failed.
+/// Shows these sections of the input, and returns the status. A message goes to `errors` if a device or an allocation
+/// failed.
 pub(super) fn show_input<R: Source, W: Write, E: Sink>(
     alloc: Global,
     only: &[Only<'_>],
@@ -331,8 +340,24 @@ fn dump_colored<R: Source, W: Write>(
     (result, output)
 }
 
-/// Shows these sections of the input, as the options say, with these names, if there are any, and flushes the output. Returns how it
-/// ended, and the output. With colors, the output is the dump with sequences that set them between its bytes.
+/// Writes the dump of the input as the options say, flushes the output, and returns how the stream ended, and the
+/// output.
+///
+/// `only` chooses the events, and `names` has the names of items, if there are any. With colors, the output is the dump
+/// with escape sequences between its bytes.
+///
+/// # Errors
+///
+/// Those of `wasm_dumper::dump`, and `Output` if flushing fails.
+///
+/// ```rattle
+/// let mut input = SliceSource::new(b"\0asm\x01\0\0\0");
+/// let mut text = Vec::new(alloc);
+/// let output = WriteSink::new(&mut text);
+/// let (ended, _) = dump::dump_as(alloc, &[Only::All], dump::Options::new(), None, &mut input, output);
+/// assert_eq!(rt; ended, Ok(Ended::End));
+/// assert_eq!(rt; text.as_slice(), b"version 0 8 1 module\nend 8\n".as_slice());
+/// ```
 pub fn dump_as<R: Source, W: Write>(
     alloc: Global,
     only: &[Only<'_>],

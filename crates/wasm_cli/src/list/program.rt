@@ -74,7 +74,9 @@ fn version() -> &'static [u8]
     VERSION
 }
 
-/// The program over the standard streams. It prints no message when the reader of its output has closed the pipe.
+/// Runs `wasm_list` over the standard streams, and returns its exit status.
+///
+/// It prints no message if the reader of its output has closed the pipe.
 pub fn run_host(rt: HostRuntime) -> ExitCode {
     let is_closed = AtomicBool::new(false);
     let mut input = ReadSource::new(rt.stdin());
@@ -89,9 +91,14 @@ pub fn run_host(rt: HostRuntime) -> ExitCode {
     )
 }
 
-/// The whole program: reads the arguments after the program's own name, runs, flushes the output, and returns the exit status.
+/// Runs `wasm_list` with arguments as the system has them, flushes the output, and returns the exit status.
 ///
-/// An argument that is not valid UTF-8 is another argument; if the arguments can't be fetched or stored, memory ran out.
+/// `arguments` are those after the name of the program. One that is not valid UTF-8 is a wrong argument. The statuses
+/// are those of `run`.
+///
+/// # Errors
+///
+/// If the arguments can't be fetched or stored, it writes `out of memory` to `errors` and returns 3.
 pub fn run_program<R: Source, W: Write, E: Sink>(
     alloc: Global,
     arguments: io::Result<Args>,
@@ -130,11 +137,28 @@ fn run_whole<R: Source, W: Write, E: Sink>(
     ExitCode::from(finish(status, output, errors))
 }
 
-/// Lists the input, or with `strip` writes it without its custom sections, but for those that the options after `strip` keep. Returns the
-/// exit status: 0 at the end of the stream, 1 at a fault of it, 2 for other arguments, 3 if the input, the output or an allocation failed.
+/// Runs `wasm_list` with these arguments, and returns its exit status.
 ///
-/// A message goes to `errors` for the last two, and for a fault of a stream that isn't stripped. Whether it could be written
-/// changes no status.
+/// Without arguments it lists the input, as `wasm_feed::list` does. With `strip` it reads all of the input and writes
+/// it without its custom sections, except those that the options after `strip` keep. `--help` and `--version` write a
+/// text.
+///
+/// # Errors
+///
+/// * 1 at a fault of the stream. A listing ends with the fault. With `strip`, the fault is written to `errors`, and
+///   nothing to the output.
+/// * 2 for wrong arguments. The usage is written to `errors`.
+/// * 3 if the input, the output or an allocation failed. The reason is written to `errors`.
+///
+/// Whether `errors` takes a message changes no status.
+///
+/// ```rattle
+/// let mut input = SliceSource::new(b"\0asm\x01\0\0\0");
+/// let (mut output, mut errors) = (BoundedSink::new(alloc, 1000)?, BoundedSink::new(alloc, 1000)?);
+/// let status = list::run(alloc, &[], &mut input, &mut output, &mut errors);
+/// assert_eq!(rt; status, 0);
+/// assert_eq!(rt; output.written(), b"version 0 8 1 module\nend 8\n".as_slice());
+/// ```
 pub fn run<R: Source, W: Sink, E: Sink>(
     alloc: Global,
     args: &[String],

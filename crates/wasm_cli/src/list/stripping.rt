@@ -96,10 +96,12 @@ fn strip_bytes<W: Sink, E: Sink>(
     }
 }
 
-/// Strips the input as these options say: reads all of it, and writes it without its custom sections, but for those that stay. Returns the
-/// exit status: 0, 1 at a fault of the stream, and 3 if the input, the output or an allocation failed.
+/// Strips the input as these options say: reads all of it, and writes it without its custom sections, but for those
+/// that stay. Returns the exit status: 0, 1 at a fault of the stream, and 3 if the input, the output or an allocation
+/// failed.
 ///
-/// For the last two a message goes to `errors`, and nothing to the output. A message that can't be written changes no status.
+/// For the last two a message goes to `errors`, and nothing to the output. A message that can't be written changes no
+/// status.
 pub(super) fn strip_input<R: Source, W: Sink, E: Sink>(
     alloc: Global,
     options: &[String],
