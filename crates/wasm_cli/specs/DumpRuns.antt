@@ -89,7 +89,8 @@ help_text =
     codes "  3  A file or device failed, or memory ran out. The reason is printed to\n" ++ (
     codes "     standard error, unless the output is a pipe that its reader has closed.\n" ++ (
     codes "\n" ++ (
-    codes "With several files the exit status is the greatest of theirs.\n"))))))))))))))))))))))))))))))))))))))
+    codes "With several files the exit status is the greatest of theirs.\n"
+    ))))))))))))))))))))))))))))))))))))))
 
 -- These sections of the input were shown, with the status and message of how that ended.
 pub record Shows (options : Options) (only : List Only) (forwarded : Bool) (input output errors : Device) (status : ℕ) :

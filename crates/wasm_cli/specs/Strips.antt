@@ -48,7 +48,8 @@ pub record WritesNothing (stream : List ℕ) (e : Error) (output errors : Device
   pub sink : IsUntouched output
   pub answers : Refuses e errors status
 
--- The stream without the sections that do not stay was written, as far as the output took it; or the stream was refused.
+-- The stream without the sections that do not stay was written, as far as the output took it; or the stream was
+-- refused.
 abbrev pub WritesStripped : (keep : Keep) (stream : List ℕ) (output errors : Device) (status : ℕ) → Type 0
 WritesStripped keep stream output errors status =
     ((kept : List ℕ) × IsStripped (stays_by keep) stream kept × (WritesAll kept output errors status
