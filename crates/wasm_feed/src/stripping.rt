@@ -89,14 +89,14 @@ fn is_other(name: &str, removed: &[&str]) -> bool
 
 // Whether a custom section with this name stays.
 fn stays(name: &str, keep: Keep<'_>) -> bool
-    ensures { result ≡ stays_by keep name.now }
+    ensures { result ≡ stays_by keep.entry name.now }
 {
     is_among(name, keep.kept) || is_other(name, keep.removed) || keep.names && name == "name"
 }
 
 // What becomes of a custom section with this name.
 fn fate_of_custom(name: &str, keep: Keep<'_>) -> Fate
-    ensures { result ≡ custom_fate (stays_by keep name.now) }
+    ensures { result ≡ custom_fate (stays_by keep.entry name.now) }
 {
     if stays(name, keep) {
         Fate::Stays
@@ -107,7 +107,7 @@ fn fate_of_custom(name: &str, keep: Keep<'_>) -> Fate
 
 // What becomes of a part that is read as this.
 fn fate_of(payload: &Payload, keep: Keep<'_>) -> Fate
-    ensures { IsFateOf (stays_by keep) (report_of payload.now) result }
+    ensures { IsFateOf (stays_by keep.entry) (report_of payload.now) result }
 {
     match payload {
         Payload::End(_) => Fate::End,
@@ -119,7 +119,7 @@ fn fate_of(payload: &Payload, keep: Keep<'_>) -> Fate
 // The next part of these bytes, which are all of the stream.
 fn next_part<'a>(cursor: &mut Cursor, bytes: &'a [u8], keep: Keep<'_>) -> Result<Part<'a>>
     requires { cursor.old.is_finished ≡ true }
-    ensures takes { TakesPart (stays_by keep) (feed_of bytes.now cursor.old) result
+    ensures takes { TakesPart (stays_by keep.entry) (feed_of bytes.now cursor.old) result
         (feed_of bytes.now cursor.new) }
     ensures goes_on { GoesOn (feed_of bytes.now cursor.old) result
         (feed_of bytes.now cursor.new) }
@@ -138,7 +138,7 @@ fn next_part<'a>(cursor: &mut Cursor, bytes: &'a [u8], keep: Keep<'_>) -> Result
 // The next part of these bytes that stays, after those that go; none at the end of the stream, which they are all of.
 fn next_kept<'a>(cursor: &mut Cursor, bytes: &'a [u8], keep: Keep<'_>) -> Result<Option<&'a [u8]>>
     requires { cursor.old.is_finished ≡ true }
-    ensures takes { TakesKept (stays_by keep) (feed_of bytes.now cursor.old) result
+    ensures takes { TakesKept (stays_by keep.entry) (feed_of bytes.now cursor.old) result
         (feed_of bytes.now cursor.new) }
     ensures finished { cursor.new.is_finished ≡ true }
     ensures passes { PassesKept bytes.now cursor.old.mark result cursor.new.mark }
@@ -156,7 +156,7 @@ fn next_kept<'a>(cursor: &mut Cursor, bytes: &'a [u8], keep: Keep<'_>) -> Result
 // How many bytes are left of a stream.
 fn count_kept(bytes: &[u8], keep: Keep<'_>) -> Result<usize>
     requires { length bytes.now < 2 ^ 64 }
-    ensures counts { CountsKept (stays_by keep) bytes.now result }
+    ensures counts { CountsKept (stays_by keep.entry) bytes.now result }
     ensures stream { Stream bytes.now 0 }
 {
     let mut cursor = Cursor::over_all(Parser::new(0));
@@ -170,7 +170,7 @@ fn count_kept(bytes: &[u8], keep: Keep<'_>) -> Result<usize>
 // Appends a stream without the dropped sections to these bytes.
 fn copy_kept<A: Allocator>(bytes: &[u8], keep: Keep<'_>, kept: &mut Vec<u8, A>) -> Result<()>
     requires { length bytes.now < 2 ^ 64 }
-    ensures { CopiesKept (stays_by keep) bytes.now kept.old.items result kept.new.items }
+    ensures { CopiesKept (stays_by keep.entry) bytes.now kept.old.items result kept.new.items }
 {
     let mut cursor = Cursor::over_all(Parser::new(0));
     'parts: while let Some(part) = next_kept(&mut cursor, bytes, keep)? {
@@ -196,7 +196,7 @@ fn move_down(bytes: &mut [u8], start: usize, size: usize, to: usize)
 // Moves the stripped stream to the front of its bytes, and returns its length in bytes.
 fn move_kept(bytes: &mut [u8], keep: Keep<'_>) -> Result<usize>
     requires { length bytes.old < 2 ^ 64 }
-    ensures { MovesKept (stays_by keep) bytes.old result bytes.new }
+    ensures { MovesKept (stays_by keep.entry) bytes.old result bytes.new }
 {
     let mut cursor = Cursor::over_all(Parser::new(0));
     let mut kept = 0;
@@ -223,7 +223,7 @@ fn move_kept(bytes: &mut [u8], keep: Keep<'_>) -> Result<usize>
 /// assert_eq!(rt; &bytes[..len], b"\0asm\x01\0\0\0".as_slice());
 /// ```
 pub fn strip_to_front(bytes: &mut [u8], keep: Keep<'_>) -> Result<usize>
-    ensures { StripsToFront (stays_by keep) bytes.old result bytes.new }
+    ensures { StripsToFront (stays_by keep.entry) bytes.old result bytes.new }
 {
     // A slice is shorter than 2^64 bytes, which the functions below want to know.
     let _length = bytes.len();
@@ -243,7 +243,7 @@ pub fn strip_to_front(bytes: &mut [u8], keep: Keep<'_>) -> Result<usize>
 /// assert_eq!(rt; bytes.len(), 8);
 /// ```
 pub fn strip_in_place<A: Allocator>(bytes: &mut Vec<u8, A>, keep: Keep<'_>) -> Result<()>
-    ensures { StripsInPlace (stays_by keep) bytes.old.items result bytes.new.items }
+    ensures { StripsInPlace (stays_by keep.entry) bytes.old.items result bytes.new.items }
 {
     let kept = strip_to_front(bytes.as_mut_slice(), keep)?;
     bytes.truncate(kept);
@@ -256,7 +256,7 @@ pub fn strip_in_place<A: Allocator>(bytes: &mut Vec<u8, A>, keep: Keep<'_>) -> R
 ///
 /// Those of `strip`.
 pub fn strip_in<A: Allocator>(alloc: A, bytes: &[u8], keep: Keep<'_>) -> Result<Vec<u8, A>>
-    ensures { Strips (stays_by keep) bytes.now result }
+    ensures { Strips (stays_by keep.entry) bytes.now result }
 {
     // A slice is shorter than 2^64 bytes, which the functions below want to know.
     let _length = bytes.len();

@@ -99,7 +99,7 @@ impl<'a> Choice<'a> {
 
     // Adds what an option says.
     fn add(&mut self, option: StripOption<'a>) -> Result<(), AllocError>
-        ensures { OnOk result (Adds option self.old self.new) }
+        ensures { OnOk result (Adds option.entry self.old self.new) }
     {
         match option {
             StripOption::KeepNames => self.names = true,

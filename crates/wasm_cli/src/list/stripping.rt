@@ -65,7 +65,7 @@ fn write_stripped<W: Sink, E: Sink>(
     output: &mut W,
     errors: &mut E,
 ) -> u8
-    ensures { WritesStripped keep bytes.items
+    ensures { WritesStripped keep.entry bytes.items
         (device_of W.taken W.has_failed output.old output.new)
         (device_of E.taken E.has_failed errors.old errors.new) result }
 {
