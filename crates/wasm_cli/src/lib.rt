@@ -5,6 +5,6 @@
 mod common;
 pub mod dump;
 pub mod list;
-mod pipe;
+mod streams;
 
 pub use common::{PIECE, complain, finish, give_up, is_no_text, read_buffer};

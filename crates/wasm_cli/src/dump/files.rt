@@ -6,6 +6,7 @@ use super::command::{Named, Rest, chosen_by};
 use super::options::Options;
 use super::program::{answer, dump_as, refuse_names, show_input};
 use crate::common::{complain, give_up};
+use crate::streams::Input;
 use std::alloc::Global;
 use std::env::Args;
 use std::fs;
@@ -91,7 +92,7 @@ fn dump_standard_input<W: Write, E: Sink>(
     if plan.options.is_named {
         return (refuse_names(errors), output);
     }
-    let mut input = ReadSource::new(rt.stdin());
+    let mut input = ReadSource::new(Input::Standard(rt.stdin()));
     show_input(
         rt.alloc(),
         plan.only,
@@ -113,7 +114,7 @@ fn dump_opened<W: Write, E: Sink>(
 ) -> (u8, WriteSink<W>) {
     match fs::open(rt, name) {
         Ok(file) => {
-            let mut input = ReadSource::new(file);
+            let mut input = ReadSource::new(Input::File(file));
             let (how, output) = dump_as(
                 rt.alloc(),
                 plan.only,
@@ -137,7 +138,7 @@ fn dump_with_names<W: Write, E: Sink>(
     errors: &mut E,
 ) -> (u8, WriteSink<W>) {
     match fs::open(rt, name) {
-        Ok(file) => match collect_names(rt.alloc(), &mut ReadSource::new(file)) {
+        Ok(file) => match collect_names(rt.alloc(), &mut ReadSource::new(Input::File(file))) {
             Ok(names) => dump_opened(rt, plan, Some(names), name, output, errors),
             Err(why) => (give_up(errors, why), output),
         },

@@ -15,7 +15,7 @@ use super::command::{Command, chosen_by, command_asked};
 use super::files::run_files;
 use super::options::Options;
 use crate::common::{PIECE, complain, give_up};
-use crate::pipe::{Messages, Piped};
+use crate::streams::{Input, Messages, Piped};
 use std::alloc::Global;
 use std::env::{self, Args};
 use std::io::{self, Write};
@@ -94,7 +94,7 @@ pub fn run_host(rt: HostRuntime) -> ExitCode {
     let status = match command_asked(rt.alloc(), env::args(&rt)) {
         Some(Command::Files(named)) => run_files(&rt, named, output, &mut errors),
         Some(command) => {
-            let mut input = ReadSource::new(rt.stdin());
+            let mut input = ReadSource::new(Input::Standard(rt.stdin()));
             run_command(rt.alloc(), command, &mut input, output, &mut errors).0
         }
         None => give_up(&mut errors, ListError::Memory),

@@ -10,7 +10,7 @@ ghost use Rattle.wasm_cli.specs.ListRuns.{help_text, version_text};
 use super::command::{Command, Given, command_of, words_given};
 use super::stripping::strip_input;
 use crate::common::{PIECE, complain, finish, give_up};
-use crate::pipe::{Messages, Piped};
+use crate::streams::{Messages, Piped};
 use std::alloc::Global;
 use std::env::{self, Args};
 use std::io::{self, Write};

@@ -13,7 +13,7 @@ parts-init g c =
     record {
       comes = (
         [],
-        nothing_left (stays_by c.args.keep.entry) bytes (feed_of bytes cursor) (c.over_all-cursor.ensures.parser ∙ c.new.ensures)
+        nothing_left (stays_by c.args.keep) bytes (feed_of bytes cursor) (c.over_all-cursor.ensures.parser ∙ c.new.ensures)
             (ap (λ (n : ℕ). drop n bytes) c.over_all-cursor.ensures.mark),
         sym (append-nil c.args.kept.now.items),
       );

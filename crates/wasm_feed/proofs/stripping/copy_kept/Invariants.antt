@@ -7,7 +7,7 @@ use Rattle.wasm_feed.proofs.stripping.copy_kept.Given as goal
 -- the kept ones of the parts so far were appended to the bytes
 abbrev pub invariant-parts : goal.invariant-parts
 invariant-parts g l = record {
-  comes : (more : List ℕ) × HasKept (stays_by l.fn.keep.entry) l.fn.bytes (feed_of l.fn.bytes l.cursor) more
+  comes : (more : List ℕ) × HasKept (stays_by l.fn.keep) l.fn.bytes (feed_of l.fn.bytes l.cursor) more
       × (l.kept.items ≡ l.fn.kept.items ++ more);
   finished : l.cursor.is_finished ≡ true;
   within : l.cursor.mark ≤ length l.fn.bytes;

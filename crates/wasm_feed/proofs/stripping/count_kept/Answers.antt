@@ -12,7 +12,7 @@ parts-init c =
     record {
       comes = (
         [],
-        nothing_left (stays_by c.args.keep.entry) bytes (feed_of bytes cursor) (c.over_all-cursor.ensures.parser ∙ c.new.ensures)
+        nothing_left (stays_by c.args.keep) bytes (feed_of bytes cursor) (c.over_all-cursor.ensures.parser ∙ c.new.ensures)
             (ap (λ (n : ℕ). drop n bytes) c.over_all-cursor.ensures.mark),
         refl,
       );
@@ -33,7 +33,7 @@ overflow_add-count c =
     let (kept, h, n) = c.parts.invariant.comes in
     let part = c.in-Some.part.now in
     let came = rw c.in-Some.is at (c.in_ok-part.ensures.takes bytes kept h c.requires) in
-    omega (arith, no_longer (stays_by c.args.keep.entry) bytes new (kept ++ part) came, n, c.requires, length-append kept part)
+    omega (arith, no_longer (stays_by c.args.keep) bytes new (kept ++ part) came, n, c.requires, length-append kept part)
 
 pub parts-preserved : goal.parts-preserved
 parts-preserved c =

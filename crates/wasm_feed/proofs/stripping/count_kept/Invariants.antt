@@ -7,7 +7,7 @@ use Rattle.wasm_feed.proofs.stripping.count_kept.Given as goal
 -- the kept ones of the parts so far were counted
 abbrev pub invariant-parts : goal.invariant-parts
 invariant-parts l = record {
-  comes : (kept : List ℕ) × HasKept (stays_by l.fn.keep.entry) l.fn.bytes (feed_of l.fn.bytes l.cursor) kept × (l.count ≡ length kept);
+  comes : (kept : List ℕ) × HasKept (stays_by l.fn.keep) l.fn.bytes (feed_of l.fn.bytes l.cursor) kept × (l.count ≡ length kept);
   finished : l.cursor.is_finished ≡ true;
   within : l.cursor.mark ≤ length l.fn.bytes;
 }

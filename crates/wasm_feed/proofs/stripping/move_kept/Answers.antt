@@ -12,7 +12,7 @@ parts-init c =
     let bytes = c.args.bytes.now in
     let cursor = c.over_all-cursor.result in
     record {
-      comes = nothing_left (stays_by c.args.keep.entry) bytes (feed_of bytes cursor) (c.over_all-cursor.ensures.parser ∙ c.new.ensures)
+      comes = nothing_left (stays_by c.args.keep) bytes (feed_of bytes cursor) (c.over_all-cursor.ensures.parser ∙ c.new.ensures)
           (ap (λ (n : ℕ). drop n bytes) c.over_all-cursor.ensures.mark);
       finished = c.over_all-cursor.ensures.finished;
       order = omega arith;
@@ -39,7 +39,7 @@ parts-preserved c =
     let moved = c.move_down.ensures.items
     ∙ ap (λ (m : ℕ). copy_within bytes (m - n) (m - n + n) c.parts.kept) c.mark.ensures in
     record {
-      comes = moves_on (stays_by c.args.keep.entry) stream bytes c.move_down.new.bytes part.now c.parts.kept old next loop.order at moved kept;
+      comes = moves_on (stays_by c.args.keep) stream bytes c.move_down.new.bytes part.now c.parts.kept old next loop.order at moved kept;
       finished = c.in_ok-part.ensures.finished;
       order = omega (arith, loop.order, at.order, at.size);
       within = omega (arith, c.move_down.ensures.len, at.within);

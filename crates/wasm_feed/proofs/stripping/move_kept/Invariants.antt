@@ -7,7 +7,7 @@ use Rattle.wasm_feed.proofs.stripping.move_kept.Given as goal
 -- the kept ones of the parts so far are at the front, and the remaining parts have not moved
 abbrev pub invariant-parts : goal.invariant-parts
 invariant-parts l = record {
-  comes : HasKept (stays_by l.fn.keep.entry) l.fn.bytes (feed_of l.bytes l.cursor) (take l.kept l.bytes);
+  comes : HasKept (stays_by l.fn.keep) l.fn.bytes (feed_of l.bytes l.cursor) (take l.kept l.bytes);
   finished : l.cursor.is_finished ≡ true;
   order : l.kept ≤ l.cursor.mark;
   within : l.cursor.mark ≤ length l.bytes;

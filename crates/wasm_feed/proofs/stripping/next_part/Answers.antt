@@ -12,18 +12,18 @@ returns-in_err-parse_next-clause-takes c stream events a l =
     let s = steps_in c.args.bytes.now c.args.cursor.now _ (Err c.in_err-parse_next.field-0.0) made.parses made.shows made.finished
     made.wants in
     let e = err_from_is_err_and c.from_residual.result c.from_residual.ensures.1 in
-    rw (e.1, e.2) (fault_comes (stays_by c.args.keep.entry) stream events _ _ a l c.requires _ s)
+    rw (e.1, e.2) (fault_comes (stays_by c.args.keep) stream events _ _ a l c.requires _ s)
 
 pub returns-clause-takes : goal.returns-clause-takes
 returns-clause-takes c stream events a l =
     let made = c.in_ok-parse_next.ensures in
     let s = steps_in c.args.bytes.now c.args.cursor.now _ (Ok c.in_ok-parse_next.field-0) made.parses made.shows made.finished made.wants in
     let parsed = rw c.in-Parsed.is at s in
-    part_comes (stays_by c.args.keep.entry) stream events _ _ a l c.requires _ _ _ parsed c.fate_of.ensures
+    part_comes (stays_by c.args.keep) stream events _ _ a l c.requires _ _ _ parsed c.fate_of.ensures
 
 pub returns-clause-goes_on : goal.returns-clause-goes_on
 returns-clause-goes_on c =
     let made = c.in_ok-parse_next.ensures in
     let s = steps_in c.args.bytes.now c.args.cursor.now _ (Ok c.in_ok-parse_next.field-0) made.parses made.shows made.finished made.wants in
     let parsed = rw c.in-Parsed.is at s in
-    part_goes_on (stays_by c.args.keep.entry) _ _ _ _ _ parsed c.fate_of.ensures
+    part_goes_on (stays_by c.args.keep) _ _ _ _ _ parsed c.fate_of.ensures

@@ -10,5 +10,5 @@ returns g c =
     let rest : List ℕ = drop (length new) vector.items in
     let whole : take vector.len (new ++ rest) ≡ new = take_at new rest vector.len
     (omega (arith, c.in_ok-kept.ensures.2, c.as_mut_slice.ensures.len)) in
-    subst₂ (λ (stream kept : List ℕ). IsStripped (stays_by c.args.keep.entry) stream kept) c.as_mut_slice.ensures.value
+    subst₂ (λ (stream kept : List ℕ). IsStripped (stays_by c.args.keep) stream kept) c.as_mut_slice.ensures.value
     (ap (take c.in_ok-kept.kept) (sym whole) ∙ sym c.truncate.ensures.items) c.in_ok-kept.ensures.0

@@ -15,5 +15,5 @@ pub returns : goal.returns
 returns c =
     let counted = c.in_ok-count_kept.ensures in
     let (kept, reads, count) = counted.counts in
-    strips_to_front (stays_by c.args.keep.entry) c.args.bytes.now kept c.move_kept.new.bytes c.move_kept.result counted.stream reads
+    strips_to_front (stays_by c.args.keep) c.args.bytes.now kept c.move_kept.new.bytes c.move_kept.result counted.stream reads
     c.move_kept.ensures

@@ -1,9 +1,27 @@
-// An output that is a pipe: when its reader has closed it, the program ends without a message.
-ghost use Rattle.std.specs.Prelude.{None};
-
-use std::io::{self, ErrorKind, Write};
+// The streams of the programs: standard input or a file, and an output that may be a pipe. When its reader has closed the pipe, the program
+// ends without a message.
+use std::fs::File;
+use std::io::{self, ErrorKind, Read, Stdin, Write};
 use std::sync::atomic::{AtomicBool, Ordering};
 use wasm_feed::{Failed, Sink};
+
+/// Standard input, or a file. One type for both, so that the program has the code that reads them once.
+#[derive(Drop)]
+pub enum Input {
+    /// Standard input.
+    Standard(Stdin),
+    /// A file.
+    File(File),
+}
+
+impl Read for Input {
+    fn read(&mut self, buf: &mut [u8]) -> io::Result<usize> {
+        match self {
+            Input::Standard(stdin) => stdin.read(buf),
+            Input::File(file) => file.read(buf),
+        }
+    }
+}
 
 /// A writer that sets a flag when its reader has closed the pipe.
 #[derive(Drop)]
