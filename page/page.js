@@ -29,7 +29,8 @@ const ask = (call, ...args) => new Promise((resolve, reject) => {
     worker.postMessage({ id: requests, call, args });
 });
 
-const bytesOf = async text => (text ? Uint8Array.from(atob(text), it => it.charCodeAt(0)) : (await fetch("pulleynavy.wasm")).arrayBuffer());
+const inflated = bytes => new Response(new Blob([bytes]).stream().pipeThrough(new DecompressionStream("gzip"))).arrayBuffer();
+const bytesOf = async text => (text ? inflated(Uint8Array.from(atob(text), it => it.charCodeAt(0))) : (await fetch("pulleynavy.wasm")).arrayBuffer());
 const loading = bytesOf($("wasm")?.textContent).then(WebAssembly.compile);
 loading.catch(error => say(`The parser cannot be loaded: ${error.message}`, true));
 

@@ -21,8 +21,7 @@ custom 20 26 25
 end 26
 ";
 
-pub(super) const HELP: &[u8] =
-    b"usage: wasm_dump [--color] [--names] [--json] [--bytes] [--section ID|NAME]
+const HELP: &[u8] = b"usage: wasm_dump [--color] [--names] [--json] [--bytes] [--section ID|NAME]
                  [FILE...]
        wasm_dump --help | --version
 
@@ -63,7 +62,7 @@ Exit status:
 With several files the exit status is the greatest of theirs.
 ";
 
-const USAGE: &[u8] =
+pub(super) const USAGE: &[u8] =
     b"usage: wasm_dump [--help] [--version] [OPTION]... [--section ID|NAME]... [FILE]...\n";
 
 const NAMES_USAGE: &[u8] =
