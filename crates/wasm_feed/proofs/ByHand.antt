@@ -16,7 +16,7 @@ pub use types.Logic.{Logic, sem}
 pub use types.Kit.{‵, raw, ◌⊛◌, some, later, ◌$◌, ◌∵◌, !, qed, by, move, keep, drop, use0, use1, use2, split, join, pick, await, rewrite}
 pub use types.Kit.{fjoin, fsplit}
 pub use types.Run.{enter, addr, stop, no_more, and_then, returns}
-pub use types.ByLocal.{alloc_all, skip_all, free_all, look_at, get, through, sets, lands_as}
+pub use types.ByLocal.{alloc_all, pass_all, free_all, look_at, get, through, sets, lands_as}
 pub use denote.RattleType.{RattleType}
 pub use denote.Laws.{shows, Is}
 pub use denote.Ref.{MutBor, mut_vals, mut_Tells}

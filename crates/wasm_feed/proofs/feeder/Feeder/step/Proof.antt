@@ -1,6 +1,6 @@
 use Rattle.wasm_feed.proofs.ByHand.{[], ◌∷◌, List, Val, refl, ap, subst, proved, leaves, id⊢, ftrue, flft, fres, named, fact, fact_i, emp}
 use Rattle.wasm_feed.proofs.ByHand.{tables, ‵, raw, ◌⊛◌, some, later, ◌$◌, ◌∵◌, !, qed, by, move, keep, drop, use0, use1, use2, split, join}
-use Rattle.wasm_feed.proofs.ByHand.{pick, await, rewrite, fjoin, fsplit, enter, addr, stop, no_more, and_then, returns, alloc_all, skip_all}
+use Rattle.wasm_feed.proofs.ByHand.{pick, await, rewrite, fjoin, fsplit, enter, addr, stop, no_more, and_then, returns, alloc_all, pass_all}
 use Rattle.wasm_feed.proofs.ByHand.{free_all, look_at, get, through, sets, lands_as, shows, Is, mut_vals, mut_Tells, no, plain, named_lft}
 use Rattle.wasm_feed.proofs.ByHand.{mut_ref_to, nothing, heard, peeks, only, calls_at, Lasts, lasts, triple_of, Stays, stay_dropped}
 use Rattle.wasm_feed.proofs.ByHand.{Goes-spent_ref, framed, left, right, followed, ◌≡◌}
@@ -49,7 +49,7 @@ step_spec 𝓤 𝓛 𝓜 𝓡 wired =
     let K = triple_of 𝓛 h.signature (h.spec 𝓛 𝓜.mem 𝓡.returns) in
     let tokens = ‵ (flft κ q) ⊛ ‵ ftrue in
     qed 𝓛 (raw (G.pre z) ∷ []) ∵ enter ! _ _ _ _ _ $
-    alloc_all ! (λ l. skip_all ! refl ((tt, tt), tt) $
+    alloc_all ! (λ l. pass_all ! refl ((tt, tt), tt) $
     sets ! (addr ! (through ! refl (stop !))) refl (tt, tt) $
     calls_at ! fm G (open_met 𝓤 𝓛 𝓜 𝓡 (code.calls-wasm_feed::feeder::Feeder::open 𝓡.env wired)) z (and_then ! (get ! refl) (no_more !))
     (λ v.

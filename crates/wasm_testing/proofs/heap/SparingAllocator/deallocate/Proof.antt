@@ -34,7 +34,7 @@ use base.Fml.{ffalse, fsep, froom}
 use types.Kit.{Item, ‵, raw, ◌⊛◌, later, given, ◌$◌, ◌∵◌, !, qed, by, move, keep, use1, split, split3, join, learn, fsplit, fjoin, feq_i}
 use types.Kit.{suffices, await, done}
 use types.Run.{unit_lit}
-use types.ByLocal.{alloc_all, skip_all, free_all, look_at, get, through, sets, lands_as}
+use types.ByLocal.{alloc_all, pass_all, free_all, look_at, get, through, sets, lands_as}
 use denote.RawPtr.{Ptr, block_ptr, null_ptr, ptr_val, rawptr_vals, rawptr_Tells}
 use denote.Builtin.{usize, RawPtr, RefOf}
 use denote.Triple.Call.{calls_at}
@@ -115,7 +115,7 @@ module _ (Z : Al) {M : Type 1} {𝓤 : Ura M} (𝓛 : Logic 𝓤) (at_mem : Memo
         move ! (1 ∷ []) $ split3 ! $ heard ! (κ₂ ⊑ Z.row.lives) (λ le. heard ! Said (λ said. move ! (1 ∷ []) $
         split ! $ split ! $ move ! (2 ∷ []) $ fsplit ! $ fsplit ! $ move ! (1 ∷ []) $ unhide ! $ fsplit ! $ fsplit ! $ use1 𝓛
         (‵ (seen Z κ₁ p h)) (id⊢ 𝓤 _) $ keep ! (0 ∷ 5 ∷ 6 ∷ 7 ∷ []) $
-        enter ! 𝓣.C 𝓣.Λ (here Z) (vs x) _ $ alloc_all ! (λ l. skip_all ! refl
+        enter ! 𝓣.C 𝓣.Λ (here Z) (vs x) _ $ alloc_all ! (λ l. pass_all ! refl
         ((tt, tt), ((tt, tt), ((tt, record { fits = fn }), ((tt, record { fits = fa }), tt)))) $
         sets ! (addr ! (through ! refl (fld ! refl (stop !)))) refl (tt, tt) $
         join ! $ move ! (2 ∷ []) $ fsplit ! $ move ! (1 ∷ 2 ∷ []) $ join ! $ move ! (1 ∷ 0 ∷ []) $ join ! $
