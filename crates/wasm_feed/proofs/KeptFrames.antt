@@ -43,10 +43,15 @@ custom_at : (keeps : List ℕ → Bool) (features at : ℕ) (f : SectionFrame) (
 custom_at keeps features at f text used e z true s = inl (rw (z, e) s, (rw e s, tt), append-nil (frame_bytes f))
 custom_at keeps features at f text used e z false s = inr (rw (z, e) s, section_event features at custom f, refl, rw e s, refl)
 
+custom_frame : (keeps : List ℕ → Bool) (features at : ℕ) (f : SectionFrame) (text : List ℕ) (used : ℕ)
+    → name (Some name_limit) f.sized.content ≡ named text used → f.id ≡ custom_id
+    → StaysOrGoes keeps f (section_event features at custom f ∷ [])
+custom_frame keeps features at f text used e z = custom_at keeps features at f text used e z (keeps text) refl
+
 form_at : (keeps : List ℕ → Bool) (features at : ℕ) (encoding : Encoding) (f : SectionFrame) (form : Form)
     → kind_of encoding f.id ≡ whole form
     → IsFormed form f.sized.content → StaysOrGoes keeps f (section_event features at form f ∷ [])
-form_at keeps features at encoding f form k g = grind (arith, custom_at, custom_has_its_id, other_stays, custom_zero, append-nil)
+form_at keeps features at encoding f form k g = grind (arith, custom_frame, custom_has_its_id, other_stays, custom_zero, append-nil)
 
 bodies_stay : (keeps : List ℕ → Bool) (features at : ℕ) (bodies : List Sized) → AllStay keeps (body_events features at bodies)
 bodies_stay keeps features at [] = tt
