@@ -128,7 +128,7 @@ fn run_whole<R: Source, W: Write, E: Sink>(
     output: &mut WriteSink<W>,
     errors: &mut E,
 ) -> ExitCode
-    ensures { RunsWhole (asked_of command) output.new.forwarded
+    ensures { RunsWhole (asked_of command.entry) output.new.forwarded
         (device_of R.remaining R.has_failed input.old input.new)
         (writer_device W.contents output.old output.new)
         (device_of E.taken E.has_failed errors.old errors.new) (exit_status result) }
@@ -182,7 +182,7 @@ fn run_command<R: Source, W: Sink, E: Sink>(
     output: &mut W,
     errors: &mut E,
 ) -> u8
-    ensures { Runs (asked_of command)
+    ensures { Runs (asked_of command.entry)
         (device_of R.remaining R.has_failed input.old input.new)
         (device_of W.taken W.has_failed output.old output.new)
         (device_of E.taken E.has_failed errors.old errors.new) result }
