@@ -70,7 +70,7 @@ pub struct ImportItemCompact<'a> {
 /// # Examples
 ///
 /// ```
-/// use pulleynavy::{BinaryReader, Error, Imports};
+/// use pulleynavy::{BinaryReader, Imports};
 ///
 /// // A group of the module "m" with two functions of type 5.
 /// let group = BinaryReader::new(b"\x01m\x00\x7e\x00\x05\x02\x01f\x01g", 0).read::<Imports>()?;
