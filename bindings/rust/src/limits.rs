@@ -29,25 +29,36 @@ pub const MAX_WASM_TYPE_SIZE: u32 = 1_000_000;
 pub const MAX_WASM_SELECT_RESULT_SIZE: usize = 10;
 pub const DEFAULT_WASM_PAGE_SIZE: u64 = 1 << 16;
 
-/// The largest number of pages of this size in a memory with 32-bit addresses.
+/// Returns the largest number of pages of this size in a memory with 32-bit addresses: 2^32 / `page_size`, but at most 2^32 - 1.
 ///
 /// # Panics
+///
 /// If the size is not a power of two of at most 65,536.
+///
+/// # Examples
+///
+/// ```
+/// use pulleynavy::max_wasm_memory32_pages;
+///
+/// assert_eq!(max_wasm_memory32_pages(65_536), 65_536);
+/// assert_eq!(max_wasm_memory32_pages(1), 4_294_967_295);
+/// ```
 pub fn max_wasm_memory32_pages(page_size: u64) -> u64 {
     assert!(is_page_size(page_size));
     ((1 << 32) / page_size).min(u32::MAX.into())
 }
 
-/// The largest number of pages of this size in a memory with 64-bit addresses.
+/// Returns the largest number of pages of this size in a memory with 64-bit addresses: 2^64 / `page_size`, but at most 2^64 - 1.
 ///
 /// # Panics
+///
 /// If the size is not a power of two of at most 65,536.
 pub fn max_wasm_memory64_pages(page_size: u64) -> u64 {
     assert!(is_page_size(page_size));
     u64::try_from((1_u128 << 64) / u128::from(page_size)).unwrap_or(u64::MAX)
 }
 
-/// Returns whether a page may have this size.
+/// Returns whether a page may have this size: a power of two of at most 65,536.
 pub fn is_page_size(size: u64) -> bool {
     size.is_power_of_two() && size <= DEFAULT_WASM_PAGE_SIZE
 }
