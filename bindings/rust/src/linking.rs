@@ -284,20 +284,59 @@ impl<'a> FromReader<'a> for ComdatSymbol {
 /// # Ok::<(), pulleynavy::Error>(())
 /// ```
 #[derive(Clone, Copy, Debug, PartialEq, Eq, Hash)]
-#[allow(missing_docs)]
 pub enum SymbolInfo<'a> {
-    /// A function, by its index.
-    Func { flags: SymbolFlags, index: u32, name: Option<&'a str> },
-    /// Data, and its location if it is defined in this module.
-    Data { flags: SymbolFlags, name: &'a str, symbol: Option<DefinedDataSymbol> },
-    /// A global, by its index.
-    Global { flags: SymbolFlags, index: u32, name: Option<&'a str> },
-    /// A section, by its index.
-    Section { flags: SymbolFlags, section: u32 },
-    /// An event, by its index.
-    Event { flags: SymbolFlags, index: u32, name: Option<&'a str> },
-    /// A table, by its index.
-    Table { flags: SymbolFlags, index: u32, name: Option<&'a str> },
+    /// A function.
+    Func {
+        /// The flags of the symbol.
+        flags: SymbolFlags,
+        /// The index of the function.
+        index: u32,
+        /// The name of the symbol, if it has one of its own.
+        name: Option<&'a str>,
+    },
+    /// Data in a segment.
+    Data {
+        /// The flags of the symbol.
+        flags: SymbolFlags,
+        /// The name of the symbol.
+        name: &'a str,
+        /// The location of the data, if it is defined in this module.
+        symbol: Option<DefinedDataSymbol>,
+    },
+    /// A global.
+    Global {
+        /// The flags of the symbol.
+        flags: SymbolFlags,
+        /// The index of the global.
+        index: u32,
+        /// The name of the symbol, if it has one of its own.
+        name: Option<&'a str>,
+    },
+    /// A section.
+    Section {
+        /// The flags of the symbol.
+        flags: SymbolFlags,
+        /// The index of the section among all sections of the module.
+        section: u32,
+    },
+    /// An event, which the core specification calls a tag.
+    Event {
+        /// The flags of the symbol.
+        flags: SymbolFlags,
+        /// The index of the event.
+        index: u32,
+        /// The name of the symbol, if it has one of its own.
+        name: Option<&'a str>,
+    },
+    /// A table.
+    Table {
+        /// The flags of the symbol.
+        flags: SymbolFlags,
+        /// The index of the table.
+        index: u32,
+        /// The name of the symbol, if it has one of its own.
+        name: Option<&'a str>,
+    },
 }
 
 /// The location of a defined data symbol.

@@ -79,16 +79,17 @@ macro_rules! ascending {
         $(#[$doc])*
         #[derive(Clone, Debug)]
         pub struct $name<'a> {
-            /// The remaining entries, whose order is not checked.
+            /// An iterator over the remaining entries as encoded, in any order.
             pub names: SectionLimitedIntoIter<'a, $entry<'a>>,
             last: Last,
         }
 
         impl<'a> $name<'a> {
-            /// Takes the remaining bytes of a reader as a map, and reads its count.
+            /// Takes the remaining bytes of a reader as a map, and reads the count. The entries are read lazily.
             ///
             /// # Errors
-            /// If the count is malformed.
+            ///
+            /// Those of [`BinaryReader::read_var_u32`] for the count.
             pub fn new(reader: BinaryReader<'a>) -> Result<Self> {
                 Ok($name::of(SectionLimited::new(reader)?))
             }
@@ -97,7 +98,7 @@ macro_rules! ascending {
                 $name { names: names.into_iter(), last: Last::default() }
             }
 
-            /// The offset at which the next entry begins.
+            /// Returns the offset of the next entry, in bytes from the start of the stream.
             pub fn original_position(&self) -> u64 {
                 self.names.original_position()
             }
@@ -120,11 +121,44 @@ macro_rules! ascending {
 }
 
 ascending! {
-    /// An iterator over names by index. An index that is not above the last one is an error, and the iteration continues.
+    /// A name map, an iterator over entries whose indices ascend.
+    ///
+    /// # Errors
+    ///
+    /// An entry whose index is not above every index returned before is `NamesOrder` at the start of the entry, and the next one follows.
+    /// The iterator ends after the error of a malformed entry, or after `SizeMismatch` if bytes follow the last entry.
+    ///
+    /// # Examples
+    ///
+    /// ```
+    /// use pulleynavy::{BinaryReader, Error, Fault, NameMap, Naming};
+    ///
+    /// // The indices are 5 and 3.
+    /// let mut names = NameMap::new(BinaryReader::new(b"\x02\x05\x01a\x03\x01b", 0))?;
+    /// assert_eq!(names.next(), Some(Ok(Naming { index: 5, name: "a" })));
+    /// assert_eq!(names.next(), Some(Err(Error::new(Fault::NamesOrder, 4))));
+    /// # Ok::<(), pulleynavy::Error>(())
+    /// ```
     NameMap, Naming, Fault::NamesOrder
 }
 ascending! {
-    /// An iterator over indices with their own names. An index that is not above the last one is an error, and the iteration continues.
+    /// An indirect name map, an iterator over entries whose indices ascend.
+    ///
+    /// # Errors
+    ///
+    /// Those of [`NameMap`], with `IndirectOrder` for an index that does not ascend.
+    ///
+    /// # Examples
+    ///
+    /// ```
+    /// use pulleynavy::{BinaryReader, IndirectNameMap};
+    ///
+    /// // Local 0 of function 5 is called "x".
+    /// for function in IndirectNameMap::new(BinaryReader::new(b"\x01\x05\x01\x00\x01x", 0))? {
+    ///     assert_eq!(function?.index, 5);
+    /// }
+    /// # Ok::<(), pulleynavy::Error>(())
+    /// ```
     IndirectNameMap, IndirectNaming, Fault::IndirectOrder
 }
 

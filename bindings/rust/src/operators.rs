@@ -65,28 +65,51 @@ impl From<V128> for u128 {
 #[allow(missing_docs)]
 #[rustfmt::skip]
 pub enum Operator<'a> {
+    /// `end`: marks the end of the expression.
     End,
+    /// `global.get`: pushes the value of a global.
     GlobalGet { global_index: u32 },
+    /// `i32.const`: pushes a 32-bit integer.
     I32Const { value: i32 },
+    /// `i64.const`: pushes a 64-bit integer.
     I64Const { value: i64 },
+    /// `f32.const`: pushes a 32-bit float.
     F32Const { value: Ieee32 },
+    /// `f64.const`: pushes a 64-bit float.
     F64Const { value: Ieee64 },
+    /// `v128.const`: pushes a 128-bit vector.
     V128Const { value: V128 },
+    /// `i32.add`: adds two 32-bit integers.
     I32Add,
+    /// `i32.sub`: subtracts two 32-bit integers.
     I32Sub,
+    /// `i32.mul`: multiplies two 32-bit integers.
     I32Mul,
+    /// `i64.add`: adds two 64-bit integers.
     I64Add,
+    /// `i64.sub`: subtracts two 64-bit integers.
     I64Sub,
+    /// `i64.mul`: multiplies two 64-bit integers.
     I64Mul,
+    /// `ref.null`: pushes a null reference of this heap type.
     RefNull { hty: HeapType },
+    /// `ref.func`: pushes a reference to a function.
     RefFunc { function_index: u32 },
+    /// `ref.i31`: converts a 32-bit integer to an unboxed 31-bit reference.
     RefI31,
+    /// `struct.new`: allocates a structure, with field values from the stack.
     StructNew { struct_type_index: u32 },
+    /// `struct.new_default`: allocates a structure of default values.
     StructNewDefault { struct_type_index: u32 },
+    /// `array.new`: allocates an array of copies of a value.
     ArrayNew { array_type_index: u32 },
+    /// `array.new_default`: allocates an array of default values.
     ArrayNewDefault { array_type_index: u32 },
+    /// `array.new_fixed`: allocates an array of this many elements from the stack.
     ArrayNewFixed { array_type_index: u32, array_size: u32 },
+    /// `any.convert_extern`: converts a reference of the host to one of the module.
     AnyConvertExtern,
+    /// `extern.convert_any`: converts a reference of the module to one of the host.
     ExternConvertAny,
     // Never made: it gives the type the lifetime that it has in `wasmparser`, where some instructions borrow from the input.
     #[doc(hidden)]

@@ -30,9 +30,11 @@ macro_rules! relocation_types {
         /// ```
         #[derive(Clone, Copy, Debug, PartialEq, Eq, Hash)]
         #[repr(u8)]
-        #[allow(missing_docs)]
         pub enum RelocationType {
-            $($name = $number,)*
+            $(
+                #[doc = concat!("Number ", $number, ": fills in ", $extent, " bytes. Its addend is `RelocAddendKind::", stringify!($addend), "`.")]
+                $name = $number,
+            )*
         }
 
         impl TryFrom<u8> for RelocationType {
