@@ -29,5 +29,5 @@ fn main() {
     };
     println!("cargo::rerun-if-changed={}", path.display());
     println!("cargo::rustc-link-search=native={}", path.parent().unwrap_or(Path::new(".")).display());
-    println!("cargo::rustc-link-lib=static:+verbatim={}", path.file_name().unwrap_or_default().display());
+    println!("cargo::rustc-link-lib=static:+verbatim={}", Path::new(path.file_name().unwrap_or_default()).display());
 }

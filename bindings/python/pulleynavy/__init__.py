@@ -1,9 +1,8 @@
-"""Reads WebAssembly binaries: the events of a stream as they come, or a module in memory with its items.
+"""Reads WebAssembly binaries: the events of a stream as they arrive, or a module in memory with its items.
 
     import pulleynavy
 
-    with open("a.wasm", "rb") as file:
-        module = pulleynavy.Module.read(file)
+    module = pulleynavy.Module.read("a.wasm")
     for one in module.imports:
         print(one.module, one.name, one.kind.name)
 
@@ -11,8 +10,9 @@
         for event in pulleynavy.events(file):
             print(event.kind.name, event.start, event.end)
 
-A malformed module raises `Fault`, which has a kind and an offset. Nothing is validated, and function bodies are not decoded. The parser is the
-C library of Pulleynavy, `libpulleynavy.so.0`, which is proved to return what the binary grammar assigns; this module is tested.
+A malformed module raises `Fault`, which has a kind and an offset. Offsets and sizes are in bytes; offsets count from the start of the stream.
+Nothing is validated, and function bodies are not decoded. The parser is the C library of Pulleynavy, `libpulleynavy.so.0`, which is proved to
+return what the binary grammar assigns; this package is tested.
 """
 # SPDX-License-Identifier: Apache-2.0 OR MIT
 from __future__ import annotations
@@ -67,7 +67,9 @@ __all__ = [
 
 
 def strip(stream: bytes, keep_names: bool = False, library: Any = None) -> bytes:
-    """Returns a module without its custom sections; `keep_names` keeps the section `name`. Raises `Fault` if it is malformed.
+    """Returns a copy of a module without its custom sections. With `keep_names` the sections called `name` stay.
+
+    Raises `Fault` at the first fault of the stream. `library` is a library that `load` returned, by default the one it finds.
 
     >>> strip(b"\\0asm\\1\\0\\0\\0\\0\\2\\1a")
     b'\\x00asm\\x01\\x00\\x00\\x00'

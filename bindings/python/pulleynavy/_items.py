@@ -45,10 +45,10 @@ def _stored_by(call: str) -> Any:
 
 
 class Items:
-    """A cursor over `data`, which begins at `offset` of the stream, for the lists of a custom section.
+    """A cursor over the lists of a custom section, whose `data` begins at `offset` of the stream, in bytes.
 
     `call` is the rest of the name of a call of the C library: `all("symbols")` is `pulleynavy_next_symbols`, and `read("number")` is
-    `pulleynavy_read_number`. The structs are those of the C header.
+    `pulleynavy_read_number`. The structs are those of the C header; their sizes and positions are in bytes.
 
     >>> items = Items(b"\\2\\5\\1a\\7\\1b", 100)
     >>> [(one.index, items.text(one.name)) for one in items.counted().all("namings")]
@@ -62,23 +62,40 @@ class Items:
 
     @property
     def position(self) -> int:
-        """Where the next item begins, in bytes from the start of `data`."""
+        """The position of the next item, in bytes from the start of `data`.
+
+        >>> items = Items(b"\\5\\7", 100)
+        >>> items.read("number").value, items.position
+        (5, 1)
+        """
         return int(self._cursor.position)
 
     def skip(self, size: int, count: int = 0) -> Items:
-        """Moves past `size` bytes, to a list of `count` items."""
+        """Moves past `size` bytes, to a list of `count` items, and returns itself.
+
+        >>> [one.value for one in Items(b"\\xff\\5\\7", 100).skip(1, 2).all("numbers")]
+        [5, 7]
+        """
         self._cursor.offset += size
         self._cursor.position += size
         self._cursor.remaining = count
         return self
 
     def counted(self) -> Items:
-        """Moves past a count, to its items. Raises `Fault` if it is malformed."""
+        """Reads a count and moves to the items after it, and returns itself. Raises `Fault` if the count is malformed.
+
+        >>> [one.value for one in Items(b"\\2\\5\\7", 100).counted().all("numbers")]
+        [5, 7]
+        """
         self._cursor.remaining = self.read("number").value
         return self
 
     def read(self, call: str) -> Any:
-        """Reads a single item. Its spans count from its first byte. Raises `Fault` if it is malformed."""
+        """Reads a single item and moves past it. Its spans count from its first byte. Raises `Fault` if it is malformed.
+
+        >>> Items(b"\\x80\\1", 100).read("number").value
+        128
+        """
         at = self.position
         item = getattr(self.library, "pulleynavy_read_" + call)(
             ctypes.addressof(self._held) + at, len(self.data) - at, self.offset + at, self.features
@@ -95,7 +112,14 @@ class Items:
             yield count
 
     def all(self, call: str) -> Iterator[Any]:
-        """Yields the items of the list. Their spans count from the start of `data`. Raises the first fault, in its turn."""
+        """Yields the items of the list. Their spans count from the start of `data`.
+
+        Raises the `Fault` of a malformed item after the items before it, and that of bytes after the last item.
+
+        >>> items = Items(b"\\1\\1a", 100).counted()
+        >>> [items.text(one.name) for one in items.all("names")]
+        ['a']
+        """
         room = (_stored_by(call) * STRUCTS)()
         for count in self._batches(call, room, self._cursor):
             for one in room[:count]:
@@ -104,12 +128,21 @@ class Items:
                 yield one
 
     def rows(self, call: str, layout: struct.Struct) -> Iterator[tuple[Any, ...]]:
-        """Yields some fields of each item, ten times as fast as structs. Raises the first fault, in its turn."""
+        """Yields some fields of each item, ten times as fast as structs. Raises faults as `all` does.
+
+        >>> list(Items(b"\\2\\5\\7", 100).counted().rows("numbers", fields("Number", "value")))
+        [(5,), (7,)]
+        """
         for _, rows in self._stored(call, layout, self._cursor):
             yield from rows
 
     def imports(self, layout: struct.Struct) -> Iterator[tuple[Any, Iterator[tuple[Any, ...]]]]:
-        """Yields arrays of imports, those of bundles one by one, with some fields of each. Raises the first fault, in its turn."""
+        """Yields arrays of imports, including those of bundles one by one, with some fields of each. Raises faults as `all` does.
+
+        >>> items = Items(b"\\1\\1m\\1f\\0\\5", 100).counted()
+        >>> [list(rows) for _, rows in items.imports(fields("Import", "ty.index"))]
+        [[(5,)]]
+        """
         return self._stored("flat_imports", layout, declared.Imports(items=self._cursor))
 
     def _stored(self, call: str, layout: struct.Struct, cursor: Any) -> Iterator[tuple[Any, Iterator[tuple[Any, ...]]]]:
@@ -126,13 +159,28 @@ class Items:
                 raise Fault(self.library, room[sound].fault)
 
     def bytes_of(self, span: Any) -> bytes:
-        """The bytes of a span of an item of the list."""
+        """Returns the bytes of a span, which counts from the start of `data`.
+
+        >>> items = Items(b"\\1\\1a", 100).counted()
+        >>> [items.bytes_of(one.name) for one in items.all("names")]
+        [b'a']
+        """
         return self.data[span.at : span.at + span.size]
 
     def text(self, span: Any) -> str:
-        """The text of a span."""
+        """Returns the text of a span, which counts from the start of `data`. The library has checked that it is UTF-8.
+
+        >>> items = Items(b"\\1\\1a", 100).counted()
+        >>> [items.text(one.name) for one in items.all("names")]
+        ['a']
+        """
         return self.bytes_of(span).decode()
 
     def part(self, span: Any) -> Items:
-        """A cursor over the bytes of a span."""
+        """Returns a cursor over the bytes of a span, such as the contents of a subsection.
+
+        >>> items = Items(b"\\1\\2\\5\\7", 100)
+        >>> [(one.id, items.part(one.contents).read("number").value) for one in items.all("subsections")]
+        [(1, 5)]
+        """
         return Items(self.bytes_of(span), self.offset + span.at, self.features, self.library)

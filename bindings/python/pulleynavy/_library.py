@@ -1,4 +1,4 @@
-"""The shared library: how it is found, its declarations, and faults as exceptions."""
+"""Loading the shared library, and faults as exceptions."""
 # SPDX-License-Identifier: Apache-2.0 OR MIT
 from __future__ import annotations
 
@@ -19,9 +19,9 @@ NAME = "libpulleynavy.so.0"
 
 @functools.lru_cache(maxsize=None)
 def load(path: str | None = None) -> Any:
-    """Loads the shared library from `path`, from `$PULLEYNAVY_LIB`, from this package, or from where the system looks.
+    """Loads the shared library from `path`, from `$PULLEYNAVY_LIB`, from this package, or from where the system looks, in this order.
 
-    Raises `OSError` if it is not found, and `AttributeError` if it lacks a call of this version.
+    The library is loaded once for each path. Raises `OSError` if it is not found, and `AttributeError` if it lacks a call of this version.
 
     >>> load().pulleynavy_version() > 0
     True
@@ -35,10 +35,18 @@ def load(path: str | None = None) -> Any:
 
 
 class Fault(ValueError):
-    """A malformed or truncated module.
+    """A fault of a malformed or truncated module, as an exception.
 
-    `kind` says what is wrong, `offset` where, in bytes from the start of the stream, `number` is the value that belongs to the fault, if
-    there is one, and `text` is the message of the Rust crate wasmparser.
+    `kind` is the kind of the fault, and `code` also has its detail in the bits above the lowest 8. `offset` is in bytes from the start of
+    the stream. `number` is the number of the fault, if it has one: a version, a length or a byte. `text` is the message of the Rust crate
+    wasmparser, without the number and the offset.
+
+    >>> from pulleynavy import Module
+    >>> try:
+    ...     Module(b"\\0asm\\2\\0\\0\\0")
+    ... except Fault as fault:
+    ...     print(fault.kind.name, fault.offset, fault.number)
+    UNKNOWN_VERSION 4 2
     """
 
     def __init__(self, library: Any, fault: Any) -> None:

@@ -7,9 +7,10 @@ import dataclasses
 import functools
 import gc
 import io
+import os
 from typing import Any, BinaryIO, Iterator, NamedTuple
 
-from ._events import Event, events
+from ._events import Event, binary, events
 from ._items import Items, fields
 from ._library import ALL_FEATURES, load
 from .declared import CustomKind, DataKind, ElementKind, EventKind, ExternalKind, HeapKind, NameId, SectionId, TypeKind
@@ -17,7 +18,14 @@ from .declared import CustomKind, DataKind, ElementKind, EventKind, ExternalKind
 
 @dataclasses.dataclass(frozen=True)
 class Section:
-    """A section: its id, the offsets of its content, and its count of items, if it begins with one."""
+    """A section of a module.
+
+    `id` is the id of the section, a `SectionId` if it is known. `start` and `end` are the offsets of the content, in bytes from the start of
+    the stream. `count` is the announced number of items or bodies, or `None`. `name` is the name of a custom section, otherwise `None`.
+
+    >>> Module(b"\\0asm\\1\\0\\0\\0\\5\\3\\1\\0\\2").sections
+    [Section(id=5, start=10, end=13, count=1, name=None)]
+    """
 
     id: int
     start: int
@@ -27,13 +35,24 @@ class Section:
 
     @property
     def size(self) -> int:
-        """How many bytes its content has."""
+        """The size of the content in bytes.
+
+        >>> Section(3, 10, 12, 1).size
+        2
+        """
         return self.end - self.start
 
 
 @dataclasses.dataclass(frozen=True)
 class ValueType:
-    """A value type: a number or vector type, or a reference to `heap`, or to the type with this index."""
+    """A value type: a number type, a vector type or a reference.
+
+    Of a reference, `nullable` says whether it may be null, and `heap` is the type of what it refers to. If that is `HeapKind.CONCRETE`, it is
+    the type with this `index`.
+
+    >>> ValueType(TypeKind.REF, True, HeapKind.FUNC).kind.name
+    'REF'
+    """
 
     kind: TypeKind
     nullable: bool = False
@@ -43,7 +62,10 @@ class ValueType:
 
 @dataclasses.dataclass(frozen=True)
 class Limits:
-    """The initial size and the maximum, if there is one, in elements or pages."""
+    """The limits of a table, in elements, or of a memory, in pages.
+
+    `maximum` is `None` without a maximum. `is_64` says whether indices or addresses have 64 bits, and `shared` whether threads share it.
+    """
 
     initial: int
     maximum: int | None
@@ -53,7 +75,7 @@ class Limits:
 
 @dataclasses.dataclass(frozen=True)
 class Table:
-    """A table: the type of its elements and its limits."""
+    """A table: the type of its elements, and its limits in elements."""
 
     element: ValueType
     limits: Limits
@@ -61,7 +83,13 @@ class Table:
 
 @dataclasses.dataclass(frozen=True)
 class Memory:
-    """A memory: its limits in pages, and the size of a page as a power of two, if it is written."""
+    """A memory: its limits in pages, and the base-2 logarithm of the page size in bytes.
+
+    If `page_size_log2` is `None`, a page has 65,536 bytes.
+
+    >>> Module(b"\\0asm\\1\\0\\0\\0\\5\\3\\1\\0\\2").memories[0].limits.initial
+    2
+    """
 
     limits: Limits
     page_size_log2: int | None
@@ -69,7 +97,7 @@ class Memory:
 
 @dataclasses.dataclass(frozen=True)
 class Global:
-    """A global: its type."""
+    """The type of a global: that of its value, and whether it is mutable and shared."""
 
     content: ValueType
     mutable: bool
@@ -77,7 +105,10 @@ class Global:
 
 
 class Import(NamedTuple):
-    """An import: `type` is the index of a function's or a tag's type, or the table, memory or global."""
+    """An import: the names of the module and of the import in it, its kind and its type.
+
+    `type` is the type index of a function or a tag, or the `Table`, `Memory` or `Global`.
+    """
 
     module: str
     name: str
@@ -86,7 +117,7 @@ class Import(NamedTuple):
 
 
 class Export(NamedTuple):
-    """An export: what is exported, and its index among those of its kind."""
+    """An export: its name, its kind, and its index in the index space of the kind."""
 
     name: str
     kind: ExternalKind
@@ -94,7 +125,10 @@ class Export(NamedTuple):
 
 
 class Element(NamedTuple):
-    """An element segment: what becomes of it, the table of an active one, and how many elements it has."""
+    """An element segment: its kind, the index of the table of an active segment, and the number of its elements.
+
+    `table` is `None` if no index is encoded: the segment is then for table 0, or not active.
+    """
 
     kind: ElementKind
     table: int | None
@@ -102,7 +136,7 @@ class Element(NamedTuple):
 
 
 class Data(NamedTuple):
-    """A data segment: what becomes of it, the memory of an active one, and its bytes."""
+    """A data segment: its kind, the index of the memory of an active segment, and its bytes."""
 
     kind: DataKind
     memory: int | None
@@ -111,7 +145,13 @@ class Data(NamedTuple):
 
 @dataclasses.dataclass(frozen=True)
 class CustomSection:
-    """A custom section: its name, which known section that is, its data, and the offset of the data."""
+    """A custom section: its name, its kind by this name, its data, and the offset of the data in bytes from the start of the stream.
+
+    Read the lists of a section with `Items`.
+
+    >>> Module(b"\\0asm\\1\\0\\0\\0\\0\\3\\1a\\7").custom_sections
+    [CustomSection(name='a', kind=<CustomKind.UNKNOWN: 0>, data=b'\\x07', offset=12)]
+    """
 
     name: str
     kind: CustomKind
@@ -121,7 +161,10 @@ class CustomSection:
 
 @dataclasses.dataclass(frozen=True)
 class Names:
-    """The names of the section `name` (core specification, Appendix, Name Section)."""
+    """The names of the section `name`: that of the module, if any, and those of functions by their indices.
+
+    (Core specification, Appendix, Custom Sections, Name Section.)
+    """
 
     module: str | None
     functions: dict[int, str]
@@ -186,7 +229,11 @@ _EXTERNAL_KINDS, _ELEMENT_KINDS, _DATA_KINDS = tuple(ExternalKind), tuple(Elemen
 
 
 class Module:
-    """A module in memory. Sections are read when they are first asked for; a malformed item raises `Fault` then.
+    """A module in memory.
+
+    The framing is parsed at once. The items of a section are read when you first access them, and kept; a malformed item raises `Fault` then.
+    `features` is a sum of `MEMORY64` and `COMPACT_IMPORTS`, and `library` a library that `load` returned. Raises `Fault` at the first fault of
+    the framing.
 
     >>> module = Module(b"\\0asm\\1\\0\\0\\0\\7\\5\\1\\1a\\0\\0")
     >>> module.exports
@@ -198,13 +245,21 @@ class Module:
         self._events = list(events(io.BytesIO(stream), max(1, len(stream)), features, self._library))
 
     @classmethod
-    def read(cls, file: BinaryIO, features: int = ALL_FEATURES) -> Module:
-        """Reads a whole file, opened in binary mode. Raises `Fault` if the framing is malformed; items are read later.
+    def read(cls, file: BinaryIO | str | os.PathLike[str], features: int = ALL_FEATURES) -> Module:
+        """Reads a whole file: a path, or a file that was opened in binary mode.
+
+        Raises `Fault` at the first fault of the framing; `TypeError` if the file was opened in text mode, or if `file` is the bytes of a module,
+        for which you call `Module`; and `OSError` if a path can't be read.
 
         >>> Module.read(io.BytesIO(b"\\0asm\\1\\0\\0\\0")).sections
         []
         """
-        return cls(file.read(), features)
+        if isinstance(file, (bytes, bytearray, memoryview)):
+            raise TypeError("read takes a path or a file: call Module(stream) for the bytes of a module")
+        if isinstance(file, (str, os.PathLike)):
+            with open(file, "rb") as opened:
+                return cls(opened.read(), features)
+        return cls(binary(file.read()), features)
 
     def _lists(self, number: int) -> Iterator[Items]:
         """The items of each section with this id."""
@@ -214,48 +269,85 @@ class Module:
 
     @functools.cached_property
     def is_component(self) -> bool:
-        """Whether the header is that of a component, whose sections are not read further."""
+        """Whether the header is that of a component, whose sections are not decoded.
+
+        >>> Module(b"\\0asm\\x0d\\0\\1\\0").is_component
+        True
+        """
         return bool(self._events[0].id)
 
     @functools.cached_property
     def sections(self) -> list[Section]:
-        """Each section of the module, in order."""
+        """The sections of the module, in order.
+
+        >>> [section.id for section in Module(b"\\0asm\\1\\0\\0\\0\\1\\1\\0").sections]
+        [1]
+        """
         return [section for event in self._events for section in _section(event)]
 
     @functools.cached_property
     def imports(self) -> list[Import]:
-        """The imports, those of bundles among them."""
+        """The imports, including those of bundles.
+
+        >>> one, = Module(b"\\0asm\\1\\0\\0\\0\\2\\7\\1\\1m\\1f\\0\\5").imports
+        >>> one.module, one.name, one.kind.name, one.type
+        ('m', 'f', 'FUNC', 5)
+        """
         with _paused_collector():
             return [one for items in self._lists(SectionId.IMPORT) for one in _imports(items)]
 
     @functools.cached_property
     def functions(self) -> list[int]:
-        """The index of the type of each function that the module defines."""
+        """The type index of each function that the module defines. Imported functions come before them in the index space.
+
+        >>> Module(b"\\0asm\\1\\0\\0\\0\\3\\2\\1\\7\\x0a\\4\\1\\2\\0\\x0b").functions
+        [7]
+        """
         return [index for items in self._lists(SectionId.FUNCTION) for index, in items.rows("numbers", _NUMBER)]
 
     @functools.cached_property
     def tables(self) -> list[Table]:
-        """The tables that the module defines."""
+        """The tables that the module defines.
+
+        >>> Module(b"\\0asm\\1\\0\\0\\0\\4\\4\\1\\x70\\0\\5").tables[0].limits
+        Limits(initial=5, maximum=None, is_64=False, shared=False)
+        """
         return [_table(one.ty) for items in self._lists(SectionId.TABLE) for one in items.all("tables")]
 
     @functools.cached_property
     def memories(self) -> list[Memory]:
-        """The memories that the module defines."""
+        """The memories that the module defines.
+
+        >>> Module(b"\\0asm\\1\\0\\0\\0\\5\\4\\1\\1\\1\\2").memories[0].limits.maximum
+        2
+        """
         return [_memory(one.ty) for items in self._lists(SectionId.MEMORY) for one in items.all("memories")]
 
     @functools.cached_property
     def globals(self) -> list[Global]:
-        """The globals that the module defines."""
+        """The types of the globals that the module defines.
+
+        >>> Module(b"\\0asm\\1\\0\\0\\0\\6\\6\\1\\x7f\\1\\x41\\5\\x0b").globals[0].mutable
+        True
+        """
         return [_global(one.ty) for items in self._lists(SectionId.GLOBAL) for one in items.all("globals")]
 
     @functools.cached_property
     def tags(self) -> list[int]:
-        """The index of the function type of each tag that the module defines."""
+        """The index of the function type of each tag that the module defines.
+
+        >>> Module(b"\\0asm\\1\\0\\0\\0\\x0d\\3\\1\\0\\7").tags
+        [7]
+        """
         return [one.func_type_index for items in self._lists(SectionId.TAG) for one in items.all("tags")]
 
     @functools.cached_property
     def exports(self) -> list[Export]:
-        """The exports."""
+        """The exports.
+
+        >>> [(one.name, one.index) for one in Module(b"\\0asm\\1\\0\\0\\0\\7\\5\\1\\1a\\0\\5").exports]
+        [('a', 5)]
+        """
         new = tuple.__new__
         with _paused_collector():
             return [
@@ -267,7 +359,11 @@ class Module:
 
     @functools.cached_property
     def elements(self) -> list[Element]:
-        """The element segments."""
+        """The element segments.
+
+        >>> Module(b"\\0asm\\1\\0\\0\\0\\x09\\7\\1\\0\\x41\\0\\x0b\\1\\5").elements
+        [Element(kind=<ElementKind.ACTIVE: 1>, table=None, count=1)]
+        """
         return [
             Element(_ELEMENT_KINDS[kind], table if has_table else None, count)
             for items in self._lists(SectionId.ELEMENT)
@@ -276,7 +372,11 @@ class Module:
 
     @functools.cached_property
     def data(self) -> list[Data]:
-        """The data segments."""
+        """The data segments.
+
+        >>> Module(b"\\0asm\\1\\0\\0\\0\\x0b\\5\\1\\1\\2hi").data
+        [Data(kind=<DataKind.PASSIVE: 0>, memory=None, contents=b'hi')]
+        """
         with _paused_collector():
             return [
                 Data(_DATA_KINDS[kind], memory if kind == DataKind.ACTIVE else None, items.data[at : at + size])
@@ -286,17 +386,29 @@ class Module:
 
     @functools.cached_property
     def start(self) -> int | None:
-        """The index of the start function, if there is one."""
+        """The index of the start function, or `None`.
+
+        >>> Module(b"\\0asm\\1\\0\\0\\0\\x08\\1\\5").start
+        5
+        """
         return next((event.count for event in self._events if event.kind is EventKind.START), None)
 
     @functools.cached_property
     def bodies(self) -> list[range]:
-        """The offsets of each function body."""
+        """The offsets of each function body, in bytes from the start of the stream.
+
+        >>> Module(b"\\0asm\\1\\0\\0\\0\\3\\2\\1\\0\\x0a\\4\\1\\2\\0\\x0b").bodies
+        [range(16, 18)]
+        """
         return [range(event.start, event.end) for event in self._events if event.kind is EventKind.BODY]
 
     @functools.cached_property
     def custom_sections(self) -> list[CustomSection]:
-        """The custom sections."""
+        """The custom sections, in order.
+
+        >>> [section.name for section in Module(b"\\0asm\\1\\0\\0\\0\\0\\2\\1a").custom_sections]
+        ['a']
+        """
         return [self._custom(event) for event in self._events if event.kind is EventKind.CUSTOM]
 
     def _custom(self, event: Event) -> CustomSection:
@@ -306,7 +418,11 @@ class Module:
 
     @functools.cached_property
     def names(self) -> Names:
-        """The names of the module and its functions; none where there is no section `name`."""
+        """The names of the module and of functions, empty without a section `name`.
+
+        >>> Module(b"\\0asm\\1\\0\\0\\0\\0\\x0b\\4name\\1\\4\\1\\5\\1f").names
+        Names(module=None, functions={5: 'f'})
+        """
         module: str | None = None
         functions: dict[int, str] = {}
         for section in self.custom_sections:

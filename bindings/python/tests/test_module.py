@@ -2,6 +2,7 @@
 # SPDX-License-Identifier: Apache-2.0 OR MIT
 import doctest
 import io
+import pathlib
 import subprocess
 import sys
 import tempfile
@@ -157,6 +158,23 @@ class Streams(unittest.TestCase):
         stream = HEADER + b"\0" + bytes([len(data) & 0x7F | 0x80, len(data) >> 7 & 0x7F | 0x80, len(data) >> 14]) + data
         custom = list(pulleynavy.events(io.BytesIO(stream), 1000))[1]
         self.assertEqual((custom.name, custom.data), ("x", bytes(100_000)))
+
+    def test_a_path_in_place_of_a_file(self):
+        with tempfile.NamedTemporaryFile() as file:
+            file.write(FUNCTIONS)
+            file.flush()
+            for path in (file.name, pathlib.Path(file.name)):
+                self.assertEqual(Module.read(path).functions, [0])
+                self.assertEqual(list(pulleynavy.events(path)), list(pulleynavy.events(io.BytesIO(FUNCTIONS))))
+        with self.assertRaises(FileNotFoundError):
+            Module.read("no such file")
+
+    def test_a_file_in_text_mode_and_bytes_in_place_of_a_file(self):
+        for read in (Module.read, lambda file: list(pulleynavy.events(file))):
+            with self.assertRaisesRegex(TypeError, "binary mode"):
+                read(io.StringIO("text"))
+        with self.assertRaisesRegex(TypeError, "Module"):
+            Module.read(HEADER)
 
     def test_strip(self):
         self.assertEqual(pulleynavy.strip(HEADER + b"\0\5\4name\0\2\1x", keep_names=True), HEADER + b"\0\5\4name")

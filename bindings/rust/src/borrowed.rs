@@ -31,6 +31,17 @@ pub(crate) fn read_list<'a, T>(reader: &mut BinaryReader<'a>, read: fn(&mut Bina
 }
 
 /// The type of a function.
+///
+/// # Examples
+///
+/// ```
+/// use pulleynavy::{BinaryReader, FuncType, ValType};
+///
+/// let ty = BinaryReader::new(&[1, 0x7f, 1, 0x7e], 0).read::<FuncType>()?;
+/// assert!(ty.params().eq([ValType::I32]));
+/// assert!(ty.results().eq([ValType::I64]));
+/// # Ok::<(), pulleynavy::Error>(())
+/// ```
 #[derive(Clone, Debug)]
 pub struct FuncType<'a> {
     params: List<'a, ValType>,
@@ -38,12 +49,12 @@ pub struct FuncType<'a> {
 }
 
 impl<'a> FuncType<'a> {
-    /// The types of its parameters.
+    /// Returns the types of the parameters.
     pub fn params(&self) -> List<'a, ValType> {
         self.params.clone()
     }
 
-    /// The types of its results.
+    /// Returns the types of the results.
     pub fn results(&self) -> List<'a, ValType> {
         self.results.clone()
     }
@@ -62,9 +73,19 @@ impl<'a> FromReader<'a> for FuncType<'a> {
 }
 
 /// The type of a structure.
+///
+/// # Examples
+///
+/// ```
+/// use pulleynavy::{BinaryReader, StructType};
+///
+/// let ty = BinaryReader::new(&[1, 0x78, 0], 0).read::<StructType>()?;
+/// assert_eq!(ty.fields.len(), 1);
+/// # Ok::<(), pulleynavy::Error>(())
+/// ```
 #[derive(Clone, Debug)]
 pub struct StructType<'a> {
-    /// Its fields.
+    /// The fields of the structure.
     pub fields: List<'a, FieldType>,
 }
 
@@ -74,7 +95,7 @@ impl<'a> FromReader<'a> for StructType<'a> {
     }
 }
 
-/// A function, array or struct type.
+/// A function, array or structure type.
 #[derive(Clone, Debug)]
 pub enum CompositeInnerType<'a> {
     /// The type of a function.
@@ -87,7 +108,7 @@ pub enum CompositeInnerType<'a> {
     Cont(ContType),
 }
 
-/// A function, array or struct type, and whether threads share it.
+/// A function, array or structure type, and whether threads share it.
 #[derive(Clone, Debug)]
 pub struct CompositeType<'a> {
     /// The type.
@@ -97,9 +118,10 @@ pub struct CompositeType<'a> {
 }
 
 impl<'a> CompositeType<'a> {
-    /// The function type.
+    /// Returns the function type.
     ///
     /// # Panics
+    ///
     /// If it is another type.
     pub fn unwrap_func(&self) -> &FuncType<'a> {
         match &self.inner {
@@ -108,9 +130,10 @@ impl<'a> CompositeType<'a> {
         }
     }
 
-    /// The array type.
+    /// Returns the array type.
     ///
     /// # Panics
+    ///
     /// If it is another type.
     pub fn unwrap_array(&self) -> &ArrayType {
         match &self.inner {
@@ -119,9 +142,10 @@ impl<'a> CompositeType<'a> {
         }
     }
 
-    /// The struct type.
+    /// Returns the structure type.
     ///
     /// # Panics
+    ///
     /// If it is another type.
     pub fn unwrap_struct(&self) -> &StructType<'a> {
         match &self.inner {
@@ -131,37 +155,53 @@ impl<'a> CompositeType<'a> {
     }
 }
 
-/// A type, and the type that it extends.
+/// A composite type and the type that it extends, if any.
+///
+/// # Examples
+///
+/// ```
+/// use pulleynavy::{BinaryReader, PackedIndex, SubType};
+///
+/// // Not final, and extends type 3: a structure without fields.
+/// let ty = BinaryReader::new(&[0x50, 1, 3, 0x5f, 0], 0).read::<SubType>()?;
+/// assert!(!ty.is_final);
+/// assert_eq!(ty.supertype_idx, PackedIndex::from_module_index(3));
+/// assert_eq!(ty.unwrap_struct().fields.len(), 0);
+/// # Ok::<(), pulleynavy::Error>(())
+/// ```
 #[derive(Clone, Debug)]
 pub struct SubType<'a> {
     /// Whether no type may extend this one.
     pub is_final: bool,
-    /// The index of the type that this one extends.
+    /// The index of the type that this one extends, if any.
     pub supertype_idx: Option<PackedIndex>,
-    /// The type itself.
+    /// The function, array or structure type.
     pub composite_type: CompositeType<'a>,
 }
 
 impl<'a> SubType<'a> {
-    /// The function type.
+    /// Returns the function type.
     ///
     /// # Panics
+    ///
     /// If it is another type.
     pub fn unwrap_func(&self) -> &FuncType<'a> {
         self.composite_type.unwrap_func()
     }
 
-    /// The array type.
+    /// Returns the array type.
     ///
     /// # Panics
+    ///
     /// If it is another type.
     pub fn unwrap_array(&self) -> &ArrayType {
         self.composite_type.unwrap_array()
     }
 
-    /// The struct type.
+    /// Returns the structure type.
     ///
     /// # Panics
+    ///
     /// If it is another type.
     pub fn unwrap_struct(&self) -> &StructType<'a> {
         self.composite_type.unwrap_struct()
@@ -181,7 +221,18 @@ impl<'a> FromReader<'a> for SubType<'a> {
     }
 }
 
-/// Types that may refer to each other.
+/// A recursive group of types, which may refer to each other.
+///
+/// # Examples
+///
+/// ```
+/// use pulleynavy::{BinaryReader, RecGroup};
+///
+/// let group = BinaryReader::new(&[0x4e, 2, 0x5f, 0, 0x60, 0, 0], 0).read::<RecGroup>()?;
+/// assert!(group.is_explicit_rec_group());
+/// assert_eq!(group.types().len(), 2);
+/// # Ok::<(), pulleynavy::Error>(())
+/// ```
 #[derive(Clone, Debug)]
 pub struct RecGroup<'a> {
     explicit: bool,
@@ -189,17 +240,17 @@ pub struct RecGroup<'a> {
 }
 
 impl<'a> RecGroup<'a> {
-    /// Whether the group is written as one. If not, it is a single type.
+    /// Returns whether the group is encoded as a group. Otherwise it is a single type.
     pub fn is_explicit_rec_group(&self) -> bool {
         self.explicit
     }
 
-    /// The types of the group, in order.
+    /// Returns an iterator over the types of the group, in order.
     pub fn types(&self) -> List<'a, SubType<'a>> {
         self.types.clone()
     }
 
-    /// The types of the group, in order, by value.
+    /// Returns an iterator over the types of the group, in order, by value.
     pub fn into_types(self) -> List<'a, SubType<'a>> {
         self.types
     }
@@ -212,7 +263,20 @@ impl<'a> FromReader<'a> for RecGroup<'a> {
     }
 }
 
-/// The section `coreinstances`.
+/// The section `coreinstances`: the instances of a core dump.
+///
+/// # Examples
+///
+/// ```
+/// use pulleynavy::{BinaryReader, CoreDumpInstancesSection};
+///
+/// // An instance of module 0 with one memory, 0, and no globals.
+/// let section = CoreDumpInstancesSection::new(BinaryReader::new(&[1, 0, 0, 1, 0, 0], 0))?;
+/// for instance in section.instances {
+///     assert_eq!(instance.memories.len(), 1);
+/// }
+/// # Ok::<(), pulleynavy::Error>(())
+/// ```
 #[derive(Clone, Debug)]
 pub struct CoreDumpInstancesSection<'a> {
     /// The instances.
@@ -223,7 +287,8 @@ impl<'a> CoreDumpInstancesSection<'a> {
     /// Reads the section from the remaining bytes of a reader.
     ///
     /// # Errors
-    /// If an instance is malformed, or if bytes remain after the last one.
+    ///
+    /// The errors of the count and of an instance, or `CustomTrailing` at the first byte after the last instance.
     pub fn new(mut reader: BinaryReader<'a>) -> Result<Self> {
         let instances = reader.read()?;
         reader.expect_end(library::custom_end)?;
@@ -231,14 +296,24 @@ impl<'a> CoreDumpInstancesSection<'a> {
     }
 }
 
-/// An instance of a core dump.
+/// An instance of a module in a core dump.
+///
+/// # Examples
+///
+/// ```
+/// use pulleynavy::{BinaryReader, CoreDumpInstance};
+///
+/// let instance = BinaryReader::new(&[0, 1, 1, 7, 0], 0).read::<CoreDumpInstance>()?;
+/// assert_eq!((instance.module_index, instance.memories.len()), (1, 1));
+/// # Ok::<(), pulleynavy::Error>(())
+/// ```
 #[derive(Clone, Debug)]
 pub struct CoreDumpInstance<'a> {
-    /// The index of its module.
+    /// The index of the module in the section `coremodules`.
     pub module_index: u32,
-    /// The indices of its memories.
+    /// The indices of the instance's memories.
     pub memories: List<'a, u32>,
-    /// The indices of its globals.
+    /// The indices of the instance's globals.
     pub globals: List<'a, u32>,
 }
 
@@ -249,18 +324,28 @@ impl<'a> FromReader<'a> for CoreDumpInstance<'a> {
     }
 }
 
-/// A frame of a core dump.
+/// A frame of a thread's stack in a core dump.
+///
+/// # Examples
+///
+/// ```
+/// use pulleynavy::{BinaryReader, CoreDumpStackFrame};
+///
+/// let frame = BinaryReader::new(&[0, 4, 42, 51, 1, 0x7f, 1, 0], 0).read::<CoreDumpStackFrame>()?;
+/// assert_eq!((frame.funcidx, frame.codeoffset), (42, 51));
+/// # Ok::<(), pulleynavy::Error>(())
+/// ```
 #[derive(Clone, Debug)]
 pub struct CoreDumpStackFrame<'a> {
-    /// The index of its instance.
+    /// The index of the instance in the section `coreinstances`.
     pub instanceidx: u32,
-    /// The index of its function.
+    /// The index of the function in the module of the instance.
     pub funcidx: u32,
-    /// The offset of its instruction from the start of the function's body.
+    /// The offset of the instruction, in bytes from the start of the function's body.
     pub codeoffset: u32,
-    /// Its locals.
+    /// The values of the locals.
     pub locals: List<'a, CoreDumpValue>,
-    /// Its stack.
+    /// The values on the operand stack.
     pub stack: List<'a, CoreDumpValue>,
 }
 

@@ -3,7 +3,17 @@ use crate::codes::core_value_kind;
 use crate::composites::{Frame, Items, read_items, read_list};
 use crate::{BinaryReader, FromReader, Ieee32, Ieee64, Result, library};
 
-/// The section `core`.
+/// The section `core`: the process of a core dump.
+///
+/// # Examples
+///
+/// ```
+/// use pulleynavy::{BinaryReader, CoreDumpSection};
+///
+/// let section = CoreDumpSection::new(BinaryReader::new(b"\0\x03app", 0))?;
+/// assert_eq!(section.name, "app");
+/// # Ok::<(), pulleynavy::Error>(())
+/// ```
 #[derive(Clone, Copy, Debug, PartialEq, Eq, Hash)]
 pub struct CoreDumpSection<'a> {
     /// The name of the process.
@@ -14,7 +24,8 @@ impl<'a> CoreDumpSection<'a> {
     /// Reads the section from the remaining bytes of a reader.
     ///
     /// # Errors
-    /// If the name is malformed, or if bytes remain.
+    ///
+    /// `CoreStartByte` at a first byte other than 0, an error of the name, or `CustomTrailing` at the first byte after it.
     pub fn new(mut reader: BinaryReader<'a>) -> Result<Self> {
         let (window, plain) = reader.item(library::core_process)?;
         reader.expect_end(library::custom_end)?;
@@ -22,7 +33,17 @@ impl<'a> CoreDumpSection<'a> {
     }
 }
 
-/// The section `coremodules`.
+/// The section `coremodules`: the modules of a core dump.
+///
+/// # Examples
+///
+/// ```
+/// use pulleynavy::{BinaryReader, CoreDumpModulesSection};
+///
+/// let section = CoreDumpModulesSection::new(BinaryReader::new(b"\x01\0\x04test", 0))?;
+/// assert!(section.modules.into_iter().eq(["test"]));
+/// # Ok::<(), pulleynavy::Error>(())
+/// ```
 #[derive(Clone, Debug)]
 pub struct CoreDumpModulesSection<'a> {
     /// The names of the modules.
@@ -33,7 +54,9 @@ impl<'a> CoreDumpModulesSection<'a> {
     /// Reads the section from the remaining bytes of a reader.
     ///
     /// # Errors
-    /// If a module is malformed, or if bytes remain. The offset of `CoreStartByte` is that of the section's data, for a later module too.
+    ///
+    /// `CoreStartByte` at the start of the data if the first byte of any module is not 0, an error of the count or a name, or
+    /// `CustomTrailing` at the first byte after the last module.
     pub fn new(mut reader: BinaryReader<'a>) -> Result<Self> {
         let data_offset = reader.original_position();
         let count = reader.read_var_u32()?;
@@ -50,12 +73,27 @@ fn module<'a>(reader: &mut BinaryReader<'a>, data_offset: u64) -> Result<&'a str
     Ok(window.text(plain.name))
 }
 
-/// The section `corestack`.
+/// The section `corestack`: a thread of a core dump, with its frames.
+///
+/// # Examples
+///
+/// ```
+/// use pulleynavy::{BinaryReader, CoreDumpStackSection};
+///
+/// // The thread "main", with one frame: instance 4, function 42, offset 51, one local and an empty stack.
+/// let bytes = b"\0\x04main\x01\0\x04\x2a\x33\x01\x7f\x01\0";
+/// let section = CoreDumpStackSection::new(BinaryReader::new(bytes, 0))?;
+/// assert_eq!(section.name, "main");
+/// for frame in section.frames {
+///     assert_eq!(frame.funcidx, 42);
+/// }
+/// # Ok::<(), pulleynavy::Error>(())
+/// ```
 #[derive(Clone, Debug)]
 pub struct CoreDumpStackSection<'a> {
     /// The name of the thread.
     pub name: &'a str,
-    /// Its frames.
+    /// The frames of the thread.
     pub frames: Items<'a, Frame<'a>>,
 }
 
@@ -63,7 +101,9 @@ impl<'a> CoreDumpStackSection<'a> {
     /// Reads the section from the remaining bytes of a reader.
     ///
     /// # Errors
-    /// If the name or a frame is malformed, or if bytes remain.
+    ///
+    /// `CoreStartByte` at a first byte other than 0, an error of the name, the count or a frame, or `CustomTrailing` at the first
+    /// byte after the last frame.
     pub fn new(mut reader: BinaryReader<'a>) -> Result<Self> {
         let (window, plain) = reader.item(library::core_thread)?;
         let frames = read_list(&mut reader, Frame::from_reader)?;
@@ -72,18 +112,28 @@ impl<'a> CoreDumpStackSection<'a> {
     }
 }
 
-/// A value of a core dump.
+/// A value of a local or on the stack of a frame in a core dump.
+///
+/// # Examples
+///
+/// ```
+/// use pulleynavy::{BinaryReader, CoreDumpValue};
+///
+/// let value = BinaryReader::new(&[0x7f, 5], 0).read::<CoreDumpValue>()?;
+/// assert_eq!(value, CoreDumpValue::I32(5));
+/// # Ok::<(), pulleynavy::Error>(())
+/// ```
 #[derive(Clone, Copy, Debug, PartialEq, Eq, Hash)]
 pub enum CoreDumpValue {
     /// A missing value.
     Missing,
-    /// An integer of 32 bits.
+    /// A 32-bit integer.
     I32(i32),
-    /// An integer of 64 bits.
+    /// A 64-bit integer.
     I64(i64),
-    /// The bits of a float of 32 bits.
+    /// The bits of a 32-bit float.
     F32(Ieee32),
-    /// The bits of a float of 64 bits.
+    /// The bits of a 64-bit float.
     F64(Ieee64),
 }
 

@@ -6,7 +6,21 @@ use core::fmt;
 use core::marker::PhantomData;
 use core::ops::Range;
 
-/// A custom section: its name and its data.
+/// A custom section: a name and the data after it.
+///
+/// [`CustomSectionReader::as_known`] returns a reader for the data of a section with a known name.
+///
+/// # Examples
+///
+/// ```
+/// use pulleynavy::{BinaryReader, CustomSectionReader};
+///
+/// let section = CustomSectionReader::new(BinaryReader::new(b"\x01a\x07\x08", 100))?;
+/// assert_eq!(section.name(), "a");
+/// assert_eq!(section.data(), [7, 8]);
+/// assert_eq!(section.data_offset(), 102);
+/// # Ok::<(), pulleynavy::Error>(())
+/// ```
 #[derive(Clone, Copy)]
 pub struct CustomSectionReader<'a> {
     whole: Window<'a>,
@@ -22,10 +36,11 @@ impl fmt::Debug for CustomSectionReader<'_> {
 }
 
 impl<'a> CustomSectionReader<'a> {
-    /// Takes the remaining bytes of a reader as the content of a custom section.
+    /// Takes the remaining bytes of a reader as the content of a custom section, and reads the name.
     ///
     /// # Errors
-    /// If the name is malformed.
+    ///
+    /// Those of [`BinaryReader::read_string`] for the name.
     pub fn new(mut reader: BinaryReader<'a>) -> Result<Self> {
         let whole = reader.rest;
         Ok(CustomSectionReader { whole, name: reader.read_string()?, data: reader.rest })
@@ -38,48 +53,85 @@ impl<'a> CustomSectionReader<'a> {
         CustomSectionReader { whole, name, data }
     }
 
-    /// Its name.
+    /// Returns the name of the section.
     pub fn name(&self) -> &'a str {
         self.name
     }
 
-    /// Its data, which follows the name.
+    /// Returns the data, which follows the name.
     pub fn data(&self) -> &'a [u8] {
         self.data.bytes
     }
 
-    /// Returns a reader of its data.
+    /// Returns a reader over the data.
     pub fn data_reader(&self) -> BinaryReader<'a> {
         BinaryReader::of(self.data)
     }
 
-    /// The offset at which its data begins.
+    /// Returns the offset of the data, in bytes from the start of the stream.
     pub fn data_offset(&self) -> u64 {
         self.data.offset
     }
 
-    /// The offsets of its data.
+    /// Returns the offsets of the data, in bytes from the start of the stream.
     pub fn data_range(&self) -> Range<u64> {
         self.data.range()
     }
 
-    /// The offsets of its content.
+    /// Returns the offsets of the content, including the name, in bytes from the start of the stream.
     pub fn range(&self) -> Range<u64> {
         self.whole.range()
     }
 }
 
-/// A type that can be read from a subsection.
+/// A type that can be read from a subsection, such as [`Name`](crate::Name).
+///
+/// # Examples
+///
+/// ```
+/// use pulleynavy::{BinaryReader, Subsection, Subsections};
+///
+/// struct Ids(u8);
+///
+/// impl<'a> Subsection<'a> for Ids {
+///     fn from_reader(id: u8, _reader: BinaryReader<'a>) -> pulleynavy::Result<Self> {
+///         Ok(Ids(id))
+///     }
+/// }
+///
+/// for subsection in Subsections::<Ids>::new(BinaryReader::new(&[5, 1, 0], 0)) {
+///     assert_eq!(subsection?.0, 5);
+/// }
+/// # Ok::<(), pulleynavy::Error>(())
+/// ```
 pub trait Subsection<'a>: Sized {
-    /// Reads the subsection with this id and these bytes.
+    /// Reads the subsection with this id, whose content is the bytes of the reader.
     ///
     /// # Errors
-    /// If the content is malformed.
+    ///
+    /// The error of malformed content.
     fn from_reader(id: u8, reader: BinaryReader<'a>) -> Result<Self>;
 }
 
-/// An iterator over subsections. After an error it continues after the consumed bytes: those of a subsection whose content is malformed, or
-/// of an id or a size that is malformed.
+/// An iterator over subsections: each is an id below 128, a size and that many bytes.
+///
+/// # Errors
+///
+/// It yields the error of a malformed subsection, and continues with the next one. After a malformed id or size it continues
+/// after the bytes that were read.
+///
+/// # Examples
+///
+/// ```
+/// use pulleynavy::{BinaryReader, Name, Subsections};
+///
+/// // Subsection 1 of names: function 5 is called "f".
+/// let bytes = b"\x01\x04\x01\x05\x01f";
+/// for subsection in Subsections::<Name>::new(BinaryReader::new(bytes, 0)) {
+///     assert!(matches!(subsection?, Name::Function(_)));
+/// }
+/// # Ok::<(), pulleynavy::Error>(())
+/// ```
 pub struct Subsections<'a, T> {
     start: u64,
     rest: Window<'a>,
@@ -99,17 +151,17 @@ impl<T> fmt::Debug for Subsections<'_, T> {
 }
 
 impl<'a, T> Subsections<'a, T> {
-    /// Takes the remaining bytes of a reader as subsections.
+    /// Takes the remaining bytes of a reader as subsections. Nothing is read yet.
     pub fn new(reader: BinaryReader<'a>) -> Self {
         Subsections { start: reader.range().start, rest: reader.rest, item: PhantomData }
     }
 
-    /// The offset at which the next subsection begins.
+    /// Returns the offset of the next subsection, in bytes from the start of the stream.
     pub fn original_position(&self) -> u64 {
         self.rest.offset
     }
 
-    /// The offsets of all bytes, also of those that were read.
+    /// Returns the offsets of all bytes, including those that were read, in bytes from the start of the stream.
     pub fn range(&self) -> Range<u64> {
         self.start..self.rest.range().end
     }

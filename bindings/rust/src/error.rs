@@ -2,15 +2,25 @@
 use crate::{Fault, Lead, library};
 use core::fmt;
 
-/// The result of a read.
+/// The result of a read, with [`Error`] as its error.
 pub type Result<T, E = Error> = core::result::Result<T, E>;
 
-/// Another name of [`Error`], from before it had this one.
+/// An older name of [`Error`], as in `wasmparser`.
 pub type BinaryReaderError = Error;
 
-/// An error in the input: what it is, and at which offset.
+/// An error in the input: its fault, and the offset in bytes from the start of the stream.
 ///
-/// Two errors are equal if their faults, offsets and numbers are.
+/// Two errors are equal if their faults, offsets and numbers are. The hint is not compared.
+///
+/// # Examples
+///
+/// ```
+/// use pulleynavy::{BinaryReader, Error, Fault};
+///
+/// let error = BinaryReader::new(&[0x80], 16).read_var_u32().unwrap_err();
+/// assert_eq!(error, Error::new(Fault::UnexpectedEof, 17));
+/// assert_eq!(error.to_string(), "unexpected end-of-file (at offset 0x11)");
+/// ```
 #[derive(Clone, Copy)]
 pub struct Error {
     fault: Fault,
@@ -21,12 +31,12 @@ pub struct Error {
 }
 
 impl Error {
-    /// An error at an offset, without a number.
+    /// Returns an error with this fault and offset, without a number or a hint.
     pub fn new(fault: Fault, offset: u64) -> Self {
         Error { fault, offset, number: None, needed_hint: None, text: Text::EMPTY }
     }
 
-    /// The same error with this number, which its message then has.
+    /// Returns the error with this number, which its message then includes.
     pub fn with_number(self, number: u64) -> Self {
         Error { number: Some(number), text: Text::of(self.fault, number), ..self }
     }
@@ -54,39 +64,39 @@ impl Error {
         Error { needed_hint: (self.fault == Fault::UnexpectedEof).then_some(hint), ..self }
     }
 
-    /// The same error without a hint.
+    /// Returns the error without a hint.
     pub fn without_needed_hint(self) -> Self {
         Error { needed_hint: None, ..self }
     }
 
-    /// What is wrong.
+    /// Returns the fault.
     pub fn fault(&self) -> Fault {
         self.fault
     }
 
-    /// The text of the error, with its number if it has one.
+    /// Returns the message, with the number if the error has one, without the offset.
     pub fn message(&self) -> &str {
         if self.number.is_some() { self.text.as_str() } else { self.fault.message() }
     }
 
-    /// The offset, in bytes from the start of the whole stream.
+    /// Returns the offset, in bytes from the start of the stream.
     pub fn offset(&self) -> u64 {
         self.offset
     }
 
-    /// The number that belongs to the fault, if there is one: a version, a length, or the byte that was read.
+    /// Returns the number of the fault, if it has one: a version, a length, or the byte that was read.
     pub fn number(&self) -> Option<u64> {
         self.number
     }
 
-    /// How many more bytes a read of a [`BinaryReader`](crate::BinaryReader) would have taken at least, if it failed at the end of its input.
+    /// Returns how many bytes are missing, if a read of a [`BinaryReader`](crate::BinaryReader) failed at the end of its input.
     ///
-    /// Reads of whole items have no hint.
+    /// It is at least 1. Reads of whole items have no hint.
     pub fn needed_hint(&self) -> Option<usize> {
         self.needed_hint
     }
 
-    /// The number of the fault in the C library: in the lowest 8 bits its kind, and above them what it names.
+    /// Returns the number of the fault in the C library: its kind in the lowest 8 bits, and its detail above them.
     pub fn code(&self) -> u32 {
         self.fault.code()
     }

@@ -30,7 +30,7 @@ macro_rules! numbered {
 }
 
 numbered! {
-    /// The kinds of LEB128 numbers.
+    /// The kind of a LEB128 number: its width in bits, and whether it is signed.
     NumberKind {
         /// An unsigned number of 32 bits.
         number_kind::U32 VarU32,
@@ -46,7 +46,7 @@ numbered! {
 }
 
 numbered! {
-    /// What a leading byte should begin.
+    /// What a `LeadingByte` fault expected at its offset.
     Lead {
         /// A branch hint.
         lead::BRANCH_HINT BranchHint,
@@ -74,7 +74,7 @@ numbered! {
 }
 
 numbered! {
-    /// What begins with a byte 0 in a core dump.
+    /// The part of a core dump that a byte 0 should begin.
     CoreStart {
         /// The name of the process.
         core_start::NAME Name,
@@ -92,21 +92,31 @@ numbered! {
 /// Declares the kinds of faults: those with a text alone, and those that say more.
 macro_rules! faults {
     ($($(#[$doc:meta])* $code:ident $variant:ident $text:literal,)*) => {
-        /// Why input is refused.
+        /// The reason why input is malformed. [`Error`](crate::Error) adds the offset.
         ///
-        /// Unless its text says otherwise, the offset of a fault is that of the byte, number or section that it speaks of.
+        /// Unless a variant says otherwise, the offset is that of the first byte of what the variant names.
+        ///
+        /// # Examples
+        ///
+        /// ```
+        /// use pulleynavy::{BinaryReader, Fault, NumberKind};
+        ///
+        /// let error = BinaryReader::new(&[0xff; 5], 0).read_var_u32().unwrap_err();
+        /// assert_eq!(error.fault(), Fault::NumberTooLong(NumberKind::VarU32));
+        /// assert_eq!(error.offset(), 4);
+        /// ```
         #[derive(Clone, Copy, Debug, PartialEq, Eq, Hash)]
         pub enum Fault {
             $($(#[$doc])* $variant,)*
-            /// A LEB128 number is too long: the last byte that it may have does not end it.
+            /// A LEB128 number is too long: its last possible byte has the top bit set. The offset is that of this byte.
             NumberTooLong(NumberKind),
-            /// A LEB128 number is too large: unused bits of its last byte are set.
+            /// A LEB128 number is too large: unused bits of its last possible byte are wrong. The offset is that of this byte.
             NumberTooLarge(NumberKind),
-            /// Nothing of this sort begins with the byte, which is the error's number.
+            /// A byte begins nothing of this kind. The byte is the number of the error.
             LeadingByte(Lead),
-            /// Something in a core dump does not begin with a byte 0.
+            /// A part of a core dump does not begin with a byte 0. The offset of a module is that of the section's data.
             CoreStartByte(CoreStart),
-            /// A type that is no plain function type, in an iteration over those. The library does not have this fault, nor its number.
+            /// A type is not a plain function type. Only `into_iter_err_on_gc_types` returns it; the C library has no such fault.
             GcTypes,
         }
 
@@ -123,7 +133,7 @@ macro_rules! faults {
                 })
             }
 
-            /// Its number in the C library: in the lowest 8 bits its kind, and above them what it names.
+            /// Returns the number of the fault in the C library: its kind in the lowest 8 bits, and its detail above them.
             pub const fn code(self) -> u32 {
                 match self {
                     $(Fault::$variant => fault_kind::$code,)*
@@ -135,7 +145,7 @@ macro_rules! faults {
                 }
             }
 
-            /// Its text without numbers.
+            /// Returns the message, without the number and the offset.
             pub const fn message(self) -> &'static str {
                 match self {
                     $(Fault::$variant => $text,)*

@@ -17,82 +17,82 @@ macro_rules! flags {
             /// The flags that have a name, with it.
             const NAMED: &'static [(&'static str, $name)] = &[$((stringify!($flag), $name($bits)),)*];
 
-            /// All flags that have a name.
+            /// Returns the set of all flags that have a name.
             pub const fn all() -> Self {
                 $name(0 $(| $bits)*)
             }
 
-            /// The empty set.
+            /// Returns the empty set.
             pub const fn empty() -> Self {
                 $name(0)
             }
 
-            /// The set with exactly these bits.
+            /// Returns the set with exactly these bits, including those without a name.
             pub const fn from_bits_retain(bits: $number) -> Self {
                 $name(bits)
             }
 
-            /// The set with these bits, if all of them have a name.
+            /// Returns the set with these bits, or `None` if a bit has no name.
             pub const fn from_bits(bits: $number) -> Option<Self> {
                 if bits & !$name::all().0 == 0 { Some($name(bits)) } else { None }
             }
 
-            /// The set with those of these bits that have a name.
+            /// Returns the set with those of these bits that have a name.
             pub const fn from_bits_truncate(bits: $number) -> Self {
                 $name(bits & $name::all().0)
             }
 
-            /// The flag with this name.
+            /// Returns the flag with this name, or `None` if no flag has it.
             pub fn from_name(name: &str) -> Option<Self> {
                 $name::NAMED.iter().find(|(known, _)| *known == name).map(|(_, flag)| *flag)
             }
 
-            /// The bits of the set.
+            /// Returns the bits of the set.
             pub const fn bits(&self) -> $number {
                 self.0
             }
 
-            /// Whether the set is empty.
+            /// Returns whether the set is empty.
             pub const fn is_empty(&self) -> bool {
                 self.0 == 0
             }
 
-            /// Whether the set has all flags that have a name.
+            /// Returns whether the set has all flags that have a name.
             pub const fn is_all(&self) -> bool {
                 self.contains($name::all())
             }
 
-            /// Whether the set has all flags of another one.
+            /// Returns whether the set has all flags of another one.
             pub const fn contains(&self, other: Self) -> bool {
                 self.0 & other.0 == other.0
             }
 
-            /// Whether the set has a flag of another one.
+            /// Returns whether the set has any flag of another one.
             pub const fn intersects(&self, other: Self) -> bool {
                 self.0 & other.0 != 0
             }
 
-            /// The flags of either set.
+            /// Returns the flags of either set.
             pub const fn union(self, other: Self) -> Self {
                 $name(self.0 | other.0)
             }
 
-            /// The flags of both sets.
+            /// Returns the flags that both sets have.
             pub const fn intersection(self, other: Self) -> Self {
                 $name(self.0 & other.0)
             }
 
-            /// The flags of this set that the other one does not have.
+            /// Returns the flags of this set that the other one does not have.
             pub const fn difference(self, other: Self) -> Self {
                 $name(self.0 & !other.0)
             }
 
-            /// The flags of exactly one of the sets.
+            /// Returns the flags of exactly one of the sets.
             pub const fn symmetric_difference(self, other: Self) -> Self {
                 $name(self.0 ^ other.0)
             }
 
-            /// The named flags that the set does not have.
+            /// Returns the named flags that the set does not have.
             pub const fn complement(self) -> Self {
                 $name::from_bits_truncate(!self.0)
             }
@@ -112,17 +112,17 @@ macro_rules! flags {
                 self.0 ^= other.0;
             }
 
-            /// Adds the flags of another set, or removes them.
+            /// Adds the flags of another set if `value` is true, and removes them otherwise.
             pub fn set(&mut self, other: Self, value: bool) {
                 if value { self.insert(other) } else { self.remove(other) }
             }
 
-            /// Iterates over the named flags of the set, and last over a set of its bits without a name.
+            /// Returns an iterator over the named flags of the set, and last a set of its bits without a name, if any.
             pub const fn iter(&self) -> FlagsIter<Self> {
                 FlagsIter { names: self.iter_names() }
             }
 
-            /// Iterates over the named flags of the set, with their names.
+            /// Returns an iterator over the named flags of the set, with their names.
             pub const fn iter_names(&self) -> FlagsIterNames<Self> {
                 FlagsIterNames { named: $name::NAMED, rest: *self }
             }
@@ -230,7 +230,16 @@ trait Set: Copy {
     fn is_none(&self) -> bool;
 }
 
-/// An iterator over the flags of a set.
+/// An iterator over the flags of a set, which `iter` returns.
+///
+/// # Examples
+///
+/// ```
+/// use pulleynavy::SegmentFlags;
+///
+/// let flags = SegmentFlags::from_bits_retain(0x11);
+/// assert!(flags.iter().eq([SegmentFlags::STRINGS, SegmentFlags::from_bits_retain(0x10)]));
+/// ```
 #[derive(Clone, Debug)]
 pub struct FlagsIter<T: 'static> {
     names: FlagsIterNames<T>,
@@ -252,7 +261,16 @@ impl<T: Set> Iterator for FlagsIter<T> {
     }
 }
 
-/// An iterator over the named flags of a set, with their names.
+/// An iterator over the named flags of a set, with their names, which `iter_names` returns.
+///
+/// # Examples
+///
+/// ```
+/// use pulleynavy::SegmentFlags;
+///
+/// let names = SegmentFlags::all().iter_names().map(|(name, _)| name);
+/// assert!(names.eq(["STRINGS", "TLS"]));
+/// ```
 #[derive(Clone, Debug)]
 pub struct FlagsIterNames<T: 'static> {
     named: &'static [(&'static str, T)],
@@ -275,47 +293,69 @@ impl<T: Set> Iterator for FlagsIterNames<T> {
 }
 
 flags! {
-    /// A set of features. Readers and parsers keep its lowest 32 bits.
+    /// A set of features of WebAssembly. Readers and parsers keep its lowest 32 bits.
+    ///
+    /// # Examples
+    ///
+    /// ```
+    /// use pulleynavy::{BinaryReader, MemoryType, WasmFeatures};
+    ///
+    /// // Without 64-bit memories, a limit of 2^32 pages is too large.
+    /// let bytes = [0x04, 0x80, 0x80, 0x80, 0x80, 0x10];
+    /// assert!(BinaryReader::new(&bytes, 0).read::<MemoryType>().is_ok());
+    /// let features = WasmFeatures::all() - WasmFeatures::MEMORY64;
+    /// assert!(BinaryReader::new_features(&bytes, 0, features).read::<MemoryType>().is_err());
+    /// ```
     WasmFeatures: u64 {
-        /// Memories and tables of 64 bits.
+        /// 64-bit memories and tables: their limits are 64-bit numbers.
         MEMORY64 = 1;
-        /// Groups of compact imports.
+        /// Groups of compact imports (a proposal).
         COMPACT_IMPORTS = 2;
     }
 }
 
 flags! {
-    /// The flags of a symbol.
+    /// The flags of a symbol, as a set of bits. Unknown bits are kept.
+    ///
+    /// # Examples
+    ///
+    /// ```
+    /// use pulleynavy::{BinaryReader, SymbolFlags};
+    ///
+    /// let flags = BinaryReader::new(&[0x14], 0).read::<SymbolFlags>()?;
+    /// assert_eq!(flags, SymbolFlags::UNDEFINED | SymbolFlags::VISIBILITY_HIDDEN);
+    /// # Ok::<(), pulleynavy::Error>(())
+    /// ```
     #[derive(Default, PartialOrd, Ord)]
     SymbolFlags: u32 {
-        /// A weak symbol: it gives way to another definition.
+        /// The symbol is weak: another definition may replace it.
         BINDING_WEAK = symbol_flags::BINDING_WEAK;
-        /// A local symbol: it is visible in its own file only.
+        /// The symbol is local: it is visible only in its own module.
         BINDING_LOCAL = symbol_flags::BINDING_LOCAL;
-        /// A hidden symbol: it is not exported.
+        /// The symbol is hidden: it is not visible outside the linked module.
         VISIBILITY_HIDDEN = symbol_flags::VISIBILITY_HIDDEN;
-        /// An undefined symbol.
+        /// The symbol is not defined in this module.
         UNDEFINED = symbol_flags::UNDEFINED;
-        /// It is exported.
+        /// The symbol is exported from the linked module.
         EXPORTED = symbol_flags::EXPORTED;
-        /// It has a name of its own, instead of that of an import.
+        /// The symbol has a name of its own, although it is imported.
         EXPLICIT_NAME = symbol_flags::EXPLICIT_NAME;
-        /// It is kept even if nothing refers to it.
+        /// The symbol is kept even if it is unused.
         NO_STRIP = symbol_flags::NO_STRIP;
-        /// It is thread-local.
+        /// The symbol is thread-local.
         TLS = symbol_flags::TLS;
-        /// An absolute symbol: a number instead of an address.
+        /// The symbol is an absolute address, in no segment.
         ABSOLUTE = symbol_flags::ABSOLUTE;
     }
 }
 
 flags! {
-    /// The flags of a data segment.
+    /// The flags of a data segment, as a set of bits. Unknown bits are kept.
     #[derive(Default)]
     SegmentFlags: u32 {
-        /// It holds strings that end with a zero byte.
+        /// The segment contains null-terminated strings, which may be merged.
         STRINGS = segment_flags::STRINGS;
-        /// It is thread-local.
+        /// The segment is thread-local.
         TLS = segment_flags::TLS;
     }
 }
@@ -332,14 +372,14 @@ impl WasmFeatures {
     }
 }
 
-/// Reads the bits as a LEB128 number. Bits without a name are kept.
+/// Reads the bits as an unsigned 32-bit number in LEB128, with the errors of [`BinaryReader::read_var_u32`]. Unknown bits are kept.
 impl<'a> FromReader<'a> for SymbolFlags {
     fn from_reader(reader: &mut BinaryReader<'a>) -> Result<Self> {
         reader.read_var_u32().map(SymbolFlags)
     }
 }
 
-/// Reads the bits as a LEB128 number. Bits without a name are kept.
+/// Reads the bits as an unsigned 32-bit number in LEB128, with the errors of [`BinaryReader::read_var_u32`]. Unknown bits are kept.
 impl<'a> FromReader<'a> for SegmentFlags {
     fn from_reader(reader: &mut BinaryReader<'a>) -> Result<Self> {
         reader.read_var_u32().map(SegmentFlags)

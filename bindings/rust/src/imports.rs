@@ -5,56 +5,91 @@ use crate::library;
 use crate::section::{SectionLimitedIntoIter, SectionLimitedIntoIterWithOffsets};
 use crate::{BinaryReader, ExternalKind, FromReader, GlobalType, MemoryType, Result, SectionLimited, TableType, TagType};
 
-/// The type of an import.
+/// The kind and type of an import.
+///
+/// # Examples
+///
+/// ```
+/// use pulleynavy::{BinaryReader, TypeRef};
+///
+/// let ty = BinaryReader::new(&[0x00, 5], 0).read::<TypeRef>()?;
+/// assert_eq!(ty, TypeRef::Func(5));
+/// # Ok::<(), pulleynavy::Error>(())
+/// ```
 #[derive(Clone, Copy, Debug, PartialEq, Eq, Hash)]
 pub enum TypeRef {
     /// A function, with the index of its type.
     Func(u32),
-    /// A table.
+    /// A table, with its type.
     Table(TableType),
-    /// A memory.
+    /// A memory, with its type.
     Memory(MemoryType),
-    /// A global.
+    /// A global, with its type.
     Global(GlobalType),
-    /// A tag.
+    /// A tag, with its type.
     Tag(TagType),
     /// A function of exactly the type with this index.
     FuncExact(u32),
 }
 
 /// An import.
+///
+/// # Examples
+///
+/// ```
+/// use pulleynavy::{BinaryReader, Import, TypeRef};
+///
+/// let import = BinaryReader::new(b"\x01m\x01f\x00\x05", 0).read::<Import>()?;
+/// assert_eq!((import.module, import.name), ("m", "f"));
+/// assert_eq!(import.ty, TypeRef::Func(5));
+/// # Ok::<(), pulleynavy::Error>(())
+/// ```
 #[derive(Clone, Copy, Debug, PartialEq, Eq, Hash)]
 pub struct Import<'a> {
-    /// The module that it comes from.
+    /// The name of the module to import from.
     pub module: &'a str,
-    /// Its name there.
+    /// The name of the import in that module.
     pub name: &'a str,
-    /// What it is.
+    /// The kind and type of the import.
     pub ty: TypeRef,
 }
 
-/// An import whose module is that of its group.
+/// An import of a group, which names the module for all of its imports.
 #[derive(Clone, Copy, Debug, PartialEq, Eq, Hash)]
 pub struct ImportItemCompact<'a> {
-    /// The import's name in the group's module.
+    /// The name of the import in the group's module.
     pub name: &'a str,
-    /// What it is.
+    /// The kind and type of the import.
     pub ty: TypeRef,
 }
 
-/// An item of an import section: an import, or a group of imports.
+/// An item of an import section: an import, or a group of imports from one module.
+///
+/// Use `SectionLimited::into_imports` to iterate over the imports of a section one by one.
+///
+/// # Examples
+///
+/// ```
+/// use pulleynavy::{BinaryReader, Imports};
+///
+/// // A group of the module "m" with two functions of type 5.
+/// let group = BinaryReader::new(b"\x01m\x00\x7e\x00\x05\x02\x01f\x01g", 0).read::<Imports>()?;
+/// let names = group.into_iter().map(|import| Ok(import?.1.name)).collect::<Result<Vec<_>, pulleynavy::Error>>()?;
+/// assert_eq!(names, ["f", "g"]);
+/// # Ok::<(), pulleynavy::Error>(())
+/// ```
 #[derive(Clone, Debug)]
 pub enum Imports<'a> {
-    /// One import, and the offset at which it begins.
+    /// A single import, after its offset in bytes from the start of the stream.
     Single(u64, Import<'a>),
-    /// Imports of one module.
+    /// A group of imports from the same module.
     Compact1 {
         /// The module that they come from.
         module: &'a str,
         /// Their names and types.
         items: SectionLimited<'a, ImportItemCompact<'a>>,
     },
-    /// Imports of one module and one type.
+    /// A group of imports from the same module, of the same type.
     Compact2 {
         /// The module that they come from.
         module: &'a str,
@@ -124,7 +159,9 @@ enum Left<'a> {
     OfType(&'a str, TypeRef, SectionLimitedIntoIterWithOffsets<'a, &'a str>),
 }
 
-/// An iterator over the imports of a group, each with its offset.
+/// An iterator over the imports of a group, each with its offset in bytes from the start of the stream.
+///
+/// It yields the error of a malformed import, and `SizeMismatch` for trailing bytes, and then ends.
 #[derive(Clone, Debug)]
 pub struct ImportsIter<'a>(Left<'a>);
 
@@ -159,7 +196,9 @@ impl<'a> Iterator for ImportsIter<'a> {
     }
 }
 
-/// An iterator over the imports of a section, each with its offset. Groups are flattened.
+/// An iterator over the imports of a section, each with its offset in bytes from the start of the stream. Groups are flattened.
+///
+/// After an error inside a group the next group follows. After an error of a group itself, the iterator ends.
 #[derive(Clone, Debug)]
 pub struct IntoImportsWithOffsets<'a> {
     groups: SectionLimitedIntoIter<'a, Imports<'a>>,
@@ -183,12 +222,24 @@ impl<'a> Iterator for IntoImportsWithOffsets<'a> {
 }
 
 impl<'a> SectionLimited<'a, Imports<'a>> {
-    /// Iterates over the imports. Groups are flattened.
+    /// Returns an iterator over the imports. Groups are flattened.
+    ///
+    /// # Examples
+    ///
+    /// ```
+    /// use pulleynavy::{BinaryReader, ImportSectionReader};
+    ///
+    /// let section = ImportSectionReader::new(BinaryReader::new(b"\x01\x01m\x01f\x00\x05", 0))?;
+    /// for import in section.into_imports() {
+    ///     assert_eq!(import?.name, "f");
+    /// }
+    /// # Ok::<(), pulleynavy::Error>(())
+    /// ```
     pub fn into_imports(self) -> impl Iterator<Item = Result<Import<'a>>> {
         self.into_imports_with_offsets().map(|import| import.map(|(_, import)| import))
     }
 
-    /// Iterates over the imports, each with its offset. Groups are flattened. After an error inside a group the next group follows.
+    /// Returns an iterator over the imports, each with its offset in bytes from the start of the stream. Groups are flattened.
     pub fn into_imports_with_offsets(self) -> IntoImportsWithOffsets<'a> {
         IntoImportsWithOffsets { groups: self.into_iter(), group: ImportsIter(Left::One(None)) }
     }

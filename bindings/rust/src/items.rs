@@ -7,34 +7,46 @@ use crate::types::ref_type;
 use crate::{BinaryReader, FromReader, GlobalType, Lead, OperatorsReader, RefType, Result, SectionLimited, TableType, library};
 use core::ops::Range;
 
-/// A constant expression: its instructions, with the final `end`.
+/// A constant expression: its instructions, including the final `end`.
+///
+/// # Examples
+///
+/// ```
+/// use pulleynavy::{BinaryReader, ConstExpr, Operator};
+///
+/// let expression = BinaryReader::new(&[0x41, 5, 0x0b], 0).read::<ConstExpr>()?;
+/// let mut operators = expression.get_operators_reader();
+/// assert_eq!(operators.read()?, Operator::I32Const { value: 5 });
+/// assert!(operators.is_end_then_eof());
+/// # Ok::<(), pulleynavy::Error>(())
+/// ```
 #[derive(Clone, Copy, Debug)]
 pub struct ConstExpr<'a> {
     window: Window<'a>,
 }
 
 impl<'a> ConstExpr<'a> {
-    /// Takes the remaining bytes of a reader as an expression, without reading them.
+    /// Takes the remaining bytes of a reader as an expression, without reading or checking them.
     pub fn new(reader: BinaryReader<'a>) -> Self {
         ConstExpr { window: reader.rest }
     }
 
-    /// Returns a reader of its bytes.
+    /// Returns a reader over the bytes of the expression.
     pub fn get_binary_reader(&self) -> BinaryReader<'a> {
         BinaryReader::of(self.window)
     }
 
-    /// Returns a reader of its instructions.
+    /// Returns a reader over the instructions.
     pub fn get_operators_reader(&self) -> OperatorsReader<'a> {
         OperatorsReader::new(self.get_binary_reader())
     }
 
-    /// The offsets of its bytes.
+    /// Returns the offsets of the expression, in bytes from the start of the stream.
     pub fn range(&self) -> Range<u64> {
         self.window.range()
     }
 
-    /// Its bytes.
+    /// Returns the bytes of the expression.
     pub fn as_bytes(&self) -> &'a [u8] {
         self.window.bytes
     }
@@ -48,20 +60,31 @@ impl<'a> FromReader<'a> for ConstExpr<'a> {
 }
 
 /// A table.
+///
+/// # Examples
+///
+/// ```
+/// use pulleynavy::{BinaryReader, Table, TableInit};
+///
+/// let table = BinaryReader::new(&[0x70, 0x00, 10], 0).read::<Table>()?;
+/// assert_eq!(table.ty.initial, 10);
+/// assert!(matches!(table.init, TableInit::RefNull));
+/// # Ok::<(), pulleynavy::Error>(())
+/// ```
 #[derive(Clone, Debug)]
 pub struct Table<'a> {
-    /// Its type.
+    /// The type of the table.
     pub ty: TableType,
-    /// The initial value of its elements.
+    /// The initial value of the elements.
     pub init: TableInit<'a>,
 }
 
 /// The initial value of the elements of a table.
 #[derive(Clone, Debug)]
 pub enum TableInit<'a> {
-    /// A null reference.
+    /// A null reference: the table is encoded without an expression.
     RefNull,
-    /// The value of this expression.
+    /// The value of this constant expression.
     Expr(ConstExpr<'a>),
 }
 
@@ -74,11 +97,23 @@ impl<'a> FromReader<'a> for Table<'a> {
 }
 
 /// A global.
+///
+/// # Examples
+///
+/// ```
+/// use pulleynavy::{BinaryReader, Global, ValType};
+///
+/// // A mutable `i32` with the initial value 5.
+/// let global = BinaryReader::new(&[0x7f, 0x01, 0x41, 5, 0x0b], 0).read::<Global>()?;
+/// assert_eq!(global.ty.content_type, ValType::I32);
+/// assert_eq!(global.init_expr.as_bytes(), [0x41, 5, 0x0b]);
+/// # Ok::<(), pulleynavy::Error>(())
+/// ```
 #[derive(Clone, Debug)]
 pub struct Global<'a> {
-    /// Its type.
+    /// The type of the global.
     pub ty: GlobalType,
-    /// The expression of its initial value.
+    /// The expression of the initial value.
     pub init_expr: ConstExpr<'a>,
 }
 
@@ -89,7 +124,16 @@ impl<'a> FromReader<'a> for Global<'a> {
     }
 }
 
-/// What can be imported or exported.
+/// The kind of an import or export.
+///
+/// # Examples
+///
+/// ```
+/// use pulleynavy::{BinaryReader, ExternalKind};
+///
+/// assert_eq!(BinaryReader::new(&[2], 0).read::<ExternalKind>()?, ExternalKind::Memory);
+/// # Ok::<(), pulleynavy::Error>(())
+/// ```
 #[derive(Clone, Copy, Debug, PartialEq, Eq, Hash)]
 pub enum ExternalKind {
     /// A function.
@@ -130,13 +174,23 @@ impl ExternalKind {
 }
 
 /// An export.
+///
+/// # Examples
+///
+/// ```
+/// use pulleynavy::{BinaryReader, Export, ExternalKind};
+///
+/// let export = BinaryReader::new(b"\x03add\x00\x05", 0).read::<Export>()?;
+/// assert_eq!((export.name, export.kind, export.index), ("add", ExternalKind::Func, 5));
+/// # Ok::<(), pulleynavy::Error>(())
+/// ```
 #[derive(Clone, Copy, Debug, PartialEq, Eq, Hash)]
 pub struct Export<'a> {
-    /// Its name.
+    /// The name of the export.
     pub name: &'a str,
-    /// What it is.
+    /// The kind of what is exported.
     pub kind: ExternalKind,
-    /// Its index in the index space of its kind.
+    /// The index of what is exported, in the index space of the kind.
     pub index: u32,
 }
 
@@ -149,38 +203,51 @@ impl<'a> FromReader<'a> for Export<'a> {
 }
 
 /// An element segment.
+///
+/// # Examples
+///
+/// ```
+/// use pulleynavy::{BinaryReader, Element, ElementItems};
+///
+/// // Active, in table 0 at index 0, with the functions 5 and 6.
+/// let segment = BinaryReader::new(&[0, 0x41, 0, 0x0b, 2, 5, 6], 0).read::<Element>()?;
+/// if let ElementItems::Functions(functions) = segment.items {
+///     assert_eq!(functions.into_iter().collect::<Result<Vec<_>, _>>()?, [5, 6]);
+/// }
+/// # Ok::<(), pulleynavy::Error>(())
+/// ```
 #[derive(Clone, Debug)]
 pub struct Element<'a> {
-    /// Passive, active or declared.
+    /// The kind of the segment: passive, active or declared.
     pub kind: ElementKind<'a>,
-    /// Its elements.
+    /// The elements: function indices or expressions.
     pub items: ElementItems<'a>,
-    /// The offsets of the whole segment.
+    /// The offsets of the whole segment, in bytes from the start of the stream.
     pub range: Range<u64>,
 }
 
-/// The mode of an element segment.
+/// The kind of an element segment.
 #[derive(Clone, Debug)]
 pub enum ElementKind<'a> {
-    /// Instructions copy it to tables.
+    /// A passive segment, which instructions such as `table.init` copy to a table.
     Passive,
-    /// It is copied to a table when the module is instantiated.
+    /// An active segment, which is copied to a table when the module is instantiated.
     Active {
-        /// The table's index, if it is written.
+        /// The index of the table, if encoded; otherwise the segment is for table 0.
         table_index: Option<u32>,
-        /// The index in the table of the first element.
+        /// The expression of the table index to copy the first element to.
         offset_expr: ConstExpr<'a>,
     },
-    /// It only declares functions that are referred to.
+    /// A declarative segment, which only makes functions available to `ref.func`.
     Declared,
 }
 
-/// The elements of a segment.
+/// The elements of a segment. They were checked when the segment was read, so iterating over them yields no error.
 #[derive(Clone, Debug)]
 pub enum ElementItems<'a> {
-    /// The indices of functions.
+    /// Function indices.
     Functions(SectionLimited<'a, u32>),
-    /// The type of the elements, and an expression for each.
+    /// The type of the elements, and a constant expression for each of them.
     Expressions(RefType, SectionLimited<'a, ConstExpr<'a>>),
 }
 
@@ -205,26 +272,38 @@ impl<'a> FromReader<'a> for Element<'a> {
 }
 
 /// A data segment.
+///
+/// # Examples
+///
+/// ```
+/// use pulleynavy::{BinaryReader, Data, DataKind};
+///
+/// // Active, in memory 0 at address 8.
+/// let segment = BinaryReader::new(b"\x00\x41\x08\x0b\x02hi", 0).read::<Data>()?;
+/// assert_eq!(segment.data, b"hi");
+/// assert!(matches!(segment.kind, DataKind::Active { memory_index: 0, .. }));
+/// # Ok::<(), pulleynavy::Error>(())
+/// ```
 #[derive(Clone, Debug)]
 pub struct Data<'a> {
-    /// Passive, active or declared.
+    /// The kind of the segment: passive or active.
     pub kind: DataKind<'a>,
-    /// Its bytes.
+    /// The bytes to copy to memory.
     pub data: &'a [u8],
-    /// The offsets of the whole segment.
+    /// The offsets of the whole segment, in bytes from the start of the stream.
     pub range: Range<u64>,
 }
 
-/// The mode of a data segment.
+/// The kind of a data segment.
 #[derive(Clone, Debug)]
 pub enum DataKind<'a> {
-    /// Instructions copy it to memories.
+    /// A passive segment, which instructions such as `memory.init` copy to a memory.
     Passive,
-    /// It is copied to a memory when the module is instantiated.
+    /// An active segment, which is copied to a memory when the module is instantiated.
     Active {
-        /// The memory's index.
+        /// The index of the memory.
         memory_index: u32,
-        /// The address in the memory of the first byte.
+        /// The expression of the address to copy the first byte to.
         offset_expr: ConstExpr<'a>,
     },
 }

@@ -3,32 +3,56 @@ use crate::types::{ref_type, val_type};
 use crate::{BinaryReader, FromReader, RefType, Result, ValType, library};
 
 /// The type of a table.
+///
+/// # Examples
+///
+/// ```
+/// use pulleynavy::{BinaryReader, RefType, TableType};
+///
+/// // A table of 10 to 20 function references.
+/// let ty = BinaryReader::new(&[0x70, 0x01, 10, 20], 0).read::<TableType>()?;
+/// assert_eq!((ty.initial, ty.maximum), (10, Some(20)));
+/// assert_eq!(ty.element_type, RefType::FUNCREF);
+/// # Ok::<(), pulleynavy::Error>(())
+/// ```
 #[derive(Clone, Copy, Debug, PartialEq, Eq, Hash)]
 pub struct TableType {
-    /// The type of its elements.
+    /// The type of the elements.
     pub element_type: RefType,
-    /// Whether its indices have 64 bits.
+    /// Whether indices have 64 bits.
     pub table64: bool,
-    /// How many elements it begins with.
+    /// The initial number of elements.
     pub initial: u64,
-    /// The most elements that it may have.
+    /// The maximum number of elements, if limited.
     pub maximum: Option<u64>,
-    /// Whether threads share it.
+    /// Whether threads share the table.
     pub shared: bool,
 }
 
 /// The type of a memory.
+///
+/// # Examples
+///
+/// ```
+/// use pulleynavy::{BinaryReader, MemoryType, ValType};
+///
+/// // A memory of 1 to 16 pages.
+/// let ty = BinaryReader::new(&[0x01, 1, 16], 0).read::<MemoryType>()?;
+/// assert_eq!((ty.initial, ty.maximum), (1, Some(16)));
+/// assert_eq!(ty.index_type(), ValType::I32);
+/// # Ok::<(), pulleynavy::Error>(())
+/// ```
 #[derive(Clone, Copy, Debug, PartialEq, Eq, Hash)]
 pub struct MemoryType {
-    /// Whether its addresses have 64 bits.
+    /// Whether addresses have 64 bits.
     pub memory64: bool,
-    /// Whether threads share it.
+    /// Whether threads share the memory.
     pub shared: bool,
-    /// How many pages it begins with.
+    /// The initial size, in pages.
     pub initial: u64,
-    /// The most pages that it may have.
+    /// The maximum size, in pages, if limited.
     pub maximum: Option<u64>,
-    /// The size of a page, as a power of two.
+    /// The base-2 logarithm of the page size in bytes. If `None`, a page has 65,536 bytes.
     pub page_size_log2: Option<u32>,
 }
 
@@ -38,31 +62,41 @@ const fn index_type(is_64: bool) -> ValType {
 }
 
 impl TableType {
-    /// The type of the indices of its elements.
+    /// Returns the type of the table's indices: `i64` for a 64-bit table, otherwise `i32`.
     pub fn index_type(&self) -> ValType {
         index_type(self.table64)
     }
 }
 
 impl MemoryType {
-    /// The type of its addresses.
+    /// Returns the type of the memory's addresses: `i64` for a 64-bit memory, otherwise `i32`.
     pub fn index_type(&self) -> ValType {
         index_type(self.memory64)
     }
 }
 
 /// The type of a global.
+///
+/// # Examples
+///
+/// ```
+/// use pulleynavy::{BinaryReader, GlobalType, ValType};
+///
+/// let ty = BinaryReader::new(&[0x7f, 0x01], 0).read::<GlobalType>()?;
+/// assert_eq!(ty, GlobalType { content_type: ValType::I32, mutable: true, shared: false });
+/// # Ok::<(), pulleynavy::Error>(())
+/// ```
 #[derive(Clone, Copy, Debug, PartialEq, Eq, Hash)]
 pub struct GlobalType {
-    /// The type of its value.
+    /// The type of the value.
     pub content_type: ValType,
-    /// Whether its value can be changed.
+    /// Whether the value is mutable.
     pub mutable: bool,
-    /// Whether threads share it.
+    /// Whether threads share the global.
     pub shared: bool,
 }
 
-/// What a tag is of.
+/// The use of a tag.
 #[derive(Clone, Copy, Debug, PartialEq, Eq, Hash)]
 pub enum TagKind {
     /// Exceptions.
@@ -70,9 +104,19 @@ pub enum TagKind {
 }
 
 /// The type of a tag.
+///
+/// # Examples
+///
+/// ```
+/// use pulleynavy::{BinaryReader, TagKind, TagType};
+///
+/// let ty = BinaryReader::new(&[0, 4], 0).read::<TagType>()?;
+/// assert_eq!(ty, TagType { kind: TagKind::Exception, func_type_idx: 4 });
+/// # Ok::<(), pulleynavy::Error>(())
+/// ```
 #[derive(Clone, Copy, Debug, PartialEq, Eq, Hash)]
 pub struct TagType {
-    /// What it is a tag of.
+    /// The use of the tag.
     pub kind: TagKind,
     /// The index of the function type whose parameters the tag carries.
     pub func_type_idx: u32,

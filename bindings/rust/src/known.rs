@@ -7,7 +7,20 @@ use crate::relocations::RelocSectionReader;
 use crate::{BinaryReader, CustomSectionReader, FromReader, NameSectionReader, Result, SectionLimited, Subsection, Subsections, SymbolFlags, library};
 use core::ops::Range;
 
-/// A custom section whose format is known, by its name.
+/// The data of a custom section, read as the name of the section says.
+///
+/// # Examples
+///
+/// ```
+/// use pulleynavy::{BinaryReader, CustomSectionReader, KnownCustom};
+///
+/// let section = CustomSectionReader::new(BinaryReader::new(b"\x04core\x00\x03app", 0))?;
+/// match section.as_known() {
+///     KnownCustom::CoreDump(dump) => assert_eq!(dump.name, "app"),
+///     _ => unreachable!(),
+/// }
+/// # Ok::<(), pulleynavy::Error>(())
+/// ```
 #[derive(Clone, Debug)]
 pub enum KnownCustom<'a> {
     /// The section `name`.
@@ -30,12 +43,14 @@ pub enum KnownCustom<'a> {
     Linking(LinkingSectionReader<'a>),
     /// A section whose name begins with `reloc.`.
     Reloc(RelocSectionReader<'a>),
-    /// A section with another name, or one whose data is malformed.
+    /// A section with another name, or one whose data the reader for its name rejects.
     Unknown,
 }
 
 impl<'a> CustomSectionReader<'a> {
-    /// Returns the reader of its data that belongs to its name.
+    /// Returns a reader for the data, selected by the name of the section.
+    ///
+    /// The result is [`KnownCustom::Unknown`] if the name is not known, or if the `new` of the selected reader returns an error.
     pub fn as_known(&self) -> KnownCustom<'a> {
         self.known().unwrap_or(KnownCustom::Unknown)
     }
@@ -60,15 +75,40 @@ impl<'a> CustomSectionReader<'a> {
 
 // ---- producers and hints
 
-/// The fields of the section `producers`.
+/// The section `producers`, whose items are fields.
+///
+/// # Examples
+///
+/// ```
+/// use pulleynavy::{BinaryReader, ProducersSectionReader};
+///
+/// let bytes = b"\x01\x08language\x01\x04Rust\x00";
+/// for field in ProducersSectionReader::new(BinaryReader::new(bytes, 0))? {
+///     let field = field?;
+///     assert_eq!((field.name, field.values.count()), ("language", 1));
+/// }
+/// # Ok::<(), pulleynavy::Error>(())
+/// ```
 pub type ProducersSectionReader<'a> = SectionLimited<'a, ProducersField<'a>>;
 
-/// A field of the section `producers`.
+/// A field of the section `producers`: the values for one kind of tool.
+///
+/// # Examples
+///
+/// ```
+/// use pulleynavy::{BinaryReader, ProducersField};
+///
+/// let field = BinaryReader::new(b"\x03sdk\x01\x01X\x012", 0).read::<ProducersField>()?;
+/// for value in field.values {
+///     assert_eq!(value?.version, "2");
+/// }
+/// # Ok::<(), pulleynavy::Error>(())
+/// ```
 #[derive(Clone, Debug)]
 pub struct ProducersField<'a> {
-    /// What it lists: `language`, `sdk` or `processed-by`.
+    /// The kind of the values: `language`, `sdk` or `processed-by`.
     pub name: &'a str,
-    /// The languages or tools.
+    /// The languages or tools, read lazily.
     pub values: SectionLimited<'a, ProducersFieldValue<'a>>,
 }
 
@@ -81,11 +121,21 @@ impl<'a> FromReader<'a> for ProducersField<'a> {
 }
 
 /// A language or tool that a module was produced with.
+///
+/// # Examples
+///
+/// ```
+/// use pulleynavy::{BinaryReader, ProducersFieldValue};
+///
+/// let value = BinaryReader::new(b"\x01C\x0299", 0).read::<ProducersFieldValue>()?;
+/// assert_eq!((value.name, value.version), ("C", "99"));
+/// # Ok::<(), pulleynavy::Error>(())
+/// ```
 #[derive(Clone, Copy, Debug, PartialEq, Eq, Hash)]
 pub struct ProducersFieldValue<'a> {
-    /// Its name.
+    /// The name of the language or tool.
     pub name: &'a str,
-    /// Its version.
+    /// The version of the language or tool, possibly empty.
     pub version: &'a str,
 }
 
@@ -96,15 +146,40 @@ impl<'a> FromReader<'a> for ProducersFieldValue<'a> {
     }
 }
 
-/// The functions of the section `metadata.code.branch_hint`.
+/// The section `metadata.code.branch_hint`, whose items are functions.
+///
+/// # Examples
+///
+/// ```
+/// use pulleynavy::{BinaryReader, BranchHintSectionReader};
+///
+/// // In function 3, the branch at offset 9 is likely.
+/// for function in BranchHintSectionReader::new(BinaryReader::new(&[1, 3, 1, 9, 1, 1], 0))? {
+///     let function = function?;
+///     assert_eq!((function.func, function.hints.count()), (3, 1));
+/// }
+/// # Ok::<(), pulleynavy::Error>(())
+/// ```
 pub type BranchHintSectionReader<'a> = SectionLimited<'a, BranchHintFunction<'a>>;
 
 /// The branch hints of a function.
+///
+/// # Examples
+///
+/// ```
+/// use pulleynavy::{BinaryReader, BranchHintFunction};
+///
+/// let function = BinaryReader::new(&[3, 1, 9, 1, 1], 0).read::<BranchHintFunction>()?;
+/// for hint in function.hints {
+///     assert_eq!(hint?.func_offset, 9);
+/// }
+/// # Ok::<(), pulleynavy::Error>(())
+/// ```
 #[derive(Clone, Debug)]
 pub struct BranchHintFunction<'a> {
-    /// The function's index.
+    /// The index of the function.
     pub func: u32,
-    /// Its hints.
+    /// The hints of the function. They were checked, so iterating over them yields no error.
     pub hints: SectionLimited<'a, BranchHint>,
 }
 
@@ -116,12 +191,22 @@ impl<'a> FromReader<'a> for BranchHintFunction<'a> {
     }
 }
 
-/// Whether a branch is likely to be taken.
+/// A branch hint: whether a branch is likely to be taken.
+///
+/// # Examples
+///
+/// ```
+/// use pulleynavy::{BinaryReader, BranchHint};
+///
+/// let hint = BinaryReader::new(&[9, 1, 1], 0).read::<BranchHint>()?;
+/// assert_eq!(hint, BranchHint { func_offset: 9, taken: true });
+/// # Ok::<(), pulleynavy::Error>(())
+/// ```
 #[derive(Clone, Copy, Debug, PartialEq, Eq, Hash)]
 pub struct BranchHint {
-    /// The offset of the branch instruction from the start of the function's body.
+    /// The offset of the branch instruction, in bytes from the start of the function's body.
     pub func_offset: u32,
-    /// Whether it is likely to be taken.
+    /// Whether the branch is likely to be taken.
     pub taken: bool,
 }
 
@@ -134,36 +219,63 @@ impl<'a> FromReader<'a> for BranchHint {
 
 // ---- dynamic linking
 
-/// The subsections of the section `dylink.0`.
+/// The section `dylink.0`, an iterator over subsections.
+///
+/// # Examples
+///
+/// ```
+/// use pulleynavy::{BinaryReader, Dylink0SectionReader, Dylink0Subsection};
+///
+/// // The library needs "a.so".
+/// for subsection in Dylink0SectionReader::new(BinaryReader::new(b"\x02\x06\x01\x04a.so", 0)) {
+///     match subsection? {
+///         Dylink0Subsection::Needed(libraries) => assert!(libraries.into_iter().eq(["a.so"])),
+///         _ => unreachable!(),
+///     }
+/// }
+/// # Ok::<(), pulleynavy::Error>(())
+/// ```
 pub type Dylink0SectionReader<'a> = Subsections<'a, Dylink0Subsection<'a>>;
 
 /// A subsection of the section `dylink.0`.
+///
+/// # Examples
+///
+/// ```
+/// use pulleynavy::{BinaryReader, Dylink0Subsection, Subsection};
+///
+/// match Dylink0Subsection::from_reader(1, BinaryReader::new(&[16, 2, 1, 0], 0))? {
+///     Dylink0Subsection::MemInfo(info) => assert_eq!(info.memory_size, 16),
+///     _ => unreachable!(),
+/// }
+/// # Ok::<(), pulleynavy::Error>(())
+/// ```
 #[derive(Clone, Debug)]
 pub enum Dylink0Subsection<'a> {
-    /// The memory and table space that a library needs.
+    /// The memory and table space that the library needs (id 1).
     MemInfo(MemInfo),
-    /// The libraries that it needs.
+    /// The names of the libraries that the library needs (id 2).
     Needed(Items<'a, &'a str>),
-    /// Flags of its exports.
+    /// The flags of exported symbols (id 3).
     ExportInfo(Items<'a, ExportInfo<'a>>),
-    /// Flags of its imports.
+    /// The flags of imported symbols (id 4).
     ImportInfo(Items<'a, ImportInfo<'a>>),
-    /// The search paths for libraries.
+    /// The directories to search for libraries (id 5).
     RuntimePath(Items<'a, &'a str>),
-    /// The target architecture.
+    /// The name of the target architecture (id 6).
     TargetArch(&'a str),
     /// A subsection with another id.
     Unknown {
-        /// Its id.
+        /// The id, below 128.
         ty: u8,
-        /// Its bytes.
+        /// The content, without the id and the size.
         data: &'a [u8],
-        /// The offsets of its bytes.
+        /// The offsets of the content, in bytes from the start of the stream.
         range: Range<u64>,
     },
 }
 
-/// Trailing bytes of a subsection are ignored.
+/// Reads a subsection. Bytes after its last part are ignored.
 impl<'a> Subsection<'a> for Dylink0Subsection<'a> {
     fn from_reader(id: u8, mut reader: BinaryReader<'a>) -> Result<Self> {
         let reader = &mut reader;
@@ -185,15 +297,25 @@ fn texts<'a>(reader: &mut BinaryReader<'a>) -> Result<Items<'a, &'a str>> {
 }
 
 /// The memory and table space that a library needs.
+///
+/// # Examples
+///
+/// ```
+/// use pulleynavy::{BinaryReader, MemInfo};
+///
+/// let info = BinaryReader::new(&[16, 2, 1, 0], 0).read::<MemInfo>()?;
+/// assert_eq!((info.memory_size, info.memory_alignment), (16, 2));
+/// # Ok::<(), pulleynavy::Error>(())
+/// ```
 #[derive(Clone, Copy, Debug, PartialEq, Eq, Hash)]
 pub struct MemInfo {
-    /// The size of the memory in bytes.
+    /// The size of the memory area, in bytes.
     pub memory_size: u32,
-    /// Their alignment, as a power of two.
+    /// The alignment of the memory area, as the base-2 logarithm of the bytes.
     pub memory_alignment: u32,
-    /// The number of table elements.
+    /// The size of the table area, in elements.
     pub table_size: u32,
-    /// Their alignment, as a power of two.
+    /// The alignment of the table area, as the base-2 logarithm of the elements.
     pub table_alignment: u32,
 }
 
@@ -205,12 +327,22 @@ impl<'a> FromReader<'a> for MemInfo {
     }
 }
 
-/// Flags of an export, for a dynamic linker.
+/// The flags of an export's symbol, for a dynamic linker.
+///
+/// # Examples
+///
+/// ```
+/// use pulleynavy::{BinaryReader, ExportInfo, SymbolFlags};
+///
+/// let export = BinaryReader::new(b"\x01f\x80\x02", 0).read::<ExportInfo>()?;
+/// assert_eq!((export.name, export.flags), ("f", SymbolFlags::TLS));
+/// # Ok::<(), pulleynavy::Error>(())
+/// ```
 #[derive(Clone, Copy, Debug, PartialEq, Eq, Hash)]
 pub struct ExportInfo<'a> {
-    /// Its name.
+    /// The name of the export.
     pub name: &'a str,
-    /// Its flags.
+    /// The flags of the symbol.
     pub flags: SymbolFlags,
 }
 
@@ -221,14 +353,25 @@ impl<'a> FromReader<'a> for ExportInfo<'a> {
     }
 }
 
-/// Flags of an import, for a dynamic linker.
+/// The flags of an import's symbol, for a dynamic linker.
+///
+/// # Examples
+///
+/// ```
+/// use pulleynavy::{BinaryReader, ImportInfo, SymbolFlags};
+///
+/// let import = BinaryReader::new(b"\x03env\x01f\x01", 0).read::<ImportInfo>()?;
+/// assert_eq!((import.module, import.field), ("env", "f"));
+/// assert_eq!(import.flags, SymbolFlags::BINDING_WEAK);
+/// # Ok::<(), pulleynavy::Error>(())
+/// ```
 #[derive(Clone, Copy, Debug, PartialEq, Eq, Hash)]
 pub struct ImportInfo<'a> {
-    /// The name of its module.
+    /// The name of the module to import from.
     pub module: &'a str,
-    /// Its name there.
+    /// The name of the import in that module.
     pub field: &'a str,
-    /// Its flags.
+    /// The flags of the symbol.
     pub flags: SymbolFlags,
 }
 

@@ -18,8 +18,8 @@
 //! # Ok::<(), pulleynavy::Error>(())
 //! ```
 //!
-//! The results of the library are proved; this crate turns them into Rust's types, and is tested. Offsets count bytes from the start of
-//! the whole stream.
+//! The results of the library are proved; this crate turns them into Rust's types, and is tested. Offsets are in bytes from the start of
+//! the stream. Sections are read lazily: iterate over them to read their items. Nothing is validated beyond the format.
 //!
 //! The feature `alloc`, which is on by default, makes lists inside items vectors and slices. Without it the crate never allocates: lists
 //! are then iterators that borrow from the input.

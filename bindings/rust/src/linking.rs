@@ -3,7 +3,23 @@ use crate::codes::{comdat_kind, symbol_kind};
 use crate::{BinaryReader, FromReader, Lead, Result, SectionLimited, SegmentFlags, Subsection, Subsections, SymbolFlags, library};
 use core::ops::Range;
 
-/// The section `linking`.
+/// The section `linking`: a version and subsections.
+///
+/// # Examples
+///
+/// ```
+/// use pulleynavy::{BinaryReader, Linking, LinkingSectionReader};
+///
+/// // Version 2, and the function symbol 4 to call at startup.
+/// let section = LinkingSectionReader::new(BinaryReader::new(&[2, 6, 3, 1, 10, 4], 0))?;
+/// for subsection in section.subsections() {
+///     match subsection? {
+///         Linking::InitFuncs(functions) => assert_eq!(functions.count(), 1),
+///         _ => unreachable!(),
+///     }
+/// }
+/// # Ok::<(), pulleynavy::Error>(())
+/// ```
 #[derive(Clone, Debug)]
 pub struct LinkingSectionReader<'a> {
     version: u32,
@@ -12,32 +28,34 @@ pub struct LinkingSectionReader<'a> {
 }
 
 impl<'a> LinkingSectionReader<'a> {
-    /// Reads the version of the section from the remaining bytes of a reader.
+    /// Reads the version from the remaining bytes of a reader. The bytes after it are the subsections.
     ///
     /// # Errors
-    /// If the version is malformed, or is not 2.
+    ///
+    /// Those of [`BinaryReader::read_var_u32`]; `LinkingVersion` at the version, which is the number of the error, if it is not
+    /// 2.
     pub fn new(mut reader: BinaryReader<'a>) -> Result<Self> {
         let range = reader.remaining_range();
         let (_, plain) = reader.item(library::linking_version)?;
         Ok(LinkingSectionReader { version: plain.value as u32, range, subsections: Subsections::new(reader.shrink()) })
     }
 
-    /// Its version, which is 2.
+    /// Returns the version, which is always 2.
     pub fn version(&self) -> u32 {
         self.version
     }
 
-    /// The offset at which its subsections begin.
+    /// Returns the offset of the first subsection, in bytes from the start of the stream.
     pub fn original_position(&self) -> u64 {
         self.subsections.original_position()
     }
 
-    /// The offsets of its bytes, with the version.
+    /// Returns the offsets of the data, including the version, in bytes from the start of the stream.
     pub fn range(&self) -> Range<u64> {
         self.range.clone()
     }
 
-    /// Its subsections.
+    /// Returns an iterator over the subsections.
     pub fn subsections(&self) -> Subsections<'a, Linking<'a>> {
         self.subsections.clone()
     }
@@ -52,35 +70,47 @@ impl<'a> IntoIterator for LinkingSectionReader<'a> {
     }
 }
 
-/// Names, alignments and flags of data segments.
+/// A list of names, alignments and flags of data segments.
 pub type SegmentMap<'a> = SectionLimited<'a, Segment<'a>>;
-/// The initialization functions.
+/// A list of functions to call at startup.
 pub type InitFuncMap<'a> = SectionLimited<'a, InitFunc>;
-/// Comdats.
+/// A list of comdats.
 pub type ComdatMap<'a> = SectionLimited<'a, Comdat<'a>>;
-/// Symbols.
+/// A list of symbols.
+///
+/// # Examples
+///
+/// ```
+/// use pulleynavy::{BinaryReader, SymbolInfo, SymbolInfoMap};
+///
+/// // The defined function 3 has the symbol "f".
+/// for symbol in SymbolInfoMap::new(BinaryReader::new(b"\x01\0\0\x03\x01f", 0))? {
+///     assert!(matches!(symbol?, SymbolInfo::Func { index: 3, name: Some("f"), .. }));
+/// }
+/// # Ok::<(), pulleynavy::Error>(())
+/// ```
 pub type SymbolInfoMap<'a> = SectionLimited<'a, SymbolInfo<'a>>;
 
 /// A subsection of the section `linking`.
 #[derive(Clone, Debug)]
 pub enum Linking<'a> {
-    /// Names, alignments and flags of data segments.
+    /// Names, alignments and flags of data segments (id 5).
     SegmentInfo(SegmentMap<'a>),
-    /// The initialization functions.
+    /// The functions to call at startup (id 6).
     InitFuncs(InitFuncMap<'a>),
-    /// The comdats.
+    /// The comdats (id 7).
     ComdatInfo(ComdatMap<'a>),
-    /// The symbols.
+    /// The symbol table (id 8).
     SymbolTable(SymbolInfoMap<'a>),
-    /// The target architecture.
+    /// The name of the target architecture (id 9).
     TargetArch(&'a str),
     /// A subsection with another id.
     Unknown {
-        /// Its id.
+        /// The id, below 128.
         ty: u8,
-        /// Its bytes.
+        /// The content, without the id and the size.
         data: &'a [u8],
-        /// The offsets of its bytes.
+        /// The offsets of the content, in bytes from the start of the stream.
         range: Range<u64>,
     },
 }
@@ -100,13 +130,23 @@ impl<'a> Subsection<'a> for Linking<'a> {
 }
 
 /// The name, the alignment and the flags of a data segment.
+///
+/// # Examples
+///
+/// ```
+/// use pulleynavy::{BinaryReader, Segment};
+///
+/// let segment = BinaryReader::new(b"\x05.data\x02\x00", 0).read::<Segment>()?;
+/// assert_eq!((segment.name, segment.alignment), (".data", 2));
+/// # Ok::<(), pulleynavy::Error>(())
+/// ```
 #[derive(Clone, Copy, Debug, PartialEq, Eq, Hash)]
 pub struct Segment<'a> {
-    /// Its name.
+    /// The name of the segment.
     pub name: &'a str,
-    /// Its alignment, as a power of two.
+    /// The alignment of the segment, as the base-2 logarithm of the bytes.
     pub alignment: u32,
-    /// Its flags.
+    /// The flags of the segment.
     pub flags: SegmentFlags,
 }
 
@@ -117,12 +157,22 @@ impl<'a> FromReader<'a> for Segment<'a> {
     }
 }
 
-/// An initialization function.
+/// A function to call at startup.
+///
+/// # Examples
+///
+/// ```
+/// use pulleynavy::{BinaryReader, InitFunc};
+///
+/// let function = BinaryReader::new(&[10, 4], 0).read::<InitFunc>()?;
+/// assert_eq!(function, InitFunc { priority: 10, symbol_index: 4 });
+/// # Ok::<(), pulleynavy::Error>(())
+/// ```
 #[derive(Clone, Copy, Debug, PartialEq, Eq, Hash)]
 pub struct InitFunc {
-    /// Its priority.
+    /// The priority: lower numbers are called first.
     pub priority: u32,
-    /// The index of its symbol.
+    /// The index of the function's symbol in the symbol table.
     pub symbol_index: u32,
 }
 
@@ -133,14 +183,27 @@ impl<'a> FromReader<'a> for InitFunc {
     }
 }
 
-/// A comdat.
+/// A comdat: a group of symbols, of which the linker keeps one copy if several modules define it.
+///
+/// # Examples
+///
+/// ```
+/// use pulleynavy::{BinaryReader, Comdat, ComdatSymbol, ComdatSymbolKind};
+///
+/// // The comdat "c" of function 5.
+/// let comdat = BinaryReader::new(b"\x01c\x00\x01\x01\x05", 0).read::<Comdat>()?;
+/// for symbol in comdat.symbols {
+///     assert_eq!(symbol?, ComdatSymbol { kind: ComdatSymbolKind::Func, index: 5 });
+/// }
+/// # Ok::<(), pulleynavy::Error>(())
+/// ```
 #[derive(Clone, Debug)]
 pub struct Comdat<'a> {
-    /// Its name.
+    /// The name of the comdat.
     pub name: &'a str,
-    /// Its flags.
+    /// The flags. None is defined; they are not checked.
     pub flags: u32,
-    /// Its symbols.
+    /// The symbols of the comdat. They were checked, so iterating over them yields no error.
     pub symbols: SectionLimited<'a, ComdatSymbol>,
 }
 
@@ -155,13 +218,13 @@ impl<'a> FromReader<'a> for Comdat<'a> {
 /// A symbol of a comdat.
 #[derive(Clone, Copy, Debug, PartialEq, Eq, Hash)]
 pub struct ComdatSymbol {
-    /// What it is.
+    /// The kind of the symbol.
     pub kind: ComdatSymbolKind,
-    /// Its index among those of its kind.
+    /// The index of the symbol, in the index space of the kind.
     pub index: u32,
 }
 
-/// What a symbol of a comdat is.
+/// The kind of a symbol of a comdat.
 #[derive(Clone, Copy, Debug, PartialEq, Eq, Hash)]
 pub enum ComdatSymbolKind {
     /// A data segment.
@@ -206,32 +269,94 @@ impl<'a> FromReader<'a> for ComdatSymbol {
     }
 }
 
-/// A symbol.
+/// A symbol of the symbol table. Each has its flags and, except for sections, its name.
+///
+/// An undefined symbol without `EXPLICIT_NAME` has no name of its own (`None`) but that of its import.
+///
+/// # Examples
+///
+/// ```
+/// use pulleynavy::{BinaryReader, SymbolFlags, SymbolInfo};
+///
+/// // An undefined function, imported as function 0.
+/// let symbol = BinaryReader::new(&[0, 0x10, 0], 0).read::<SymbolInfo>()?;
+/// assert_eq!(symbol, SymbolInfo::Func { flags: SymbolFlags::UNDEFINED, index: 0, name: None });
+/// # Ok::<(), pulleynavy::Error>(())
+/// ```
 #[derive(Clone, Copy, Debug, PartialEq, Eq, Hash)]
-#[allow(missing_docs)]
 pub enum SymbolInfo<'a> {
-    /// A function, by its index.
-    Func { flags: SymbolFlags, index: u32, name: Option<&'a str> },
-    /// Data, and its place if it is defined.
-    Data { flags: SymbolFlags, name: &'a str, symbol: Option<DefinedDataSymbol> },
-    /// A global, by its index.
-    Global { flags: SymbolFlags, index: u32, name: Option<&'a str> },
-    /// A section, by its index.
-    Section { flags: SymbolFlags, section: u32 },
-    /// An event, by its index.
-    Event { flags: SymbolFlags, index: u32, name: Option<&'a str> },
-    /// A table, by its index.
-    Table { flags: SymbolFlags, index: u32, name: Option<&'a str> },
+    /// A function.
+    Func {
+        /// The flags of the symbol.
+        flags: SymbolFlags,
+        /// The index of the function.
+        index: u32,
+        /// The name of the symbol, if it has one of its own.
+        name: Option<&'a str>,
+    },
+    /// Data in a segment.
+    Data {
+        /// The flags of the symbol.
+        flags: SymbolFlags,
+        /// The name of the symbol.
+        name: &'a str,
+        /// The location of the data, if it is defined in this module.
+        symbol: Option<DefinedDataSymbol>,
+    },
+    /// A global.
+    Global {
+        /// The flags of the symbol.
+        flags: SymbolFlags,
+        /// The index of the global.
+        index: u32,
+        /// The name of the symbol, if it has one of its own.
+        name: Option<&'a str>,
+    },
+    /// A section.
+    Section {
+        /// The flags of the symbol.
+        flags: SymbolFlags,
+        /// The index of the section among all sections of the module.
+        section: u32,
+    },
+    /// An event, which the core specification calls a tag.
+    Event {
+        /// The flags of the symbol.
+        flags: SymbolFlags,
+        /// The index of the event.
+        index: u32,
+        /// The name of the symbol, if it has one of its own.
+        name: Option<&'a str>,
+    },
+    /// A table.
+    Table {
+        /// The flags of the symbol.
+        flags: SymbolFlags,
+        /// The index of the table.
+        index: u32,
+        /// The name of the symbol, if it has one of its own.
+        name: Option<&'a str>,
+    },
 }
 
-/// Where data is that is defined.
+/// The location of a defined data symbol.
+///
+/// # Examples
+///
+/// ```
+/// use pulleynavy::{BinaryReader, DefinedDataSymbol};
+///
+/// let place = BinaryReader::new(&[0, 8, 4], 0).read::<DefinedDataSymbol>()?;
+/// assert_eq!(place, DefinedDataSymbol { index: 0, offset: 8, size: 4 });
+/// # Ok::<(), pulleynavy::Error>(())
+/// ```
 #[derive(Clone, Copy, Debug, PartialEq, Eq, Hash)]
 pub struct DefinedDataSymbol {
-    /// The index of its segment.
+    /// The index of the data segment.
     pub index: u32,
-    /// Where it is in the segment, in bytes.
+    /// The offset of the data, in bytes from the start of the segment.
     pub offset: u32,
-    /// How many bytes it has.
+    /// The size of the data, in bytes.
     pub size: u32,
 }
 

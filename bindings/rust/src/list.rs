@@ -5,7 +5,19 @@ use core::fmt;
 /// How an item is read.
 type Read<'a, T> = fn(&mut BinaryReader<'a>) -> Result<T>;
 
-/// An iterator over a list inside an item. Its items were read once without an error; each is read again when it is returned.
+/// An iterator over a list inside an item. The items were checked once; each is read again when it is returned.
+///
+/// # Examples
+///
+/// ```
+/// use pulleynavy::{BinaryReader, CoreDumpModulesSection};
+///
+/// let dump = CoreDumpModulesSection::new(BinaryReader::new(b"\x01\0\x04test", 0))?;
+/// let mut modules = dump.modules;
+/// assert_eq!(modules.len(), 1);
+/// assert_eq!(modules.next(), Some("test"));
+/// # Ok::<(), pulleynavy::Error>(())
+/// ```
 pub struct List<'a, T> {
     reader: BinaryReader<'a>,
     left: u32,

@@ -2,12 +2,22 @@
 use crate::{BinaryReader, Error, Fault, FromReader, Result, SectionLimited, SectionLimitedIntoIter, Subsection, Subsections, library};
 use core::ops::Range;
 
-/// An index and its name.
+/// An entry of a name map: an index and a name.
+///
+/// # Examples
+///
+/// ```
+/// use pulleynavy::{BinaryReader, Naming};
+///
+/// let naming = BinaryReader::new(b"\x05\x01f", 0).read::<Naming>()?;
+/// assert_eq!(naming, Naming { index: 5, name: "f" });
+/// # Ok::<(), pulleynavy::Error>(())
+/// ```
 #[derive(Clone, Copy, Debug, PartialEq, Eq, Hash)]
 pub struct Naming<'a> {
-    /// The index of what is named.
+    /// The index of the named item, in the index space of the map.
     pub index: u32,
-    /// Its name.
+    /// The name of the item.
     pub name: &'a str,
 }
 
@@ -18,12 +28,26 @@ impl<'a> FromReader<'a> for Naming<'a> {
     }
 }
 
-/// An index with its own names, as a function and its locals.
+/// An entry of an indirect name map: an index and a name map.
+///
+/// # Examples
+///
+/// ```
+/// use pulleynavy::{BinaryReader, IndirectNaming};
+///
+/// // Local 0 of function 5 is called "x".
+/// let function = BinaryReader::new(b"\x05\x01\x00\x01x", 0).read::<IndirectNaming>()?;
+/// assert_eq!(function.index, 5);
+/// for local in function.names {
+///     assert_eq!(local?.name, "x");
+/// }
+/// # Ok::<(), pulleynavy::Error>(())
+/// ```
 #[derive(Clone, Debug)]
 pub struct IndirectNaming<'a> {
-    /// The index, for instance of a function.
+    /// The index of the item whose parts are named, such as a function.
     pub index: u32,
-    /// Its names, for instance of the locals.
+    /// The names of the parts, such as the locals of the function.
     pub names: NameMap<'a>,
 }
 
@@ -55,16 +79,17 @@ macro_rules! ascending {
         $(#[$doc])*
         #[derive(Clone, Debug)]
         pub struct $name<'a> {
-            /// The remaining entries, whose order is not checked.
+            /// An iterator over the remaining entries as encoded, in any order.
             pub names: SectionLimitedIntoIter<'a, $entry<'a>>,
             last: Last,
         }
 
         impl<'a> $name<'a> {
-            /// Takes the remaining bytes of a reader as a map, and reads its count.
+            /// Takes the remaining bytes of a reader as a map, and reads the count. The entries are read lazily.
             ///
             /// # Errors
-            /// If the count is malformed.
+            ///
+            /// Those of [`BinaryReader::read_var_u32`] for the count.
             pub fn new(reader: BinaryReader<'a>) -> Result<Self> {
                 Ok($name::of(SectionLimited::new(reader)?))
             }
@@ -73,7 +98,7 @@ macro_rules! ascending {
                 $name { names: names.into_iter(), last: Last::default() }
             }
 
-            /// The offset at which the next entry begins.
+            /// Returns the offset of the next entry, in bytes from the start of the stream.
             pub fn original_position(&self) -> u64 {
                 self.names.original_position()
             }
@@ -96,34 +121,89 @@ macro_rules! ascending {
 }
 
 ascending! {
-    /// An iterator over names by index. An index that is not above the last one is an error, and the iteration continues.
+    /// A name map, an iterator over entries whose indices ascend.
+    ///
+    /// # Errors
+    ///
+    /// An entry whose index is not above every index returned before is `NamesOrder` at the start of the entry, and the next one follows.
+    /// The iterator ends after the error of a malformed entry, or after `SizeMismatch` if bytes follow the last entry.
+    ///
+    /// # Examples
+    ///
+    /// ```
+    /// use pulleynavy::{BinaryReader, Error, Fault, NameMap, Naming};
+    ///
+    /// // The indices are 5 and 3.
+    /// let mut names = NameMap::new(BinaryReader::new(b"\x02\x05\x01a\x03\x01b", 0))?;
+    /// assert_eq!(names.next(), Some(Ok(Naming { index: 5, name: "a" })));
+    /// assert_eq!(names.next(), Some(Err(Error::new(Fault::NamesOrder, 4))));
+    /// # Ok::<(), pulleynavy::Error>(())
+    /// ```
     NameMap, Naming, Fault::NamesOrder
 }
 ascending! {
-    /// An iterator over indices with their own names. An index that is not above the last one is an error, and the iteration continues.
+    /// An indirect name map, an iterator over entries whose indices ascend.
+    ///
+    /// # Errors
+    ///
+    /// Those of [`NameMap`], with `IndirectOrder` for an index that does not ascend.
+    ///
+    /// # Examples
+    ///
+    /// ```
+    /// use pulleynavy::{BinaryReader, IndirectNameMap};
+    ///
+    /// // Local 0 of function 5 is called "x".
+    /// for function in IndirectNameMap::new(BinaryReader::new(b"\x01\x05\x01\x00\x01x", 0))? {
+    ///     assert_eq!(function?.index, 5);
+    /// }
+    /// # Ok::<(), pulleynavy::Error>(())
+    /// ```
     IndirectNameMap, IndirectNaming, Fault::IndirectOrder
 }
 
-/// An iterator over the subsections of the section `name`. An id that is not above the last one is an error, and the iteration continues.
+/// The section `name`, an iterator over subsections whose ids ascend.
+///
+/// # Errors
+///
+/// A subsection whose id is not above every id returned before is `NameSectionOrder` at the start of the subsection. After it, or
+/// after the error of a malformed subsection, the next one follows.
+///
+/// # Examples
+///
+/// ```
+/// use pulleynavy::{BinaryReader, Name, NameSectionReader, Naming};
+///
+/// // The name of the module, then the name "f" for function 5.
+/// let bytes = b"\x00\x04\x03app\x01\x04\x01\x05\x01f";
+/// for subsection in NameSectionReader::new(BinaryReader::new(bytes, 0)) {
+///     match subsection? {
+///         Name::Module { name, .. } => assert_eq!(name, "app"),
+///         Name::Function(names) => assert!(names.eq([Ok(Naming { index: 5, name: "f" })])),
+///         _ => unreachable!(),
+///     }
+/// }
+/// # Ok::<(), pulleynavy::Error>(())
+/// ```
 #[derive(Clone, Debug)]
 pub struct NameSectionReader<'a> {
-    /// The remaining subsections, whose order is not checked.
+    /// An iterator over the remaining subsections as encoded, in any order.
     pub sections: Subsections<'a, Name<'a>>,
     last: Last,
 }
 
 impl<'a> NameSectionReader<'a> {
-    /// Takes the remaining bytes of a reader as subsections.
+    /// Takes the remaining bytes of a reader as subsections. Nothing is read yet.
     pub fn new(reader: BinaryReader<'a>) -> Self {
         NameSectionReader { sections: Subsections::new(reader), last: Last::default() }
     }
 
-    /// The offset at which the next subsection begins.
+    /// Returns the offset of the next subsection, in bytes from the start of the stream.
     pub fn original_position(&self) -> u64 {
         self.sections.original_position()
     }
 
-    /// The offsets of all bytes, also of those that were read.
+    /// Returns the offsets of all bytes, including those that were read, in bytes from the start of the stream.
     pub fn range(&self) -> Range<u64> {
         self.sections.range()
     }
@@ -140,49 +220,49 @@ impl<'a> Iterator for NameSectionReader<'a> {
     }
 }
 
-/// A subsection of names.
+/// A subsection of the section `name`.
 #[derive(Clone, Debug)]
 pub enum Name<'a> {
-    /// The name of the module.
+    /// The name of the module (id 0).
     Module {
-        /// The name.
+        /// The name, of at most 100,000 bytes.
         name: &'a str,
-        /// Its offsets, with its size.
+        /// The offsets of the size and the name, in bytes from the start of the stream.
         name_range: Range<u64>,
     },
-    /// The names of functions.
+    /// The names of functions (id 1).
     Function(NameMap<'a>),
-    /// The names of locals, by function.
+    /// The names of locals, by function (id 2).
     Local(IndirectNameMap<'a>),
-    /// The names of labels, by function.
+    /// The names of labels, by function (id 3).
     Label(IndirectNameMap<'a>),
-    /// The names of types.
+    /// The names of types (id 4).
     Type(NameMap<'a>),
-    /// The names of tables.
+    /// The names of tables (id 5).
     Table(NameMap<'a>),
-    /// The names of memories.
+    /// The names of memories (id 6).
     Memory(NameMap<'a>),
-    /// The names of globals.
+    /// The names of globals (id 7).
     Global(NameMap<'a>),
-    /// The names of element segments.
+    /// The names of element segments (id 8).
     Element(NameMap<'a>),
-    /// The names of data segments.
+    /// The names of data segments (id 9).
     Data(NameMap<'a>),
-    /// The names of fields, by type.
+    /// The names of fields, by type (id 10).
     Field(IndirectNameMap<'a>),
-    /// The names of tags.
+    /// The names of tags (id 11).
     Tag(NameMap<'a>),
-    /// The names of parameters, by type.
+    /// The names of parameters, by type (id 12).
     Parameter(IndirectNameMap<'a>),
-    /// The names of parameters, by tag.
+    /// The names of the parameters of tags, by tag (id 13).
     TagParameter(IndirectNameMap<'a>),
     /// A subsection with another id.
     Unknown {
-        /// Its id.
+        /// The id, below 128.
         ty: u8,
-        /// Its bytes.
+        /// The content, without the id and the size.
         data: &'a [u8],
-        /// The offsets of its bytes.
+        /// The offsets of the content, in bytes from the start of the stream.
         range: Range<u64>,
     },
 }

@@ -8,17 +8,30 @@ use core::convert::Infallible;
 use core::iter::FusedIterator;
 use core::marker::PhantomData;
 
-/// The bits of a vector.
+/// The bits of a 128-bit vector.
+///
+/// # Examples
+///
+/// ```
+/// use pulleynavy::{BinaryReader, Operator, OperatorsReader};
+///
+/// let bytes = b"\xfd\x0c\x05\0\0\0\0\0\0\0\0\0\0\0\0\0\0\0";
+/// match OperatorsReader::new(BinaryReader::new(bytes, 0)).read()? {
+///     Operator::V128Const { value } => assert_eq!(value.i128(), 5),
+///     _ => unreachable!(),
+/// }
+/// # Ok::<(), pulleynavy::Error>(())
+/// ```
 #[derive(Clone, Copy, Debug, PartialEq, Eq, Hash, PartialOrd, Ord)]
 pub struct V128([u8; 16]);
 
 impl V128 {
-    /// The bytes, in the order in which they are written.
+    /// Returns the bytes, in the order in which they are encoded.
     pub fn bytes(&self) -> &[u8; 16] {
         &self.0
     }
 
-    /// The bits as a number.
+    /// Returns the bits as a number, of which the first byte is the lowest.
     pub fn i128(&self) -> i128 {
         i128::from_le_bytes(self.0)
     }
@@ -36,34 +49,67 @@ impl From<V128> for u128 {
     }
 }
 
-/// An instruction of a constant expression.
+/// An instruction of a constant expression, with its operands. The variants and fields have the names of `wasmparser`.
+///
+/// # Examples
+///
+/// ```
+/// use pulleynavy::{BinaryReader, Operator, OperatorsReader};
+///
+/// let mut reader = OperatorsReader::new(BinaryReader::new(&[0xd2, 3], 0));
+/// assert_eq!(reader.read()?, Operator::RefFunc { function_index: 3 });
+/// # Ok::<(), pulleynavy::Error>(())
+/// ```
 #[derive(Clone, Debug, PartialEq, Eq)]
 #[non_exhaustive]
 #[allow(missing_docs)]
 #[rustfmt::skip]
 pub enum Operator<'a> {
+    /// `end`: marks the end of the expression.
     End,
+    /// `global.get`: pushes the value of a global.
     GlobalGet { global_index: u32 },
+    /// `i32.const`: pushes a 32-bit integer.
     I32Const { value: i32 },
+    /// `i64.const`: pushes a 64-bit integer.
     I64Const { value: i64 },
+    /// `f32.const`: pushes a 32-bit float.
     F32Const { value: Ieee32 },
+    /// `f64.const`: pushes a 64-bit float.
     F64Const { value: Ieee64 },
+    /// `v128.const`: pushes a 128-bit vector.
     V128Const { value: V128 },
+    /// `i32.add`: adds two 32-bit integers.
     I32Add,
+    /// `i32.sub`: subtracts two 32-bit integers.
     I32Sub,
+    /// `i32.mul`: multiplies two 32-bit integers.
     I32Mul,
+    /// `i64.add`: adds two 64-bit integers.
     I64Add,
+    /// `i64.sub`: subtracts two 64-bit integers.
     I64Sub,
+    /// `i64.mul`: multiplies two 64-bit integers.
     I64Mul,
+    /// `ref.null`: pushes a null reference of this heap type.
     RefNull { hty: HeapType },
+    /// `ref.func`: pushes a reference to a function.
     RefFunc { function_index: u32 },
+    /// `ref.i31`: converts a 32-bit integer to an unboxed 31-bit reference.
     RefI31,
+    /// `struct.new`: allocates a structure, with field values from the stack.
     StructNew { struct_type_index: u32 },
+    /// `struct.new_default`: allocates a structure of default values.
     StructNewDefault { struct_type_index: u32 },
+    /// `array.new`: allocates an array of copies of a value.
     ArrayNew { array_type_index: u32 },
+    /// `array.new_default`: allocates an array of default values.
     ArrayNewDefault { array_type_index: u32 },
+    /// `array.new_fixed`: allocates an array of this many elements from the stack.
     ArrayNewFixed { array_type_index: u32, array_size: u32 },
+    /// `any.convert_extern`: converts a reference of the host to one of the module.
     AnyConvertExtern,
+    /// `extern.convert_any`: converts a reference of the module to one of the host.
     ExternConvertAny,
     // Never made: it gives the type the lifetime that it has in `wasmparser`, where some instructions borrow from the input.
     #[doc(hidden)]
@@ -100,14 +146,26 @@ fn operator<'a>(window: Window<'a>, plain: &Instruction) -> Operator<'a> {
     }
 }
 
-/// A reader of the instructions of a constant expression. Any other instruction is an error.
+/// A reader over the instructions of a constant expression. Any other instruction is an error.
+///
+/// # Examples
+///
+/// ```
+/// use pulleynavy::{BinaryReader, Operator, OperatorsReader};
+///
+/// let mut reader = OperatorsReader::new(BinaryReader::new(&[0x41, 5, 0x0b], 0));
+/// assert_eq!(reader.read()?, Operator::I32Const { value: 5 });
+/// assert_eq!(reader.read()?, Operator::End);
+/// assert!(reader.eof());
+/// # Ok::<(), pulleynavy::Error>(())
+/// ```
 #[derive(Clone, Debug)]
 pub struct OperatorsReader<'a> {
     reader: BinaryReader<'a>,
 }
 
 impl<'a> OperatorsReader<'a> {
-    /// Returns a reader of the remaining bytes of another one.
+    /// Takes the remaining bytes of a reader as instructions. Nothing is read yet.
     pub fn new(reader: BinaryReader<'a>) -> Self {
         OperatorsReader { reader }
     }
@@ -117,7 +175,7 @@ impl<'a> OperatorsReader<'a> {
         self.reader.eof()
     }
 
-    /// The offset at which the next instruction begins.
+    /// Returns the offset of the next instruction, in bytes from the start of the stream.
     pub fn original_position(&self) -> u64 {
         self.reader.original_position()
     }
@@ -127,30 +185,33 @@ impl<'a> OperatorsReader<'a> {
         self.reader.remaining_buffer() == [opcode::END as u8]
     }
 
-    /// Returns a reader of the remaining bytes.
+    /// Returns a reader over the remaining bytes.
     pub fn get_binary_reader(&self) -> BinaryReader<'a> {
         self.reader.clone()
     }
 
-    /// Reads an instruction.
+    /// Reads the next instruction.
     ///
     /// # Errors
-    /// If bytes are missing, if an operand is malformed, or if the instruction is not allowed in a constant expression.
+    ///
+    /// `NotConstant` at an instruction that is not allowed in a constant expression, `UnexpectedEof` where bytes are missing, and
+    /// the errors of malformed operands.
     pub fn read(&mut self) -> Result<Operator<'a>> {
         let (window, plain) = self.reader.item(library::instruction)?;
         Ok(operator(window, &plain))
     }
 
-    /// Reads an instruction. Returns it with its offset.
+    /// Reads the next instruction, and returns it with its offset in bytes from the start of the stream.
     ///
     /// # Errors
+    ///
     /// Those of [`OperatorsReader::read`].
     pub fn read_with_offset(&mut self) -> Result<(Operator<'a>, u64)> {
         let offset = self.original_position();
         Ok((self.read()?, offset))
     }
 
-    /// Iterates over the instructions, each with its offset.
+    /// Returns an iterator over the instructions, each with its offset in bytes from the start of the stream.
     pub fn into_iter_with_offsets(self) -> OperatorsIteratorWithOffsets<'a> {
         OperatorsIteratorWithOffsets { reader: self, ended: false }
     }

@@ -43,6 +43,17 @@ fn read_counted<'a, T: FromReader<'a>>(reader: &mut BinaryReader<'a>) -> Result<
 }
 
 /// The type of a function.
+///
+/// # Examples
+///
+/// ```
+/// use pulleynavy::{BinaryReader, FuncType, ValType};
+///
+/// let ty = BinaryReader::new(&[1, 0x7f, 1, 0x7e], 0).read::<FuncType>()?;
+/// assert_eq!(ty.params(), [ValType::I32]);
+/// assert_eq!(ty.results(), [ValType::I64]);
+/// # Ok::<(), pulleynavy::Error>(())
+/// ```
 #[derive(Clone, Debug, PartialEq, Eq, Hash, PartialOrd, Ord)]
 pub struct FuncType {
     types: Box<[ValType]>,
@@ -50,7 +61,16 @@ pub struct FuncType {
 }
 
 impl FuncType {
-    /// The type of a function with these parameters and results.
+    /// Returns the type of a function with these parameters and results.
+    ///
+    /// # Examples
+    ///
+    /// ```
+    /// use pulleynavy::{FuncType, ValType};
+    ///
+    /// let ty = FuncType::new([ValType::I32], [ValType::I64, ValType::F32]);
+    /// assert_eq!(ty.results().len(), 2);
+    /// ```
     pub fn new(params: impl IntoIterator<Item = ValType>, results: impl IntoIterator<Item = ValType>) -> Self {
         let mut types: Vec<_> = params.into_iter().collect();
         let params = types.len();
@@ -58,12 +78,12 @@ impl FuncType {
         FuncType { types: types.into(), params }
     }
 
-    /// The types of its parameters.
+    /// Returns the types of the parameters.
     pub fn params(&self) -> &[ValType] {
         &self.types[..self.params]
     }
 
-    /// The types of its results.
+    /// Returns the types of the results.
     pub fn results(&self) -> &[ValType] {
         &self.types[self.params..]
     }
@@ -87,9 +107,19 @@ impl<'a> FromReader<'a> for FuncType {
 }
 
 /// The type of a structure.
+///
+/// # Examples
+///
+/// ```
+/// use pulleynavy::{BinaryReader, StructType};
+///
+/// let ty = BinaryReader::new(&[1, 0x78, 0], 0).read::<StructType>()?;
+/// assert_eq!(ty.fields.len(), 1);
+/// # Ok::<(), pulleynavy::Error>(())
+/// ```
 #[derive(Clone, Debug, PartialEq, Eq, Hash, PartialOrd, Ord)]
 pub struct StructType {
-    /// Its fields.
+    /// The fields of the structure.
     pub fields: Box<[FieldType]>,
 }
 
@@ -99,7 +129,7 @@ impl<'a> FromReader<'a> for StructType {
     }
 }
 
-/// A function, array or struct type.
+/// A function, array or structure type.
 #[derive(Clone, Debug, PartialEq, Eq, Hash, PartialOrd, Ord)]
 pub enum CompositeInnerType {
     /// The type of a function.
@@ -112,7 +142,7 @@ pub enum CompositeInnerType {
     Cont(ContType),
 }
 
-/// A function, array or struct type, and whether threads share it.
+/// A function, array or structure type, and whether threads share it.
 #[derive(Clone, Debug, PartialEq, Eq, Hash, PartialOrd, Ord)]
 pub struct CompositeType {
     /// The type.
@@ -122,9 +152,10 @@ pub struct CompositeType {
 }
 
 impl CompositeType {
-    /// The function type.
+    /// Returns the function type.
     ///
     /// # Panics
+    ///
     /// If it is another type.
     pub fn unwrap_func(&self) -> &FuncType {
         match &self.inner {
@@ -133,9 +164,10 @@ impl CompositeType {
         }
     }
 
-    /// The array type.
+    /// Returns the array type.
     ///
     /// # Panics
+    ///
     /// If it is another type.
     pub fn unwrap_array(&self) -> &ArrayType {
         match &self.inner {
@@ -144,9 +176,10 @@ impl CompositeType {
         }
     }
 
-    /// The struct type.
+    /// Returns the structure type.
     ///
     /// # Panics
+    ///
     /// If it is another type.
     pub fn unwrap_struct(&self) -> &StructType {
         match &self.inner {
@@ -156,37 +189,53 @@ impl CompositeType {
     }
 }
 
-/// A type, and the type that it extends.
+/// A composite type and the type that it extends, if any.
+///
+/// # Examples
+///
+/// ```
+/// use pulleynavy::{BinaryReader, PackedIndex, SubType};
+///
+/// // Not final, and extends type 3: a structure without fields.
+/// let ty = BinaryReader::new(&[0x50, 1, 3, 0x5f, 0], 0).read::<SubType>()?;
+/// assert!(!ty.is_final);
+/// assert_eq!(ty.supertype_idx, PackedIndex::from_module_index(3));
+/// assert_eq!(ty.unwrap_struct().fields.len(), 0);
+/// # Ok::<(), pulleynavy::Error>(())
+/// ```
 #[derive(Clone, Debug, PartialEq, Eq, Hash, PartialOrd, Ord)]
 pub struct SubType {
     /// Whether no type may extend this one.
     pub is_final: bool,
-    /// The index of the type that this one extends.
+    /// The index of the type that this one extends, if any.
     pub supertype_idx: Option<PackedIndex>,
-    /// The type itself.
+    /// The function, array or structure type.
     pub composite_type: CompositeType,
 }
 
 impl SubType {
-    /// The function type.
+    /// Returns the function type.
     ///
     /// # Panics
+    ///
     /// If it is another type.
     pub fn unwrap_func(&self) -> &FuncType {
         self.composite_type.unwrap_func()
     }
 
-    /// The array type.
+    /// Returns the array type.
     ///
     /// # Panics
+    ///
     /// If it is another type.
     pub fn unwrap_array(&self) -> &ArrayType {
         self.composite_type.unwrap_array()
     }
 
-    /// The struct type.
+    /// Returns the structure type.
     ///
     /// # Panics
+    ///
     /// If it is another type.
     pub fn unwrap_struct(&self) -> &StructType {
         self.composite_type.unwrap_struct()
@@ -206,7 +255,18 @@ impl<'a> FromReader<'a> for SubType {
     }
 }
 
-/// Types that may refer to each other.
+/// A recursive group of types, which may refer to each other.
+///
+/// # Examples
+///
+/// ```
+/// use pulleynavy::{BinaryReader, RecGroup};
+///
+/// let group = BinaryReader::new(&[0x4e, 2, 0x5f, 0, 0x60, 0, 0], 0).read::<RecGroup>()?;
+/// assert!(group.is_explicit_rec_group());
+/// assert_eq!(group.types().len(), 2);
+/// # Ok::<(), pulleynavy::Error>(())
+/// ```
 #[derive(Clone, Debug, PartialEq, Eq, Hash)]
 pub struct RecGroup {
     explicit: bool,
@@ -214,17 +274,17 @@ pub struct RecGroup {
 }
 
 impl RecGroup {
-    /// Whether the group is written as one. If not, it is a single type.
+    /// Returns whether the group is encoded as a group. Otherwise it is a single type.
     pub fn is_explicit_rec_group(&self) -> bool {
         self.explicit
     }
 
-    /// The types of the group, in order.
+    /// Returns an iterator over the types of the group, in order.
     pub fn types(&self) -> slice::Iter<'_, SubType> {
         self.types.iter()
     }
 
-    /// The types of the group, in order, by value.
+    /// Returns an iterator over the types of the group, in order, by value.
     pub fn into_types(self) -> vec::IntoIter<SubType> {
         self.types.into_iter()
     }
@@ -237,7 +297,20 @@ impl<'a> FromReader<'a> for RecGroup {
     }
 }
 
-/// The section `coreinstances`.
+/// The section `coreinstances`: the instances of a core dump.
+///
+/// # Examples
+///
+/// ```
+/// use pulleynavy::{BinaryReader, CoreDumpInstancesSection};
+///
+/// // An instance of module 0 with one memory, 0, and no globals.
+/// let section = CoreDumpInstancesSection::new(BinaryReader::new(&[1, 0, 0, 1, 0, 0], 0))?;
+/// for instance in section.instances {
+///     assert_eq!(instance.memories.len(), 1);
+/// }
+/// # Ok::<(), pulleynavy::Error>(())
+/// ```
 #[derive(Clone, Debug, PartialEq, Eq)]
 pub struct CoreDumpInstancesSection {
     /// The instances.
@@ -248,7 +321,8 @@ impl CoreDumpInstancesSection {
     /// Reads the section from the remaining bytes of a reader.
     ///
     /// # Errors
-    /// If an instance is malformed, or if bytes remain after the last one.
+    ///
+    /// The errors of the count and of an instance, or `CustomTrailing` at the first byte after the last instance.
     pub fn new(mut reader: BinaryReader<'_>) -> Result<Self> {
         let instances = read_counted(&mut reader)?;
         reader.expect_end(library::custom_end)?;
@@ -256,14 +330,24 @@ impl CoreDumpInstancesSection {
     }
 }
 
-/// An instance of a core dump.
+/// An instance of a module in a core dump.
+///
+/// # Examples
+///
+/// ```
+/// use pulleynavy::{BinaryReader, CoreDumpInstance};
+///
+/// let instance = BinaryReader::new(&[0, 1, 1, 7, 0], 0).read::<CoreDumpInstance>()?;
+/// assert_eq!((instance.module_index, instance.memories.len()), (1, 1));
+/// # Ok::<(), pulleynavy::Error>(())
+/// ```
 #[derive(Clone, Debug, PartialEq, Eq)]
 pub struct CoreDumpInstance {
-    /// The index of its module.
+    /// The index of the module in the section `coremodules`.
     pub module_index: u32,
-    /// The indices of its memories.
+    /// The indices of the instance's memories.
     pub memories: Vec<u32>,
-    /// The indices of its globals.
+    /// The indices of the instance's globals.
     pub globals: Vec<u32>,
 }
 
@@ -274,18 +358,28 @@ impl<'a> FromReader<'a> for CoreDumpInstance {
     }
 }
 
-/// A frame of a core dump.
+/// A frame of a thread's stack in a core dump.
+///
+/// # Examples
+///
+/// ```
+/// use pulleynavy::{BinaryReader, CoreDumpStackFrame};
+///
+/// let frame = BinaryReader::new(&[0, 4, 42, 51, 1, 0x7f, 1, 0], 0).read::<CoreDumpStackFrame>()?;
+/// assert_eq!((frame.funcidx, frame.codeoffset), (42, 51));
+/// # Ok::<(), pulleynavy::Error>(())
+/// ```
 #[derive(Clone, Debug, PartialEq, Eq)]
 pub struct CoreDumpStackFrame {
-    /// The index of its instance.
+    /// The index of the instance in the section `coreinstances`.
     pub instanceidx: u32,
-    /// The index of its function.
+    /// The index of the function in the module of the instance.
     pub funcidx: u32,
-    /// The offset of its instruction from the start of the function's body.
+    /// The offset of the instruction, in bytes from the start of the function's body.
     pub codeoffset: u32,
-    /// Its locals.
+    /// The values of the locals.
     pub locals: Vec<CoreDumpValue>,
-    /// Its stack.
+    /// The values on the operand stack.
     pub stack: Vec<CoreDumpValue>,
 }
 

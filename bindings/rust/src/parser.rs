@@ -4,16 +4,29 @@ use crate::payload::payload;
 use crate::section::Window;
 use crate::{BinaryReader, Error, Payload, Result, WasmFeatures, library};
 
-/// The result of [`Parser::parse`].
+/// The result of [`Parser::parse`]: a payload, or a request for more input.
+///
+/// # Examples
+///
+/// ```
+/// use pulleynavy::{Chunk, Parser};
+///
+/// match Parser::new(0).parse(b"\0asm", false)? {
+///     Chunk::NeedMoreData(hint) => assert_eq!(hint, 4),
+///     Chunk::Parsed { .. } => unreachable!(),
+/// }
+/// # Ok::<(), pulleynavy::Error>(())
+/// ```
 #[derive(Debug)]
 pub enum Chunk<'a> {
-    /// More input is needed, by about this many bytes.
+    /// The bytes so far do not determine the next payload. The hint is how many bytes are missing, at least 1; a payload may need
+    /// more.
     NeedMoreData(usize),
     /// The next payload.
     Parsed {
-        /// How many bytes it consumed.
+        /// The number of bytes that the payload consumed: 0 for `End`, otherwise at least 1.
         consumed: usize,
-        /// The payload.
+        /// The payload, which borrows from the input.
         payload: Payload<'a>,
     },
 }
@@ -49,50 +62,68 @@ impl Default for Parser {
 }
 
 impl Parser {
-    /// Returns a parser of a stream that begins at this offset, with all features.
+    /// Returns a parser for a stream that begins at this offset, with all features.
     pub fn new(offset: u64) -> Self {
         Parser(library::parser_init(offset, WasmFeatures::all().low_bits()))
     }
 
-    /// Returns whether bytes begin with the header of a module.
+    /// Returns whether bytes begin with the 8 bytes of a module's header.
     pub fn is_core_wasm(bytes: &[u8]) -> bool {
         bytes.starts_with(b"\0asm\x01\0\0\0")
     }
 
-    /// Returns whether bytes begin with the header of a component.
+    /// Returns whether bytes begin with the 8 bytes of a component's header.
     pub fn is_component(bytes: &[u8]) -> bool {
         bytes.starts_with(b"\0asm\x0d\0\x01\0")
     }
 
-    /// Returns a reader of bytes at this offset of the whole stream, with the features of the next payload.
+    /// Returns a reader over bytes at this offset of the stream, with the features of the parser.
     ///
     /// # Panics
-    /// If the bytes pass offset 2^64 - 1.
+    ///
+    /// If the bytes end beyond the offset 2^64 - 1.
     pub fn binary_reader<'a>(&self, bytes: &'a [u8], offset: u64) -> BinaryReader<'a> {
         BinaryReader::new_features(bytes, offset, self.features())
     }
 
-    /// The offset of the next payload.
+    /// Returns the offset of the next payload, in bytes from the start of the stream.
     pub fn offset(&self) -> u64 {
         self.0.offset
     }
 
-    /// The features of the next payloads.
+    /// Returns the features that the next payloads are read with.
     pub fn features(&self) -> WasmFeatures {
         WasmFeatures::of(self.0.features)
     }
 
-    /// Sets the features of the next payloads.
+    /// Sets the features that the next payloads are read with.
+    ///
+    /// # Examples
+    ///
+    /// ```
+    /// use pulleynavy::{Parser, WasmFeatures};
+    ///
+    /// // Without 64-bit memories, a limit is a 32-bit number.
+    /// let mut parser = Parser::new(0);
+    /// let mut features = parser.features();
+    /// features.remove(WasmFeatures::MEMORY64);
+    /// parser.set_features(features);
+    /// assert!(!parser.features().contains(WasmFeatures::MEMORY64));
+    /// ```
     pub fn set_features(&mut self, features: WasmFeatures) {
         self.0.features = features.low_bits();
     }
 
-    /// Parses the next payload. The bytes are a prefix of the remaining input, or with `eof` all of it.
+    /// Parses the next payload.
     ///
-    /// Call it again with the bytes after the consumed ones. After [`Chunk::NeedMoreData`], call it with the same bytes and more.
+    /// `data` is a prefix of the remaining input, or with `eof` all of it. Pass the bytes after the consumed ones in the next
+    /// call. After [`Chunk::NeedMoreData`], pass the same bytes followed by more, or the same bytes with `eof` at the end of
+    /// input.
     ///
     /// # Errors
-    /// If the input is malformed. The parser is then unchanged.
+    ///
+    /// The error of malformed input, at the offset that its [`Fault`](crate::Fault) documents. With `eof`, truncated input is
+    /// `UnexpectedEof`. The parser is then unchanged, so that the same call returns the same error.
     pub fn parse<'a>(&mut self, data: &'a [u8], eof: bool) -> Result<Chunk<'a>> {
         let before = Window { bytes: data, offset: self.0.offset, features: self.0.features };
         let event = library::parse(&mut self.0, data, eof);
@@ -103,23 +134,59 @@ impl Parser {
         }
     }
 
-    /// The number of remaining bytes of a code section, from its start until the next payload that is not a body.
+    /// Returns the number of remaining bytes of a code section, from its start until the next payload that is not a body;
+    /// otherwise `None`.
     pub fn skippable(&self) -> Option<u32> {
         (self.0.in_code != 0).then_some(self.0.code_bytes)
     }
 
-    /// Skips the remaining bytes of a code section: pass the bytes after it next. Outside a code section it does nothing.
+    /// Skips the remaining bytes of a code section. Pass the bytes after them in the next call of [`Parser::parse`].
+    ///
+    /// Outside a code section it does nothing.
+    ///
+    /// # Examples
+    ///
+    /// ```
+    /// use pulleynavy::{Chunk, Parser, Payload};
+    ///
+    /// let module = b"\0asm\x01\0\0\0\x03\x02\x01\0\x0a\x04\x01\x02\0\x0b";
+    /// let (mut parser, mut rest) = (Parser::new(0), &module[..]);
+    /// while let Chunk::Parsed { consumed, payload } = parser.parse(rest, true)? {
+    ///     rest = &rest[consumed..];
+    ///     match payload {
+    ///         Payload::CodeSectionStart { size, .. } => {
+    ///             parser.skip_section();
+    ///             rest = &rest[size as usize..];
+    ///         }
+    ///         Payload::CodeSectionEntry(_) => unreachable!(),
+    ///         Payload::End(_) => break,
+    ///         _ => {}
+    ///     }
+    /// }
+    /// # Ok::<(), pulleynavy::Error>(())
+    /// ```
     pub fn skip_section(&mut self) {
         library::skip_section(&mut self.0);
     }
 
-    /// Iterates over the payloads of a complete stream, up to its end or its first error.
+    /// Returns an iterator over the payloads of a complete stream.
     pub fn parse_all(self, data: &[u8]) -> ParseAll<'_> {
         ParseAll { parser: self, rest: data, ended: false }
     }
 }
 
-/// An iterator over the payloads of a stream.
+/// An iterator over the payloads of a complete stream, up to `End` or the first error.
+///
+/// # Examples
+///
+/// ```
+/// use pulleynavy::{Parser, Payload};
+///
+/// let mut payloads = Parser::new(0).parse_all(b"\0asm\x01\0\0\0");
+/// assert!(matches!(payloads.next(), Some(Ok(Payload::Version { num: 1, .. }))));
+/// assert!(matches!(payloads.next(), Some(Ok(Payload::End(8)))));
+/// assert!(payloads.next().is_none());
+/// ```
 #[derive(Clone, Debug)]
 pub struct ParseAll<'a> {
     parser: Parser,

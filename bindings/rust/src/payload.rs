@@ -10,29 +10,68 @@ use crate::{
 use core::fmt;
 use core::ops::Range;
 
-/// The type section.
+/// The type section, whose items are groups of types.
+///
+/// # Examples
+///
+/// ```
+/// use pulleynavy::{BinaryReader, TypeSectionReader};
+///
+/// // One function type: from an `i32` to an `i64`.
+/// for group in TypeSectionReader::new(BinaryReader::new(&[1, 0x60, 1, 0x7f, 1, 0x7e], 0))? {
+///     assert_eq!(group?.into_types().count(), 1);
+/// }
+/// # Ok::<(), pulleynavy::Error>(())
+/// ```
 pub type TypeSectionReader<'a> = RecGroups<'a>;
-/// The import section.
+/// The import section, whose items are imports or groups of imports. `into_imports` iterates over the imports.
 pub type ImportSectionReader<'a> = SectionLimited<'a, Imports<'a>>;
-/// The function section: the indices of the functions' types.
+/// The function section, whose items are the type indices of the module's functions.
 pub type FunctionSectionReader<'a> = SectionLimited<'a, u32>;
-/// The table section.
+/// The table section, whose items are tables.
 pub type TableSectionReader<'a> = SectionLimited<'a, Table<'a>>;
-/// The memory section.
+/// The memory section, whose items are memory types.
 pub type MemorySectionReader<'a> = SectionLimited<'a, MemoryType>;
-/// The tag section.
+/// The tag section, whose items are tag types.
 pub type TagSectionReader<'a> = SectionLimited<'a, TagType>;
-/// The global section.
+/// The global section, whose items are globals.
 pub type GlobalSectionReader<'a> = SectionLimited<'a, Global<'a>>;
-/// The export section.
+/// The export section, whose items are exports.
+///
+/// # Examples
+///
+/// ```
+/// use pulleynavy::{BinaryReader, ExportSectionReader};
+///
+/// for export in ExportSectionReader::new(BinaryReader::new(b"\x01\x03add\x00\x05", 0))? {
+///     assert_eq!(export?.name, "add");
+/// }
+/// # Ok::<(), pulleynavy::Error>(())
+/// ```
 pub type ExportSectionReader<'a> = SectionLimited<'a, Export<'a>>;
-/// The element section.
+/// The element section, whose items are element segments.
 pub type ElementSectionReader<'a> = SectionLimited<'a, Element<'a>>;
-/// The data section.
+/// The data section, whose items are data segments.
 pub type DataSectionReader<'a> = SectionLimited<'a, Data<'a>>;
 
 impl<'a> TypeSectionReader<'a> {
-    /// Iterates over the types of a section that has plain function types alone. Any other type is an error, after which the next ones follow.
+    /// Returns an iterator over the types of a section that has plain function types only.
+    ///
+    /// # Errors
+    ///
+    /// Any other type is `GcTypes` at the offset of its group. The next types follow.
+    ///
+    /// # Examples
+    ///
+    /// ```
+    /// use pulleynavy::{BinaryReader, Error, Fault, TypeSectionReader};
+    ///
+    /// let section = TypeSectionReader::new(BinaryReader::new(&[2, 0x60, 0, 0, 0x5f, 0], 0))?;
+    /// let mut types = section.into_iter_err_on_gc_types();
+    /// assert!(types.next().unwrap().is_ok());
+    /// assert_eq!(types.next().unwrap().unwrap_err(), Error::new(Fault::GcTypes, 4));
+    /// # Ok::<(), pulleynavy::Error>(())
+    /// ```
     pub fn into_iter_err_on_gc_types(self) -> impl Iterator<Item = Result<Func<'a>>> {
         self.into_iter_with_offsets().map(|item| {
             let (offset, group) = item?;
@@ -48,7 +87,7 @@ impl<'a> TypeSectionReader<'a> {
     }
 }
 
-/// What a stream holds, by its header.
+/// The encoding of a stream, as its header announces it.
 #[derive(Clone, Copy, Debug, PartialEq, Eq, Hash)]
 pub enum Encoding {
     /// A module.
@@ -57,7 +96,17 @@ pub enum Encoding {
     Component,
 }
 
-/// The body of a function.
+/// The body of a function: its locals and instructions, which are not decoded.
+///
+/// # Examples
+///
+/// ```
+/// use pulleynavy::{BinaryReader, FunctionBody};
+///
+/// let body = FunctionBody::new(BinaryReader::new(&[0x00, 0x0b], 16));
+/// assert_eq!(body.as_bytes(), [0x00, 0x0b]);
+/// assert_eq!(body.range(), 16..18);
+/// ```
 #[derive(Clone, Copy, Debug)]
 pub struct FunctionBody<'a> {
     window: Window<'a>,
@@ -69,31 +118,50 @@ impl<'a> FunctionBody<'a> {
         FunctionBody { window: reader.rest }
     }
 
-    /// Returns a reader of its bytes.
+    /// Returns a reader over the bytes of the body.
     pub fn get_binary_reader(&self) -> BinaryReader<'a> {
         BinaryReader::of(self.window)
     }
 
-    /// The offsets of its bytes.
+    /// Returns the offsets of the body, in bytes from the start of the stream.
     pub fn range(&self) -> Range<u64> {
         self.window.range()
     }
 
-    /// Its bytes: locals and instructions.
+    /// Returns the bytes of the body.
     pub fn as_bytes(&self) -> &'a [u8] {
         self.window.bytes
     }
 }
 
-/// A part of a stream.
+/// A part of a stream: the header, a section, the start of the code section, a function body, or the end.
+///
+/// [`Parser::parse`](crate::Parser::parse) and [`Parser::parse_all`](crate::Parser::parse_all) return payloads. The items of a
+/// section are read lazily.
+///
+/// # Examples
+///
+/// ```
+/// use pulleynavy::{Parser, Payload};
+///
+/// let module = b"\0asm\x01\0\0\0\x07\x07\x01\x03add\0\x05";
+/// for payload in Parser::new(0).parse_all(module) {
+///     match payload? {
+///         Payload::ExportSection(exports) => assert_eq!(exports.count(), 1),
+///         Payload::End(offset) => assert_eq!(offset, 17),
+///         _ => {}
+///     }
+/// }
+/// # Ok::<(), pulleynavy::Error>(())
+/// ```
 #[derive(Clone)]
 #[non_exhaustive]
 pub enum Payload<'a> {
     /// The header.
     Version {
-        /// The version.
+        /// The 16-bit version: 1 for a module, 13 for a component.
         num: u16,
-        /// What the stream holds.
+        /// The encoding that the header announces.
         encoding: Encoding,
         /// The offsets of the header.
         range: Range<u64>,
@@ -136,9 +204,9 @@ pub enum Payload<'a> {
     CodeSectionStart {
         /// The number of bodies that follow.
         count: u32,
-        /// The offsets of the section's content, whose end is not compared with the bodies yet.
+        /// The offsets of the section's content. The bodies may still end before or after it.
         unchecked_range: Range<u64>,
-        /// The size of the section without the count.
+        /// The size of the content after the count, in bytes.
         size: u32,
     },
     /// The body of a function.
@@ -147,19 +215,32 @@ pub enum Payload<'a> {
     CustomSection(CustomSectionReader<'a>),
     /// A section with an unknown id.
     UnknownSection {
-        /// Its id.
+        /// The id of the section.
         id: u8,
-        /// Its bytes.
+        /// The content of the section.
         contents: &'a [u8],
         /// The offsets of its bytes.
         range: Range<u64>,
     },
-    /// The end of the stream, which is at this offset.
+    /// The end of the stream, with its offset.
     End(u64),
 }
 
 impl Payload<'_> {
-    /// Returns the id of a section and the offsets of its content. Of a code section only the start counts; what is not a section has none.
+    /// Returns the id of a section and the offsets of its content.
+    ///
+    /// A code section is represented by its start. The header, bodies and the end return `None`.
+    ///
+    /// # Examples
+    ///
+    /// ```
+    /// use pulleynavy::Parser;
+    ///
+    /// let mut payloads = Parser::new(0).parse_all(b"\0asm\x01\0\0\0\x01\x01\0");
+    /// assert_eq!(payloads.next().unwrap()?.as_section(), None);
+    /// assert_eq!(payloads.next().unwrap()?.as_section(), Some((1, 10..11)));
+    /// # Ok::<(), pulleynavy::Error>(())
+    /// ```
     pub fn as_section(&self) -> Option<(u8, Range<u64>)> {
         Some(match self {
             Payload::Version { .. } | Payload::CodeSectionEntry(_) | Payload::End(_) => return None,

@@ -4,9 +4,23 @@ use crate::section::Window;
 use crate::{Error, Fault, FromReader, Ieee32, Ieee64, Lead, MAX_WASM_STRING_SIZE, Result, WasmFeatures};
 use core::ops::Range;
 
-/// A reader of bytes of a stream, which keeps its position.
+/// A reader over bytes of a stream, which keeps its position.
 ///
-/// After an error of a number or of missing bytes the position is unchanged. After an error inside an item it is somewhere in that item.
+/// After an error of a number or of missing bytes the position is unchanged. After an error inside an item it is somewhere in
+/// that item. Reads never consume bytes beyond the last one.
+///
+/// # Examples
+///
+/// ```
+/// use pulleynavy::BinaryReader;
+///
+/// let mut reader = BinaryReader::new(b"\x05\x02hi", 100);
+/// assert_eq!(reader.read_var_u32()?, 5);
+/// assert_eq!(reader.read_string()?, "hi");
+/// assert_eq!(reader.original_position(), 104);
+/// assert!(reader.eof());
+/// # Ok::<(), pulleynavy::Error>(())
+/// ```
 #[derive(Clone, Debug)]
 pub struct BinaryReader<'a> {
     start: u64,
@@ -14,18 +28,20 @@ pub struct BinaryReader<'a> {
 }
 
 impl<'a> BinaryReader<'a> {
-    /// Returns a reader of bytes at this offset of the whole stream, with all features.
+    /// Returns a reader over bytes at this offset of the stream, with all features.
     ///
     /// # Panics
-    /// If the bytes pass offset 2^64 - 1.
+    ///
+    /// If the bytes end beyond the offset 2^64 - 1.
     pub fn new(bytes: &'a [u8], offset: u64) -> Self {
         BinaryReader::new_features(bytes, offset, WasmFeatures::all())
     }
 
-    /// Returns a reader of bytes at this offset of the whole stream, with these features.
+    /// Returns a reader over bytes at this offset of the stream, with these features.
     ///
     /// # Panics
-    /// If the bytes pass offset 2^64 - 1.
+    ///
+    /// If the bytes end beyond the offset 2^64 - 1.
     pub fn new_features(bytes: &'a [u8], offset: u64, features: WasmFeatures) -> Self {
         assert!(offset.checked_add(bytes.len() as u64).is_some(), "data passes the offset range");
         BinaryReader::of(Window { bytes, offset, features: features.low_bits() })
@@ -36,42 +52,42 @@ impl<'a> BinaryReader<'a> {
         BinaryReader { start: rest.offset, rest }
     }
 
-    /// The enabled features.
+    /// Returns the enabled features.
     pub fn features(&self) -> WasmFeatures {
         WasmFeatures::of(self.rest.features)
     }
 
-    /// Returns whether limits of memories and tables may have 64 bits.
+    /// Returns whether limits of memories and tables are read as 64-bit numbers.
     pub fn memory64(&self) -> bool {
         self.features().contains(WasmFeatures::MEMORY64)
     }
 
-    /// The offset of the next byte in the whole stream.
+    /// Returns the offset of the next byte, in bytes from the start of the stream.
     pub fn original_position(&self) -> u64 {
         self.rest.offset
     }
 
-    /// The number of bytes that were read.
+    /// Returns the number of bytes that were read.
     pub fn current_position(&self) -> usize {
         (self.rest.offset - self.start) as usize
     }
 
-    /// The offsets of all bytes, also of those that were read.
+    /// Returns the offsets of all bytes, including those that were read, in bytes from the start of the stream.
     pub fn range(&self) -> Range<u64> {
         self.start..self.rest.range().end
     }
 
-    /// The offsets of the remaining bytes.
+    /// Returns the offsets of the remaining bytes, in bytes from the start of the stream.
     pub fn remaining_range(&self) -> Range<u64> {
         self.rest.range()
     }
 
-    /// The remaining bytes.
+    /// Returns the remaining bytes.
     pub fn remaining_buffer(&self) -> &'a [u8] {
         self.rest.bytes
     }
 
-    /// The number of remaining bytes.
+    /// Returns the number of remaining bytes.
     pub fn bytes_remaining(&self) -> usize {
         self.rest.bytes.len()
     }
@@ -81,7 +97,7 @@ impl<'a> BinaryReader<'a> {
         self.rest.bytes.is_empty()
     }
 
-    /// Returns a reader of the remaining bytes alone.
+    /// Returns a reader over the remaining bytes alone.
     pub fn shrink(&self) -> Self {
         BinaryReader::of(self.rest)
     }
@@ -134,7 +150,8 @@ impl<'a> BinaryReader<'a> {
     /// Returns the next byte without consuming it.
     ///
     /// # Errors
-    /// If no byte remains.
+    ///
+    /// `UnexpectedEof` at the current offset if no byte remains.
     pub fn peek(&self) -> Result<u8> {
         Ok(self.peek_bytes(1)?[0])
     }
@@ -142,7 +159,8 @@ impl<'a> BinaryReader<'a> {
     /// Returns the next `size` bytes without consuming them.
     ///
     /// # Errors
-    /// If fewer bytes remain.
+    ///
+    /// `UnexpectedEof` at the current offset if fewer bytes remain, with the number of missing bytes as a hint.
     pub fn peek_bytes(&self, size: usize) -> Result<&'a [u8]> {
         self.expect(size)?;
         Ok(&self.rest.bytes[..size])
@@ -151,7 +169,8 @@ impl<'a> BinaryReader<'a> {
     /// Reads a byte.
     ///
     /// # Errors
-    /// If no byte remains.
+    ///
+    /// `UnexpectedEof` at the current offset if no byte remains.
     pub fn read_u8(&mut self) -> Result<u8> {
         Ok(self.take(1)?.bytes[0])
     }
@@ -159,7 +178,8 @@ impl<'a> BinaryReader<'a> {
     /// Reads a byte that is below 128.
     ///
     /// # Errors
-    /// If no byte remains, or at another byte, which is consumed.
+    ///
+    /// `UnexpectedEof` at the current offset if no byte remains; `InvalidU7` at any other byte, which is consumed.
     pub fn read_u7(&mut self) -> Result<u8> {
         let error = self.error(Fault::InvalidU7);
         let byte = self.read_u8()?;
@@ -176,7 +196,8 @@ impl<'a> BinaryReader<'a> {
     /// Reads `size` bytes.
     ///
     /// # Errors
-    /// If fewer bytes remain.
+    ///
+    /// `UnexpectedEof` at the current offset if fewer bytes remain, with the number of missing bytes as a hint.
     pub fn read_bytes(&mut self, size: usize) -> Result<&'a [u8]> {
         Ok(self.take(size)?.bytes)
     }
@@ -184,7 +205,8 @@ impl<'a> BinaryReader<'a> {
     /// Reads a little-endian number of 4 bytes.
     ///
     /// # Errors
-    /// If fewer bytes remain.
+    ///
+    /// `UnexpectedEof` at the current offset if fewer bytes remain, with the number of missing bytes as a hint.
     pub fn read_u32(&mut self) -> Result<u32> {
         self.array().map(u32::from_le_bytes)
     }
@@ -192,15 +214,27 @@ impl<'a> BinaryReader<'a> {
     /// Reads a little-endian number of 8 bytes.
     ///
     /// # Errors
-    /// If fewer bytes remain.
+    ///
+    /// `UnexpectedEof` at the current offset if fewer bytes remain, with the number of missing bytes as a hint.
     pub fn read_u64(&mut self) -> Result<u64> {
         self.array().map(u64::from_le_bytes)
     }
 
-    /// Reads a magic number and the 4 bytes after it: the version in the lower 16 bits, and above them the kind.
+    /// Reads the magic number and the 4 bytes after it: the version in the lower 16 bits, and the kind above them.
     ///
     /// # Errors
-    /// If bytes are missing, or if the first 4 are not the magic number.
+    ///
+    /// `BadMagic` at the current offset if the first 4 bytes are not the magic number; `UnexpectedEof` where the magic number or
+    /// the version is truncated.
+    ///
+    /// # Examples
+    ///
+    /// ```
+    /// use pulleynavy::BinaryReader;
+    ///
+    /// assert_eq!(BinaryReader::new(b"\0asm\x01\0\0\0", 0).read_header_version()?, 1);
+    /// # Ok::<(), pulleynavy::Error>(())
+    /// ```
     pub fn read_header_version(&mut self) -> Result<u32> {
         let magic = self.peek_bytes(4)?;
         if magic != b"\0asm" {
@@ -215,66 +249,97 @@ impl<'a> BinaryReader<'a> {
         self.item(read).map(|(_, number)| number).map_err(|error| error.with_hint(1))
     }
 
-    /// Reads an unsigned LEB128 number of 32 bits.
+    /// Reads an unsigned 32-bit number in LEB128.
     ///
     /// # Errors
-    /// If the number is truncated, too long or too large.
+    ///
+    /// `UnexpectedEof` at the end of the bytes if the number is truncated; `NumberTooLong` or `NumberTooLarge` at its fifth byte.
+    ///
+    /// # Examples
+    ///
+    /// ```
+    /// use pulleynavy::{BinaryReader, Error, Fault};
+    ///
+    /// let mut reader = BinaryReader::new(&[0x80, 0x01, 0x80], 0);
+    /// assert_eq!(reader.read_var_u32()?, 128);
+    /// assert_eq!(reader.read_var_u32(), Err(Error::new(Fault::UnexpectedEof, 3)));
+    /// # Ok::<(), pulleynavy::Error>(())
+    /// ```
     pub fn read_var_u32(&mut self) -> Result<u32> {
         Ok(self.number(library::var_u32)?.value as u32)
     }
 
-    /// Reads a signed LEB128 number of 32 bits.
+    /// Reads a signed 32-bit number in LEB128.
     ///
     /// # Errors
-    /// If the number is truncated, too long or too large.
+    ///
+    /// `UnexpectedEof` at the end of the bytes if the number is truncated; `NumberTooLong` or `NumberTooLarge` at its fifth byte.
     pub fn read_var_i32(&mut self) -> Result<i32> {
         Ok(self.number(library::var_s32)?.value as i32)
     }
 
-    /// Reads an unsigned LEB128 number of 64 bits.
+    /// Reads an unsigned 64-bit number in LEB128.
     ///
     /// # Errors
-    /// If the number is truncated, too long or too large.
+    ///
+    /// `UnexpectedEof` at the end of the bytes if the number is truncated; `NumberTooLong` or `NumberTooLarge` at its tenth byte.
     pub fn read_var_u64(&mut self) -> Result<u64> {
         Ok(self.number(library::var_u64)?.value)
     }
 
-    /// Reads a signed LEB128 number of 64 bits.
+    /// Reads a signed 64-bit number in LEB128.
     ///
     /// # Errors
-    /// If the number is truncated, too long or too large.
+    ///
+    /// `UnexpectedEof` at the end of the bytes if the number is truncated; `NumberTooLong` or `NumberTooLarge` at its tenth byte.
     pub fn read_var_i64(&mut self) -> Result<i64> {
         Ok(self.number(library::var_s64)?.value)
     }
 
-    /// Reads a signed LEB128 number of 33 bits.
+    /// Reads a signed 33-bit number in LEB128.
     ///
     /// # Errors
-    /// If the number is truncated, too long or too large.
+    ///
+    /// `UnexpectedEof` at the end of the bytes if the number is truncated; `NumberTooLong` or `NumberTooLarge` at its fifth byte.
     pub fn read_var_s33(&mut self) -> Result<i64> {
         Ok(self.number(library::var_s33)?.value)
     }
 
-    /// Reads the bits of a float of 32 bits.
+    /// Reads the bits of a 32-bit float.
     ///
     /// # Errors
-    /// If fewer than 4 bytes remain.
+    ///
+    /// `UnexpectedEof` at the current offset if fewer than 4 bytes remain.
     pub fn read_f32(&mut self) -> Result<Ieee32> {
         self.read_u32().map(Ieee32)
     }
 
-    /// Reads the bits of a float of 64 bits.
+    /// Reads the bits of a 64-bit float.
     ///
     /// # Errors
-    /// If fewer than 8 bytes remain.
+    ///
+    /// `UnexpectedEof` at the current offset if fewer than 8 bytes remain.
     pub fn read_f64(&mut self) -> Result<Ieee64> {
         self.read_u64().map(Ieee64)
     }
 
-    /// Reads a size and this many bytes, as a reader of their own.
+    /// Reads a size and that many bytes, and returns a reader over them.
     ///
     /// # Errors
-    /// If the size is malformed, or if bytes are missing.
+    ///
+    /// Those of [`BinaryReader::read_var_u32`] for the size; `UnexpectedEof` after the size if bytes are missing.
+    ///
+    /// # Examples
+    ///
+    /// ```
+    /// use pulleynavy::BinaryReader;
+    ///
+    /// let mut reader = BinaryReader::new(&[2, 5, 7, 9], 100);
+    /// let inner = reader.read_reader()?;
+    /// assert_eq!(inner.range(), 101..103);
+    /// assert_eq!(reader.remaining_buffer(), [9]);
+    /// # Ok::<(), pulleynavy::Error>(())
+    /// ```
     pub fn read_reader(&mut self) -> Result<Self> {
         let size = self.read_var_u32()? as usize;
         Ok(BinaryReader::of(self.take(size)?))
@@ -292,23 +357,29 @@ impl<'a> BinaryReader<'a> {
     /// Reads a string of at most 100,000 bytes.
     ///
     /// # Errors
-    /// If the size is malformed, if bytes are missing, or if they are not UTF-8.
+    ///
+    /// * Those of [`BinaryReader::read_var_u32`] for the size.
+    /// * `StringSize` at the last byte of a size above 100,000.
+    /// * `UnexpectedEof` after the size if bytes are missing.
+    /// * `MalformedUtf8` at the last byte of the string.
     pub fn read_string(&mut self) -> Result<&'a str> {
         self.text(library::name)
     }
 
-    /// Reads a string of any size.
+    /// Reads a string of any length.
     ///
     /// # Errors
-    /// If the size is malformed, if bytes are missing, or if they are not UTF-8.
+    ///
+    /// Those of [`BinaryReader::read_string`], except `StringSize`.
     pub fn read_unlimited_string(&mut self) -> Result<&'a str> {
         self.text(library::text)
     }
 
-    /// Skips a string of at most 100,000 bytes, which need not be UTF-8.
+    /// Skips a string of at most 100,000 bytes, which may be invalid UTF-8.
     ///
     /// # Errors
-    /// If the size is malformed, or if bytes are missing.
+    ///
+    /// Those of [`BinaryReader::read_string`], except `MalformedUtf8`.
     pub fn skip_string(&mut self) -> Result<()> {
         let size = self.read_var_u32()? as usize;
         if size > MAX_WASM_STRING_SIZE {
@@ -320,18 +391,42 @@ impl<'a> BinaryReader<'a> {
     /// Reads an item.
     ///
     /// # Errors
+    ///
     /// The error of the item.
+    ///
+    /// # Examples
+    ///
+    /// ```
+    /// use pulleynavy::{BinaryReader, Export};
+    ///
+    /// let export = BinaryReader::new(b"\x03add\x00\x05", 0).read::<Export>()?;
+    /// assert_eq!(export.index, 5);
+    /// # Ok::<(), pulleynavy::Error>(())
+    /// ```
     pub fn read<T: FromReader<'a>>(&mut self) -> Result<T> {
         T::from_reader(self)
     }
 
-    /// Returns what a function consumes, as a reader of its own.
+    /// Returns a reader over the bytes that a function consumes.
     ///
     /// # Errors
+    ///
     /// The error of the function.
     ///
     /// # Panics
-    /// If the function replaces the reader by one of other bytes.
+    ///
+    /// If the function replaces the reader by a reader over other bytes.
+    ///
+    /// # Examples
+    ///
+    /// ```
+    /// use pulleynavy::BinaryReader;
+    ///
+    /// let mut reader = BinaryReader::new(b"\x01a\x05", 100);
+    /// let name = reader.skip(|reader| reader.skip_string())?;
+    /// assert_eq!(name.range(), 100..102);
+    /// # Ok::<(), pulleynavy::Error>(())
+    /// ```
     pub fn skip(&mut self, pass: impl FnOnce(&mut Self) -> Result<()>) -> Result<Self> {
         let before = self.rest;
         pass(self)?;

@@ -2,26 +2,39 @@
 use crate::{BinaryReader, Error, Fault, FromReader, Lead, Result, SectionLimited, library};
 use core::ops::Range;
 
-/// What is added to the value that a relocation fills in.
+/// The encoding of the addend of a relocation type.
 #[derive(Clone, Copy, Debug, PartialEq, Eq, Hash)]
 pub enum RelocAddendKind {
-    /// Nothing.
+    /// No addend.
     None,
-    /// A number of 32 bits.
+    /// A signed 32-bit number.
     Addend32,
-    /// A number of 64 bits.
+    /// A signed 64-bit number.
     Addend64,
 }
 
 /// The types of relocations: number, name, addend, and how many bytes are filled in.
 macro_rules! relocation_types {
     ($($number:literal $name:ident $addend:ident $extent:literal,)*) => {
-        /// The type of a relocation, by its name in the conventions for linking.
+        /// The type of a relocation: what the linker writes, and in which encoding. The names are those of the conventions for
+        /// linking.
+        ///
+        /// # Examples
+        ///
+        /// ```
+        /// use pulleynavy::{RelocAddendKind, RelocationType};
+        ///
+        /// let ty = RelocationType::MemoryAddrI32;
+        /// assert_eq!((ty as u8, ty.extent(), ty.addend_kind()), (5, 4, RelocAddendKind::Addend32));
+        /// assert_eq!(RelocationType::try_from(5), Ok(ty));
+        /// ```
         #[derive(Clone, Copy, Debug, PartialEq, Eq, Hash)]
         #[repr(u8)]
-        #[allow(missing_docs)]
         pub enum RelocationType {
-            $($name = $number,)*
+            $(
+                #[doc = concat!("Number ", $number, ": fills in ", $extent, " bytes. Its addend is `RelocAddendKind::", stringify!($addend), "`.")]
+                $name = $number,
+            )*
         }
 
         impl TryFrom<u8> for RelocationType {
@@ -36,14 +49,14 @@ macro_rules! relocation_types {
         }
 
         impl RelocationType {
-            /// What is added to the value that is filled in.
+            /// Returns the encoding of the addend of such relocations.
             pub const fn addend_kind(self) -> RelocAddendKind {
                 match self {
                     $(RelocationType::$name => RelocAddendKind::$addend,)*
                 }
             }
 
-            /// How many bytes are filled in.
+            /// Returns the number of bytes that such a relocation fills in: 4, 5, 8 or 10.
             pub const fn extent(self) -> usize {
                 match self {
                     $(RelocationType::$name => $extent,)*
@@ -89,10 +102,24 @@ impl<'a> FromReader<'a> for RelocationType {
     }
 }
 
-/// The relocations of a section.
+/// A list of relocations.
 pub type RelocationEntryReader<'a> = SectionLimited<'a, RelocationEntry>;
 
-/// A section whose name begins with `reloc.`.
+/// A section whose name begins with `reloc.`: the relocations of another section.
+///
+/// # Examples
+///
+/// ```
+/// use pulleynavy::{BinaryReader, RelocationType, RelocSectionReader};
+///
+/// // In section 3: the index of function symbol 2, at offset 6.
+/// let section = RelocSectionReader::new(BinaryReader::new(&[3, 1, 0, 6, 2], 0))?;
+/// assert_eq!(section.section_index(), 3);
+/// for entry in section.entries() {
+///     assert_eq!(entry?.ty, RelocationType::FunctionIndexLeb);
+/// }
+/// # Ok::<(), pulleynavy::Error>(())
+/// ```
 #[derive(Clone, Debug)]
 pub struct RelocSectionReader<'a> {
     section: u32,
@@ -101,50 +128,64 @@ pub struct RelocSectionReader<'a> {
 }
 
 impl<'a> RelocSectionReader<'a> {
-    /// Reads the head of the section from the remaining bytes of a reader.
+    /// Reads the index of the relocated section and the count of relocations from the remaining bytes of a reader.
     ///
     /// # Errors
-    /// If the index of the section or the count is malformed.
+    ///
+    /// Those of [`BinaryReader::read_var_u32`] for the two numbers.
     pub fn new(mut reader: BinaryReader<'a>) -> Result<Self> {
         let range = reader.remaining_range();
         let section = reader.read_var_u32()?;
         Ok(RelocSectionReader { section, range, entries: SectionLimited::new(reader)? })
     }
 
-    /// The index of the section that the relocations are of.
+    /// Returns the index of the relocated section among all sections of the module.
     pub fn section_index(&self) -> u32 {
         self.section
     }
 
-    /// The offsets of its bytes.
+    /// Returns the offsets of the data, in bytes from the start of the stream.
     pub fn range(&self) -> Range<u64> {
         self.range.clone()
     }
 
-    /// The relocations.
+    /// Returns the list of relocations.
     pub fn entries(&self) -> RelocationEntryReader<'a> {
         self.entries.clone()
     }
 }
 
-/// A relocation.
+/// A relocation: a place in a section that the linker fills in.
+///
+/// # Examples
+///
+/// ```
+/// use pulleynavy::{BinaryReader, RelocationEntry};
+///
+/// // The address of symbol 2 plus 8, at offset 6.
+/// let entry = BinaryReader::new(&[3, 6, 2, 8], 0).read::<RelocationEntry>()?;
+/// assert_eq!((entry.index, entry.addend), (2, 8));
+/// assert_eq!(entry.relocation_range()?, 6..11);
+/// # Ok::<(), pulleynavy::Error>(())
+/// ```
 #[derive(Clone, Copy, Debug, PartialEq, Eq, Hash)]
 pub struct RelocationEntry {
-    /// Its type.
+    /// The type of the relocation.
     pub ty: RelocationType,
-    /// Where it fills in, in bytes from the start of the content of its section.
+    /// The offset of the place, in bytes from the start of the section's content.
     pub offset: u32,
-    /// The index of its symbol, or of its type.
+    /// The index of the symbol whose value is written; for `TypeIndexLeb`, the index of a type.
     pub index: u32,
-    /// What is added to the value of the symbol, or 0.
+    /// The addend, which is added to the value; 0 if the type has none.
     pub addend: i64,
 }
 
 impl RelocationEntry {
-    /// Which bytes it fills in, from the start of the content of its section.
+    /// Returns the range of the bytes that the relocation fills in, in bytes from the start of the section's content.
     ///
     /// # Errors
-    /// If they pass the greatest `usize`, which cannot happen where it has 64 bits.
+    ///
+    /// `OffsetRange` if the range ends beyond the largest `usize`, which cannot happen with 64 bits.
     pub fn relocation_range(&self) -> Result<Range<usize>> {
         let start = self.offset as usize;
         let end = start.checked_add(self.ty.extent()).ok_or_else(|| Error::new(Fault::OffsetRange, self.offset.into()))?;

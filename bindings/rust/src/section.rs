@@ -43,29 +43,53 @@ impl<'a> Window<'a> {
 }
 
 /// A type that can be read from a [`BinaryReader`].
+///
+/// Implement it to read your own items as a section.
+///
+/// # Examples
+///
+/// ```
+/// use pulleynavy::{BinaryReader, FromReader, SectionLimited};
+///
+/// struct Pair(u32, u32);
+///
+/// impl<'a> FromReader<'a> for Pair {
+///     fn from_reader(reader: &mut BinaryReader<'a>) -> pulleynavy::Result<Self> {
+///         Ok(Pair(reader.read()?, reader.read()?))
+///     }
+/// }
+///
+/// let pairs = SectionLimited::<Pair>::new(BinaryReader::new(&[1, 3, 4], 0))?;
+/// for pair in pairs {
+///     assert_eq!(pair?.1, 4);
+/// }
+/// # Ok::<(), pulleynavy::Error>(())
+/// ```
 pub trait FromReader<'a>: Sized {
     /// Reads an item at the reader's position and moves past it.
     ///
     /// # Errors
-    /// If the item is malformed.
+    ///
+    /// The error of a malformed or truncated item, at the offset that its [`Fault`](crate::Fault) documents. The reader is then
+    /// at its previous position or inside the item.
     fn from_reader(reader: &mut BinaryReader<'a>) -> Result<Self>;
 }
 
-/// An unsigned LEB128 number.
+/// Reads an unsigned 32-bit number in LEB128, with the errors of [`BinaryReader::read_var_u32`].
 impl<'a> FromReader<'a> for u32 {
     fn from_reader(reader: &mut BinaryReader<'a>) -> Result<Self> {
         reader.read_var_u32()
     }
 }
 
-/// A string of at most 100,000 bytes.
+/// Reads a string of at most 100,000 bytes, with the errors of [`BinaryReader::read_string`].
 impl<'a> FromReader<'a> for &'a str {
     fn from_reader(reader: &mut BinaryReader<'a>) -> Result<Self> {
         reader.read_string()
     }
 }
 
-/// A byte that is 0 or 1.
+/// Reads a byte that is 0 or 1. Any other byte is `InvalidBool` at the byte.
 impl<'a> FromReader<'a> for bool {
     fn from_reader(reader: &mut BinaryReader<'a>) -> Result<Self> {
         let offset = reader.original_position();
@@ -77,14 +101,28 @@ impl<'a> FromReader<'a> for bool {
     }
 }
 
-/// An item and the one after it.
+/// Reads an item and the one after it, with the errors of both.
 impl<'a, T: FromReader<'a>, U: FromReader<'a>> FromReader<'a> for (T, U) {
     fn from_reader(reader: &mut BinaryReader<'a>) -> Result<Self> {
         Ok((reader.read()?, reader.read()?))
     }
 }
 
-/// A section that begins with a count of items.
+/// A section that begins with a count of items, or a list of items inside another item.
+///
+/// The items are read lazily, when you iterate over them. Cloning it is cheap.
+///
+/// # Examples
+///
+/// ```
+/// use pulleynavy::{BinaryReader, SectionLimited};
+///
+/// let section = SectionLimited::<u32>::new(BinaryReader::new(&[2, 5, 7], 100))?;
+/// assert_eq!(section.count(), 2);
+/// let numbers = section.into_iter().collect::<Result<Vec<_>, _>>()?;
+/// assert_eq!(numbers, [5, 7]);
+/// # Ok::<(), pulleynavy::Error>(())
+/// ```
 pub struct SectionLimited<'a, T> {
     whole: Range<u64>,
     rest: Window<'a>,
@@ -105,10 +143,11 @@ impl<T> fmt::Debug for SectionLimited<'_, T> {
 }
 
 impl<'a, T> SectionLimited<'a, T> {
-    /// Takes the remaining bytes of a reader as a section, and reads its count.
+    /// Takes the remaining bytes of a reader as a section, and reads the count. The items are not read.
     ///
     /// # Errors
-    /// If the count is malformed.
+    ///
+    /// Those of [`BinaryReader::read_var_u32`] for the count.
     pub fn new(mut reader: BinaryReader<'a>) -> Result<Self> {
         let whole = reader.remaining_range();
         let count = reader.read_var_u32()?;
@@ -129,22 +168,33 @@ impl<'a, T> SectionLimited<'a, T> {
         SectionLimited { whole: rest.offset - size..rest.range().end, rest, count, item: PhantomData }
     }
 
-    /// The announced number of items.
+    /// Returns the announced number of items.
     pub fn count(&self) -> u32 {
         self.count
     }
 
-    /// The offset at which the items begin.
+    /// Returns the offset of the first item, in bytes from the start of the stream.
     pub fn original_position(&self) -> u64 {
         self.rest.offset
     }
 
-    /// The offsets of the section, with its count.
+    /// Returns the offsets of the section with its count, in bytes from the start of the stream.
     pub fn range(&self) -> Range<u64> {
         self.whole.clone()
     }
 
-    /// Iterates over the items, each with its offset.
+    /// Returns an iterator over the items, each with its offset in bytes from the start of the stream.
+    ///
+    /// # Examples
+    ///
+    /// ```
+    /// use pulleynavy::{BinaryReader, SectionLimited};
+    ///
+    /// let section = SectionLimited::<u32>::new(BinaryReader::new(&[2, 0x85, 0, 7], 100))?;
+    /// let items = section.into_iter_with_offsets().collect::<Result<Vec<_>, _>>()?;
+    /// assert_eq!(items, [(101, 5), (103, 7)]);
+    /// # Ok::<(), pulleynavy::Error>(())
+    /// ```
     pub fn into_iter_with_offsets(self) -> SectionLimitedIntoIterWithOffsets<'a, T> {
         SectionLimitedIntoIterWithOffsets { items: SectionLimitedIntoIter { left: self.count, section: self, ended: false } }
     }
@@ -159,7 +209,25 @@ impl<'a, T: FromReader<'a>> IntoIterator for SectionLimited<'a, T> {
     }
 }
 
-/// An iterator over the items of a section, up to the first error. Trailing bytes after the last item are an error too.
+/// An iterator over the items of a section.
+///
+/// # Errors
+///
+/// It yields the error of the first malformed item and then ends. If bytes follow the last item, it ends with `SizeMismatch` at
+/// the first of them.
+///
+/// # Examples
+///
+/// ```
+/// use pulleynavy::{BinaryReader, Error, Fault, SectionLimited};
+///
+/// let section = SectionLimited::<u32>::new(BinaryReader::new(&[1, 5, 7], 100))?;
+/// let mut items = section.into_iter();
+/// assert_eq!(items.next(), Some(Ok(5)));
+/// assert_eq!(items.next(), Some(Err(Error::new(Fault::SizeMismatch, 102))));
+/// assert_eq!(items.next(), None);
+/// # Ok::<(), pulleynavy::Error>(())
+/// ```
 #[derive(Debug)]
 pub struct SectionLimitedIntoIter<'a, T> {
     section: SectionLimited<'a, T>,
@@ -174,13 +242,13 @@ impl<T> Clone for SectionLimitedIntoIter<'_, T> {
 }
 
 impl<T> SectionLimitedIntoIter<'_, T> {
-    /// The offset at which the next item begins.
+    /// Returns the offset of the next item, in bytes from the start of the stream.
     pub fn original_position(&self) -> u64 {
         self.section.rest.offset
     }
 }
 
-/// The section with the remaining items. Its count stays that of all items.
+/// Returns the section with the remaining items. Its count stays that of all items.
 impl<'a, T> From<SectionLimitedIntoIter<'a, T>> for SectionLimited<'a, T> {
     fn from(items: SectionLimitedIntoIter<'a, T>) -> Self {
         items.section
@@ -219,7 +287,9 @@ impl<'a, T: FromReader<'a>> ExactSizeIterator for SectionLimitedIntoIter<'a, T> 
 
 impl<'a, T: FromReader<'a>> FusedIterator for SectionLimitedIntoIter<'a, T> {}
 
-/// An iterator over the items of a section, each with its offset.
+/// An iterator over the items of a section, each with its offset in bytes from the start of the stream.
+///
+/// It yields the errors of [`SectionLimitedIntoIter`].
 #[derive(Debug)]
 pub struct SectionLimitedIntoIterWithOffsets<'a, T> {
     items: SectionLimitedIntoIter<'a, T>,

@@ -3,7 +3,18 @@ use crate::codes::{heap_kind, type_kind};
 use crate::{BinaryReader, FromReader, Result, library};
 use core::fmt;
 
-/// The type of a value.
+/// The type of a value: a number, a vector or a reference.
+///
+/// # Examples
+///
+/// ```
+/// use pulleynavy::{BinaryReader, ValType};
+///
+/// let ty = BinaryReader::new(&[0x7e], 0).read::<ValType>()?;
+/// assert_eq!(ty, ValType::I64);
+/// assert_eq!(ty.to_string(), "i64");
+/// # Ok::<(), pulleynavy::Error>(())
+/// ```
 #[derive(Clone, Copy, Debug, PartialEq, Eq, Hash, PartialOrd, Ord)]
 pub enum ValType {
     /// A 32-bit integer.
@@ -14,7 +25,7 @@ pub enum ValType {
     F32,
     /// A 64-bit float.
     F64,
-    /// A vector of 128 bits.
+    /// A 128-bit vector.
     V128,
     /// A reference.
     Ref(RefType),
@@ -28,22 +39,22 @@ impl ValType {
     /// A nullable reference to an exception.
     pub const EXNREF: ValType = ValType::Ref(RefType::EXNREF);
 
-    /// Whether it is a reference.
+    /// Returns whether the type is a reference.
     pub fn is_reference_type(&self) -> bool {
         matches!(self, ValType::Ref(_))
     }
 
-    /// Whether it is a vector.
+    /// Returns whether the type is a vector.
     pub fn is_vector_type(&self) -> bool {
         matches!(self, ValType::V128)
     }
 
-    /// Whether it has a default value, as all types but references that are not nullable.
+    /// Returns whether the type has a default value. All types have one, except references that are not nullable.
     pub fn is_defaultable(&self) -> bool {
         self.as_reference_type().is_none_or(|ty| ty.is_nullable())
     }
 
-    /// The reference type, if it is one.
+    /// Returns the reference type, if the type is a reference.
     pub fn as_reference_type(&self) -> Option<RefType> {
         match self {
             ValType::Ref(ty) => Some(*ty),
@@ -72,6 +83,19 @@ impl fmt::Display for ValType {
 }
 
 /// The type of a reference.
+///
+/// # Examples
+///
+/// ```
+/// use pulleynavy::{BinaryReader, PackedIndex, RefType};
+///
+/// // A reference to type 5 that is never null.
+/// let ty = BinaryReader::new(&[0x64, 5], 0).read::<RefType>()?;
+/// assert!(!ty.is_nullable());
+/// assert_eq!(ty.type_index(), PackedIndex::from_module_index(5));
+/// assert_eq!(RefType::FUNCREF.to_string(), "funcref");
+/// # Ok::<(), pulleynavy::Error>(())
+/// ```
 #[derive(Clone, Copy, Debug, PartialEq, Eq, Hash, PartialOrd, Ord)]
 pub struct RefType {
     nullable: bool,
@@ -165,12 +189,12 @@ abstract_types! {
 }
 
 impl RefType {
-    /// A reference to a heap type. It is never `None`.
+    /// Returns a reference to a heap type. The result is never `None`.
     pub fn new(nullable: bool, heap: HeapType) -> Option<Self> {
         Some(RefType { nullable, heap })
     }
 
-    /// A reference to the type with this index.
+    /// Returns a reference to the type with this index.
     pub const fn concrete(nullable: bool, index: PackedIndex) -> Self {
         RefType { nullable, heap: HeapType::Concrete(index.unpack()) }
     }
@@ -180,22 +204,22 @@ impl RefType {
         self.nullable
     }
 
-    /// The same reference, nullable.
+    /// Returns the same reference, nullable.
     pub const fn nullable(&self) -> Self {
         RefType { nullable: true, heap: self.heap }
     }
 
-    /// The same reference, not nullable.
+    /// Returns the same reference, not nullable.
     pub const fn as_non_null(&self) -> Self {
         RefType { nullable: false, heap: self.heap }
     }
 
-    /// What it refers to.
+    /// Returns the type of what the reference refers to.
     pub const fn heap_type(&self) -> HeapType {
         self.heap
     }
 
-    /// The index of the type that it refers to, if a module defines the type.
+    /// Returns the index of the type that the reference refers to, if the module defines the type.
     pub fn type_index(&self) -> Option<PackedIndex> {
         match self.heap {
             HeapType::Concrete(index) | HeapType::Exact(index) => index.pack(),
@@ -203,17 +227,17 @@ impl RefType {
         }
     }
 
-    /// Whether a module defines the type that it refers to.
+    /// Returns whether the module defines the type that the reference refers to.
     pub const fn is_concrete_type_ref(&self) -> bool {
         matches!(self.heap, HeapType::Concrete(_) | HeapType::Exact(_))
     }
 
-    /// Whether it refers to any function.
+    /// Returns whether the reference refers to any function.
     pub const fn is_func_ref(&self) -> bool {
         matches!(self.heap, HeapType::FUNC)
     }
 
-    /// Whether it refers to any value of the host.
+    /// Returns whether the reference refers to any value of the host.
     pub const fn is_extern_ref(&self) -> bool {
         matches!(self.heap, HeapType::EXTERN)
     }
@@ -229,14 +253,25 @@ impl fmt::Display for RefType {
     }
 }
 
-/// What a reference refers to.
+/// The type of what a reference refers to.
+///
+/// # Examples
+///
+/// ```
+/// use pulleynavy::{BinaryReader, HeapType, UnpackedIndex};
+///
+/// let mut reader = BinaryReader::new(&[0x6f, 5], 0);
+/// assert_eq!(reader.read::<HeapType>()?, HeapType::EXTERN);
+/// assert_eq!(reader.read::<HeapType>()?, HeapType::Concrete(UnpackedIndex::Module(5)));
+/// # Ok::<(), pulleynavy::Error>(())
+/// ```
 #[derive(Clone, Copy, Debug, PartialEq, Eq, Hash, PartialOrd, Ord)]
 pub enum HeapType {
-    /// A type that is not defined in a module.
+    /// An abstract type, which no module defines.
     Abstract {
-        /// Whether it is shared between threads. Types that this crate reads are not.
+        /// Whether threads share it. Types that this crate reads are not shared.
         shared: bool,
-        /// Which type it is.
+        /// The abstract type.
         ty: AbstractHeapType,
     },
     /// The type with this index.
@@ -256,7 +291,17 @@ impl fmt::Display for HeapType {
     }
 }
 
-/// The index of a type.
+/// The index of a type, in the module or in a recursion group.
+///
+/// # Examples
+///
+/// ```
+/// use pulleynavy::{PackedIndex, UnpackedIndex};
+///
+/// let index = UnpackedIndex::Module(5);
+/// assert_eq!(index.as_module_index(), Some(5));
+/// assert_eq!(index.pack(), PackedIndex::from_module_index(5));
+/// ```
 #[derive(Clone, Copy, Debug, PartialEq, Eq, Hash, PartialOrd, Ord)]
 pub enum UnpackedIndex {
     /// An index in the type index space of the module.
@@ -266,7 +311,7 @@ pub enum UnpackedIndex {
 }
 
 impl UnpackedIndex {
-    /// The same index, packed, if it is one in the module.
+    /// Returns the packed form of an index in the module, otherwise `None`.
     pub const fn pack(&self) -> Option<PackedIndex> {
         match self {
             UnpackedIndex::Module(index) => Some(PackedIndex(*index)),
@@ -274,7 +319,7 @@ impl UnpackedIndex {
         }
     }
 
-    /// The index in the module, if it is one.
+    /// Returns the index in the module, if it is one.
     pub const fn as_module_index(&self) -> Option<u32> {
         match self {
             UnpackedIndex::Module(index) => Some(*index),
@@ -282,7 +327,7 @@ impl UnpackedIndex {
         }
     }
 
-    /// The index in the recursion group, if it is one.
+    /// Returns the index in the recursion group, if it is one.
     pub const fn as_rec_group_index(&self) -> Option<u32> {
         match self {
             UnpackedIndex::Module(_) => None,
@@ -301,21 +346,30 @@ impl fmt::Display for UnpackedIndex {
 }
 
 /// The index of a type in the type index space of the module.
+///
+/// # Examples
+///
+/// ```
+/// use pulleynavy::PackedIndex;
+///
+/// let index = PackedIndex::from_module_index(5).unwrap();
+/// assert_eq!(index.as_module_index(), Some(5));
+/// ```
 #[derive(Clone, Copy, Debug, PartialEq, Eq, Hash, PartialOrd, Ord)]
 pub struct PackedIndex(u32);
 
 impl PackedIndex {
-    /// An index in the module.
+    /// Returns an index in the module. The result is never `None`.
     pub const fn from_module_index(index: u32) -> Option<Self> {
         Some(PackedIndex(index))
     }
 
-    /// The same index, unpacked.
+    /// Returns the unpacked form of the index.
     pub const fn unpack(&self) -> UnpackedIndex {
         UnpackedIndex::Module(self.0)
     }
 
-    /// The index in the module.
+    /// Returns the index in the module. The result is never `None`.
     pub const fn as_module_index(&self) -> Option<u32> {
         Some(self.0)
     }
@@ -327,19 +381,30 @@ impl fmt::Display for PackedIndex {
     }
 }
 
-/// What a field holds.
+/// The type of the values that a field stores.
+///
+/// # Examples
+///
+/// ```
+/// use pulleynavy::{BinaryReader, StorageType, ValType};
+///
+/// let ty = BinaryReader::new(&[0x78], 0).read::<StorageType>()?;
+/// assert_eq!(ty, StorageType::I8);
+/// assert_eq!(ty.unpack(), ValType::I32);
+/// # Ok::<(), pulleynavy::Error>(())
+/// ```
 #[derive(Clone, Copy, Debug, PartialEq, Eq, Hash, PartialOrd, Ord)]
 pub enum StorageType {
-    /// An integer of 8 bits.
+    /// A packed 8-bit integer.
     I8,
-    /// An integer of 16 bits.
+    /// A packed 16-bit integer.
     I16,
-    /// A value.
+    /// A value of this type, not packed.
     Val(ValType),
 }
 
 impl StorageType {
-    /// The type of the value that a read of the field has.
+    /// Returns the type of the value that reading the field yields: `i32` for packed integers.
     pub fn unpack(&self) -> ValType {
         match self {
             StorageType::I8 | StorageType::I16 => ValType::I32,
@@ -359,11 +424,21 @@ impl fmt::Display for StorageType {
 }
 
 /// A field of a structure, or the element of an array.
+///
+/// # Examples
+///
+/// ```
+/// use pulleynavy::{BinaryReader, FieldType, StorageType, ValType};
+///
+/// let field = BinaryReader::new(&[0x7f, 1], 0).read::<FieldType>()?;
+/// assert_eq!(field, FieldType { element_type: StorageType::Val(ValType::I32), mutable: true });
+/// # Ok::<(), pulleynavy::Error>(())
+/// ```
 #[derive(Clone, Copy, Debug, PartialEq, Eq, Hash, PartialOrd, Ord)]
 pub struct FieldType {
-    /// What it holds.
+    /// The type of the stored values.
     pub element_type: StorageType,
-    /// Whether it can be changed.
+    /// Whether the field is mutable.
     pub mutable: bool,
 }
 

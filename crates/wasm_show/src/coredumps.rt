@@ -13,7 +13,7 @@ impl Show for CoreDumpSection<'_> {
     }
 }
 
-/// The modules are under the line.
+/// Writes the modules on lines under the current line.
 impl Show for CoreDumpModulesSection<'_> {
     fn show<O: Tree>(&self, level: usize, out: &mut O) {
         out.number("modules", self.modules.len() as u64);
@@ -21,7 +21,7 @@ impl Show for CoreDumpModulesSection<'_> {
     }
 }
 
-/// The indices of memories and globals are under its line.
+/// Writes the fields of the item, and the indices of memories and globals on lines under it.
 impl Show for CoreDumpInstance {
     fn show<O: Tree>(&self, level: usize, out: &mut O) {
         out.number("module_index", u64::from(self.module_index));
@@ -30,7 +30,7 @@ impl Show for CoreDumpInstance {
     }
 }
 
-/// The instances are under the line.
+/// Writes the instances on lines under the current line.
 impl Show for CoreDumpInstancesSection {
     fn show<O: Tree>(&self, level: usize, out: &mut O) {
         out.number("instances", self.instances.len() as u64);
@@ -50,7 +50,7 @@ impl Show for CoreDumpValue {
     }
 }
 
-/// The values are under its line.
+/// Writes the fields of the item, and the values on lines under it.
 impl Show for CoreDumpStackFrame {
     fn show<O: Tree>(&self, level: usize, out: &mut O) {
         out.number("instanceidx", u64::from(self.instanceidx));
@@ -61,7 +61,7 @@ impl Show for CoreDumpStackFrame {
     }
 }
 
-/// The frames are under the line.
+/// Writes the frames on lines under the current line.
 impl Show for CoreDumpStackSection<'_> {
     fn show<O: Tree>(&self, level: usize, out: &mut O) {
         out.quoted("thread", self.name);

@@ -17,7 +17,7 @@ impl Show for BranchHint {
     }
 }
 
-/// The hints are under its line.
+/// Writes the fields of the item, and the hints on lines under it.
 impl Show for BranchHintFunction<'_> {
     fn show<O: Tree>(&self, level: usize, out: &mut O) {
         out.number("func", u64::from(self.func));
@@ -32,7 +32,7 @@ impl Show for ProducersFieldValue<'_> {
     }
 }
 
-/// The values are under its line.
+/// Writes the fields of the item, and the values on lines under it.
 impl Show for ProducersField<'_> {
     fn show<O: Tree>(&self, level: usize, out: &mut O) {
         out.quoted("name", self.name);
@@ -40,7 +40,7 @@ impl Show for ProducersField<'_> {
     }
 }
 
-/// The subsections are under the line.
+/// Writes the subsections on lines under the current line.
 impl Show for NameSectionReader<'_> {
     fn show<O: Tree>(&self, level: usize, out: &mut O) {
         show_items(under(level), self.clone().unwrap(), out);

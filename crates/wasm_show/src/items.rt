@@ -102,7 +102,7 @@ impl Show for ImportItemCompact<'_> {
     }
 }
 
-/// A bundle's imports are under its line.
+/// Writes an import, or the module of a bundle and its imports on lines under it.
 impl Show for Imports<'_> {
     fn show<O: Tree>(&self, level: usize, out: &mut O) {
         match self {

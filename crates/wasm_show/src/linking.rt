@@ -53,7 +53,7 @@ impl Show for ComdatSymbol {
     }
 }
 
-/// The symbols are under its line.
+/// Writes the fields of the item, and the symbols on lines under it.
 impl Show for Comdat<'_> {
     fn show<O: Tree>(&self, level: usize, out: &mut O) {
         out.quoted("name", self.name);
@@ -146,7 +146,7 @@ impl Show for SymbolInfo<'_> {
     }
 }
 
-/// The items of a list are under its line.
+/// Writes the fields of the item, and the items of a list on lines under it.
 impl Show for Linking<'_> {
     fn show<O: Tree>(&self, level: usize, out: &mut O) {
         match self {
@@ -164,7 +164,7 @@ impl Show for Linking<'_> {
     }
 }
 
-/// The subsections are under the line.
+/// Writes the subsections on lines under the current line.
 impl Show for LinkingSectionReader<'_> {
     fn show<O: Tree>(&self, level: usize, out: &mut O) {
         let range = self.range();
@@ -175,7 +175,7 @@ impl Show for LinkingSectionReader<'_> {
     }
 }
 
-/// The subsections are under the line.
+/// Writes the subsections on lines under the current line.
 impl Show for Dylink0SectionReader<'_> {
     fn show<O: Tree>(&self, level: usize, out: &mut O) {
         show_items(under(level), self.clone().unwrap(), out);
@@ -217,7 +217,7 @@ fn show_words<T: Show, O: Tree>(list: &str, item: &str, level: usize, items: &[T
     show_lines(under(level), item, items, out);
 }
 
-/// The items of a list are under its line.
+/// Writes the fields of the item, and the items of a list on lines under it.
 impl Show for Dylink0Subsection<'_> {
     fn show<O: Tree>(&self, level: usize, out: &mut O) {
         match self {
@@ -289,7 +289,7 @@ impl Show for RelocationEntry {
     }
 }
 
-/// The relocations are under the line.
+/// Writes the relocations on lines under the current line.
 impl Show for RelocSectionReader<'_> {
     fn show<O: Tree>(&self, level: usize, out: &mut O) {
         let range = self.range();

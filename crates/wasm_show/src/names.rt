@@ -15,7 +15,7 @@ impl Show for Naming<'_> {
     }
 }
 
-/// The names are under its line.
+/// Writes the fields of the item, and the names on lines under it.
 impl Show for IndirectNaming<'_> {
     fn show<O: Tree>(&self, level: usize, out: &mut O) {
         out.number("index", u64::from(self.index));
@@ -23,14 +23,14 @@ impl Show for IndirectNaming<'_> {
     }
 }
 
-/// The names are under the line.
+/// Writes the names on lines under the current line.
 impl Show for NameMap<'_> {
     fn show<O: Tree>(&self, level: usize, out: &mut O) {
         show_items(under(level), self.clone().unwrap(), out);
     }
 }
 
-/// What has names is under the line.
+/// Writes the items that have names on lines under the current line.
 impl Show for IndirectNameMap<'_> {
     fn show<O: Tree>(&self, level: usize, out: &mut O) {
         show_items(under(level), self.clone().unwrap(), out);
@@ -65,7 +65,7 @@ fn show_module_name<O: Tree>(name: &str, range: &Range<u64>, out: &mut O)
     out.range("range", range.start, range.end);
 }
 
-/// The names are under its line.
+/// Writes the fields of the item, and the names on lines under it.
 impl Show for Name<'_> {
     fn show<O: Tree>(&self, level: usize, out: &mut O) {
         match self {

@@ -57,7 +57,7 @@ impl Text for u32 {
     }
 }
 
-/// An index.
+/// Writes a field: an index.
 impl Show for u32 {
     fn show<O: Tree>(&self, _level: usize, out: &mut O)
         ensures adds { Adds (O.writing out.old) (O.writing out.new) }
@@ -67,7 +67,7 @@ impl Show for u32 {
     }
 }
 
-/// A name.
+/// Writes a field: a name.
 impl Show for &str {
     fn show<O: Tree>(&self, _level: usize, out: &mut O) {
         out.quoted("name", self);

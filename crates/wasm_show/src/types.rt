@@ -334,7 +334,7 @@ impl Show for TagType {
     }
 }
 
-/// A group that isn't explicit is one type, on the same line.
+/// Writes the types on lines under the item's line; the type of a group that is not explicit on the line itself.
 impl Show for RecGroup {
     fn show<O: Tree>(&self, level: usize, out: &mut O) {
         out.flag("explicit", self.explicit);
