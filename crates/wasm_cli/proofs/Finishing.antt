@@ -1,5 +1,5 @@
 -- A run of the program, and then its end.
-use Rattle.std.proofs.Common.{◌≡◌, ◌⊎◌, ℕ, ◌<◌, Bool, List, Option, Some, None, Result, Ok, Err, refl, sym, ◌∙◌, take, subst, arith, inl}
+use Rattle.std.proofs.Common.{◌≡◌, ◌⊎◌, ℕ, ◌<◌, Bool, List, Option, Result, Ok, Err, refl, sym, ◌∙◌, take, subst, arith, inl}
 use Rattle.std.proofs.Common.{inr}
 use Rattle.std.specs.Io.KnownBytes.{Appends, Keeps}
 use Rattle.wasm_feed.specs.Lists.{Lists}

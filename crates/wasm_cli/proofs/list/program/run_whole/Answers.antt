@@ -6,4 +6,4 @@ pub returns : goal.returns
 returns g c =
     rw c.from.ensures
     (program _ _ _ _ _ _ _ _ _ (record { bytes = refl; failed = refl }) (record { bytes = refl; failed = refl })
-    c.run_command.ensures c.finish.ensures)
+    c.run_command-status.ensures c.finish.ensures)
