@@ -1,5 +1,5 @@
 // SPDX-License-Identifier: Apache-2.0 OR MIT
-/** A range of the stream's bytes. Offsets count bytes from the start of the stream. */
+/** A range of bytes: `start` is the offset of the first one, `end` the offset after the last one, in bytes from the start of the stream. */
 export interface Range {
     readonly start: number;
     readonly end: number;
@@ -7,25 +7,28 @@ export interface Range {
 
 // ---- events
 
-/** A part of the stream: `offset` is where it begins with its id and size, `start` and `end` are the offsets of its content. */
+/** A part of the stream. `start` and `end` are the offsets of its content; `offset` is where the part begins, with its id and size. */
 export interface Part extends Range {
     readonly offset: number;
 }
+/** The header of a module or component. */
 export interface Version extends Part {
     readonly kind: "version";
+    /** The 16-bit version: 1 for a module, 13 for a component. */
     readonly version: number;
+    /** Whether the stream is a module or a component. */
     readonly encoding: "module" | "component";
 }
 interface SectionOf<Id extends number, Name extends string, Item> extends Part {
     readonly kind: "section";
     readonly id: Id;
     readonly name: Name;
-    /** The count that the section announces. */
+    /** The announced number of items. */
     readonly count: number;
     /** The items, with faults among them. Empty with `items: false`. */
     readonly items: readonly (Item | Fault)[];
 }
-/** A section of items. `name` says which. */
+/** A section of items. `name` says which section, and so the type of its items. */
 export type Section =
     | SectionOf<1, "type", TypeGroup>
     | SectionOf<2, "import", Import>
@@ -37,202 +40,270 @@ export type Section =
     | SectionOf<9, "element", Element>
     | SectionOf<11, "data", Data>
     | SectionOf<13, "tag", Tag>;
+/** The start section. */
 export interface Start extends Part {
     readonly kind: "start";
     readonly id: 8;
     /** The index of the start function. */
     readonly index: number;
 }
+/** The data count section. */
 export interface DataCount extends Part {
     readonly kind: "data count";
     readonly id: 12;
+    /** The announced number of data segments. */
     readonly count: number;
 }
 /** The start of a code section, whose content is that of the whole section. `count` events of kind "body" follow. */
 export interface Code extends Part {
     readonly kind: "code";
     readonly id: 10;
+    /** The announced number of bodies. */
     readonly count: number;
-    /** How many bytes of the section come after its count. */
+    /** The size of the content after the count, in bytes. */
     readonly size: number;
 }
-/** A function body: its content is the locals and the instructions. */
+/** The body of a function. Its content is the locals and the instructions, which are not decoded. */
 export interface Body extends Part {
     readonly kind: "body";
 }
+/** A custom section. */
 export interface Custom extends Part {
     readonly kind: "custom";
     readonly id: 0;
+    /** The name of the section. */
     readonly name: string;
-    /** The offset of the data, which comes after the name. */
+    /** The offset of the data, which follows the name. */
     readonly dataStart: number;
-    /** What the data of a known section says, or its fault. Null for other names, and with `items: false`. */
+    /** The contents of a known section, or the fault of its data. Null for other names, and with `items: false`. */
     readonly contents: Contents | Fault | null;
 }
 /** A section with an unknown id, and any section of a component. */
 export interface Unknown extends Part {
     readonly kind: "unknown";
+    /** The id of the section. */
     readonly id: number;
 }
 /** The end of the stream. */
 export interface End {
     readonly kind: "end";
+    /** The offset of the end, which is the size of the stream in bytes. */
     readonly offset: number;
 }
-/** A fault: the last event of a malformed stream, or one among the items of a section. */
+/** A fault: the last event of a malformed stream, or a malformed item in the place of the item. */
 export interface Fault {
     readonly kind: "fault";
-    /** The offset of the fault. */
+    /** The offset of the fault, in bytes from the start of the stream. */
     readonly offset: number;
-    /** Its kind, as "UNEXPECTED_EOF": a name of `pulleynavy_fault_kind` in the C header. */
+    /** The kind of the fault, such as "UNEXPECTED_EOF": a name of `FaultKind` in `declared.js`. */
     readonly fault: string;
-    /** The number of the fault in C. */
+    /** The number of the fault in the C library: its kind in the lowest 8 bits, and its detail above them. */
     readonly code: number;
-    /** The number that belongs to the fault, or null. */
+    /** The number of the fault, if it has one: a version, a length or a byte; otherwise null. */
     readonly number: Big | null;
+    /** The message, without the number and the offset. */
     readonly text: string;
 }
+/** An event of a stream. `kind` says which; the last one is of kind "end" or "fault". */
 export type Event = Version | Section | Start | DataCount | Code | Body | Custom | Unknown | End | Fault;
 
 // ---- items
 
 /** A number, or a bigint beyond 2^53. */
 export type Big = number | bigint;
+/** An abstract heap type, by its name in the text format. */
 export type HeapType = "func" | "extern" | "any" | "eq" | "i31" | "struct" | "array" | "exn" | "none" | "noextern" | "nofunc" | "noexn";
+/** A reference type. */
 export interface ReferenceType {
+    /** Whether the reference may be null. */
     readonly nullable: boolean;
-    /** What it refers to, or the index of a type. */
+    /** The type of what the reference refers to: an abstract type, or the index of a type of the module. */
     readonly heap: HeapType | number;
 }
+/** A value type: the name of a number or vector type, or a reference type. */
 export type ValueType = "i32" | "i64" | "f32" | "f64" | "v128" | ReferenceType;
+/** The type of the values that a field stores: a value type, or a packed integer. */
 export type StorageType = ValueType | "i8" | "i16";
+/** The limits of a table, in elements, or of a memory, in pages. */
 interface Limits {
+    /** The initial number of elements or pages. */
     readonly initial: Big;
+    /** The maximum number of elements or pages, or null. */
     readonly maximum: Big | null;
+    /** Whether threads share it. */
     readonly shared: boolean;
 }
+/** The type of a table. */
 export interface TableType extends Limits {
+    /** The type of the elements. */
     readonly element: ReferenceType;
+    /** Whether indices have 64 bits. */
     readonly table64: boolean;
 }
+/** The type of a memory. */
 export interface MemoryType extends Limits {
+    /** Whether addresses have 64 bits. */
     readonly memory64: boolean;
-    /** The size of a page as a power of two, or null where it is not written. */
+    /** The base-2 logarithm of the page size in bytes, or null for pages of 65,536 bytes. */
     readonly pageSizeLog2: number | null;
 }
+/** The type of a global. */
 export interface GlobalType {
+    /** The type of the value. */
     readonly content: ValueType;
+    /** Whether the value is mutable. */
     readonly mutable: boolean;
+    /** Whether threads share the global. */
     readonly shared: boolean;
 }
+/** What all types of a group have. */
 interface Subtype extends Range {
+    /** Whether no type may extend this one. */
     readonly final: boolean;
-    /** The index of the type that it extends, or null. */
+    /** The index of the type that this one extends, or null. */
     readonly supertype: number | null;
 }
+/** A function type. */
 export interface FunctionType extends Subtype {
     readonly kind: "func";
+    /** The types of the parameters. */
     readonly params: readonly ValueType[];
+    /** The types of the results. */
     readonly results: readonly ValueType[];
 }
+/** An array or structure type. An array has one field. */
 export interface CompositeType extends Subtype {
     readonly kind: "array" | "struct";
+    /** The fields of a structure, or the element of an array. */
     readonly fields: readonly { readonly type: StorageType; readonly mutable: boolean }[];
 }
-/** A group of types. A single type that is not written as a group is a group of one, with `explicit` false. */
+/** A group of types. A single type that is not encoded as a group is a group of one, with `explicit` false. */
 export interface TypeGroup extends Range {
     readonly kind: "type";
+    /** Whether the group is encoded as a group. */
     readonly explicit: boolean;
+    /** The types of the group, in order. */
     readonly types: readonly (FunctionType | CompositeType)[];
 }
 interface ImportOf<External extends string, Type> extends Range {
     readonly kind: "import";
+    /** The name of the module to import from. */
     readonly module: string;
+    /** The name of the import in that module. */
     readonly name: string;
+    /** The kind of the import. */
     readonly external: External;
-    /** The type; of a function or a tag, its index. */
+    /** The type of the import; for a function or a tag, its type index. */
     readonly type: Type;
 }
-/** An import. Those of a bundle are items of their own. */
+/** An import. The imports of a bundle are items of their own. */
 export type Import =
     | ImportOf<"func" | "funcexact" | "tag", number>
     | ImportOf<"table", TableType>
     | ImportOf<"memory", MemoryType>
     | ImportOf<"global", GlobalType>;
-/** A function that the module defines: the index of its type. */
+/** A function that the module defines. */
 export interface FunctionItem extends Range {
     readonly kind: "function";
+    /** The index of the function's type. */
     readonly type: number;
 }
+/** A table. */
 export interface Table extends Range {
     readonly kind: "table";
+    /** The type of the table. */
     readonly type: TableType;
-    /** The expression of its elements, with its end. */
+    /** The range of the constant expression of the initial elements, including `end`, or null. */
     readonly init: Range | null;
 }
+/** A memory. */
 export interface Memory extends Range {
     readonly kind: "memory";
+    /** The type of the memory. */
     readonly type: MemoryType;
 }
+/** A global. */
 export interface Global extends Range {
     readonly kind: "global";
+    /** The type of the global. */
     readonly type: GlobalType;
-    /** The expression of its first value, with its end. */
+    /** The range of the constant expression of the initial value, including `end`. */
     readonly init: Range;
 }
+/** A tag of exceptions. */
 export interface Tag extends Range {
     readonly kind: "tag";
-    /** The index of its function type. */
+    /** The index of the function type whose parameters the tag carries. */
     readonly type: number;
 }
+/** An export. */
 export interface Export extends Range {
     readonly kind: "export";
+    /** The name of the export. */
     readonly name: string;
+    /** The kind of what is exported. */
     readonly external: "func" | "table" | "memory" | "global" | "tag";
+    /** The index of what is exported, in the index space of the kind. */
     readonly index: number;
 }
+/** What all element segments have. */
 interface ElementBase extends Range {
     readonly kind: "element";
-    /** The type of the elements where they are expressions, or null. */
+    /** The type of the elements if they are expressions, otherwise null. */
     readonly type: ReferenceType | null;
-    /** The bytes of the elements, after their count. */
+    /** The range of the elements, after their count. */
     readonly items: Range;
-    /** The indices of functions, or null where the elements are expressions. */
+    /** The function indices, or null if the elements are expressions. */
     readonly functions: readonly number[] | null;
-    /** The expressions, with their ends, or null where the elements are indices. */
+    /** The ranges of the expressions, including `end`, or null if the elements are function indices. */
     readonly expressions: readonly Range[] | null;
 }
+/** An element segment. */
 export type Element =
     | (ElementBase & { readonly mode: "passive" | "declared"; readonly table: null; readonly offsetExpression: null })
-    /** `table` is null where it is not written, which means table 0. */
+    /** `table` is null if no index is encoded: the segment is then for table 0. */
     | (ElementBase & { readonly mode: "active"; readonly table: number | null; readonly offsetExpression: Range });
+/** What all data segments have. */
 interface DataBase extends Range {
     readonly kind: "data";
+    /** The range of the segment's bytes. */
     readonly bytes: Range;
 }
+/** A data segment. */
 export type Data =
     | (DataBase & { readonly mode: "passive"; readonly memory: null; readonly offsetExpression: null })
     | (DataBase & { readonly mode: "active"; readonly memory: number; readonly offsetExpression: Range });
 
 // ---- custom sections
 
+/** What all subsections have: the range of the whole subsection, its id, and the range of its content. */
 interface SubsectionBase extends Range {
+    /** The id, below 128. */
     readonly id: number;
+    /** The range of the content, without the id and the size. */
     readonly contents: Range;
 }
+/** A subsection with an unknown id, which is not decoded. */
 export interface UnknownSubsection extends SubsectionBase {
     readonly kind: "unknown";
 }
+/** An entry of a name map: an index and a name. */
 export interface Naming extends Range {
     readonly kind: "name";
+    /** The index of the named item, in the index space of the map. */
     readonly index: number;
+    /** The name of the item. */
     readonly name: string;
 }
+/** An entry of an indirect name map: an index, such as that of a function, and the names of its parts. */
 export interface IndirectNaming extends Range {
     readonly kind: "names";
+    /** The index of the item whose parts are named. */
     readonly index: number;
+    /** The names of the parts, with faults among them. */
     readonly names: readonly (Naming | Fault)[];
 }
+/** A subsection of the section `name`. `of` says which index space the names belong to. */
 export type NameSubsection =
     | UnknownSubsection
     | (SubsectionBase & { readonly kind: "module"; readonly name: string })
@@ -246,42 +317,61 @@ export type NameSubsection =
           readonly of: "local" | "label" | "field" | "parameter" | "tag parameter";
           readonly names: readonly (IndirectNaming | Fault)[];
       });
+/** A language or tool that a module was produced with, and its version. */
 export interface ProducersValue extends Range {
     readonly kind: "value";
+    /** The name of the language or tool. */
     readonly name: string;
+    /** The version, possibly empty. */
     readonly version: string;
 }
+/** A field of the section `producers`: `language`, `sdk` or `processed-by`. */
 export interface ProducersField extends Range {
     readonly kind: "field";
+    /** The name of the field. */
     readonly name: string;
+    /** The languages or tools, with faults among them. */
     readonly values: readonly (ProducersValue | Fault)[];
 }
+/** A branch hint: whether a branch is likely to be taken. */
 export interface BranchHint extends Range {
     readonly kind: "hint";
-    /** How many bytes after the start of the function's body its instruction is. */
+    /** The offset of the branch instruction, in bytes from the start of the function's body. */
     readonly offset: number;
+    /** Whether the branch is likely to be taken. */
     readonly taken: boolean;
 }
+/** A function with branch hints. */
 export interface HintedFunction extends Range {
     readonly kind: "function";
+    /** The index of the function. */
     readonly index: number;
+    /** The hints of the function. */
     readonly hints: readonly (BranchHint | Fault)[];
 }
+/** The flags of an export's symbol, for a dynamic linker. */
 export interface DylinkExport extends Range {
+    /** The name of the export. */
     readonly name: string;
+    /** The flags of the symbol: bits of `SymbolFlags` in `declared.js`. */
     readonly flags: number;
 }
+/** The flags of an import's symbol, for a dynamic linker. */
 export interface DylinkImport extends Range {
+    /** The name of the module to import from. */
     readonly module: string;
+    /** The name of the import in that module. */
     readonly name: string;
+    /** The flags of the symbol: bits of `SymbolFlags` in `declared.js`. */
     readonly flags: number;
 }
+/** A subsection of the section `dylink.0`. Sizes are in bytes and table elements. */
 export type DylinkSubsection =
     | UnknownSubsection
     | (SubsectionBase & {
           readonly kind: "memory";
           readonly memorySize: number;
-          /** A power of two, as `tableAlignment`. */
+          /** The base-2 logarithm of the alignment in bytes; that of `tableAlignment` in elements. */
           readonly memoryAlignment: number;
           readonly tableSize: number;
           readonly tableAlignment: number;
@@ -291,47 +381,67 @@ export type DylinkSubsection =
     | (SubsectionBase & { readonly kind: "imports"; readonly imports: readonly DylinkImport[] })
     | (SubsectionBase & { readonly kind: "runtime path"; readonly paths: readonly string[] })
     | (SubsectionBase & { readonly kind: "target arch"; readonly name: string });
+/** The name, alignment and flags of a data segment. */
 export interface LinkingSegment extends Range {
     readonly kind: "segment";
+    /** The name of the segment. */
     readonly name: string;
-    /** A power of two. */
+    /** The alignment of the segment, as the base-2 logarithm of the bytes. */
     readonly alignment: number;
+    /** The flags of the segment: bits of `SegmentFlags` in `declared.js`. */
     readonly flags: number;
 }
+/** A function to call at startup. Lower priorities are called first. */
 export interface InitFunction extends Range {
     readonly kind: "init function";
+    /** The priority of the function. */
     readonly priority: number;
-    /** The index of its symbol. */
+    /** The index of the function's symbol in the symbol table. */
     readonly symbol: number;
 }
+/** A symbol of a comdat. */
 export interface ComdatSymbol extends Range {
     readonly kind: "comdat symbol";
+    /** The kind of the symbol. */
     readonly symbol: "data" | "func" | "global" | "event" | "table" | "section";
+    /** The index of the symbol, in the index space of the kind. */
     readonly index: number;
 }
+/** A comdat: a group of symbols, of which the linker keeps one copy. */
 export interface Comdat extends Range {
     readonly kind: "comdat";
+    /** The name of the comdat. */
     readonly name: string;
+    /** The flags. None is defined. */
     readonly flags: number;
+    /** The symbols of the comdat. */
     readonly symbols: readonly (ComdatSymbol | Fault)[];
 }
+/** A symbol of the symbol table. */
 export interface LinkingSymbol extends Range {
     readonly kind: "symbol";
+    /** The kind of the symbol. */
     readonly symbol: "func" | "data" | "global" | "section" | "event" | "table";
+    /** The flags: bits of `SymbolFlags` in `declared.js`. */
     readonly flags: number;
-    /** The name, or null where it is not written. */
+    /** The name, or null for a section and for an undefined symbol without a name of its own. */
     readonly name: string | null;
-    /** The index of what it is, or of the segment of defined data. Null for data that is not defined. */
+    /** The index of the function, global, section, event or table, or of the segment of defined data; null for undefined data. */
     readonly index: number | null;
-    /** Where defined data is in its segment, and how many bytes it has. */
+    /** The offset of defined data in its segment in bytes, otherwise null. */
     readonly offset: number | null;
+    /** The size of defined data in bytes, otherwise null. */
     readonly size: number | null;
 }
+/** A subsection with a list of items. */
 interface LinkingList<Kind extends string, Item> extends SubsectionBase {
     readonly kind: Kind;
+    /** The announced number of items. */
     readonly count: number;
+    /** The items, with faults among them. */
     readonly items: readonly (Item | Fault)[];
 }
+/** A subsection of the section `linking`. */
 export type LinkingSubsection =
     | UnknownSubsection
     | LinkingList<"segments", LinkingSegment>
@@ -339,38 +449,50 @@ export type LinkingSubsection =
     | LinkingList<"comdats", Comdat>
     | LinkingList<"symbols", LinkingSymbol>
     | (SubsectionBase & { readonly kind: "target arch"; readonly name: string });
+/** A relocation: a place that the linker fills in. */
 export interface Relocation extends Range {
     readonly kind: "relocation";
-    /** Its type, as "MEMORY_ADDR_LEB": a name of `pulleynavy_relocation_kind` in the C header. */
+    /** The type, such as "MEMORY_ADDR_LEB": a name of `RelocationKind` in `declared.js`. */
     readonly type: string;
-    /** Where it fills bytes in, from the start of the content of its section. */
+    /** The offset of the place, in bytes from the start of the relocated section's content. */
     readonly offset: number;
-    /** The index of its symbol, or of its type. */
+    /** The index of the symbol whose value is written; for "TYPE_INDEX_LEB", the index of a type. */
     readonly index: number;
+    /** The addend, which is added to the value; 0 if the type has none. */
     readonly addend: Big;
-    /** How many bytes it fills in. */
+    /** The number of bytes that the relocation fills in: 4, 5, 8 or 10. */
     readonly extent: number;
 }
+/** A value of a local or on the stack of a frame in a core dump. */
 export interface CoreValue {
+    /** The type of the value. */
     readonly type: "missing" | "i32" | "i64" | "f32" | "f64";
     /** The integer, the bits of a float, or null. */
     readonly value: Big | null;
 }
+/** An instance of a module in a core dump. */
 export interface CoreInstance {
-    /** The index of its module. */
+    /** The index of the module in the section `coremodules`. */
     readonly module: number;
+    /** The indices of the instance's memories. */
     readonly memories: readonly number[];
+    /** The indices of the instance's globals. */
     readonly globals: readonly number[];
 }
+/** A frame of a thread in a core dump. */
 export interface CoreFrame {
+    /** The index of the instance in the section `coreinstances`. */
     readonly instance: number;
+    /** The index of the function in the module of the instance. */
     readonly function: number;
-    /** How many bytes after the start of the function's body its instruction is. */
+    /** The offset of the instruction, in bytes from the start of the function's body. */
     readonly codeOffset: number;
+    /** The values of the locals. */
     readonly locals: readonly CoreValue[];
+    /** The values on the operand stack. */
     readonly stack: readonly CoreValue[];
 }
-/** The data of a known custom section. `count` is the count that a list announces. */
+/** The contents of a known custom section. `count` is the announced number of items of a list. */
 export type Contents =
     | { readonly kind: "name"; readonly subsections: readonly (NameSubsection | Fault)[] }
     | { readonly kind: "producers"; readonly count: number; readonly fields: readonly (ProducersField | Fault)[] }
@@ -379,7 +501,7 @@ export type Contents =
     | { readonly kind: "linking"; readonly version: number; readonly subsections: readonly (LinkingSubsection | Fault)[] }
     | {
           readonly kind: "relocations";
-          /** The index of the section that they are of. */
+          /** The index of the relocated section among all sections of the module. */
           readonly section: number;
           readonly count: number;
           readonly relocations: readonly (Relocation | Fault)[];
@@ -391,49 +513,173 @@ export type Contents =
 
 // ---- the parser
 
+/** Options of a parser. */
 export interface Options {
-    /** Flags: `MEMORY64` and `COMPACT_IMPORTS`. All if left out. */
+    /** The features to parse with, a sum of `MEMORY64` and `COMPACT_IMPORTS`. By default all. */
     readonly features?: number;
-    /** Whether items and the contents of custom sections are read. True if left out. */
+    /** Whether the items of sections and the contents of custom sections are read. By default true; without them it is faster. */
     readonly items?: boolean;
 }
+/** Bytes of a stream: a typed array, a view or a buffer. */
 export type Bytes = Uint8Array | ArrayBuffer | SharedArrayBuffer | ArrayBufferView;
 
-/** Parses chunked input. */
+/**
+ * A parser for chunked input.
+ *
+ * After a call that threw, the parser can't be used again.
+ *
+ * @example
+ * import assert from "node:assert";
+ * import { load } from "pulleynavy";
+ *
+ * const { Parser } = await load();
+ * const parser = new Parser();
+ * const header = Uint8Array.of(0, 0x61, 0x73, 0x6d, 1, 0, 0, 0);
+ * assert.deepEqual(parser.push(header.subarray(0, 5)), []);
+ * assert.equal(parser.push(header.subarray(5))[0].kind, "version");
+ * assert.deepEqual(parser.finish(), [{ kind: "end", offset: 8 }]);
+ */
 export interface Parser {
-    /** Returns the events that are complete with this chunk. After the last event it returns none. */
+    /**
+     * Returns the events that are complete with this chunk. After the event of kind "end" or "fault" it returns none.
+     *
+     * @throws {TypeError} if the chunk is not a typed array, a view or a buffer
+     * @throws {RangeError} if memory can't grow
+     * @throws {Error} if an earlier call threw
+     */
     push(chunk: Bytes): Event[];
-    /** Marks the end of the input. Returns the remaining events. The last one is of kind "end" or "fault". */
+    /**
+     * Marks the end of input, and returns the remaining events. The last one is of kind "end" or "fault".
+     *
+     * @throws {Error} if an earlier call threw
+     */
     finish(): Event[];
 }
-/** A stream of chunks as a stream of events. */
+/**
+ * A transform stream from chunks of a module to events.
+ *
+ * @example
+ * import assert from "node:assert";
+ * import { load } from "pulleynavy";
+ *
+ * const { ParserStream } = await load();
+ * const chunks = new Blob([Uint8Array.of(0, 0x61, 0x73, 0x6d, 1, 0, 0, 0)]).stream();
+ * const kinds = [];
+ * for await (const event of chunks.pipeThrough(new ParserStream())) kinds.push(event.kind);
+ * assert.deepEqual(kinds, ["version", "end"]);
+ */
 export interface ParserStream extends TransformStream<Bytes, Event> {}
+/** The result of `strip`: the stripped stream, or the fault of a malformed one. */
 export type Stripped = { readonly fault: Fault; readonly bytes: null } | { readonly fault: null; readonly bytes: Uint8Array };
 
 /**
- * The functions of a loaded parser. Malformed input never throws. Where memory cannot grow, a `RangeError` is thrown; an input that is
- * neither a typed array nor an ArrayBuffer is a `TypeError`.
+ * The functions of a loaded parser, which `load` and `fromModule` return.
+ *
+ * Malformed input never throws: it ends with an event of kind "fault".
  */
 export interface Pulleynavy {
-    /** Iterates over the events of a stream in memory, which is copied at the first step. The last one is of kind "end" or "fault". */
+    /**
+     * Iterates over the events of a stream in memory, which is copied at the first step. The last one is of kind "end" or "fault".
+     *
+     * @throws {TypeError} if `bytes` is not a typed array, a view or a buffer
+     * @throws {RangeError} at the first step, if memory can't grow
+     *
+     * @example
+     * import assert from "node:assert";
+     * import { load } from "pulleynavy";
+     *
+     * const { parse } = await load();
+     * const module = Uint8Array.of(0, 0x61, 0x73, 0x6d, 1, 0, 0, 0, 7, 5, 1, 1, 0x66, 0, 5);
+     * for (const event of parse(module)) {
+     *     if (event.kind === "section" && event.name === "export") assert.equal(event.items[0].name, "f");
+     * }
+     */
     parse(bytes: Bytes, options?: Options): Generator<Event, void, undefined>;
-    /** Removes the custom sections from a stream. With `keepNames` the sections `name` stay. */
+    /**
+     * Returns a copy of a stream without its custom sections. With `keepNames` the sections called `name` stay.
+     *
+     * `fault` is the fault of a malformed stream; `bytes` is then null.
+     *
+     * @throws {TypeError} if `bytes` is not a typed array, a view or a buffer
+     * @throws {RangeError} if memory can't grow
+     *
+     * @example
+     * import assert from "node:assert";
+     * import { load } from "pulleynavy";
+     *
+     * const { strip } = await load();
+     * const module = Uint8Array.of(0, 0x61, 0x73, 0x6d, 1, 0, 0, 0, 0, 2, 1, 0x61);
+     * assert.equal(strip(module).bytes.length, 8);
+     */
     strip(bytes: Bytes, options?: { readonly keepNames?: boolean }): Stripped;
+    /** The class of parsers for chunked input. */
     readonly Parser: new (options?: Options) => Parser;
+    /** The class of transform streams from chunks to events. */
     readonly ParserStream: new (options?: Options) => ParserStream;
 }
-/** Compiles the parser: by default `pulleynavy.wasm` beside this module, or that of a URL, its bytes, or a compiled module. */
+/**
+ * Compiles the parser: by default `pulleynavy.wasm` next to this module, or that of a URL, its bytes, or a compiled module.
+ *
+ * The promise is rejected with the errors of `fromModule`, with those of `WebAssembly.compile`, and if a file can't be fetched.
+ *
+ * @throws {TypeError} if it is another module, or of another version
+ * @throws {Error} if the response for a URL is not successful
+ *
+ * @example
+ * import assert from "node:assert";
+ * import { load } from "pulleynavy";
+ *
+ * const { parse } = await load();
+ * const [fault] = parse(new Uint8Array(8));
+ * assert.equal(fault.fault, "BAD_MAGIC");
+ */
 export declare function load(source?: URL | string | ArrayBuffer | ArrayBufferView | WebAssembly.Module): Promise<Pulleynavy>;
-/** The parser of a compiled module. Throws a `TypeError` if it is another module, or of another version. */
+/**
+ * Returns the functions of a compiled `pulleynavy.wasm`, synchronously.
+ *
+ * @throws {TypeError} if it is another module, or of another version
+ *
+ * @example
+ * import assert from "node:assert";
+ * import { readFileSync } from "node:fs";
+ * import { createRequire } from "node:module";
+ * import { fromModule } from "pulleynavy";
+ *
+ * const file = createRequire(import.meta.url).resolve("pulleynavy/pulleynavy.wasm");
+ * const { parse } = fromModule(new WebAssembly.Module(readFileSync(file)));
+ * assert.equal([...parse(new Uint8Array(0))][0].kind, "fault");
+ */
 export declare function fromModule(module: WebAssembly.Module): Pulleynavy;
 
-/** The type in the text format, as `i32` or `(ref null func)`. */
+/**
+ * Returns a type in the text format, such as `i32` or `(ref null func)`.
+ *
+ * @example
+ * import assert from "node:assert";
+ * import { typeText } from "pulleynavy";
+ *
+ * assert.equal(typeText({ nullable: true, heap: "func" }), "(ref null func)");
+ */
 export declare function typeText(type: StorageType): string;
-/** A fault as one line. */
+/**
+ * Returns a fault as one line: its message, its number, if it has one, and its offset in hexadecimal.
+ *
+ * @example
+ * import assert from "node:assert";
+ * import { faultText, load } from "pulleynavy";
+ *
+ * const { parse } = await load();
+ * const [fault] = parse(new Uint8Array(0));
+ * assert.equal(faultText(fault), "unexpected end-of-file (at offset 0x0)");
+ */
 export declare function faultText(fault: Fault): string;
-/** The names of sections by their ids. */
+/** The names of sections by their ids, such as "import" for 2 (core specification, Binary format, Modules, Sections). */
 export declare const SECTIONS: readonly string[];
+/** The version of this package. */
 export declare const VERSION: string;
+/** The feature of 64-bit memories and tables: their limits are 64-bit numbers. */
 export declare const MEMORY64: 1;
+/** The feature of compact imports, which are bundles of imports from one module. */
 export declare const COMPACT_IMPORTS: 2;
+/** All features, the default. */
 export declare const ALL_FEATURES: 3;

@@ -8,9 +8,9 @@ import { Window } from "./window.js";
 
 export { VERSION } from "./declared.js";
 
-/** Flags of `features`. */
+/** The features of a parser: 64-bit memories and tables, compact imports, and both, which is the default. */
 export const MEMORY64 = 1, COMPACT_IMPORTS = 2, ALL_FEATURES = 3;
-/** The names of sections by their ids (core specification, Binary format, Modules, Sections). */
+/** The names of sections by their ids, such as "import" for 2 (core specification, Binary format, Modules, Sections). */
 export const SECTIONS = Object.freeze([
     "custom", "type", "import", "function", "table", "memory", "global", "export", "start", "element", "code", "data", "data count", "tag",
 ]);
@@ -18,16 +18,27 @@ export const SECTIONS = Object.freeze([
 const MOST_IDLE = 8, MOST_MEMORY = 2 ** 26;
 const MOST_EVENTS = BigInt(batchOf(EventLayout.SIZE));
 
-/** A type in the text format, as `i32` or `(ref null func)`. */
+/**
+ * Returns a type in the text format, such as `i32` or `(ref null func)`.
+ *
+ * @param {import("./pulleynavy.js").StorageType} type
+ * @returns {string}
+ */
 export function typeText(type) {
     return typeof type === "string" ? type : `(ref ${type.nullable ? "null " : ""}${type.heap})`;
 }
 
-/** A fault as one line. */
+/**
+ * Returns a fault as one line: its message, its number, if it has one, and its offset in hexadecimal.
+ *
+ * @param {import("./pulleynavy.js").Fault} fault
+ * @returns {string}
+ */
 export function faultText(fault) {
     return `${fault.text}${fault.number === null ? "" : `: ${fault.number}`} (at offset 0x${fault.offset.toString(16)})`;
 }
 
+// Throws a TypeError if the source is neither a typed array, nor a view, nor a buffer.
 function bytesOf(source) {
     if (source instanceof Uint8Array) return source;
     if (ArrayBuffer.isView(source)) return new Uint8Array(source.buffer, source.byteOffset, source.byteLength);
@@ -246,7 +257,13 @@ function checked(module) {
     return pool;
 }
 
-/** The parser of a compiled pulleynavy.wasm. */
+/**
+ * Returns the functions of a compiled `pulleynavy.wasm`: `parse`, `strip`, `Parser` and `ParserStream`.
+ *
+ * @param {WebAssembly.Module} module
+ * @returns {import("./pulleynavy.js").Pulleynavy}
+ * @throws {TypeError} if it is another module, or of another version
+ */
 export function fromModule(module) {
     const pool = checked(module);
     class Parser {
@@ -290,7 +307,14 @@ async function fetched(source) {
     return response.arrayBuffer();
 }
 
-/** Compiles the parser: the file beside this one, or that of a URL, its bytes, or a compiled module. */
+/**
+ * Compiles the parser: by default `pulleynavy.wasm` next to this file, or that of a URL, its bytes, or a compiled module.
+ *
+ * @param {URL | string | ArrayBuffer | ArrayBufferView | WebAssembly.Module} source
+ * @returns {Promise<import("./pulleynavy.js").Pulleynavy>}
+ * @throws {TypeError} if it is another module, or of another version
+ * @throws {Error} if the response for a URL is not successful
+ */
 export async function load(source = new URL("./pulleynavy.wasm", import.meta.url)) {
     if (source instanceof WebAssembly.Module) return fromModule(source);
     const isPlace = source instanceof URL || typeof source === "string";

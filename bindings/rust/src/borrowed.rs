@@ -96,6 +96,16 @@ impl<'a> FromReader<'a> for StructType<'a> {
 }
 
 /// A function, array or structure type.
+///
+/// # Examples
+///
+/// ```
+/// use pulleynavy::{BinaryReader, CompositeInnerType, SubType};
+///
+/// let ty = BinaryReader::new(&[0x5e, 0x78, 1], 0).read::<SubType>()?;
+/// assert!(matches!(ty.composite_type.inner, CompositeInnerType::Array(_)));
+/// # Ok::<(), pulleynavy::Error>(())
+/// ```
 #[derive(Clone, Debug)]
 pub enum CompositeInnerType<'a> {
     /// The type of a function.
@@ -109,6 +119,16 @@ pub enum CompositeInnerType<'a> {
 }
 
 /// A function, array or structure type, and whether threads share it.
+///
+/// # Examples
+///
+/// ```
+/// use pulleynavy::{BinaryReader, StorageType, SubType};
+///
+/// let ty = BinaryReader::new(&[0x5e, 0x78, 1], 0).read::<SubType>()?.composite_type;
+/// assert_eq!(ty.unwrap_array().0.element_type, StorageType::I8);
+/// # Ok::<(), pulleynavy::Error>(())
+/// ```
 #[derive(Clone, Debug)]
 pub struct CompositeType<'a> {
     /// The type.

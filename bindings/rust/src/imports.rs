@@ -55,6 +55,16 @@ pub struct Import<'a> {
 }
 
 /// An import of a group, which names the module for all of its imports.
+///
+/// # Examples
+///
+/// ```
+/// use pulleynavy::{BinaryReader, ImportItemCompact, TypeRef};
+///
+/// let import = BinaryReader::new(b"\x01f\x00\x05", 0).read::<ImportItemCompact>()?;
+/// assert_eq!((import.name, import.ty), ("f", TypeRef::Func(5)));
+/// # Ok::<(), pulleynavy::Error>(())
+/// ```
 #[derive(Clone, Copy, Debug, PartialEq, Eq, Hash)]
 pub struct ImportItemCompact<'a> {
     /// The name of the import in the group's module.
@@ -162,6 +172,17 @@ enum Left<'a> {
 /// An iterator over the imports of a group, each with its offset in bytes from the start of the stream.
 ///
 /// It yields the error of a malformed import, and `SizeMismatch` for trailing bytes, and then ends.
+///
+/// # Examples
+///
+/// ```
+/// use pulleynavy::{BinaryReader, Imports};
+///
+/// let group = BinaryReader::new(b"\x01m\x01f\x00\x05", 100).read::<Imports>()?;
+/// let (offset, import) = group.into_iter().next().unwrap()?;
+/// assert_eq!((offset, import.name), (100, "f"));
+/// # Ok::<(), pulleynavy::Error>(())
+/// ```
 #[derive(Clone, Debug)]
 pub struct ImportsIter<'a>(Left<'a>);
 
@@ -199,6 +220,19 @@ impl<'a> Iterator for ImportsIter<'a> {
 /// An iterator over the imports of a section, each with its offset in bytes from the start of the stream. Groups are flattened.
 ///
 /// After an error inside a group the next group follows. After an error of a group itself, the iterator ends.
+///
+/// # Examples
+///
+/// ```
+/// use pulleynavy::{BinaryReader, ImportSectionReader};
+///
+/// let section = ImportSectionReader::new(BinaryReader::new(b"\x01\x01m\x01f\x00\x05", 100))?;
+/// for import in section.into_imports_with_offsets() {
+///     let (offset, import) = import?;
+///     assert_eq!((offset, import.name), (101, "f"));
+/// }
+/// # Ok::<(), pulleynavy::Error>(())
+/// ```
 #[derive(Clone, Debug)]
 pub struct IntoImportsWithOffsets<'a> {
     groups: SectionLimitedIntoIter<'a, Imports<'a>>,

@@ -80,6 +80,20 @@ pub struct Table<'a> {
 }
 
 /// The initial value of the elements of a table.
+///
+/// # Examples
+///
+/// ```
+/// use pulleynavy::{BinaryReader, Table, TableInit};
+///
+/// // A table of one function reference, which is initialized with function 3.
+/// let table = BinaryReader::new(&[0x40, 0, 0x70, 0, 1, 0xd2, 3, 0x0b], 0).read::<Table>()?;
+/// match table.init {
+///     TableInit::RefNull => unreachable!(),
+///     TableInit::Expr(expression) => assert_eq!(expression.as_bytes(), [0xd2, 3, 0x0b]),
+/// }
+/// # Ok::<(), pulleynavy::Error>(())
+/// ```
 #[derive(Clone, Debug)]
 pub enum TableInit<'a> {
     /// A null reference: the table is encoded without an expression.
@@ -227,6 +241,16 @@ pub struct Element<'a> {
 }
 
 /// The kind of an element segment.
+///
+/// # Examples
+///
+/// ```
+/// use pulleynavy::{BinaryReader, Element, ElementKind};
+///
+/// let segment = BinaryReader::new(&[0, 0x41, 0, 0x0b, 1, 5], 0).read::<Element>()?;
+/// assert!(matches!(segment.kind, ElementKind::Active { table_index: None, .. }));
+/// # Ok::<(), pulleynavy::Error>(())
+/// ```
 #[derive(Clone, Debug)]
 pub enum ElementKind<'a> {
     /// A passive segment, which instructions such as `table.init` copy to a table.
@@ -243,6 +267,20 @@ pub enum ElementKind<'a> {
 }
 
 /// The elements of a segment. They were checked when the segment was read, so iterating over them yields no error.
+///
+/// # Examples
+///
+/// ```
+/// use pulleynavy::{BinaryReader, Element, ElementItems, RefType};
+///
+/// // Passive, of `funcref`, with one expression: `ref.func 5`.
+/// let segment = BinaryReader::new(&[5, 0x70, 1, 0xd2, 5, 0x0b], 0).read::<Element>()?;
+/// match segment.items {
+///     ElementItems::Expressions(ty, expressions) => assert_eq!((ty, expressions.count()), (RefType::FUNCREF, 1)),
+///     ElementItems::Functions(_) => unreachable!(),
+/// }
+/// # Ok::<(), pulleynavy::Error>(())
+/// ```
 #[derive(Clone, Debug)]
 pub enum ElementItems<'a> {
     /// Function indices.
@@ -295,6 +333,16 @@ pub struct Data<'a> {
 }
 
 /// The kind of a data segment.
+///
+/// # Examples
+///
+/// ```
+/// use pulleynavy::{BinaryReader, Data, DataKind};
+///
+/// let segment = BinaryReader::new(b"\x01\x02hi", 0).read::<Data>()?;
+/// assert!(matches!(segment.kind, DataKind::Passive));
+/// # Ok::<(), pulleynavy::Error>(())
+/// ```
 #[derive(Clone, Debug)]
 pub enum DataKind<'a> {
     /// A passive segment, which instructions such as `memory.init` copy to a memory.

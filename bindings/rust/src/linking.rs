@@ -71,10 +71,43 @@ impl<'a> IntoIterator for LinkingSectionReader<'a> {
 }
 
 /// A list of names, alignments and flags of data segments.
+///
+/// # Examples
+///
+/// ```
+/// use pulleynavy::{BinaryReader, SegmentMap};
+///
+/// for segment in SegmentMap::new(BinaryReader::new(b"\x01\x05.data\x02\x00", 0))? {
+///     assert_eq!(segment?.name, ".data");
+/// }
+/// # Ok::<(), pulleynavy::Error>(())
+/// ```
 pub type SegmentMap<'a> = SectionLimited<'a, Segment<'a>>;
 /// A list of functions to call at startup.
+///
+/// # Examples
+///
+/// ```
+/// use pulleynavy::{BinaryReader, InitFuncMap};
+///
+/// for function in InitFuncMap::new(BinaryReader::new(&[1, 10, 4], 0))? {
+///     assert_eq!(function?.symbol_index, 4);
+/// }
+/// # Ok::<(), pulleynavy::Error>(())
+/// ```
 pub type InitFuncMap<'a> = SectionLimited<'a, InitFunc>;
 /// A list of comdats.
+///
+/// # Examples
+///
+/// ```
+/// use pulleynavy::{BinaryReader, ComdatMap};
+///
+/// for comdat in ComdatMap::new(BinaryReader::new(b"\x01\x01c\x00\x01\x01\x05", 0))? {
+///     assert_eq!(comdat?.name, "c");
+/// }
+/// # Ok::<(), pulleynavy::Error>(())
+/// ```
 pub type ComdatMap<'a> = SectionLimited<'a, Comdat<'a>>;
 /// A list of symbols.
 ///
@@ -92,6 +125,18 @@ pub type ComdatMap<'a> = SectionLimited<'a, Comdat<'a>>;
 pub type SymbolInfoMap<'a> = SectionLimited<'a, SymbolInfo<'a>>;
 
 /// A subsection of the section `linking`.
+///
+/// # Examples
+///
+/// ```
+/// use pulleynavy::{BinaryReader, Linking, Subsection};
+///
+/// match Linking::from_reader(6, BinaryReader::new(&[1, 10, 4], 0))? {
+///     Linking::InitFuncs(functions) => assert_eq!(functions.count(), 1),
+///     _ => unreachable!(),
+/// }
+/// # Ok::<(), pulleynavy::Error>(())
+/// ```
 #[derive(Clone, Debug)]
 pub enum Linking<'a> {
     /// Names, alignments and flags of data segments (id 5).
@@ -216,6 +261,16 @@ impl<'a> FromReader<'a> for Comdat<'a> {
 }
 
 /// A symbol of a comdat.
+///
+/// # Examples
+///
+/// ```
+/// use pulleynavy::{BinaryReader, ComdatSymbol, ComdatSymbolKind};
+///
+/// let symbol = BinaryReader::new(&[1, 5], 0).read::<ComdatSymbol>()?;
+/// assert_eq!(symbol, ComdatSymbol { kind: ComdatSymbolKind::Func, index: 5 });
+/// # Ok::<(), pulleynavy::Error>(())
+/// ```
 #[derive(Clone, Copy, Debug, PartialEq, Eq, Hash)]
 pub struct ComdatSymbol {
     /// The kind of the symbol.

@@ -221,6 +221,18 @@ impl<'a> Iterator for NameSectionReader<'a> {
 }
 
 /// A subsection of the section `name`.
+///
+/// # Examples
+///
+/// ```
+/// use pulleynavy::{BinaryReader, Name, Subsection};
+///
+/// match Name::from_reader(0, BinaryReader::new(b"\x03app", 0))? {
+///     Name::Module { name, .. } => assert_eq!(name, "app"),
+///     _ => unreachable!(),
+/// }
+/// # Ok::<(), pulleynavy::Error>(())
+/// ```
 #[derive(Clone, Debug)]
 pub enum Name<'a> {
     /// The name of the module (id 0).

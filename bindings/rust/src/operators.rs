@@ -227,6 +227,15 @@ impl<'a> IntoIterator for OperatorsReader<'a> {
 }
 
 /// An iterator over instructions, up to the end of the bytes or the first error.
+///
+/// # Examples
+///
+/// ```
+/// use pulleynavy::{BinaryReader, Operator, OperatorsReader};
+///
+/// let reader = OperatorsReader::new(BinaryReader::new(&[0x41, 5, 0x0b], 0));
+/// assert!(reader.into_iter().eq([Ok(Operator::I32Const { value: 5 }), Ok(Operator::End)]));
+/// ```
 #[derive(Clone, Debug)]
 pub struct OperatorsIterator<'a> {
     operators: OperatorsIteratorWithOffsets<'a>,
@@ -243,6 +252,15 @@ impl<'a> Iterator for OperatorsIterator<'a> {
 impl FusedIterator for OperatorsIterator<'_> {}
 
 /// An iterator over instructions with their offsets, up to the end of the bytes or the first error.
+///
+/// # Examples
+///
+/// ```
+/// use pulleynavy::{BinaryReader, Operator, OperatorsReader};
+///
+/// let reader = OperatorsReader::new(BinaryReader::new(&[0x41, 5, 0x0b], 100));
+/// assert_eq!(reader.into_iter_with_offsets().last(), Some(Ok((Operator::End, 102))));
+/// ```
 #[derive(Clone, Debug)]
 pub struct OperatorsIteratorWithOffsets<'a> {
     reader: OperatorsReader<'a>,

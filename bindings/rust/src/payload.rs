@@ -25,16 +25,83 @@ use core::ops::Range;
 /// ```
 pub type TypeSectionReader<'a> = RecGroups<'a>;
 /// The import section, whose items are imports or groups of imports. `into_imports` iterates over the imports.
+///
+/// # Examples
+///
+/// ```
+/// use pulleynavy::{BinaryReader, ImportSectionReader};
+///
+/// let section = ImportSectionReader::new(BinaryReader::new(b"\x01\x01m\x01f\x00\x05", 0))?;
+/// for import in section.into_imports() {
+///     assert_eq!(import?.module, "m");
+/// }
+/// # Ok::<(), pulleynavy::Error>(())
+/// ```
 pub type ImportSectionReader<'a> = SectionLimited<'a, Imports<'a>>;
 /// The function section, whose items are the type indices of the module's functions.
+///
+/// # Examples
+///
+/// ```
+/// use pulleynavy::{BinaryReader, FunctionSectionReader};
+///
+/// for type_index in FunctionSectionReader::new(BinaryReader::new(&[1, 7], 0))? {
+///     assert_eq!(type_index?, 7);
+/// }
+/// # Ok::<(), pulleynavy::Error>(())
+/// ```
 pub type FunctionSectionReader<'a> = SectionLimited<'a, u32>;
 /// The table section, whose items are tables.
+///
+/// # Examples
+///
+/// ```
+/// use pulleynavy::{BinaryReader, TableSectionReader};
+///
+/// for table in TableSectionReader::new(BinaryReader::new(&[1, 0x70, 0x00, 10], 0))? {
+///     assert_eq!(table?.ty.initial, 10);
+/// }
+/// # Ok::<(), pulleynavy::Error>(())
+/// ```
 pub type TableSectionReader<'a> = SectionLimited<'a, Table<'a>>;
 /// The memory section, whose items are memory types.
+///
+/// # Examples
+///
+/// ```
+/// use pulleynavy::{BinaryReader, MemorySectionReader};
+///
+/// for memory in MemorySectionReader::new(BinaryReader::new(&[1, 0x01, 1, 16], 0))? {
+///     assert_eq!(memory?.maximum, Some(16));
+/// }
+/// # Ok::<(), pulleynavy::Error>(())
+/// ```
 pub type MemorySectionReader<'a> = SectionLimited<'a, MemoryType>;
 /// The tag section, whose items are tag types.
+///
+/// # Examples
+///
+/// ```
+/// use pulleynavy::{BinaryReader, TagSectionReader};
+///
+/// for tag in TagSectionReader::new(BinaryReader::new(&[1, 0, 4], 0))? {
+///     assert_eq!(tag?.func_type_idx, 4);
+/// }
+/// # Ok::<(), pulleynavy::Error>(())
+/// ```
 pub type TagSectionReader<'a> = SectionLimited<'a, TagType>;
 /// The global section, whose items are globals.
+///
+/// # Examples
+///
+/// ```
+/// use pulleynavy::{BinaryReader, GlobalSectionReader};
+///
+/// for global in GlobalSectionReader::new(BinaryReader::new(&[1, 0x7f, 0x01, 0x41, 5, 0x0b], 0))? {
+///     assert!(global?.ty.mutable);
+/// }
+/// # Ok::<(), pulleynavy::Error>(())
+/// ```
 pub type GlobalSectionReader<'a> = SectionLimited<'a, Global<'a>>;
 /// The export section, whose items are exports.
 ///
@@ -50,8 +117,30 @@ pub type GlobalSectionReader<'a> = SectionLimited<'a, Global<'a>>;
 /// ```
 pub type ExportSectionReader<'a> = SectionLimited<'a, Export<'a>>;
 /// The element section, whose items are element segments.
+///
+/// # Examples
+///
+/// ```
+/// use pulleynavy::{BinaryReader, ElementSectionReader};
+///
+/// for segment in ElementSectionReader::new(BinaryReader::new(&[1, 0, 0x41, 0, 0x0b, 1, 5], 0))? {
+///     assert_eq!(segment?.range, 1..7);
+/// }
+/// # Ok::<(), pulleynavy::Error>(())
+/// ```
 pub type ElementSectionReader<'a> = SectionLimited<'a, Element<'a>>;
 /// The data section, whose items are data segments.
+///
+/// # Examples
+///
+/// ```
+/// use pulleynavy::{BinaryReader, DataSectionReader};
+///
+/// for segment in DataSectionReader::new(BinaryReader::new(b"\x01\x01\x02hi", 0))? {
+///     assert_eq!(segment?.data, b"hi");
+/// }
+/// # Ok::<(), pulleynavy::Error>(())
+/// ```
 pub type DataSectionReader<'a> = SectionLimited<'a, Data<'a>>;
 
 impl<'a> TypeSectionReader<'a> {
@@ -88,6 +177,16 @@ impl<'a> TypeSectionReader<'a> {
 }
 
 /// The encoding of a stream, as its header announces it.
+///
+/// # Examples
+///
+/// ```
+/// use pulleynavy::{Encoding, Parser, Payload};
+///
+/// let header = Parser::new(0).parse_all(b"\0asm\x0d\0\x01\0").next().unwrap()?;
+/// assert!(matches!(header, Payload::Version { encoding: Encoding::Component, .. }));
+/// # Ok::<(), pulleynavy::Error>(())
+/// ```
 #[derive(Clone, Copy, Debug, PartialEq, Eq, Hash)]
 pub enum Encoding {
     /// A module.

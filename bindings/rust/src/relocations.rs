@@ -103,6 +103,17 @@ impl<'a> FromReader<'a> for RelocationType {
 }
 
 /// A list of relocations.
+///
+/// # Examples
+///
+/// ```
+/// use pulleynavy::{BinaryReader, RelocationEntryReader};
+///
+/// for entry in RelocationEntryReader::new(BinaryReader::new(&[1, 0, 6, 2], 0))? {
+///     assert_eq!(entry?.offset, 6);
+/// }
+/// # Ok::<(), pulleynavy::Error>(())
+/// ```
 pub type RelocationEntryReader<'a> = SectionLimited<'a, RelocationEntry>;
 
 /// A section whose name begins with `reloc.`: the relocations of another section.

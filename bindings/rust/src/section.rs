@@ -290,6 +290,16 @@ impl<'a, T: FromReader<'a>> FusedIterator for SectionLimitedIntoIter<'a, T> {}
 /// An iterator over the items of a section, each with its offset in bytes from the start of the stream.
 ///
 /// It yields the errors of [`SectionLimitedIntoIter`].
+///
+/// # Examples
+///
+/// ```
+/// use pulleynavy::{BinaryReader, SectionLimited};
+///
+/// let section = SectionLimited::<u32>::new(BinaryReader::new(&[1, 5], 100))?;
+/// assert!(section.into_iter_with_offsets().eq([Ok((101, 5))]));
+/// # Ok::<(), pulleynavy::Error>(())
+/// ```
 #[derive(Debug)]
 pub struct SectionLimitedIntoIterWithOffsets<'a, T> {
     items: SectionLimitedIntoIter<'a, T>,

@@ -443,6 +443,16 @@ pub struct FieldType {
 }
 
 /// The type of an array.
+///
+/// # Examples
+///
+/// ```
+/// use pulleynavy::{ArrayType, BinaryReader, StorageType};
+///
+/// let ty = BinaryReader::new(&[0x78, 1], 0).read::<ArrayType>()?;
+/// assert_eq!(ty.0.element_type, StorageType::I8);
+/// # Ok::<(), pulleynavy::Error>(())
+/// ```
 #[derive(Clone, Copy, Debug, PartialEq, Eq, Hash, PartialOrd, Ord)]
 pub struct ArrayType(
     /// The type of its elements.
