@@ -44,6 +44,11 @@ def breakable(name):
     return re.sub(r"(_+|::|(?<=[a-z0-9])(?=[A-Z]))(?=.)", r"\1<wbr>", escaped(name))
 
 
+def shown_signature(text):
+    """A signature without what does not concern callers: `final` of a method, and `mut` of a parameter."""
+    return re.sub(r"(?<!&)\bmut (?=self\b|\w+: )", "", re.sub(r"^final ", "", text))
+
+
 def kind_of(module, item):
     """The group of an item."""
     return "law" if "law" in module.path.split("/")[-1] else item.kind.split()[-1]
@@ -82,7 +87,7 @@ class Site:
     def add(self, key, kind, name, doc, is_searched=True):
         """Notes where an item is, and what a search says of it."""
         self.places[key] = "%s.html#%s" % (key[0], anchor(kind, *key[1:]))
-        if kind in ("variant", "method"):
+        if kind in ("variant", "method", "const") and len(key) == 3:
             self.parts.setdefault((key[0], key[-1]), []).append(self.places[key])
         if is_searched:
             self.index.append((name, kind, self.places[key], plain(summary(doc))))
@@ -100,9 +105,23 @@ class Site:
         return None
 
 
+    def error_link(self, crate, name):
+        """Where the fault with this name is, or the other error of a program that lists or dumps."""
+        errors = [("wasm_base", "Fault"), ("wasm_lines", "ListError")]
+        has_both = api_source.LIBRARIES.index(crate) >= api_source.LIBRARIES.index("wasm_lines")
+        return next((self.places[(*one, name)] for one in errors[: 1 + has_both] if (*one, name) in self.places), None)
+
     def only_one(self, crate, name):
-        """Where the variant or the method with this name is, if there is one in the crate."""
+        """Where the variant, the method or the constant with this name is, if there is one in the crate."""
         found = self.parts.get((crate, name), []) if name not in ("None", "Some", "Ok", "Err") else []
+        return found[0] if len(found) == 1 else None
+
+    def only_one_elsewhere(self, crate, name):
+        """The same in the other libraries, for names that are not plain words. An item counts too."""
+        if not re.search(r"_|[a-z][A-Z]|[A-Z]{2}", name):
+            return None
+        others = [one for one in api_source.LIBRARIES if one != crate]
+        found = [place for one in others for place in [*self.parts.get((one, name), []), self.places.get((one, name))] if place]
         return found[0] if len(found) == 1 else None
 
 
@@ -194,10 +213,12 @@ class Writer:
             places, crate = self.site.places, self.module.crate
             if not re.fullmatch(r"\w+", first) or text == owner:
                 return None
+            if first in api_source.LIBRARIES:
+                return places.get((first, *rest)) if rest else None if first == crate else first + ".html"
             target = self.code.get(first) or api_names.Target("item", crate, (first,))
-            known = places.get((crate, owner, first, *rest)) or self.site.link_of(target, rest) or places.get(("wasm_base", "Fault", first))
+            known = places.get((crate, owner, first, *rest)) or self.site.link_of(target, rest) or self.site.error_link(crate, first)
             is_parameter = re.search(r"\b%s: " % first, "\n".join(self.source.lines))
-            return known or (None if is_parameter else self.site.only_one(crate, first))
+            return known or (None if is_parameter else self.site.only_one(crate, first) or self.site.only_one_elsewhere(crate, first))
 
         return find
 
@@ -270,14 +291,15 @@ class Writer:
     def function(self, at, kind, names, level, outer=None):
         """A function, a method or a law."""
         head = self.heading(level, kind, names, at)
-        text = re.sub(r"^(pub|final) ", "", api_source.declared(self.source, at))
+        text = shown_signature(api_source.declared(self.source, at))
         signature = '<pre class="sig"><code>%s</code></pre>' % self.rust(text)
         return "<section>%s%s%s%s</section>" % (head, signature, self.doc(at, level + 1, names[0]), self.clauses(at, outer, "::".join(names)))
 
     def plain_member(self, member, name):
         """A constant or a type of a type or of a trait."""
         head = self.heading(4, member_kind(member), (member.owner, name), member.at)
-        signature = '<pre class="sig"><code>%s</code></pre>' % self.rust(member.signature)
+        before = "pub " if self.source.lines[member.at].startswith("    pub ") else ""
+        signature = '<pre class="sig"><code>%s</code></pre>' % self.rust(before + member.signature + ";")
         return "<section>%s%s%s</section>" % (head, signature, self.doc(member.at, 5, member.owner))
 
     def members(self, item):
@@ -321,9 +343,9 @@ class Writer:
         if item.kind.endswith("fn"):
             return None
         if item.kind in ("const", "type"):
-            return api_source.declared(self.source, item.at) if item.kind == "type" else item.signature
+            return (api_source.declared(self.source, item.at) if item.kind == "type" else item.signature) + ";"
         opens = self.source.lines[item.at].endswith("{")
-        return item.signature.replace("(..)", "(/* private */);") + (" { .. }" if opens else "")
+        return item.signature.replace("(..)", "(/* private */)") + (" { .. }" if opens else ";")
 
     def item(self, item):
         """An item with everything under it."""
@@ -371,7 +393,7 @@ def implementation(site, module, one):
         out.append(document(said, 5, writer.code_link(one.type)) + writer.clause(text, at, one.at, "%s::%s" % (one.type, name)))
     for at in api_source.functions(module.source, one.at):
         if doc_of(module.source, at) or api_source.clauses(module.source, at):
-            text = '<pre class="sig"><code>%s</code></pre>' % writer.rust(api_source.declared(module.source, at))
+            text = '<pre class="sig"><code>%s</code></pre>' % writer.rust(shown_signature(api_source.declared(module.source, at)))
             out.append(text + writer.doc(at, 5, one.type) + writer.clauses(at, one.at, one.type))
     head = "<code>%s</code>" % writer.rust(one.header)
     if not "".join(out):
@@ -391,7 +413,7 @@ def implementations(site, module, item):
     if derived:
         out.append('<p class="derives">Derives %s.</p>' % ", ".join("<code>%s</code>" % escaped(name) for name in derived))
     out += [implementation(site, other, one) for other, one in site.of_types.get(key, []) if one.trait not in PLAIN]
-    plain_ones = sorted({one.trait for _, one in site.of_types.get(key, []) if one.trait in PLAIN})
+    plain_ones = sorted({one.trait.split("::")[-1] for _, one in site.of_types.get(key, []) if one.trait in PLAIN})
     if plain_ones:
         out.append('<p class="derives">Implements %s.</p>' % ", ".join("<code>%s</code>" % name for name in plain_ones))
     return '<h4 class="plain">Implementations</h4>%s' % "".join(out) if out else ""
@@ -478,7 +500,8 @@ def again_html(site, crate):
 def crate_page(site, crate):
     groups = grouped(site.modules[crate])
     side = ["<p>%s</p>" % escaped(crate)]
-    out = ["<h1>Crate <span>%s</span></h1>" % escaped(crate), document(api_source.about_lines(crate), 2, lambda name: None)]
+    root = Writer(site, api_source.Module(crate, "lib", api_source.source_of(crate, "lib"), []))
+    out = ["<h1>Crate <span>%s</span></h1>" % escaped(crate), document(api_source.about_lines(crate), 2, root.code_link(crate))]
     jump = ['<a href="#%s">%s <span>%d</span></a>' % (kind, title(kind), len(pairs)) for kind, pairs in groups.items()]
     out += ['<p class="jump">%s</p>' % "".join(jump), again_html(site, crate)]
     for kind, pairs in groups.items():
@@ -537,6 +560,41 @@ ABOUT = (
 )
 
 
+ABOUT_EXAMPLES = (
+    "An example is the body of a function that has a runtime, <code>rt: HostRuntime</code>, and its allocator, <code>alloc</code>, and that returns a "
+    "<code>Result</code>: <code>?</code> takes any error. The public names of the crate and of the crates below it are imported. "
+    "The assertions of Rattle take the runtime first: <code>assert_eq!(rt; a, b)</code>. All examples are compiled and run as tests."
+)
+ABOUT_CONTRACTS = (
+    "A clause is written with definitions and a few symbols. Arguments follow a definition after spaces: <code>f x y</code> is what C writes <code>f(x, y)</code>."
+)
+SYMBOLS = (
+    ("requires { P }", "A precondition: the caller has to meet P."),
+    ("ensures name { P }", "A postcondition: P is proved for every input, each time the function returns. It may have a name."),
+    ("ensures* name { .. }", "A postcondition in separation logic, about the value behind a returned borrow."),
+    ("ghost name", "A value that a type or a trait has for contracts alone. It does not exist at run time."),
+    ("result", "The returned value."),
+    ("x.old, x.new", "A mutable reference: its value before and after the call."),
+    ("x.now", "A shared reference: its value."),
+    ("x.entry, x.exit", "A parameter as it was passed, and at the return."),
+    ("a ≡ b, a ≢ b", "a equals b; a does not equal b."),
+    ("P → Q, P ↔ Q, ¬ P, P × Q", "If P then Q; P exactly if Q; not P; P and Q."),
+    ("(x : A) → P, (x : A) × P", "P for every x of A; P for some x of A."),
+    ("λ x. y", "The function that maps x to y."),
+    ("x ∷ xs, xs ++ ys, []", "A list by its first element and the others; two lists joined; the empty list."),
+    ("ℕ, 2 ^ 64", "The natural numbers, which do not overflow; a power."),
+    ("T.name, ⟦<T as Trait>⟧.name", "The ghost value with this name, of the type T."),
+    ("«data»", "A parameter whose name is a word of contracts."),
+)
+
+
+def guide_html():
+    """What a reader has to know of the examples and of the contracts."""
+    rows = "".join("<dt><code>%s</code></dt><dd>%s</dd>" % (escaped(symbol), escaped(said)) for symbol, said in SYMBOLS)
+    examples = '<h2 id="examples"><a href="#examples">Examples</a></h2><p>%s</p>' % ABOUT_EXAMPLES
+    return examples + '<h2 id="contracts"><a href="#contracts">Contracts</a></h2><p>%s</p><dl class="parts">%s</dl>' % (ABOUT_CONTRACTS, rows)
+
+
 def index_page(site):
     rows = []
     for crate in api_source.LIBRARIES:
@@ -545,7 +603,7 @@ def index_page(site):
         about = inline(api_source.about(crate), lambda name: None)
         rows.append("<li>%s<span>%s</span><small>%s</small></li>" % (link(crate + ".html", escaped(crate)), about, said))
     main = "<h1>Pulleynavy API</h1><p>%s</p><ul class=\"contents crates\">%s</ul>" % (ABOUT, "".join(rows))
-    return page("Pulleynavy API", main, here="index.html")
+    return page("Pulleynavy API", main + guide_html(), here="index.html")
 
 
 def script(site):

@@ -44,7 +44,7 @@ def summary(lines):
     """The first sentence of a doc comment."""
     lines = [line.strip() for line in lines]
     text = " ".join(lines[: lines.index("")] if "" in lines else lines)
-    found = re.match(r"(.*?[.:])(?= [A-Z`]|$)", text)
+    found = re.match(r"(.*?\.)(?= [A-Z`]|$)", text)
     return (found[1] if found else text).rstrip(":")
 
 
@@ -162,7 +162,7 @@ class Source:
                     self.scan_members(at, name, "    (final fn|fn|type|const) ")
             elif line.startswith("impl"):
                 header = self.signature(at)[0]
-                found = re.match(r"impl(?:<.*?>)?\s+(?:(.+?) for )?&?(?:'\w+ )?(?:mut )?([\w:]+)(<.*)?", re.sub(r"^impl<[^<>]*(<[^<>]*(<[^<>]*>)?[^<>]*>)?[^<>]*>", "impl", header))
+                found = re.match(r"impl(?:<.*?>)?\s+(?:(.+?) for )?&?(?:'\w+ )?(?:mut )?(\(.*\)|[\w:]+)(<.*)?", re.sub(r"^impl<[^<>]*(<[^<>]*(<[^<>]*>)?[^<>]*>)?[^<>]*>", "impl", header))
                 self.impls.append(Impl(header, found and found[1], found and found[2], at))
                 if found and found[1]:
                     self.traits.setdefault(found[2], []).append(re.sub(r"<.*", "", found[1]))
