@@ -1,8 +1,8 @@
 // The streams of the programs: standard input or a file, and an output that may be a pipe. When its reader has closed the pipe, the program
 // ends without a message.
+use std::cell::Cell;
 use std::fs::File;
 use std::io::{self, ErrorKind, Read, Stdin, Write};
-use std::sync::atomic::{AtomicBool, Ordering};
 use wasm_feed::{Failed, Sink};
 
 /// Standard input, or a file. One type for both, so that the program has the code that reads them once.
@@ -27,12 +27,12 @@ impl Read for Input {
 #[derive(Drop)]
 pub struct Piped<'a, W> {
     writer: W,
-    is_closed: &'a AtomicBool,
+    is_closed: &'a Cell<bool>,
 }
 
 impl<'a, W: Write> Piped<'a, W> {
     /// Creates a writer that forwards to this one, and sets the flag when the pipe is closed.
-    pub fn new(writer: W, is_closed: &'a AtomicBool) -> Self {
+    pub fn new(writer: W, is_closed: &'a Cell<bool>) -> Self {
         Piped { writer, is_closed }
     }
 }
@@ -42,7 +42,7 @@ impl<W: Write> Write for Piped<'_, W> {
         let result = self.writer.write(buf);
         if let Err(error) = &result {
             if error.kind() == ErrorKind::BrokenPipe {
-                self.is_closed.store(true, Ordering::Relaxed);
+                self.is_closed.set(true);
             }
         }
         result
@@ -57,12 +57,12 @@ impl<W: Write> Write for Piped<'_, W> {
 #[derive(Drop)]
 pub struct Messages<'a, E> {
     sink: E,
-    is_closed: &'a AtomicBool,
+    is_closed: &'a Cell<bool>,
 }
 
 impl<'a, E: Sink> Messages<'a, E> {
     /// Creates a sink that forwards messages to this one until the flag is set.
-    pub fn new(sink: E, is_closed: &'a AtomicBool) -> Self {
+    pub fn new(sink: E, is_closed: &'a Cell<bool>) -> Self {
         Messages { sink, is_closed }
     }
 }
@@ -71,7 +71,7 @@ impl<E: Sink> Sink for Messages<'_, E> {
     ghost has_failed = { λ messages. E.has_failed messages.sink };
 
     fn write(&mut self, buf: &[u8]) -> Result<usize, Failed> {
-        if self.is_closed.load(Ordering::Relaxed) {
+        if self.is_closed.get() {
             return Ok(buf.len());
         }
         self.sink.write(buf)

@@ -17,10 +17,10 @@ use super::options::Options;
 use crate::common::{PIECE, complain, give_up};
 use crate::streams::{Input, Messages, Piped};
 use std::alloc::Global;
+use std::cell::Cell;
 use std::env::{self, Args};
 use std::io::{self, Write};
 use std::process::ExitCode;
-use std::sync::atomic::AtomicBool;
 use wasm_dumper::{Only, dump};
 use wasm_feed::{Ended, Failed, ListError, ReadSource, Sink, Source, WriteSink, write_all};
 use wasm_tree::{ItemNames, Lines, Objects, Style};
@@ -88,7 +88,7 @@ fn version() -> &'static [u8]
 ///
 /// It prints no message if the reader of its output has closed the pipe.
 pub fn run_host(rt: HostRuntime) -> ExitCode {
-    let is_closed = AtomicBool::new(false);
+    let is_closed = Cell::new(false);
     let output = WriteSink::new(Piped::new(rt.stdout(), &is_closed));
     let mut errors = Messages::new(WriteSink::new(rt.stderr()), &is_closed);
     let status = match command_asked(rt.alloc(), env::args(&rt)) {

@@ -12,10 +12,10 @@ use super::stripping::strip_input;
 use crate::common::{PIECE, complain, finish, give_up};
 use crate::streams::{Messages, Piped};
 use std::alloc::Global;
+use std::cell::Cell;
 use std::env::{self, Args};
 use std::io::{self, Write};
 use std::process::ExitCode;
-use std::sync::atomic::AtomicBool;
 use wasm_feed::{Ended, ListError, ReadSource, Sink, Source, WriteSink, list, write_all};
 
 /// What `--help` prints.
@@ -78,7 +78,7 @@ fn version() -> &'static [u8]
 ///
 /// It prints no message if the reader of its output has closed the pipe.
 pub fn run_host(rt: HostRuntime) -> ExitCode {
-    let is_closed = AtomicBool::new(false);
+    let is_closed = Cell::new(false);
     let mut input = ReadSource::new(rt.stdin());
     let mut output = WriteSink::new(Piped::new(rt.stdout(), &is_closed));
     let mut errors = Messages::new(WriteSink::new(rt.stderr()), &is_closed);
