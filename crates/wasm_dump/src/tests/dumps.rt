@@ -182,16 +182,19 @@ impl Source for Cut<'_> {
 
 #[test]
 fn shows_what_came_before_the_source_failed(rt: HostRuntime) -> Result<(), Fail> {
-    let sink = BoundedSink::new(rt.alloc(), 2_000)?;
-    let mut input = Cut {
-        bytes: SliceSource::new(&MODULE[..30]),
-        failed: false,
-    };
-    let (ended, output) = dumped(rt.alloc(), &[Only::All], &mut input, sink, 4);
-    assert!(rt; ended == Err(ListError::Input));
-    assert!(rt; input.failed());
-    let text =
-        b"version 0 8 1 module\nsection 1 10 15 1 type\n  11 type[0] type=(func (param i32))\nsection 2 17 27 1 import\n  18 memory[0] module=\"env\" name=\"m\" ty=memory initial=1\n";
-    assert_eq!(rt; output.written(), text.as_slice());
+    // The last two read all bytes at once: only a request for more may cause the read that fails.
+    for piece in [1, 4, 30, 65_536] {
+        let sink = BoundedSink::new(rt.alloc(), 2_000)?;
+        let mut input = Cut {
+            bytes: SliceSource::new(&MODULE[..30]),
+            failed: false,
+        };
+        let (ended, output) = dumped(rt.alloc(), &[Only::All], &mut input, sink, piece);
+        assert!(rt; ended == Err(ListError::Input), "{piece}");
+        assert!(rt; input.failed());
+        let text =
+            b"version 0 8 1 module\nsection 1 10 15 1 type\n  11 type[0] type=(func (param i32))\nsection 2 17 27 1 import\n  18 memory[0] module=\"env\" name=\"m\" ty=memory initial=1\n";
+        assert_eq!(rt; output.written(), text.as_slice(), "{piece}");
+    }
     Ok(())
 }

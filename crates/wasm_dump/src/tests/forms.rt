@@ -3,6 +3,8 @@ use crate::tests::runs::{MODULE, USAGE, all_refused, runs};
 use std::alloc::Global;
 use std::process::Abort;
 use std::test::Fail;
+use wasm_feed::BoundedSink;
+use wasm_tree::{Lines, Tree};
 
 // Names with a quote, a backslash, a line feed, a control character, and a character outside of ASCII.
 const NAMES: &[u8] = b"\0asm\x01\0\0\0\x07\x0f\x02\x03a\"b\0\x00\x05\\\x0a\x01\xc3\xa9\x03\x00";
@@ -108,4 +110,23 @@ const REFUSED: [&[&str]; 4] = [
 #[test]
 fn refuses_what_json_has_not(rt: HostRuntime) -> Result<(), Fail> {
     all_refused(&rt, rt.alloc(), &REFUSED, USAGE)
+}
+
+// What a sink has of two parts: bytes are left after the last line of the first one, and the second has no line.
+fn two_parts(alloc: Global) -> Result<BoundedSink, Fail> {
+    let cuts = vec![in alloc; 11]?;
+    let mut out = Lines::new(alloc, BoundedSink::new(alloc, 100)?);
+    out.begin_part(alloc, 10, &[1, 2, 3], cuts);
+    out.item(1, 11);
+    out.begin_part(alloc, 13, &[4], Vec::new(alloc));
+    out.write_out();
+    Ok(out.into_output())
+}
+
+#[test]
+fn writes_the_last_bytes_of_a_part(rt: HostRuntime) -> Result<(), Fail> {
+    let output = two_parts(rt.alloc())?;
+    let wanted = b"10 | 01\n  11\n11 | 02 03\n13 | 04\n";
+    assert_eq!(rt; output.written(), wanted.as_slice());
+    Ok(())
 }

@@ -112,7 +112,7 @@ const NAME: &[u8] = b"\0asm\x01\0\0\0\0\x05\x04name";
 
 const NAME_AND_B: &[u8] = b"\0asm\x01\0\0\0\0\x05\x04name\0\x02\x01b";
 
-const ROWS: [Row; 24] = [
+const ROWS: [Row; 26] = [
     (&["strip", "--keep-names"], CUSTOM, 0, NAME, b""),
     (&["strip", "--keep", "name"], CUSTOM, 0, NAME, b""),
     (&["strip", "--only", "a"], CUSTOM, 0, NAME_AND_B, b""),
@@ -143,6 +143,8 @@ const ROWS: [Row; 24] = [
     (&["--help"], MODULE, 0, HELP, b""),
     (&["--version"], MODULE, 0, VERSION, b""),
     (&["strip", "--help"], MODULE, 2, b"", USAGE),
+    (&["--help", "strip"], MODULE, 2, b"", USAGE),
+    (&["--version", "--help"], MODULE, 2, b"", USAGE),
     (
         &[],
         MODULE,
