@@ -1,4 +1,5 @@
 -- What is known of an error besides its fault: that it is not out of memory, and how many missing bytes it hints at.
+-- The meaning of an item is about faults without hints, so a hint is a clause of each read that makes one.
 use Rattle.std.specs.Prelude.{◌≡◌, ℕ, ◌-◌, Bool, true, false, length, Option, Some, None, Result, Ok, Err}
 use Rattle.wasm_base.specs.FaultAt.{fault_at, hint_of}
 use Rattle.wasm_base.specs.Name.{bytes_at}

@@ -137,6 +137,7 @@ impl Error {
     }
 }
 
+// By hand, because a derived `eq` would compare the hint too.
 impl PartialEq for Error {
     ghost use Rattle.std.specs.Cmp.{partial_equiv_from_equiv};
     ghost use Rattle.wasm_base.specs.SameErrors.{same_errors, same_errors_equiv};
@@ -169,7 +170,7 @@ impl fmt::Debug for Error {
 
 /// Returns the error `LeadingByte(lead)` at this offset, with the byte as its number.
 ///
-/// Use it in your own items, when a byte at `offset` begins nothing of the kind `lead`.
+/// Use it in your own items, when the byte at `offset` is not a valid first byte of what `lead` names.
 pub fn leading_byte_error(lead: Lead, byte: u8, offset: u64) -> Error
     ensures report { fault_at result ≡ leading_byte lead byte offset }
     ensures hint { hint_of result ≡ None }

@@ -25,10 +25,12 @@ use crate::section::SectionLimited;
 /// assert_eq!(rt; names.into_iter().next(), Some(Ok("a")));
 /// ```
 pub trait SkipItem<'a>: FromReader<'a> {
+    // That skipping consumes what reading consumes is a law of each crate and no clause here, because a name of any length
+    // is skipped as one with a limit.
     /// The place after the skipped bytes, or the fault.
     ghost skipped_at: { Place → Outcome (Unit {0}) };
 
-    /// Skips an item: consumes the bytes that reading it consumes. It may check less of them.
+    /// Skips an item: consumes the bytes that reading it consumes. It may check them less strictly.
     ///
     /// # Errors
     ///
@@ -95,13 +97,15 @@ pub fn read_inner<'a, T: SkipItem<'a>>(
     ensures keeps { KeepsWindow reader.old reader.new }
     ensures memory { NotOutOfMemory result }
 {
+    // Two states of the reader make the window: with `skip`, the loop would be in a closure. Reading the count again, which
+    // `new` does, can't fail.
     let before = reader.clone().unwrap();
     let count = reader.read_var_u32()?;
     skip_items::<T>(count, reader)?;
     SectionLimited::new(passed_since(&before, reader))
 }
 
-/// Like `read_inner`, for a list of LEB128 `u32`s, which `skip_var_u32s` skips 32 bytes at a time.
+/// Skips a list of LEB128 `u32`s and returns it as a section, 32 bytes at a time.
 ///
 /// # Errors
 ///
@@ -113,6 +117,7 @@ pub fn read_inner_u32s<'a>(reader: &mut BinaryReader<'a>) -> Result<SectionLimit
     ensures keeps { KeepsWindow reader.old reader.new }
     ensures memory { NotOutOfMemory result }
 {
+    // `u32` is not a `SkipItem`, because `read_inner` would skip the numbers one by one.
     let before = reader.clone().unwrap();
     let count = reader.read_var_u32()?;
     reader.skip_var_u32s(count)?;

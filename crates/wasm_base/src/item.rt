@@ -11,7 +11,7 @@ use crate::reader::BinaryReader;
 
 /// A type that a reader can read without allocating.
 ///
-/// `SectionLimited` requires only that `from_reader` keeps to the meaning of the type. A meaning may allow several
+/// `SectionLimited` requires only that `from_reader` keeps to the type's `meaning`. A `meaning` may allow several
 /// outcomes, and an item may consume no bytes.
 ///
 /// ```rattle

@@ -42,8 +42,8 @@ use std::hash::Hash;
 
 /// Calls of `next` return the items of the window up to the first `None`, and nothing after it.
 ///
-/// The second iterator yields each item with the offset at which its bytes begin. The items of a window are the
-/// announced ones, and then nothing, or one `SizeMismatch` if bytes remain; after an item's error, nothing.
+/// `SectionLimitedIntoIterWithOffsets` yields each item with the offset at which its bytes begin. The items of a window
+/// are the announced ones, and then nothing, or one `SizeMismatch` if bytes remain; after an item's error, nothing.
 pub fn items_of_a_window<'a, T: FromReader<'a>>()
     ensures items { (s : Items) →
         GivesItems ⟦<SectionLimitedIntoIter<'a, T> as Iterator>⟧.next_gives T.meaning s }
@@ -64,14 +64,15 @@ pub fn owned_items_of_a_window<'a, T: FromReaderIn<'a>>()
 /// Calls of `next` return the subsections of the window up to the first `None`, and nothing after it.
 ///
 /// Each is what its id and its window mean, or its error, and the others follow it, to the end of the window. If an id
-/// or a size is malformed, the others are those of a later place.
+/// or a size is malformed, the later subsections are those that begin at a later place.
 pub fn subsections_of_a_window<'a, T: Subsection<'a>>()
     ensures { (s : Window) →
         GivesSubsections ⟦<Subsections<'a, T> as Iterator>⟧.next_gives
         (UnlessTaken T.meaning T.Allocation.ALLOCATES) s }
 {}
 
-/// Both iterators yield the same items and the same error, if the meaning of an item allows one outcome.
+/// `SectionLimitedIntoIter` and `SectionLimitedIntoIterWithOffsets` yield the same items and the same error, if the
+/// meaning of an item allows one outcome.
 ///
 /// The items are equal if the meaning determines the value completely.
 pub fn both_iterators_give_the_same_items<'a, T: FromReader<'a>>()
@@ -139,14 +140,15 @@ pub fn skipping_a_name_consumes_its_bytes<'a>()
 /// The limits of LEB128 numbers follow from how many bits a value has, and whether it is signed.
 ///
 /// These are how many bytes a number has at most, which unused bits its last byte may have, and how large the sum of
-/// its septets is.
+/// its seven-bit groups is.
 pub fn widths_of_numbers()
     ensures bytes { (kind : NumberKind) → IsLongEnough kind }
     ensures unused { (kind : NumberKind) → ChecksUnused kind }
     ensures sum { (kind : NumberKind) → BoundsSum kind }
 {}
 
-/// Two faults, kinds within faults, or sets of features are equal exactly if they are the same.
+/// `==` of two faults, kinds within faults, or sets of features returns true exactly if the two are the same variant with
+/// the same values.
 pub fn equal_faults_are_the_same()
     ensures number_kind { DecidesSame ⟦<NumberKind as PartialEq>⟧.eq }
     ensures lead { DecidesSame ⟦<Lead as PartialEq>⟧.eq }
@@ -213,7 +215,7 @@ pub fn copies_are_the_same<'a, T, U: Clone>()
         ⟦<Subsections<'a, T> as Clone>⟧.is_infallible }
 {}
 
-/// Each limit of modules is this number.
+/// The limits of modules have these values.
 pub fn limits_of_modules()
     ensures types { MAX_WASM_TYPES ≡ 1000000 }
     ensures supertypes { MAX_WASM_SUPERTYPES ≡ 5 }

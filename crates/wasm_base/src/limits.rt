@@ -46,7 +46,7 @@ pub const MAX_WASM_FUNCTION_PARAMS: usize = 1_000;
 /// The maximum number of results of a function.
 pub const MAX_WASM_FUNCTION_RETURNS: usize = 1_000;
 
-/// The maximum initial number of elements in a table.
+/// The maximum initial number of elements in a table. The name, with its underscore, is that of `wasmparser`.
 pub const _MAX_WASM_TABLE_SIZE: usize = 10_000_000;
 
 /// The maximum number of elements in a table.
@@ -76,7 +76,7 @@ pub const MAX_WASM_SUBTYPING_DEPTH: usize = 63;
 /// The maximum number of handlers in a `resume` instruction.
 pub const MAX_WASM_HANDLERS: usize = 10_000;
 
-/// The maximum size of a type, counted in its parts.
+/// The maximum size of a type: the number of types that it consists of, itself included.
 pub const MAX_WASM_TYPE_SIZE: u32 = 1_000_000;
 
 /// The maximum number of results of a `select` instruction.

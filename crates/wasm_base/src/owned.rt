@@ -113,11 +113,12 @@ pub fn read_list<'a, T: FromReader<'a>, A: Allocator>(
         (place reader.old) result (place reader.new) }
     ensures keeps { KeepsWindow reader.old reader.new }
 {
+    // Any allocator, so that tests can fail each allocation.
     let count = reader.read_var_u32()?;
     read_items(alloc, reader, count)
 }
 
-/// Like `read_list`, for items that own lists.
+/// Reads a list of items that own lists: a count, which is a LEB128 `u32`, and that many items.
 ///
 /// # Errors
 ///
@@ -130,6 +131,7 @@ pub fn read_list_in<'a, T: FromReaderIn<'a>>(
         (place reader.old) result (place reader.new) }
     ensures keeps { KeepsWindow reader.old reader.new }
 {
+    // A call of its own: an item type with both traits would make `T::from_reader` ambiguous, so no trait covers both.
     let count = reader.read_var_u32()?;
     read_items_in(alloc, reader, count)
 }

@@ -33,7 +33,7 @@ use std::marker::Model;
 use std::ops::Range;
 use std::simd::prelude::*;
 
-/// A window of the stream and the current position in it.
+/// A range of a stream's bytes (a window) and the current position in it.
 ///
 /// Each read consumes bytes from the front of the remaining bytes. A read borrows what it returns from the stream, and
 /// never allocates. Offsets count bytes from the start of the stream, so an error in a nested window says where it is
@@ -82,6 +82,8 @@ impl<'a> Model for BinaryReader<'a> {
         (r.position ≤ length r.bytes.now) × (r.start + length r.bytes.now < 2 ^ 64) };
 }
 
+// By hand, here and for other structs with a model, because a derived `Clone` can't state that it never fails and that
+// the copy is equal.
 impl<'a> Clone for BinaryReader<'a> {
     ghost is_clone = { λ reader copy. copy ≡ reader };
 
@@ -514,6 +516,7 @@ impl<'a> BinaryReader<'a> {
             }
             let bytes = u8x32::from_slice(rest);
             if !are_below_128(bytes) {
+                // Skipping this run first is faster, if some numbers have two bytes, than reading one number and looking again.
                 let run = single_byte_run(bytes);
                 self.move_past(run);
                 return left - run;
@@ -524,7 +527,7 @@ impl<'a> BinaryReader<'a> {
         left
     }
 
-    /// Skips `count` LEB128 `u32`s, with the outcome of reading them one after the other.
+    /// Skips `count` LEB128 `u32`s. The result is that of reading them one after the other.
     ///
     /// # Errors
     ///
@@ -779,6 +782,8 @@ impl<'a> BinaryReader<'a> {
             self.old result self.new }
         ensures keeps { KeepsWindow self.old self.new }
     {
+        // The precondition speaks of every window, because a closure is known only by what it may return. The error is the
+        // closure's own, so no clause says anything of its hint or of `OutOfMemory`.
         let before = self.clone().unwrap();
         f(self)?;
         Ok(before.window_of(self.position - before.position))

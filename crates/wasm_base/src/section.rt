@@ -180,10 +180,11 @@ impl<'a, T: FromReader<'a>> IntoIterator for SectionLimited<'a, T> {
 
     type IntoIter = SectionLimitedIntoIter<'a, T>;
 
-    // The bound on the count lets a loop add up what it reads.
+    // `count` is below 2^32.
     ghost into_iter_gives = { λ section items. (items ≡ all_items section) × (section.count < 2 ^ 32) };
 
     fn into_iter(self) -> SectionLimitedIntoIter<'a, T> {
+        // With the bound on the count, a loop can add up what it reads.
         SectionLimitedIntoIter {
             left: self.count,
             section: self,
@@ -316,7 +317,7 @@ impl<'a, T: FromReader<'a>> Iterator for SectionLimitedIntoIter<'a, T> {
 
 /// An iterator over the items of a section, each with the offset of its first byte in the stream.
 ///
-/// It ends, and yields errors, as `SectionLimitedIntoIter` does. Errors have no offset beside them.
+/// It ends, and yields errors, as `SectionLimitedIntoIter` does. An error is not paired with an offset: it has its own.
 pub struct SectionLimitedIntoIterWithOffsets<'a, T> {
     items: SectionLimitedIntoIter<'a, T>,
 }
@@ -389,6 +390,7 @@ impl<'a, T> SectionLimitedIntoIterIn<'a, T> {
         ensures offset { result ≡ (place self.now.reader).offset }
         ensures fits { result + length (place self.now.reader).rest < 2 ^ 64 }
     {
+        // No form of this iterator yields each item with its offset, so this is the way to learn it.
         self.items.original_position()
     }
 }

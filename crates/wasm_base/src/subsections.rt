@@ -19,6 +19,7 @@ use std::ops::Range;
 
 /// Whether reading a subsection may allocate: `NeverAllocates` or `MayAllocate`. If not, no call returns `OutOfMemory`.
 pub trait Allocation {
+    /// The constant `ALLOCATES`, for clauses.
     ghost ALLOCATES: { Bool };
 
     /// Whether reading may allocate.
@@ -49,7 +50,7 @@ impl Allocation for MayAllocate {
 
 /// A type that the subsections of a window can be read as.
 ///
-/// `Subsections` requires only that `from_reader` keeps to the meaning of the type.
+/// `Subsections` requires only that `from_reader` keeps to the type's `meaning`.
 ///
 /// ```rattle
 /// use wasm_custom::Dylink0Subsection;
@@ -61,6 +62,7 @@ pub trait Subsection<'a>: Sized + Drop {
     /// What a subsection with this id and this window may result in: a value, or a fault.
     ghost meaning: { ℕ → Window → Result Self FaultAt → Type 0 };
 
+    // A type, because the checker refuses a constant of this trait for a type with a lifetime.
     /// Whether reading may allocate: `NeverAllocates` or `MayAllocate`.
     type Allocation: Allocation;
 
@@ -181,9 +183,11 @@ fn read_window<'a>(reader: &mut BinaryReader<'a>) -> Result<BinaryReader<'a>>
     ensures memory { NotOutOfMemory result }
     ensures after { OnErr result (place reader.new ≡ after_number VarU32 (place reader.old)) }
 {
+    // As in `wasmparser`, the next subsection begins after a malformed size. Elsewhere such a number is not consumed.
     let size = reader.skip_var_u32()?;
     let start = reader.original_position();
     let bytes = reader.read_bytes(size as usize)?;
+    // A new reader, so that the ranges of an unknown subsection and of a module's name are the whole window.
     Ok(BinaryReader::new_features(bytes, start, reader.features()))
 }
 

@@ -36,7 +36,8 @@ shifted_event by e = record e { report = shifted_report by e.report }
 abbrev pub shifted_events : (by : ℕ) → List Event → List Event
 shifted_events by events = map (shifted_event by) events
 
--- the stream ends at a section that passes the top of the offsets
+-- The stream ends at a section that passes the top of the offsets. It suffices that the reading at the later offset
+-- does not end so: the one at the earlier offset does not either then.
 abbrev pub PassesTheTop : Ending → Type 0
 PassesTheTop (fault f) = f.fault ≡ SectionTooLarge
 PassesTheTop (ended offset) = ⊥

@@ -29,6 +29,7 @@ later_number (bad f place) next = enough
 later_number short next = wants 5 1
 
 -- whether these bytes decide what is here: the field at their end is whole or wrong
+-- Before the fourth byte of a header the bound is 4, not 8: a wrong magic is known at its fourth byte.
 unfoldable pub waiting : Grammar → (prefix : List ℕ) → Waiting
 waiting (accept shape) prefix = enough
 waiting (reject e) prefix = enough
