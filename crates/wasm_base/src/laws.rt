@@ -147,8 +147,8 @@ pub fn widths_of_numbers()
     ensures sum { (kind : NumberKind) → BoundsSum kind }
 {}
 
-/// `==` of two faults, kinds within faults, or sets of features returns true exactly if the two are the same variant with
-/// the same values.
+/// `==` of two faults, kinds within faults, or sets of features returns true exactly if the two are the same:
+/// the same variant with the same values, or the same bits.
 pub fn equal_faults_are_the_same()
     ensures number_kind { DecidesSame ⟦<NumberKind as PartialEq>⟧.eq }
     ensures lead { DecidesSame ⟦<Lead as PartialEq>⟧.eq }

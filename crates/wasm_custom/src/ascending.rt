@@ -28,6 +28,7 @@ pub(crate) fn in_order<T: Drop>(
     ensures order { InOrder last.old index fault start entry result last.new }
     ensures memory { NotOutOfMemory result }
 {
+    // The last index stands for all returned before, because these ascend.
     if is_above(*last, index) {
         *last = Some(index);
         Ok(entry)

@@ -149,7 +149,7 @@ fn core_stack<'a, A: Allocator + Copy>(
 }
 
 // Converts an error of a section's reader: malformed data makes the section `Unknown`, and `OutOfMemory` is returned as a new
-// error, at offset 0 whatever the reader reported.
+// error, at offset 0 whatever the reader reported. So `refused` needs nothing about that error.
 fn unknown_but_for_memory<'a, A: Allocator>(error: Error) -> Result<KnownCustom<'a, A>>
     ensures known { IfOk result (λ known. known_parts known ≡ unknown) }
     ensures other { is_out_of_memory (fault_at error).fault ≡ is_err result }

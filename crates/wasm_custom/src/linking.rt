@@ -295,7 +295,7 @@ fn comdat_kind(byte: u8) -> Option<ComdatSymbolKind>
 ///
 /// # Errors
 ///
-/// `UnexpectedEof` if no byte remains; `LeadingByte(ComdatSymbol)` at any other byte, which is its number.
+/// `UnexpectedEof` if no byte remains; `LeadingByte(ComdatSymbol)` at any other byte, the error's number.
 impl<'a> FromReader<'a> for ComdatSymbolKind {
     ghost use Rattle.wasm_custom.specs.Linking.{comdat_kind_at};
 
@@ -433,7 +433,7 @@ fn read_data_place(
 ///
 /// # Errors
 ///
-/// * `LeadingByte(Symbol)` at a kind above 5, which is its number. It is reported only if the flags after it can be
+/// * `LeadingByte(Symbol)` at a kind above 5, the error's number. It is reported only if the flags after it can be
 ///   read.
 /// * `UnexpectedEof` if no byte remains, and the errors of `read_var_u32` and `read_unlimited_string`.
 impl<'a> FromReader<'a> for SymbolInfo<'a> {
@@ -593,7 +593,7 @@ impl<'a> LinkingSectionReader<'a> {
     ///
     /// # Errors
     ///
-    /// Those of `read_var_u32`; `LinkingVersion` at the version, which is its number, if it is not 2.
+    /// Those of `read_var_u32`; `LinkingVersion` at the version, the error's number, if it is not 2.
     #[tactic(auto, unfolding(crate::specs::Linking::linking_in))]
     pub fn new(alloc: Global, mut reader: BinaryReader<'a>) -> Result<Self>
         ensures gives { GivesResult (λ section. section) result (linking_in reader.entry) }
@@ -644,6 +644,7 @@ impl<'a> LinkingSectionReader<'a> {
 impl<'a> IntoIterator for LinkingSectionReader<'a> {
     type Item = Result<Linking<'a>>;
 
+    // Not `Subsections<'a, Linking<'a>>`, because the checker then stops at this implementation.
     type IntoIter = LinkingIntoIter<'a>;
 
     ghost into_iter_gives = { λ section subsections. subsections ≡ section.subsections };

@@ -75,10 +75,13 @@ impl<'a> SkipItem<'a> for Naming<'a> {
 pub trait MapEntry<'a>: FromReader<'a> {
     ghost use Rattle.wasm_base.specs.declared.fault.Fault.{Fault};
 
+    /// The index of an entry.
     ghost index_of: { Self → ℕ };
 
+    /// The fault of an entry whose index is not above every index returned before.
     ghost order_fault: { Fault };
 
+    /// The order fault is not `OutOfMemory`.
     ghost takes_no_memory: { is_out_of_memory order_fault ≡ false };
 
     /// Returns the fault for an entry whose index is not above every index returned before.
@@ -185,6 +188,7 @@ impl<'a, T> Model for IndexedMap<'a, T> {
     ghost view = { λ s. record { entries = s.names; last = s.last } };
 }
 
+// By hand, with the text of a derived one for `NameMap`. The indirect map has no `Debug`.
 impl<'a> fmt::Debug for IndexedMap<'a, Naming<'a>> {
     fn fmt<W: fmt::Write>(&self, f: &mut fmt::Formatter<W>) -> fmt::Result {
         f.debug_struct("NameMap")

@@ -82,6 +82,7 @@ pub struct RelocationEntry {
 #[derive(Clone, Copy, Debug, PartialEq, Eq, Hash)]
 #[repr(u8)]
 pub enum RelocationType {
+    // In the order of their numbers, because the checker refuses explicit numbers together with `repr(u8)`.
     /// 0: the index of a function, as an unsigned number of 5 bytes.
     FunctionIndexLeb,
     /// 1: the place of a function in a table, as a signed number of 5 bytes.
@@ -257,7 +258,7 @@ impl RelocationType {
 ///
 /// # Errors
 ///
-/// `UnexpectedEof` if no byte remains; `LeadingByte(Reloc)` at a byte above 26, which is its number.
+/// `UnexpectedEof` if no byte remains; `LeadingByte(Reloc)` at a byte above 26, the error's number.
 impl<'a> FromReader<'a> for RelocationType {
     ghost use Rattle.wasm_custom.specs.Reloc.{relocation_type_at};
 

@@ -108,7 +108,7 @@ after_opcode start opcode p =
     else constant_operands_at start (operands_of opcode) p
 
 -- The place after at most `most` instructions, the last of which is `end`, the byte 0x0B. At the end of the window, the
--- next opcode is missing.
+-- next opcode is missing. The bound makes the recursion end; that it is no limit is a law.
 abbrev pub instructions_at : (most : ℕ) → Place → Outcome (Unit {0})
 instructions_at zero p = Err (at_offset UnexpectedEof p.offset)
 instructions_at (suc most) p = do

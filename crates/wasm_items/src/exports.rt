@@ -70,7 +70,7 @@ pub struct Export<'a> {
 ///
 /// # Errors
 ///
-/// `UnexpectedEof` if no byte remains; `LeadingByte(External)` at any other byte, which is its number.
+/// `UnexpectedEof` if no byte remains; `LeadingByte(External)` at any other byte, with that byte as the error's number.
 impl<'a> FromReader<'a> for ExternalKind {
     ghost use Rattle.wasm_items.specs.Externals.{kind_at};
 

@@ -88,6 +88,8 @@ pub struct ImportsIter<'a> {
     left: Left<'a>,
 }
 
+// The model of an iterator over imports is the list of its remaining results. One call of `next` takes the first of them,
+// so what whole runs yield follows by a short induction.
 impl<'a> Model for ImportsIter<'a> {
     ghost use Rattle.std.specs.Prelude.{ℕ, List, Result};
     ghost use Rattle.wasm_base.specs.FaultAt.{FaultAt};
@@ -287,6 +289,7 @@ pub trait ImportSection<'a> {
     fn into_imports_with_offsets(self) -> IntoImportsWithOffsets<'a>;
 }
 
+// The clauses are here, because the trait can't see the count and the window of the section.
 impl<'a> ImportSection<'a> for ImportSectionReader<'a> {
     fn into_imports(self) -> IntoImports<'a>
         ensures { result ≡ map import_alone (flattened self.entry.count (place self.entry.reader)) }

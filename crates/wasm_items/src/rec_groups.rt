@@ -41,8 +41,8 @@ impl<'a> FromReader<'a> for StorageType {
 ///
 /// # Errors
 ///
-/// `LeadingByte(Mutability)` at any other second byte, which is its number; `UnexpectedEof` if it is missing; and the
-/// errors of `StorageType`.
+/// `LeadingByte(Mutability)` at any other second byte, with that byte as the error's number; `UnexpectedEof` if it is
+/// missing; and the errors of `StorageType`.
 impl<'a> FromReader<'a> for FieldType {
     ghost meaning = { ReadsAs (λ field. field) field_type_at };
 
@@ -103,8 +103,8 @@ impl<'a> FromReaderIn<'a> for FuncType {
 ///
 /// # Errors
 ///
-/// `LeadingByte(Composite)` at any other byte, which is its number; `UnexpectedEof` if no byte remains; the errors of
-/// the parts; and `OutOfMemory`, at offset 0, when an allocation fails.
+/// `LeadingByte(Composite)` at any other byte, with that byte as the error's number; `UnexpectedEof` if no byte remains;
+/// the errors of the parts; and `OutOfMemory`, at offset 0, when an allocation fails.
 impl<'a> FromReaderIn<'a> for CompositeType {
     ghost use Rattle.wasm_items.specs.RecGroups.{composite_parts, composite_type_at};
 

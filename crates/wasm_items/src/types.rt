@@ -121,6 +121,7 @@ pub enum HeapType {
 /// (Core specification, Binary format, Types, Recursive Types.)
 #[derive(Debug, PartialEq, Eq, Drop)]
 pub struct RecGroup {
+    // Types that own lists are not `Clone`: a copy allocates and could fail.
     /// Whether the group is encoded as a group. Otherwise it is a single type, encoded without a group.
     pub explicit: bool,
     /// The types of the group, in order. Each takes the next type index of the module.

@@ -90,7 +90,7 @@ fn read_ref_type(lead: Lead, reader: &mut BinaryReader<'_>) -> Result<RefType>
 ///
 /// # Errors
 ///
-/// `LeadingByte(Reference)` at any other first byte, which is its number; `UnexpectedEof` if no byte remains; and the
+/// `LeadingByte(Reference)` at any other first byte, the error's number; `UnexpectedEof` if no byte remains; and the
 /// errors of `HeapType`.
 impl<'a> FromReader<'a> for RefType {
     ghost use Rattle.wasm_items.specs.Values.{ref_type_at};
@@ -120,7 +120,7 @@ fn plain_type(byte: u8) -> Option<ValType>
 ///
 /// # Errors
 ///
-/// `LeadingByte(Value)` at any other first byte, which is its number; `UnexpectedEof` if no byte remains; and the
+/// `LeadingByte(Value)` at any other first byte, the error's number; `UnexpectedEof` if no byte remains; and the
 /// errors of `HeapType`.
 impl<'a> FromReader<'a> for ValType {
     ghost use Rattle.wasm_items.specs.Values.{val_type_at};

@@ -60,7 +60,7 @@ report_of (CustomSection s) = custom_section s.name (place s.reader).offset (unr
 report_of (UnknownSection id contents range) = unknown_section id contents.now range.start range.end
 report_of (End at) = stream_end (ended at)
 
--- The section's items begin after its count.
+-- The section's items begin after its count. A report has no place of its reader, so this is stated apart.
 abbrev pub BeginsAfterCount : Section → Type 0
 BeginsAfterCount s = unsigned_at VarU32 (place (unread s.reader)) ≡ Ok (s.count, place s.reader)
 

@@ -26,13 +26,13 @@ pub struct Checkpoint {
     pub encoding: Encoding,
     /// The highest rank of the sections so far, or 0.
     pub rank: u8,
-    /// The count of the function section, if it came.
+    /// The count of the function section, if there was one.
     pub functions: Option<u32>,
     /// The count of the code section, if it began.
     pub codes: Option<u32>,
-    /// The count of the data section, if it came.
+    /// The count of the data section, if there was one.
     pub datas: Option<u32>,
-    /// The count of the data count section, if it came.
+    /// The count of the data count section, if there was one.
     pub data_counts: Option<u32>,
     /// The number of bodies that remain in the current code section.
     pub bodies: u32,

@@ -46,7 +46,7 @@ pub(crate) fn magic_follows(reader: &BinaryReader) -> bool
     reader.remaining_buffer().starts_with(MAGIC.as_slice())
 }
 
-/// Returns how many more bytes are needed where a section may start, before the parser looks at the id.
+/// Returns a hint of how many bytes are missing, at least, where a section may start, before the parser looks at the id.
 ///
 /// It is 1 if there are no bytes. If the bytes may begin a second header, it is as many as the magic lacks.
 pub(crate) fn missing_at_section(bytes: &[u8]) -> Option<usize>

@@ -8,6 +8,7 @@ ghost use Rattle.wasm_parser.specs.Skipped.{SkippingLeavesOutBodies};
 ghost use Rattle.wasm_grammar.specs.Undecided.{EnoughIsDecided, OneComesNext, ShortIsUndecided};
 
 use wasm_base::{SectionLimitedIntoIterIn, SectionLimitedIntoIterWithOffsets};
+// These are about streams too. The laws of other crates are found there.
 pub use wasm_grammar::laws::{
     accepted_ends, bodies_follow_their_count, edges_of_rules, equal_encodings_are_the_same,
     events_lie_end_to_end, events_say_their_bytes, fault_ends, fault_lies_within,
@@ -18,8 +19,8 @@ pub use wasm_grammar::laws::{
 };
 use wasm_items::{Data, Element, Export, Global, Imports, MemoryType, RecGroup, Table, TagType};
 
-/// What may come after a prefix of a stream depends only on the state of a parser there. A parser that consumes the
-/// next part has the state after that part.
+/// What may come after a prefix of a stream depends only on the state of a parser there. When a parser consumes
+/// the next part, its state is that which the reading of the longer prefix determines.
 pub fn parser_suffices()
     ensures { ParserSuffices }
 {}
@@ -32,14 +33,14 @@ pub fn answers_last()
 
 /// A caller that receives a stream in chunks, and passes unconsumed bytes again, reads the events of the stream.
 ///
-/// A new parser is at the start of the stream, and more bytes do not move it. Each result moves it, and is the next
+/// A new parser is at the start of the stream, and a request leaves it there. Each payload advances it, and is the next
 /// event of every stream with this prefix. Each payload except the end consumes some bytes, and the parser's state
 /// follows from the result. Equal bytes have equal results; an error, or the end, is returned again.
 pub fn answers_go_along()
     ensures { AnswersGoAlong }
 {}
 
-/// A caller that calls `skip_section` goes on with the reading, without the events of the skipped bodies.
+/// A caller that calls `skip_section` continues the reading, without the events of the skipped bodies.
 ///
 /// This needs that some bytes of that length complete the section; the actual bytes are not looked at.
 pub fn skipping_leaves_out_bodies()
@@ -49,7 +50,7 @@ pub fn skipping_leaves_out_bodies()
 /// No parser could decide earlier than `parse` does.
 ///
 /// `front` is a prefix of a stream that starts at `offset`: a faultless tiling, or empty. `data` are the bytes that
-/// have arrived after it. One event comes next after the front, whatever the stream. If the data suffices, it is the
+/// have arrived after it. Exactly one event comes next in a stream with this front. If the data suffices, it is the
 /// same in every stream that begins with both. Otherwise the next event of the stream that ends after the data differs
 /// from that of the stream that continues with a given suffix; both are streams, if there are 2^33 more offsets after
 /// the data.

@@ -29,6 +29,7 @@ pub use payload::Chunk;
 pub use payload::CountedSection;
 pub use payload::Payload;
 pub use payload::SectionParts;
+// Not re-exported: what only authors of item types need, such as `SkipItem`, `read_inner` and `read_list`.
 pub use wasm_base::_MAX_WASM_TABLE_SIZE;
 pub use wasm_base::Allocation;
 pub use wasm_base::BinaryReader;

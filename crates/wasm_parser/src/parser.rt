@@ -71,7 +71,7 @@ pub struct Parser {
     // The bodies and the bytes that a code section still lacks.
     bodies: u32,
     code_bytes: u32,
-    // Whether the last part was the start of a code section, or a body.
+    // Whether the last part was the start of a code section, or a body. A finished section still is `Some(0)` then.
     in_code: bool,
 }
 
@@ -102,10 +102,10 @@ impl Parser {
     /// `eof` says that no bytes come after these, so that missing bytes are a fault. Without it, `NeedMoreData` is
     /// returned while these bytes don't decide what comes next. The parser is then unchanged: pass the same bytes
     /// again, with more after them. More bytes never change any other result, and no parser could decide earlier: it
-    /// requests more bytes exactly if two streams that begin with these have different next events.
+    /// requests more bytes exactly if two streams that begin with these bytes have different next events.
     ///
-    /// After a part the parser is `consumed` bytes further. Pass the bytes after those next. At the end of the stream,
-    /// `consumed` is 0 and the payload is `End`.
+    /// After a part the parser has advanced by `consumed` bytes. Pass the bytes after them to the next call. At the end
+    /// of the stream, `consumed` is 0 and the payload is `End`.
     ///
     /// # Errors
     ///
@@ -209,6 +209,7 @@ impl Parser {
         ensures state { self.new ≡ skipped_state self.old }
         ensures skips { SkipsSection self.old self.new }
     {
+        // The parser's invariant says that this does not overflow.
         self.offset += u64::from(self.code_bytes);
         self.bodies = 0;
         self.code_bytes = 0;
@@ -558,6 +559,7 @@ impl Parser {
     fn learn_of_section(&mut self, payload: &Payload)
         ensures { self.new ≡ knowing self.old (report_of payload.now) }
     {
+        // Each field has a function like its definition: one `match` over all would need a proof for each of its arms.
         let counted = id_and_count(payload);
         self.encoding = known_encoding(payload, self.encoding);
         self.rank = known_rank(payload, counted, self.rank);

@@ -176,8 +176,8 @@ impl<'a> Payload<'a> {
 
     /// Returns the section's id and the offsets of its content, or `None` for a header, a body and the end.
     ///
-    /// The content lasts from the first byte after the section's length to its end. A code section is its
-    /// `CodeSectionStart`.
+    /// The content is what follows the section's length, up to the end of the section. `CodeSectionStart` stands for the
+    /// whole code section.
     pub fn as_section(&self) -> Option<(u8, Range<u64>)>
         ensures { result ≡ section_of (report_of self.now) }
     {
