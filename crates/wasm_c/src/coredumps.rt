@@ -289,6 +289,7 @@ impl Readable for CoreModules {
     }
 }
 
+// `wasmparser` reports a wrong start byte at the offset of the data, for a later module too.
 /// Reads a module of a section `coremodules`, whose data is a count and as many modules: a byte 0 and a name.
 ///
 /// `data_offset` is the offset of the section's data.

@@ -127,6 +127,7 @@ fn put(storage: &mut [u8], end: usize, piece: &[u8])
     storage[end..end + piece.len()].copy_from_slice(piece);
 }
 
+// Only if the chunk has no room after the held bytes: moving them at each push cost most of the time with small chunks.
 // Moves this many bytes from the mark to the front, and appends a chunk. It is seldom called, and stays out of line.
 #[inline(never)]
 fn gather(storage: &mut [u8], mark: usize, held: usize, piece: &[u8])

@@ -115,6 +115,7 @@ fn write_message(fault: Fault, out: &mut [u8]) -> usize
 /// ```
 #[unsafe(no_mangle)]
 pub extern "C" fn pulleynavy_format_message(kind: u32, out: &mut [u8]) -> usize
+    // By the faults, not by the list: a fault missing from the list would have no message, and no clause would notice.
     ensures { SaysMessage kind out.old result out.new }
 {
     match fault_numbered(kind) {

@@ -1,4 +1,5 @@
-// The heads of groups of types and of subtypes.
+// The heads of groups of types and of subtypes. Types come in parts, heads and then lists item by item, so that no call
+// allocates.
 ghost use Rattle.std.specs.Prelude.{◌≡◌};
 ghost use Rattle.wasm_base.specs.Outcome.{GivesBy};
 ghost use Rattle.wasm_base.specs.Window.{KeepsWindow};

@@ -24,6 +24,9 @@ struct Part<'b> {
     bytes: &'b [u8],
 }
 
+// A payload is walked twice: the first walk records where items begin, with the calls that show them, so that a row of
+// bytes can end before the next item. No clause says what one row shows, but all rows together are the bytes, whatever was
+// recorded.
 // Has bytes shown with what is read from them, if bytes are shown.
 fn show_bytes<O: Tree>(
     alloc: Global,
@@ -47,6 +50,8 @@ fn show_bytes<O: Tree>(
     }
 }
 
+// The steps are functions over the parts of the loop, and no single call lends a payload from the feeder: the prover then
+// derives no clause on the feeder, and what a closure changes of its captures can't be cited.
 // Writes the line of a payload and what it holds, if it is shown.
 fn show_chosen<O: Tree>(
     alloc: Global,

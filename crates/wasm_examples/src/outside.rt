@@ -45,7 +45,7 @@ impl Spans {
         }
     }
 
-    // Adds this many of a kind.
+    // Adds this many of a kind. A count saturates above every index, so that adding can't overflow.
     fn add(&mut self, kind: ExternalKind, count: u64)
         ensures { self.new ≡ with_more self.old kind count }
     {

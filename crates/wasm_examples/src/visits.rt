@@ -14,6 +14,7 @@ use wasm_parser::Payload;
 
 /// A visitor, to which the parts of a stream are reported in order.
 pub trait Visitor {
+    // A relation, because a value in memory can't keep what it was passed in a field for proofs alone.
     /// What a part makes of a visitor.
     ghost takes: { Self → Event → Self → Type 0 };
 

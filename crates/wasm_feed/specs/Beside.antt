@@ -17,7 +17,8 @@ use Rattle.wasm_lines.specs.declared.devices.ListError.{ListError}
 use Rattle.wasm_feed.specs.declared.feeder.Cursor.{Cursor}
 use Rattle.wasm_feed.specs.declared.feeder.Step.{Step}
 
--- a feeder and the bytes after its own, as one that holds both; how many are stored is left out
+-- a feeder and the bytes after its own, as one that holds both; how many are stored is left out, so that a step over a
+-- chunk is `Steps` of this feeder, and the laws of feeders hold for it as they are
 abbrev pub beside : Feed → (rest : List ℕ) → Feed
 beside f rest = record f { held = f.held ++ rest; stored = 0 }
 

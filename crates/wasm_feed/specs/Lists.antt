@@ -35,7 +35,8 @@ pub record PassesTop (given : List ℕ) (first : List Event) (end : Ending) : Ty
   pub begins : ReadingBegins 0 all_features given first
   pub is_fault : end ≡ fault (at_offset OffsetRange (length (consumed_by first)))
 
--- Written is the listing of all events of what the source gave, and the run ended as they do.
+-- Written is the listing of all events of what the source gave, and the run ended as they do. `within` is about streams
+-- below the largest offset, because only these have a reading.
 pub record IsListed (text_of : Report → List ℕ) (input output : Change) (how : Ended) : Type 0 where
   pub given : List ℕ
   pub first : List Event

@@ -37,6 +37,7 @@ abbrev pub stays_by : Keep → (text : List ℕ) → Bool
 stays_by keep text =
     is_among text keep.kept.now || (others_stay keep.removed.now text || custom_stays keep.names text)
 
+-- a section without a name would go, but an accepted stream has none
 abbrev pub name_stays : (keeps : List ℕ → Bool) → Name → Bool
 name_stays keeps (named text used) = keeps text
 name_stays keeps (refused f place) = false
@@ -45,7 +46,8 @@ name_stays keeps (refused f place) = false
 abbrev pub frame_stays : (keeps : List ℕ → Bool) → SectionFrame → Bool
 frame_stays keeps f = not (nat_eq f.id custom_id) || name_stays keeps (name (Some name_limit) f.sized.content)
 
--- a header and these sections after stripping: the header, and the sections that stay, each with all its bytes
+-- a header and these sections after stripping: the header, and the sections that stay, each with all its bytes; that
+-- these are the bytes of the events that stay follows, because sections determine events
 abbrev pub stripped : (keeps : List ℕ → Bool) → Encoding → List SectionFrame → List ℕ
 stripped keeps encoding frames = header_bytes encoding ++ flat_map frame_bytes (filter (frame_stays keeps) frames)
 
@@ -79,7 +81,7 @@ abbrev pub AreKept : (keeps : List ℕ → Bool) → List Event → List Event �
 AreKept keeps events kept = AllZip IsMovedBack (staying keeps 0 events) kept
 
 -- The stream is accepted, and these are its bytes after stripping: they are accepted too, and are read like the stream,
--- except for the events that were dropped.
+-- except for the events that were dropped. This holds for every set of features, though stripping reads with all.
 pub record IsStripped (keeps : List ℕ → Bool) (stream kept : List ℕ) : Type 0 where
   pub accepted : IsAccepted stream
   pub bytes : kept ≡ stripped keeps accepted.encoding accepted.frames

@@ -56,8 +56,8 @@ impl<A: Allocator> Model for Ahead<A> {
 }
 
 impl<A: Allocator> Ahead<A> {
-    /// Creates it without bytes, with a buffer to read chunks into. The buffer must have at least one byte; its length
-    /// is the size of the largest chunk.
+    /// Creates an `Ahead` without bytes that reads chunks into this buffer. The buffer must have at least one byte; its
+    /// length is the size of the largest chunk.
     pub fn new(buffer: Vec<u8, A>) -> Self
         requires { 0 < vec_len buffer }
         ensures { result ≡ [] }
@@ -132,7 +132,7 @@ impl<A: Allocator> Ahead<A> {
         Ok(())
     }
 
-    /// Drops the bytes that a step consumed in place from the chunk.
+    /// Removes from the chunk the bytes that a step consumed in place.
     pub fn pass_borrowed(&mut self, cursor: &mut Cursor, stored: &[u8])
         ensures { beside (feed_of stored.now cursor.new) self.new
             ≡ lending stored.now self.old cursor.old }

@@ -115,9 +115,10 @@ impl Cursor {
 
 /// A parser with a buffer, for a stream that arrives in chunks.
 ///
-/// A feeder stores the bytes that were pushed and not consumed yet, and no others after a push. The payloads that a
+/// It stores the bytes that were pushed and are not consumed yet. A push drops the consumed ones. The payloads that a
 /// step returns borrow from them. Call `open().step()` in a loop; when the feeder `wants_more`, `push` the next chunk,
-/// or `finish` at the end of input. `step_over` parses in place what lies whole in a chunk, without storing it.
+/// or `finish` at the end of input. `step_over` parses a part that lies entirely in a chunk in place, without storing
+/// it.
 ///
 /// Payloads, faults and their offsets do not depend on how the stream is chunked. Offsets are in bytes from the start
 /// of the stream.
@@ -125,7 +126,8 @@ impl Cursor {
 /// # Errors
 ///
 /// A step returns the fault of `Parser::parse` at which the stream stops. Each later step returns the fault again, and
-/// likewise `End`. A failed `push`, `read_from` or `step_over` leaves the feeder unchanged, so you can call it again.
+/// likewise `End`. A failed `push`, `read_from` or `step_over` leaves the feeder unchanged, so you can call it again,
+/// except after `Memory`: `read_from` has then consumed bytes of the source, so the stream cannot be continued.
 ///
 /// ```rattle
 /// use bitflags::Flags;
@@ -164,6 +166,8 @@ impl<A: Allocator> Model for Feeder<A> {
     ghost view = { λ f. feed_of f.bytes.items f.cursor };
 }
 
+// For `Global` only: what `step` and `open` state about the borrowed feeder names its type as memory has it (`the_row`). `step_with`
+// exists for any allocator.
 impl Feeder {
     ghost use Rattle.std.specs.Borrow.{sem};
     ghost use Rattle.std.specs.Io.BufRead.{Rests};
@@ -300,8 +304,11 @@ impl<A: Allocator> Feeder<A> {
     ///
     /// # Errors
     ///
-    /// `Input` if the source failed; `Memory` when an allocation fails, in which case the bytes that were read are in
-    /// `buffer` alone. The feeder is then unchanged.
+    /// The feeder is unchanged after an error.
+    ///
+    /// * `Input` if the source failed.
+    /// * `Memory` when an allocation fails. The bytes that were read are lost for the stream: they are in `buffer`, but
+    ///   their number is not returned.
     ///
     /// ```rattle
     /// use bitflags::Flags;
@@ -322,6 +329,7 @@ impl<A: Allocator> Feeder<A> {
         ensures failed { R.has_failed input.new ≡ input_failed result (R.has_failed input.old) }
         ensures unchanged { OnErr result (self.new ≡ self.old) }
     {
+        // Bytes beyond the largest offset are not refused here, as `push` does: a `ListError` has no fault. The next step reports it.
         read_more(&mut self.cursor, &mut self.bytes, input, buffer)
     }
 
@@ -346,14 +354,14 @@ impl<A: Allocator> Feeder<A> {
     /// Performs one step over the held bytes and a chunk, passes the result to `look`, and returns the number of bytes
     /// taken from the chunk, with what `look` returned.
     ///
-    /// The step is the one that `step_with` would make after a push of the chunk, but a part that lies whole in the
+    /// The step is the one that `step_with` would make after a push of the chunk, but a part that lies entirely in the
     /// chunk is parsed in place. Pass the bytes that were not taken again, at the front of the next call's chunk. When
-    /// the feeder requests input it has taken all of the chunk. It keeps the bytes of a fault, so each later step
-    /// returns the same fault. After `finish` the chunk must be empty.
+    /// the feeder requests input it has taken all of the chunk. The bytes of a fault are stored and count as taken, so
+    /// that each later step returns the fault again. After `finish` the chunk must be empty.
     ///
     /// # Errors
     ///
-    /// `OutOfMemory`, at offset 0, when an allocation fails that the chunk may need. The feeder is then unchanged, and
+    /// `OutOfMemory`, at offset 0, if a buffer for the chunk cannot be allocated. The feeder is then unchanged, and
     /// `look` was not called. A fault of the stream is passed to `look`; `OffsetRange` is, too, if the stream ends
     /// beyond 2^64 - 1.
     ///
@@ -382,6 +390,9 @@ impl<A: Allocator> Feeder<A> {
         ensures unchanged { OnErr result (self.new ≡ self.old) }
         ensures memory { IfErr result (λ e. fault_at e ≡ out_of_memory) }
     {
+        // Nothing here needs `wants_more`: a call may come in the middle of a chunk. Room for the whole chunk is made first, so that
+        // `OutOfMemory` comes before the step. The result is passed to `look`, because the rest of the chunk is stored only after the
+        // result, which borrows from the feeder or the chunk, is gone.
         let Ok(ready) = make_ready(&mut self.cursor, &mut self.bytes, piece) else {
             return Err(Error::new(Fault::OutOfMemory, 0));
         };
@@ -475,7 +486,7 @@ pub(crate) fn read_more<A: Allocator, R: Source>(
     }
 }
 
-/// Performs one step of a cursor in the stored bytes, and returns the next part, or a request for more input.
+/// Performs one step of a cursor over the stored bytes, and returns the next part, or a request for more input.
 ///
 /// `bytes` are all stored bytes, including those that the cursor has consumed. On success the cursor has consumed those
 /// of the part.

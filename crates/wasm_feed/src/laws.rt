@@ -8,19 +8,19 @@ ghost use Rattle.wasm_feed.specs.FeedersLaws.{FeedersGoAlong, FeedersWait};
 use crate::listing::Ended;
 use wasm_lines::{Failed, ListError};
 
-/// Where a feeder is in a stream, whatever calls are made, in any order. A new one has received nothing, and a chunk
-/// adds to what it received. A step, over a chunk too, is the next event of every stream that begins with these bytes,
-/// its last one, or undecided. Each payload except the end shows some bytes, so a loop over steps ends. The parser's
-/// state afterwards follows from the step. After the end or a fault each later step reports the same, whatever bytes
-/// come, and after `finish` too.
+/// A feeder's place in the stream follows from the bytes it received, whatever calls are made and in any order. A new
+/// one has received nothing, and a chunk adds to what it received. A step, over a chunk too, is the next event of every
+/// stream that begins with these bytes, its last event, or a request. Each payload except the end shows some bytes, so
+/// a loop over steps ends. The parser's state afterwards follows from the step. After the end or a fault each later
+/// step reports the same, whatever bytes come, and after `finish` too.
 pub fn feeders_go_along()
     ensures { FeedersGoAlong }
 {}
 
 /// A feeder wants more only if its parser is undecided on the held bytes, and more may come. After bytes arrived, by a
-/// push, a read or a step over a chunk, it stores less than the bound of the undecided ones and the chunk together. If
-/// the held bytes decide, a step over a chunk takes and stores nothing. All of this holds below the largest offset; a
-/// step past it is the fault `OffsetRange`.
+/// push, a read or a step over a chunk, it stores fewer bytes than the bound on undecided bytes plus the size of the
+/// chunk. If the held bytes decide, a step over a chunk takes and stores nothing. All of this holds below the largest
+/// offset; a step past it is the fault `OffsetRange`.
 pub fn feeders_wait_where_undecided()
     ensures { FeedersWait }
 {}

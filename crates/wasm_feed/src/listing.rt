@@ -29,7 +29,7 @@ pub enum Ended {
     Fault(Error),
 }
 
-/// The next action of a loop over a stream, after a step.
+/// The next action of a loop over a stream, after a step. Use it in loops of your own, as `wasm_dumper` does.
 #[derive(Clone, Copy)]
 pub enum Turn {
     /// Perform another step over the bytes so far.
@@ -82,6 +82,7 @@ pub fn list_in<A: Allocator + Copy, R: Source, W: Sink>(
     ensures { ListsSource (device_of R.remaining R.has_failed input.old input.new)
         (device_of W.taken W.has_failed output.old output.new) result }
 {
+    // Separate values and not a `Feeder`, so that the result of a step can borrow the bytes while the cursor moves on.
     let mut ahead = Ahead::new(vec![in alloc; 0u8; piece]?);
     let mut page = Page::new(alloc);
     let mut stored = Vec::new(alloc);
@@ -108,8 +109,8 @@ pub fn list_in<A: Allocator + Copy, R: Source, W: Sink>(
 /// Reads a stream from a source and writes its listing to a sink: a line for each event.
 ///
 /// It reads at most `piece` bytes at once, which must be at least 1. It writes the lines of all decided events before
-/// it reads more. It buffers the undecided bytes, the last chunk and a page of lines. Offsets are in bytes from the
-/// start of the stream, which is offset 0.
+/// it reads more. It buffers the undecided bytes, the last chunk and at most 65,536 bytes of lines. Offsets are in bytes
+/// from the start of the stream, which is offset 0.
 ///
 /// A fault of the stream is no error: its line is written, and `Ended::Fault` is returned. A stream that ends beyond
 /// the offset 2^64 - 1 has the fault `OffsetRange`.

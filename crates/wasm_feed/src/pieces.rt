@@ -74,6 +74,7 @@ pub fn read_pieces_in<A: Allocator + Copy>(
     let mut events = Vec::new(alloc);
     'pieces: for piece in pieces {
         refill(&mut cursor, &mut bytes, piece)?;
+        // A fault: no later byte changes the reading, so the later chunks are not looked at.
         if read_held(alloc, &mut cursor, &bytes, &mut events)? {
             return Ok(events);
         }

@@ -227,6 +227,7 @@ pub fn strip_to_front(bytes: &mut [u8], keep: Keep<'_>) -> Result<usize>
 {
     // A slice is shorter than 2^64 bytes, which the functions below want to know.
     let _length = bytes.len();
+    // In place, so that a program holds only its input: of 40 MB, a copy cost a third of the time, by the page faults of fresh memory.
     count_kept(bytes, keep)?;
     move_kept(bytes, keep)
 }
@@ -260,6 +261,7 @@ pub fn strip_in<A: Allocator>(alloc: A, bytes: &[u8], keep: Keep<'_>) -> Result<
 {
     // A slice is shorter than 2^64 bytes, which the functions below want to know.
     let _length = bytes.len();
+    // The first pass finds a fault however little memory there is, and the size to allocate at once.
     let count = count_kept(bytes, keep)?;
     let Ok(mut kept) = list_of_capacity(alloc, count) else {
         return Err(Error::new(Fault::OutOfMemory, 0));

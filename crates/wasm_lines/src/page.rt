@@ -137,6 +137,7 @@ impl<A: Allocator> Page<A> {
     pub fn new(alloc: A) -> Self
         ensures { result ≡ [] }
     {
+        // The first put allocates the whole page. So making one can't fail, and further puts only copy.
         Page {
             bytes: Vec::new(alloc),
             len: 0,

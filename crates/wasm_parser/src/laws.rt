@@ -33,8 +33,8 @@ pub fn answers_last()
 
 /// A caller that receives a stream in chunks, and passes unconsumed bytes again, reads the events of the stream.
 ///
-/// A new parser is at the start of the stream, and a request leaves it there. Each payload advances it, and is the next
-/// event of every stream with this prefix. Each payload except the end consumes some bytes, and the parser's state
+/// A new parser is at the start of the stream, and a request leaves the parser where it is. Each payload or error is the
+/// next event of every stream with this prefix. Each payload except the end consumes some bytes, and the parser's state
 /// follows from the result. Equal bytes have equal results; an error, or the end, is returned again.
 pub fn answers_go_along()
     ensures { AnswersGoAlong }
@@ -49,13 +49,15 @@ pub fn skipping_leaves_out_bodies()
 
 /// No parser could decide earlier than `parse` does.
 ///
-/// `front` is a prefix of a stream that starts at `offset`: a faultless tiling, or empty. `data` are the bytes that
-/// have arrived after it. Exactly one event comes next in a stream with this front. If the data suffices, it is the
-/// same in every stream that begins with both. Otherwise the next event of the stream that ends after the data differs
+/// `front` is a prefix of a stream that starts at `offset`: empty, or the bytes of its first parts, without a fault.
+/// `data` are the bytes that have arrived after it. In each stream with this prefix exactly one event comes next. If the
+/// data suffices, it is the same in every stream that begins with both. Otherwise the next event of the stream that ends after the data differs
 /// from that of the stream that continues with a given suffix; both are streams, if there are 2^33 more offsets after
 /// the data.
 ///
 /// (Core specification, Binary format, Modules.)
+// It has no premise of room: the events of two lists of bytes differ wherever these start. Only that both are streams
+// needs room, and 2^33 bytes are more than any that decide.
 pub fn short_is_undecided(offset: u64, front: &[u8], data: &[u8])
     ensures next { OneComesNext offset front.now }
     ensures decided { EnoughIsDecided offset front.now «data».now }

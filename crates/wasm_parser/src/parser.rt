@@ -71,7 +71,7 @@ pub struct Parser {
     // The bodies and the bytes that a code section still lacks.
     bodies: u32,
     code_bytes: u32,
-    // Whether the last part was the start of a code section, or a body. A finished section still is `Some(0)` then.
+    // Whether the last part was the start of a code section, or a body. `skippable` is then `Some`, even 0.
     in_code: bool,
 }
 

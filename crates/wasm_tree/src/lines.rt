@@ -103,6 +103,7 @@ impl<W: Sink> Lines<W> {
         self.is_begun = false;
     }
 
+    // A name may be longer than a page, so this line is put in parts. What is written is stated before and after it only.
     // Puts a text, a name, if there is one, and the line feed.
     fn named_text<T: ShortText>(&mut self, text: &T, name: Option<&str>)
         ensures { Says (T.text text.now ++ (name_text (option_map (λ n. n.now) name.entry)

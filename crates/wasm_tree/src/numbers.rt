@@ -101,6 +101,8 @@ impl ShortText for ItemNumber {
 /// ```
 #[derive(Clone, Copy)]
 pub struct Counts {
+    // Only imports and bodies are kept between sections, because a section comes at most once.
+
     /// The number of imported functions.
     pub functions: u64,
     /// The number of imported tables.

@@ -104,6 +104,8 @@ pub(crate) fn is_default(value: Value<'_>) -> bool
 /// assert_eq!(rt; out.into_output().written(), b"  memory initial=2\n".as_slice());
 /// ```
 pub trait Tree {
+    // A tree owns its sink: had it a `&mut`, the checker would know nothing of the sink once a call has taken the tree.
+
     /// What it has written.
     ghost writing: { Self → Writing };
 

@@ -19,6 +19,8 @@ use wasm_feed::{Failed, Sink, write_all};
 /// let colored = output.into_inner();
 /// assert!(rt; colored.written().len() > 6);
 /// ```
+// Colors follow from the bytes of the text alone, so the code that shows items knows nothing of them. Each write begins with a
+// sequence, so no clause asks what the output had received before.
 #[derive(Drop)]
 pub struct Colored<W> {
     inner: W,

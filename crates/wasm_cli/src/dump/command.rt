@@ -237,6 +237,7 @@ pub(super) fn command_asked(alloc: Global, arguments: io::Result<Args>) -> Optio
     match arguments {
         Ok(arguments) => command_after_name(alloc, arguments),
         Err(error) => {
+            // If any argument is not UTF-8, `std` refuses all of them.
             if is_no_text(&error) {
                 Some(Command::Unknown)
             } else {

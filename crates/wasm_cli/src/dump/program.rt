@@ -92,6 +92,7 @@ pub fn run_host(rt: HostRuntime) -> ExitCode {
     let output = WriteSink::new(Piped::new(rt.stdout(), &is_closed));
     let mut errors = Messages::new(WriteSink::new(rt.stderr()), &is_closed);
     let status = match command_asked(rt.alloc(), env::args(&rt)) {
+        // Here and not in `run_program`, because no clause of `std` states the contents of a file.
         Some(Command::Files(named)) => run_files(&rt, named, output, &mut errors),
         Some(command) => {
             let mut input = ReadSource::new(Input::Standard(rt.stdin()));

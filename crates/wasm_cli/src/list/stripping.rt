@@ -30,7 +30,7 @@ fn read_piece<R: Source>(
     }
 }
 
-// Reads the source to its end.
+// Reads the source to its end, before anything is written: a fault may come last.
 fn read_all<R: Source>(alloc: Global, input: &mut R) -> Result<Vec<u8>, ListError>
     ensures reads { ReadsAll (R.remaining input.old) (R.remaining input.new) result }
     ensures failed { R.has_failed input.new ≡ input_failed result (R.has_failed input.old) }

@@ -185,7 +185,8 @@ impl<A: Allocator> Sink for BoundedSink<A> {
 pub struct WriteSink<W> {
     writer: W,
     failed: bool,
-    // Whether the writer was flushed after the last write.
+    // Whether the writer was flushed after the last write. No clause of `std` states that a flush was made, so without this field a
+    // program that never flushes would satisfy its contract.
     forwarded: bool,
 }
 
@@ -214,6 +215,7 @@ impl<W: Write> WriteSink<W> {
         ensures all { OnOk result (self.new.forwarded ≡ true) }
         ensures kept { OnErr result (self.new.forwarded ≡ self.old.forwarded) }
     {
+        // `std` states only that a flush keeps the bytes, so that it reaches the writer is a test (`a_sink_flushes_its_writer`).
         match self.writer.flush() {
             Ok(()) => {
                 self.forwarded = true;
