@@ -12,7 +12,7 @@ use Rattle.wasm_cli.specs.Endings.{status_of, Reports, RunsUsage, CannotBegin, W
 use Rattle.wasm_cli.specs.Colors.{seen_as}
 use Rattle.wasm_cli.specs.DumpCommands.{Asked, NamedFiles, all, sections, files, names_of_input, help, version}
 use Rattle.wasm_cli.specs.DumpCommands.{unknown}
-use Rattle.wasm_cli.specs.Options.{style_of}
+use Rattle.wasm_cli.specs.Options.{has_colors, style_of}
 use Rattle.wasm_cli.specs.Words.{ChooseInTurn}
 use Rattle.wasm_cli.specs.declared.dump.options.Options.{Options}
 
@@ -111,7 +111,7 @@ pub record ShowsThose (options : Options) (words : List (List ℕ)) (forwarded :
 abbrev pub ShowsChosen : (words : List (List ℕ)) → Options → (forwarded : Bool) (input output errors : Device)
     (status : ℕ) → Type 0
 ShowsChosen words options forwarded input output errors status =
-    ShowsThose options words forwarded input (seen_as options.is_colored output) errors status
+    ShowsThose options words forwarded input (seen_as (has_colors options) output) errors status
     ⊎ CannotBegin input output errors status
 
 -- a text was written and flushed, or the output failed
@@ -128,7 +128,7 @@ pub record RunsTelling (text : List ℕ) (forwarded : Bool) (input output errors
 -- for, what the output took says the same without them.
 pub record Runs (asked : Asked) (forwarded : Bool) (input output errors : Device) (status : ℕ) : Type 0 where
   pub shows : (options : Options) → asked ≡ all options
-      → Shows options (All ∷ []) forwarded input (seen_as options.is_colored output) errors status
+      → Shows options (All ∷ []) forwarded input (seen_as (has_colors options) output) errors status
   pub shows_chosen : (options : Options) (words : List (List ℕ)) → asked ≡ sections options words
       → ShowsChosen words options forwarded input output errors status
   pub helps : asked ≡ help → RunsTelling help_text forwarded input output errors status

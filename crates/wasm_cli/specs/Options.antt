@@ -1,6 +1,6 @@
 -- The options of the program, besides those that choose sections.
 use Rattle.std.specs.Prelude.{ℕ, Bool, true, false, ◌&&◌, ◌||◌, List, [], ◌∷◌, codes, bytes_eq, Option, Some, None}
-use Rattle.std.specs.Prelude.{if◌then◌else◌}
+use Rattle.std.specs.Prelude.{not, if◌then◌else◌}
 use Rattle.wasm_tree.specs.declared.tree.Style.{Style}
 use Rattle.wasm_tree.specs.declared.tree.Style.TheVariants.{Lines, Objects}
 use Rattle.wasm_cli.specs.declared.dump.options.Mark.{Mark}
@@ -32,6 +32,10 @@ with_marks options (mark ∷ marks) = with_marks (with_mark options mark) marks
 -- JSON has no colors and no rows of bytes
 abbrev pub contradict : Options → Bool
 contradict options = options.is_json && (options.is_colored || options.has_bytes)
+
+-- whether a dump has colors: JSON has none
+abbrev pub has_colors : Options → Bool
+has_colors options = not options.is_json && options.is_colored
 
 -- whether an option says how a dump is to look
 abbrev pub say_how : Options → Bool

@@ -1,9 +1,8 @@
 // The options of the program, besides those that choose sections.
 ghost use Rattle.std.specs.Prelude.{◌≡◌};
-ghost use Rattle.wasm_cli.specs.Options.{contradict, mark_named, no_options, say_how, style_of, with_mark};
+ghost use Rattle.wasm_cli.specs.Options.{contradict, has_colors, mark_named, no_options, say_how, with_mark};
 
 use wasm_dumper::{Only, Shown};
-use wasm_tree::Style;
 
 /// The format of a dump, and what it shows besides the items.
 ///
@@ -13,7 +12,7 @@ use wasm_tree::Style;
 /// ```
 #[derive(Clone, Copy)]
 pub struct Options {
-    /// Whether the text has colors, as a terminal shows them (`--color`).
+    /// Whether the text has colors, as a terminal shows them (`--color`). JSON has none.
     pub is_colored: bool,
     /// Whether items have the names that custom sections have for them (`--names`).
     pub is_named: bool,
@@ -93,6 +92,13 @@ impl Options {
         self.is_json && (self.is_colored || self.has_bytes)
     }
 
+    /// Whether the dump has colors.
+    pub(super) fn has_colors(self) -> bool
+        ensures { result ≡ has_colors self }
+    {
+        !self.is_json && self.is_colored
+    }
+
     /// Whether an option says how a dump is to look.
     pub(super) fn say_how(self) -> bool
         ensures { result ≡ say_how self }
@@ -108,17 +114,6 @@ impl Options {
         Shown {
             only,
             has_bytes: self.has_bytes,
-        }
-    }
-
-    /// How the tree writes.
-    pub(super) fn style(self) -> Style
-        ensures { result ≡ style_of self }
-    {
-        if self.is_json {
-            Style::Objects
-        } else {
-            Style::Lines
         }
     }
 }

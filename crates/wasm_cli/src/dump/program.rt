@@ -1,5 +1,5 @@
 // The program, over any devices.
-ghost use Rattle.std.specs.Prelude.{◌≡◌, map, string_bytes, OnOk, OnErr, ℕ, take, true, is_ok, if◌then◌else◌};
+ghost use Rattle.std.specs.Prelude.{◌≡◌, map, string_bytes, OnOk, OnErr, ℕ, take, true, false, is_ok, if◌then◌else◌};
 ghost use Rattle.std.specs.Io.KnownBytes.{Appends, Keeps};
 ghost use Rattle.std.specs.Process.{exit_status};
 ghost use Rattle.std.specs.Vec.Iter.{into_iter_items};
@@ -7,6 +7,7 @@ ghost use Rattle.wasm_lines.specs.Calls.{device_of, writer_device};
 ghost use Rattle.wasm_cli.specs.Devices.{Says};
 ghost use Rattle.wasm_cli.specs.Endings.{Reports, status_of};
 ghost use Rattle.wasm_cli.specs.Colors.{plain_device, seen_as};
+ghost use Rattle.wasm_cli.specs.Options.{has_colors};
 ghost use Rattle.wasm_cli.specs.DumpCommands.{WantsMemory, asked_if_any, asked_of};
 ghost use Rattle.wasm_cli.specs.DumpRuns.{DumpsAs, Flushes, Runs, RunsDump, RunsProgram, Shows, ShowsChosen, Tells, help_text, names_usage, version_text};
 
@@ -23,7 +24,7 @@ use std::io::{self, Write};
 use std::process::ExitCode;
 use wasm_dumper::{Only, dump};
 use wasm_feed::{Ended, Failed, ListError, ReadSource, Sink, Source, WriteSink, write_all};
-use wasm_tree::{ItemNames, Lines, Objects, Style};
+use wasm_tree::{ItemNames, Lines, Objects};
 
 /// What `--help` says.
 const HELP: &[u8] = b"usage: wasm_dump [--color] [--names] [--json] [--bytes] [--section ID|NAME]
@@ -242,7 +243,7 @@ pub(super) fn show_input<R: Source, W: Write, E: Sink>(
 ) -> (u8, WriteSink<W>)
     ensures { Shows options only.now result.1.forwarded
         (device_of R.remaining R.has_failed input.old input.new)
-        (seen_as options.is_colored (writer_device W.contents output result.1))
+        (seen_as (has_colors options) (writer_device W.contents output result.1))
         (device_of E.taken E.has_failed errors.old errors.new) result.0 }
 {
     let (how, output) = dump_as(alloc, only, options, None, input, output);
@@ -278,7 +279,43 @@ fn forward_all<W: Write>(
     }
 }
 
-// Shows these sections of the input over a sink, as the options say but without colours, with these names, if there are any.
+// Shows these sections of the input over a sink as lines without colors, with these names, if there are any.
+fn dump_lines<R: Source, S: Sink>(
+    alloc: Global,
+    only: &[Only<'_>],
+    options: Options,
+    names: Option<ItemNames>,
+    input: &mut R,
+    output: S,
+) -> (Result<Ended, ListError>, S)
+    requires { options.is_json ≡ false }
+    ensures { DumpsAs options only.now (device_of R.remaining R.has_failed input.old input.new)
+        (device_of S.taken S.has_failed output result.1) result.0 }
+{
+    let mut tree = Lines::with_names(alloc, output, names);
+    let how = dump(alloc, options.shown(only), input, &mut tree, PIECE);
+    (how, tree.into_output())
+}
+
+// Like `dump_lines`, as objects.
+fn dump_objects<R: Source, S: Sink>(
+    alloc: Global,
+    only: &[Only<'_>],
+    options: Options,
+    names: Option<ItemNames>,
+    input: &mut R,
+    output: S,
+) -> (Result<Ended, ListError>, S)
+    requires { options.is_json ≡ true }
+    ensures { DumpsAs options only.now (device_of R.remaining R.has_failed input.old input.new)
+        (device_of S.taken S.has_failed output result.1) result.0 }
+{
+    let mut tree = Objects::with_names(alloc, output, names);
+    let how = dump(alloc, options.shown(only), input, &mut tree, PIECE);
+    (how, tree.into_output())
+}
+
+// Shows these sections of the input over a sink, as the options say but without colors.
 fn dump_over<R: Source, S: Sink>(
     alloc: Global,
     only: &[Only<'_>],
@@ -290,18 +327,10 @@ fn dump_over<R: Source, S: Sink>(
     ensures { DumpsAs options only.now (device_of R.remaining R.has_failed input.old input.new)
         (device_of S.taken S.has_failed output result.1) result.0 }
 {
-    let shown = options.shown(only);
-    match options.style() {
-        Style::Lines => {
-            let mut tree = Lines::with_names(alloc, output, names);
-            let how = dump(alloc, shown, input, &mut tree, PIECE);
-            (how, tree.into_output())
-        }
-        Style::Objects => {
-            let mut tree = Objects::with_names(alloc, output, names);
-            let how = dump(alloc, shown, input, &mut tree, PIECE);
-            (how, tree.into_output())
-        }
+    if options.is_json {
+        dump_objects(alloc, only, options, names, input, output)
+    } else {
+        dump_lines(alloc, only, options, names, input, output)
     }
 }
 
@@ -322,7 +351,7 @@ fn dump_plain<R: Source, W: Write>(
     (result, output)
 }
 
-// Dumps with colors, and flushes the output.
+// Dumps lines with colors, and flushes the output.
 fn dump_colored<R: Source, W: Write>(
     alloc: Global,
     only: &[Only<'_>],
@@ -331,11 +360,12 @@ fn dump_colored<R: Source, W: Write>(
     input: &mut R,
     output: WriteSink<W>,
 ) -> (Result<Ended, ListError>, WriteSink<W>)
+    requires { options.is_json ≡ false }
     ensures { RunsDump options only.now (device_of R.remaining R.has_failed input.old input.new)
         (plain_device (writer_device W.contents output result.1)) result.1.forwarded result.0 }
 {
     let colored = Colored::new(output);
-    let (how, colored) = dump_over(alloc, only, options, names, input, colored);
+    let (how, colored) = dump_lines(alloc, only, options, names, input, colored);
     let mut output = colored.into_inner();
     let result = forward_all(how, &mut output);
     (result, output)
@@ -369,10 +399,10 @@ pub fn dump_as<R: Source, W: Write>(
 ) -> (Result<Ended, ListError>, WriteSink<W>)
     ensures { RunsDump options only.now
         (device_of R.remaining R.has_failed input.old input.new)
-        (seen_as options.is_colored (writer_device W.contents output result.1))
+        (seen_as (has_colors options) (writer_device W.contents output result.1))
         result.1.forwarded result.0 }
 {
-    if options.is_colored {
+    if options.has_colors() {
         dump_colored(alloc, only, options, names, input, output)
     } else {
         dump_plain(alloc, only, options, names, input, output)
