@@ -30,14 +30,7 @@ grammar_open start (t ∷ ts) b e = cc
 -- after a header there is no frame yet
 pub knows_header : (encoding : Encoding) (bytes : List ℕ) → Knows encoding []
     (context_of (made (version (header_version encoding) encoding) bytes ∷ []))
-knows_header encoding bytes = record {
-  named = refl;
-  ranks = λ r l. and_from (nat_lt 0 r) true (lt-ltb 0 r l) refl;
-  functions = refl;
-  codes = refl;
-  datas = refl;
-  data_counts = refl;
-}
+knows_header encoding bytes = search (and_from, lt-ltb)
 
 -- a body says nothing
 pub knows_body : (encoding : Encoding) (fs : List SectionFrame) (ts : List Tile) (content bytes : List ℕ)

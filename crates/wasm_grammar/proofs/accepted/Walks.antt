@@ -103,10 +103,7 @@ whole_step start encoding fs f q r i a w =
 -- the bytes of a code section's head and bodies are the section's
 code_bytes : (f : SectionFrame) (d : CodeDivision f.sized.content) → f.id ≡ code_id → (prefix : List ℕ)
     → (prefix ++ 10 ∷ (f.sized.field ++ d.field)) ++ flat_map sized_bytes d.bodies ≡ prefix ++ frame_bytes f
-code_bytes f d z prefix =
-    append_assoc prefix (10 ∷ (f.sized.field ++ d.field)) (flat_map sized_bytes d.bodies)
-    ∙ (ap (λ (x : List ℕ). prefix ++ 10 ∷ x) (append_assoc f.sized.field d.field (flat_map sized_bytes d.bodies))
-    ∙ (cc))
+code_bytes f d z prefix = grind (arith, append_assoc)
 
 -- the events of a code section's head and bodies are the section's
 code_listed : (start features : ℕ) (ts : List Tile) (f : SectionFrame) (d : CodeDivision f.sized.content) → f.id ≡ code_id
@@ -114,13 +111,7 @@ code_listed : (start features : ℕ) (ts : List Tile) (f : SectionFrame) (d : Co
     (10 ∷ (f.sized.field ++ d.field)) ∷ ts)
     ++ body_events features (start + length (bytes_of ts ++ 10 ∷ (f.sized.field ++ d.field))) d.bodies
     ≡ events_of start features ts ++ code_events features (start + length (bytes_of ts)) f d
-code_listed start features ts f d z =
-    let o : start + length (bytes_of ts ++ 10 ∷ (f.sized.field ++ d.field))
-    ≡ start + length (bytes_of ts) + 1 + length f.sized.field + length d.field =
-    omega (arith, length-append (bytes_of ts) (10 ∷ (f.sized.field ++ d.field)), length-append f.sized.field d.field) in
-    append_assoc (events_of start features ts) _ _
-    ∙ (λ i. events_of start features ts ++ start_tile_event features (start + length (bytes_of ts)) f d z i
-    ∷ body_events features (o i) d.bodies)
+code_listed start features ts f d z = grind (arith, length-append, append_assoc, start_tile_event)
 
 -- one more code section that fits
 module_step : (start : ℕ) (fs : List SectionFrame) (f : SectionFrame) → f.id ≡ code_id → CodeDivision f.sized.content
@@ -133,8 +124,7 @@ module_step start fs f z d q r i a =
     let n : ℕ = length f.sized.content - length d.field in
     let hb : List ℕ = 10 ∷ (f.sized.field ++ d.field) in
     let h : Tile = made (code_start (length d.bodies) (length d.field) n) hb in
-    let v : verdict (grammar start ts) hb ≡ tile h =
-    search (closed_verdict, code_step, room_for) in
+    let v : verdict (grammar start ts) hb ≡ tile h = search (closed_verdict, code_step, room_for) in
     let l : length f.sized.content ≡ length d.field + length (flat_map sized_bytes d.bodies) = division_length f d in
     let t : Through start (h ∷ ts) d.bodies = grind (arith, bodies_walk) in
     record {
@@ -172,15 +162,7 @@ frame_step start encoding fs f q r i a =
 -- the first frames are no longer than all
 stream_prefix : (encoding : Encoding) (fs later : List SectionFrame)
     → length (stream_of encoding fs) ≤ length (stream_of encoding (fs ++ later))
-stream_prefix encoding fs later =
-    let e : flat_map frame_bytes (fs ++ later) ≡ flat_map frame_bytes fs
-    ++ flat_map frame_bytes later = flat_map-append frame_bytes fs later in
-    rw e (omega (
-      arith,
-      length-append (header_bytes encoding) (flat_map frame_bytes fs),
-      length-append (header_bytes encoding) (flat_map frame_bytes fs ++ flat_map frame_bytes later),
-      length-append (flat_map frame_bytes fs) (flat_map frame_bytes later),
-    ))
+stream_prefix encoding fs later = grind (arith, flat_map-append, length-append)
 
 -- all frames, from some on
 frames_walk : (start : ℕ) (encoding : Encoding) (all : List SectionFrame) → start + length (stream_of encoding all) < 2 ^ 64
@@ -199,19 +181,7 @@ frames_walk start encoding all r order (f ∷ later) earlier e a q =
 begins : (start : ℕ) (encoding : Encoding) → Reached start encoding []
 begins start encoding = record {
   tiles = made (version (header_version encoding) encoding) (header_bytes encoding) ∷ [];
-  there = record {
-    begun = refl;
-    faultless = (tt, header_tile start encoding);
-    joined = sym (append-nil (header_bytes encoding));
-    knows = knows_header encoding (header_bytes encoding);
-    closed = refl;
-    reported_as = λ features. record {
-      inner = [];
-      sections = refl;
-      listed =
-          ap (λ (e : Event). e ∷ []) (header_tile_event start features encoding);
-    };
-  };
+  there = grind (arith, header_tile, append-nil, knows_header, header_tile_event);
 }
 
 -- where a stream may end and nothing follows it ends
@@ -230,17 +200,10 @@ accepted_walk stream start r a =
 pub accepted_ends_there : (stream : List ℕ) (start : ℕ) (a : IsAccepted stream) (q : Reached start a.encoding a.frames)
     → Reads stream start q.tiles (ended (start + length stream))
 accepted_ends_there stream start a q =
-    let c : Closed start a.encoding a.frames q.tiles = q.there in
-    let w : bytes_of q.tiles ≡ stream = c.joined ∙ sym a.whole in
     let o : ℕ = start + length (bytes_of q.tiles) in
     let v : verdict (grammar start q.tiles) [] ≡ final (ended o) =
     search (grammar_closed, end_verdict, end_to) in
-    record {
-      rest = [];
-      whole = sym w ∙ sym (append-nil (bytes_of q.tiles));
-      faultless = c.faultless;
-      stops = cc;
-    }
+    grind (arith, append-nil)
 
 -- an accepted stream's reading ends at its end
 pub accepted_reads : (stream : List ℕ) (start : ℕ) → start + length stream < 2 ^ 64 → IsAccepted stream → (tiles : List Tile)

@@ -1,8 +1,8 @@
 -- If bytes don't suffice, something else is there after the suffix that decides than where the stream ends.
-use Rattle.std.proofs.Common.{◌≡◌, ◌≢◌, ℕ, ◌+◌, ◌-◌, ◌<◌, ◌≤◌, Bool, true, false, cond, ◌&&◌, List, [], ◌∷◌, ◌++◌, length, take, drop}
+use Rattle.std.proofs.Common.{◌≡◌, ◌≢◌, ℕ, ◌+◌, ◌-◌, ◌<◌, Bool, true, false, cond, ◌&&◌, List, [], ◌∷◌, ◌++◌, length, take, drop}
 use Rattle.std.proofs.Common.{replicate, Option, Some, None, nat_lt, nat_le, nat_eq, refl, ◌∙◌, arith, length-append, leb-true, le-leb}
 use Rattle.std.specs.List.{list_any}
-use Rattle.std.proofs.lemmas.Bool.{leb-false, and_parts, lt-leb}
+use Rattle.std.proofs.lemmas.Bool.{leb-false, and_parts}
 use Rattle.std.proofs.lemmas.List.{append_cancel_left, take-append-le, drop-append-le, length-replicate, take_all, drop_all}
 use Rattle.wasm_base.specs.FaultAt.{FaultAt, at_offset}
 use Rattle.wasm_base.specs.Header.{magic, agree}
@@ -67,30 +67,9 @@ bytes_differs : (count o : ℕ) (xs : List ℕ) (next : List ℕ → Grammar) (n
     ≢ verdict (bytes count o next) (xs ++ cond x (deciding_ending (next (take count xs)) (drop count xs)) (replicate (count - length xs) 0))
 unfolding verdict
 bytes_differs count o xs next n h s ih true e w z =
-    let ys : List ℕ = deciding_ending (next (take count xs)) (drop count xs) in
-    let l : count ≤ length xs = leb-true count (length xs) e in
-    let m : count ≤ length (xs ++ ys) = omega (arith, length-append xs ys) in
-    let t : take count (xs ++ ys) ≡ take count xs = take-append-le count xs ys l in
-    let d : drop count (xs ++ ys) ≡ drop count xs ++ ys = drop-append-le count xs ys l in
-    let (j, q, r) = later-wants count (waiting (next (take count xs)) (drop count xs)) n h w in
-    let g : cond (nat_le count (length (xs ++ ys))) (after (take count (xs ++ ys))
-    (verdict (next (take count (xs ++ ys))) (drop count (xs ++ ys)))) (final (fault (at_offset UnexpectedEof o)))
-    ≡ after (take count xs) (verdict (next (take count xs)) (drop count xs ++ ys)) =
-    grind arith in
-    grind (arith, after_same)
+    grind (arith, leb-true, length-append, take-append-le, drop-append-le, later-wants, after_same)
 bytes_differs count o xs next n h s ih false e w z =
-    let ys : List ℕ = replicate (count - length xs) 0 in
-    let l : length xs < count = leb-false count (length xs) e in
-    let m : length (xs ++ ys) ≡ count = omega (arith, length-append xs ys, length-replicate {A = ℕ} (count - length xs) 0) in
-    let t : take count (xs ++ ys) ≡ xs ++ ys = take_all count (xs ++ ys) (omega arith) in
-    let d : drop count (xs ++ ys) ≡ [] = drop_all count (xs ++ ys) (omega arith) in
-    let c : nat_le count (length (xs ++ ys)) ≡ true = le-leb count (length (xs ++ ys)) (omega arith) in
-    let g : cond (nat_le count (length (xs ++ ys))) (after (take count (xs ++ ys))
-    (verdict (next (take count (xs ++ ys))) (drop count (xs ++ ys)))) (final (fault (at_offset UnexpectedEof o)))
-    ≡ after (xs ++ ys) (verdict (next (xs ++ ys)) []) =
-    rw c (rw (t, d) refl) in
-    let p : 0 < length (xs ++ ys) = omega arith in
-    grind arith
+    grind (arith, leb-false, length-append, length-replicate, take_all, drop_all, le-leb)
 
 unmagic : (o : ℕ) (e : Ending) (next : ℕ → Grammar) (id : ℕ) (xs ys : List ℕ) → agree (id ∷ xs) magic ≡ false
     → verdict (section_start o e next) (id ∷ xs) ≡ verdict (section_start o e next) (id ∷ (xs ++ ys))
@@ -214,9 +193,6 @@ begun_start : (p : SectionContext) (o : ℕ) (id : ℕ) (xs : List ℕ) → agre
     → verdict (section_start o (end_at_section p o) (after_id p o)) (id ∷ xs) ≢ final (fault (at_offset MagicAtSection o))
 unfolding verdict
 begun_start p o id xs a l z =
-    let q : id ≡ 0 = grind arith in
-    let n : nat_le 4 (length (id ∷ xs)) ≡ false = lt-leb 4 (length (id ∷ xs)) l in
-    let w : after (id ∷ []) (verdict (after_id p o id) xs) ≡ final (fault (at_offset MagicAtSection o)) = rw (a, n) at z in
     begun_magic p o xs (and_parts (nat_eq id 0) (agree xs (0x61 ∷ 0x73 ∷ 0x6d ∷ [])) a).1 (omega arith)
     (grind (arith, after_final))
 

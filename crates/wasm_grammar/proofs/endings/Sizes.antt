@@ -1,9 +1,9 @@
 -- A suffix that decides consists of bytes, at most 2^32 of them.
 use Rattle.std.proofs.Common.{◌≡◌, ℕ, suc, ◌+◌, ◌-◌, ◌^◌, ◌<◌, ◌≤◌, ◌⊎◌, Bool, true, false, cond, All, List, [], ◌∷◌, length, take, drop}
-use Rattle.std.proofs.Common.{replicate, slice_index, Option, Some, None, nat_lt, nat_le, refl, arith, add-one, lit≤}
+use Rattle.std.proofs.Common.{replicate, slice_index, Option, Some, None, nat_lt, refl, arith, add-one, lit≤}
 use Rattle.std.proofs.lemmas.List.{length-replicate, length-drop}
 use Rattle.std.proofs.lemmas.List.Elements.{All-nil, All-replicate, All-drop}
-use Rattle.wasm_base.specs.Header.{magic, agree}
+use Rattle.wasm_base.specs.Header.{magic}
 use Rattle.wasm_base.specs.Name.{of_four}
 use Rattle.wasm_base.specs.Number.{Number, read, bad, number, last_place, ends_at, septets, is_unused_right}
 use Rattle.wasm_base.specs.declared.fault.Fault.{Fault}
@@ -79,11 +79,9 @@ small_ending : (g : Grammar) → Bounded g → (xs : List ℕ) → IsSmall (deci
 unfolding deciding_ending
 small_ending (check None next) b xs = let s : IsSmall (deciding_ending next xs) = small_ending next b xs in s
 small_ending (u32_field o next) b xs = small_number xs next (λ v k l zs. small_ending (next v k) (b v k l) zs) (number VarU32 xs) refl
-small_ending (bytes n o next) b xs = small_bytes n xs (deciding_ending (next (take n xs)) (drop n xs)) b.0
-    (small_ending (next (take n xs)) (b.1 (take n xs)) (drop n xs)) (nat_le n (length xs))
+small_ending (bytes n o next) b xs = search (small_bytes, small_ending (next (take n xs)) (b.1 (take n xs)) (drop n xs))
 small_ending (section_start o e next) b [] = grind arith
-small_ending (section_start o e next) b (id ∷ xs) = small_start id xs (deciding_ending (next id) xs) (small_ending (next id) (b id) xs)
-    (agree (id ∷ xs) magic)
+small_ending (section_start o e next) b (id ∷ xs) = search (small_start, small_ending (next id) (b id) xs)
 small_ending _ b xs = small_nil
 
 -- ---- the grammars of a stream

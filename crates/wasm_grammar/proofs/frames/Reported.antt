@@ -65,7 +65,6 @@ report_shape : (encoding : Encoding) (features low : ℕ) (bytes : List ℕ) (s 
     → section_of (tile_report features low (low + length bytes) s) ≡ section_at (low + length bytes) s
 report_shape encoding features low bytes (section kind id content) k (before, c) =
     let n : length bytes ≡ length before + length content = ap (λ (x : List ℕ). length x) c ∙ length-append before content in
-    let i : id_report kind id ≡ id = grind arith in
     grind arith
 report_shape encoding features low bytes (version num other) k c = absurd k
 report_shape encoding features low bytes _ k c = refl
@@ -96,5 +95,4 @@ report_last e = cc
 
 -- how a stream ends is no section
 pub sections_all : (es : List Event) (e : Ending) → sections_of (es ++ last_event e ∷ []) ≡ sections_of es
-sections_all es e = sections_push es (last_event e) ∙ (ap (λ (x : Option (ℕ × Range ℕ)). sections_of es ++ option_to_list x) (report_last e)
-    ∙ append-nil (sections_of es))
+sections_all es e = grind (arith, sections_push, report_last, append-nil)

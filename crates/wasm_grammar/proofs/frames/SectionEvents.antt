@@ -1,7 +1,7 @@
 -- What the events of a reading say of sections and bodies is what their bytes are.
 use Rattle.std.specs.declared.ops.Range.{Range}
-use Rattle.std.proofs.Common.{◌≡◌, ℕ, ◌+◌, ◌-◌, Bool, true, false, cond, List, [], ◌∷◌, ◌++◌, length, Option, Some, None, refl, sym}
-use Rattle.std.proofs.Common.{ap, subst, ◌∙◌, arith, length-append, inl, inr}
+use Rattle.std.proofs.Common.{◌≡◌, ℕ, ◌+◌, ◌-◌, Bool, true, false, cond, List, [], ◌∷◌, ◌++◌, length, Option, Some, None, sym}
+use Rattle.std.proofs.Common.{ap, subst, arith, length-append, inl, inr}
 use Rattle.std.specs.Prelude.{◌⊎◌}
 use Rattle.wasm_grammar.specs.Accepted.{IsNumber, IsFormed}
 use Rattle.wasm_grammar.specs.Content.{code, kind_of, Form}
@@ -58,49 +58,14 @@ range_is i j r s e = ap (range_in r) e
 whole_event : (features o id : ℕ) (field content : List ℕ) (kind : Form) → IsNumber field (length content) → IsFormed kind content
     → (i : ℕ) (range : Range ℕ) → Same i range (section_at (o + length (id ∷ (field ++ content))) (section kind id content))
     → IsSectionEvent features o i range (event_of features o (made (section kind id content) (id ∷ (field ++ content))))
-whole_event features o id field content kind n g i range e =
-    let high : ℕ = o + length (id ∷ (field ++ content)) in
-    let s : Said features (high - length content) content (section_report features (high - length content) high kind id content) =
-    search said in
-    let b : bytes_of_bodies (section_report features (high - length content) high kind id content) ≡ 0 = s.no_bodies in
-    let l : length (field ++ content) ≡ length field + length content = length-append field content in
-    let at : IsSectionEvent features o id (record { start = high - length content; end = high })
-    (event_of features o (made (section kind id content) (id ∷ (field ++ content)))) = record {
-      field = field;
-      content = content;
-      bytes = refl;
-      sized = grind arith;
-      start = omega (arith, l);
-      end = omega (arith, b, l);
-      says = s.says;
-    } in
-    let a : id ≡ i = search id_is in
-    let r : record { start = high - length content; end = high }
-    ≡ range = search range_is in
-    grind arith
+whole_event features o id field content kind n g i range e = grind (arith, said, length-append, made, id_is, range_is)
 
 -- the head of a code section
 head_event : (features o id size count : ℕ) (field head : List ℕ) → id ≡ code_id → IsNumber field (length head + size) → IsNumber head count
     → (i : ℕ) (range : Range ℕ) → Same i range (section_at (o + length (id ∷ (field ++ head)))
     (Grammar.code_start count (length head) size))
     → IsSectionEvent features o i range (event_of features o (made (Grammar.code_start count (length head) size) (id ∷ (field ++ head))))
-head_event features o id size count field head z n c i range e =
-    let high : ℕ = o + length (id ∷ (field ++ head)) in
-    let l : length (field ++ head) ≡ length field + length head = length-append field head in
-    let at : IsSectionEvent features o id (record { start = high - length head; end = high + size })
-    (event_of features o (made (Grammar.code_start count (length head) size) (id ∷ (field ++ head)))) = record {
-      field = field;
-      content = head;
-      bytes = refl;
-      sized = n;
-      start = omega (arith, l);
-      end = omega (arith, l);
-      says = c;
-    } in
-    let a : id ≡ i = grind arith in
-    let r : record { start = high - length head; end = high + size }
-    ≡ range = search range_is in
-    grind arith
+head_event features o id size count field head z n c i range e = grind (arith, length-append, made, range_is)
 
 -- ---- the event of a tile
 
@@ -118,27 +83,11 @@ whole_says features o id field content kind n g q = grind (arith, whole_event)
 head_says : (features o id size count : ℕ) (field head : List ℕ) → id ≡ code_id → IsNumber field (length head + size) → IsNumber head count
     → ReportedThere features o (made (Grammar.code_start count (length head) size) (id ∷ (field ++ head)))
     → SaysItsBytes features o (event_of features o (made (Grammar.code_start count (length head) size) (id ∷ (field ++ head))))
-head_says features o id size count field head z n c q = record {
-  section = λ i range e. head_event features o id size count field head z n c i range (sym q ∙ e);
-  body = λ window e. cc;
-}
+head_says features o id size count field head z n c q = grind (arith, head_event)
 
 body_says : (features o : ℕ) (field content : List ℕ) → IsNumber field (length content)
     → SaysItsBytes features o (event_of features o (made (Grammar.code_entry content) (field ++ content)))
-body_says features o field content n =
-    let high : ℕ = o + length (field ++ content) in
-    let l : length (field ++ content) ≡ length field + length content = length-append field content in
-    let from : high - length content ≡ o + length field = omega (arith, l) in
-    record {
-      section = λ i range e. cc;
-      body = λ window e. record {
-        field = field;
-        content = content;
-        bytes = refl;
-        sized = n;
-        over = cc;
-      };
-    }
+body_says features o field content n = grind (arith, length-append)
 
 -- the event of a section's tile
 section_says : (features o : ℕ) (p : SectionContext) (t : Tile) → ReportedThere features o t → (s : SectionParts p o t)
@@ -181,10 +130,7 @@ tiles_say : (start features : ℕ) (ts : List Tile) → Faultless start ts
     → AtOffsets (SaysItsBytes features) start (events_of start features ts)
 tiles_say start features [] f = tt
 tiles_say start features (t ∷ ts) f =
-    at_offsets_more (SaysItsBytes features) start (events_of start features ts) (event_of features (start + length (bytes_of ts)) t)
-    (start + length (bytes_of ts))
-    (search tiles_consume) (tiles_say start features ts f.0)
-    (tile_says start features ts t f.1)
+    grind (arith, at_offsets_more, tiles_consume, tile_says, tiles_say start features ts f.0)
 
 pub events_say_their_bytes : EventsSayTheirBytes
 events_say_their_bytes stream start features events r = grind (arith, at_offsets_more, tiles_say)

@@ -1,9 +1,8 @@
 -- Where the faults of a grammar lie.
-use Rattle.std.proofs.Common.{◌≡◌, ℕ, ◌+◌, ◌≤◌, Bool, cond, ◌&&◌, List, [], ◌∷◌, length, take, drop}
-use Rattle.std.proofs.Common.{Option, Some, None, nat_le, refl, ap, ◌∙◌, arith, le_refl, length-append}
+use Rattle.std.proofs.Common.{◌≡◌, ℕ, ◌+◌, ◌≤◌, Bool, cond, List, [], ◌∷◌, length, take, drop}
+use Rattle.std.proofs.Common.{Option, Some, None, nat_le, refl, arith, le_refl, length-append}
 use Rattle.std.proofs.lemmas.List.{length-take-le, length-drop}
 use Rattle.wasm_base.specs.FaultAt.{FaultAt, at_offset}
-use Rattle.wasm_base.specs.Header.{magic, agree}
 use Rattle.wasm_base.specs.Name.{Name, name_limit, name}
 use Rattle.wasm_base.specs.Number.{Number, number}
 use Rattle.wasm_base.specs.declared.fault.Fault.{Fault}
@@ -76,9 +75,7 @@ verdict_lies low here (bytes count o next) xs f w h =
     bytes_lie low here count o xs next f w.0 (λ b zs l. verdict_lies low (here + count) (next b) zs f (w.1 b l)) (nat_le count (length xs))
     refl h
 verdict_lies low here (section_start o e next) [] f w h = grind arith
-verdict_lies low here (section_start o e next) (id ∷ xs) f w h =
-    start_lies low here o id xs (verdict (next id) xs) f w.0 (verdict_lies low (here + 1) (next id) xs f (w.2 id))
-    (agree (id ∷ xs) magic && nat_le 4 (length (id ∷ xs))) h
+verdict_lies low here (section_start o e next) (id ∷ xs) f w h = search (start_lies, verdict_lies low (here + 1) (next id) xs f (w.2 id))
 
 -- ---- the grammars of a stream
 
@@ -157,9 +154,7 @@ Within-grammar start ts = grind (arith, Within-header, Within-inside)
 pub fault_lies_within : FaultLiesWithin
 fault_lies_within stream start tiles f r =
     let (a, b) = verdict_lies _ _ (grammar start tiles) r.rest f (Within-grammar start tiles) r.stops in
-    let n : length stream ≡ length (bytes_of tiles) + length r.rest = ap (λ (x : List ℕ). length x) r.whole
-    ∙ length-append (bytes_of tiles) r.rest in
-    (a, omega arith)
+    grind (arith, length-append)
 
 pub Within-any : (h b : Bool) (p : SectionContext) (bodies code_bytes o : ℕ)
     → Within o o (cond h (header_grammar o) (cond b (section_grammar p o) (body_grammar bodies code_bytes o)))

@@ -1,6 +1,6 @@
 -- What each grammar of the stream keeps: its tiles are guarded, and take at least one byte.
-use Rattle.std.proofs.Common.{◌≡◌, ℕ, zero, suc, ◌+◌, ◌<◌, ◌≤◌, Bool, true, false, cond, List, [], ◌∷◌, ◌++◌, length, take, drop}
-use Rattle.std.proofs.Common.{Option, nat_le, nat_eq, refl, sym, ap, ◌∙◌, arith, length-append, leb-true, eqb-true}
+use Rattle.std.proofs.Common.{◌≡◌, ℕ, zero, suc, ◌+◌, ◌<◌, ◌≤◌, Bool, true, cond, List, [], ◌∷◌, ◌++◌, length, take, drop}
+use Rattle.std.proofs.Common.{Option, nat_le, refl, arith, length-append, leb-true, eqb-true}
 use Rattle.std.proofs.lemmas.List.{length-take-le}
 use Rattle.std.proofs.lemmas.Bool.{and_parts}
 use Rattle.wasm_base.specs.FaultAt.{FaultAt}
@@ -13,7 +13,7 @@ use Rattle.wasm_grammar.specs.Grammar.{section_grammar, body_of, body_grammar}
 use Rattle.wasm_grammar.specs.Tiling.{grammar}
 use Rattle.wasm_base.specs.declared.fault.NumberKind.TheVariants.{VarU32}
 use Rattle.wasm_grammar.specs.declared.encoding.Encoding.{Encoding}
-use Rattle.wasm_base.proofs.NumberLaws.{number-used, Used}
+use Rattle.wasm_base.proofs.NumberLaws.{number-used}
 use Rattle.wasm_grammar.proofs.parts.Verdicts.{Guarded, after-tile}
 
 Guarded-content : (p : SectionContext) (k : Kind) (id o n : ℕ) → Guarded (content_grammar p k id o n)
@@ -26,11 +26,7 @@ refused e g xs t h = grind arith
 
 bytes_least_at : (b : Bool) (count : ℕ) (xs : List ℕ) (v : Verdict) (e : Ending) (t : Tile) → nat_le count (length xs) ≡ b
     → cond b (after (take count xs) v) (final e) ≡ tile t → count ≤ length t.bytes
-bytes_least_at true count xs v e t h w =
-    let (s, r, q) = after-tile (take count xs) v t w in
-    let z : t.bytes ≡ take count xs ++ s.bytes = ap (λ (x : Tile). x.bytes) q in
-    rw z (omega (arith, length-append (take count xs) s.bytes, length-take-le count xs (leb-true _ _ h)))
-bytes_least_at false count xs v e t h w = cc
+bytes_least_at b count xs v e t h w = grind (arith, after-tile, length-append, length-take-le, leb-true)
 
 -- a tile has the bytes that it begins with
 pub bytes_least : (count o : ℕ) (next : List ℕ → Grammar) (xs : List ℕ) (t : Tile) → verdict (bytes count o next) xs ≡ tile t
@@ -54,11 +50,7 @@ numbered o next xs t w = grind arith
 pub number_least : (o : ℕ) (next : ℕ → ℕ → Grammar) (xs : List ℕ) (t : Tile) → verdict (u32_field o next) xs ≡ tile t → 0 < length t.bytes
 number_least o next xs t w =
     let n : Numbered next xs t = numbered o next xs t w in
-    let u : Used VarU32 xs n.value n.used = number-used VarU32 xs n.value n.used n.reads in
-    let z : t.bytes ≡ take n.used xs ++ n.rest.bytes = ap (λ (x : Tile). x.bytes) n.is in
-    let l : length (take n.used xs) ≡ n.used = length-take-le n.used xs u.there in
-    let a : 0 < n.used = u.some in
-    grind arith
+    grind (arith, number-used, length-take-le)
 
 -- 0x61 alone is a number, 97
 pub one_byte : (xs : List ℕ) → number VarU32 (0x61 ∷ xs) ≡ read 0x61 1
@@ -78,22 +70,7 @@ longer : (p : SectionContext) (o id : ℕ) (xs : List ℕ) (s : Tile) → verdic
 longer p o id xs s w e =
     let n : Numbered (λ size width. after_length p (kind_of p.encoding id) id (o + 1) (o + 1 + width) size) xs s =
     numbered (o + 1) _ xs s (refused _ _ xs s w) in
-    let u : Used VarU32 xs n.value n.used = number-used VarU32 xs n.value n.used n.reads in
-    let b : s.bytes ≡ take n.used xs ++ n.rest.bytes = ap (λ (x : Tile). x.bytes) n.is in
-    let parts : ((nat_eq id 0 ≡ true) × (agree s.bytes (0x61 ∷ 0x73 ∷ 0x6d ∷ []) ≡ true)) =
-    search and_parts in
-    let z : id ≡ 0 = eqb-true id 0 parts.0 in
-    let (zs, q) = first_is n.used xs n.rest.bytes u.some (omega (arith, u.some, u.there)) (rw b at parts.1) in
-    let m : number VarU32 xs ≡ read 0x61 1 = ap (number VarU32) q ∙ one_byte zs in
-    let v : n.value ≡ 0x61 = value_is n.value n.used 0x61 1 (sym n.reads ∙ m) in
-    let g : verdict (after_length p (kind_of p.encoding 0) 0 (o + 1) (o + 1 + n.used) 0x61) (drop n.used xs) ≡ tile n.rest =
-    cc in
-    let l : 0x61 ≤ length n.rest.bytes = search custom_long in
-    let r : length s.bytes ≡ length (take n.used xs) + length n.rest.bytes = grind arith in
-    omega arith
-  where
-    value_is : (a b c d : ℕ) → read a b ≡ read c d → a ≡ c
-    value_is a b c d e = cc
+    grind (arith, number-used, and_parts, eqb-true, first_is, one_byte, custom_long)
 
 pub Guarded-section : (p : SectionContext) (o : ℕ) → Guarded (section_grammar p o)
 unfolding section_grammar

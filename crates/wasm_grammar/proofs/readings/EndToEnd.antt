@@ -44,10 +44,7 @@ Closing passed (section_start o e next) = (id : ℕ) → Closing (passed ++ id �
 closes_after : (passed prefix : List ℕ) (v : Verdict) (t : Tile)
     → ((s : Tile) → v ≡ tile s → Closes s.shape ((passed ++ prefix) ++ s.bytes)) → after prefix v ≡ tile t
     → Closes t.shape (passed ++ t.bytes)
-closes_after passed prefix v t ih h =
-    let (s, r, q) = after-tile prefix v t h in
-    let c : Closes s.shape (passed ++ (prefix ++ s.bytes)) = rw (append_assoc passed prefix s.bytes) at (ih s r) in
-    rw q c
+closes_after passed prefix v t ih h = grind (arith, after-tile, append_assoc)
 
 closes_number : (passed : List ℕ) (o : ℕ) (xs : List ℕ) (next : ℕ → ℕ → Grammar) (t : Tile)
     → ((v k : ℕ) (b zs : List ℕ) (s : Tile) → length b ≡ k → verdict (next v k) zs ≡ tile s → Closes s.shape ((passed ++ b) ++ s.bytes))
@@ -69,9 +66,7 @@ closes_start passed id v t e ih b h = grind (arith, closes_after)
 closes : (passed : List ℕ) (g : Grammar) (xs : List ℕ) (t : Tile) → Closing passed g → verdict g xs ≡ tile t
     → Closes t.shape (passed ++ t.bytes)
 unfolding verdict
-closes passed (accept shape) xs t c h =
-    let z : record { shape = shape; bytes = [] } ≡ t = cc in
-    rw (← z) (subst (Closes shape) (sym (append-nil passed)) c)
+closes passed (accept shape) xs t c h = grind (arith, append-nil)
 closes passed (check None next) xs t c h = closes passed next xs t c h
 closes passed (u32_field o next) xs t c h =
     closes_number passed o xs next t (λ v k b zs s l. closes (passed ++ b) (next v k) zs s (c v k b l)) (number VarU32 xs) refl h
@@ -124,10 +119,7 @@ end_at start ts xs x h = grind (arith, header_end, inside_end)
 -- a reading that doesn't stop at a fault ends after the whole stream
 pub ends_after_all : (stream : List ℕ) (start : ℕ) (ts : List Tile) (x : ℕ) → Reads stream start ts (ended x) → (x ≡ start + length stream)
     × (x ≡ start + length (bytes_of ts))
-ends_after_all stream start ts x r =
-    let (none, z) = end_at start ts r.rest x r.stops in
-    let w : stream ≡ bytes_of ts = r.whole ∙ (ap (λ (y : List ℕ). bytes_of ts ++ y) none ∙ append-nil (bytes_of ts)) in
-    grind arith
+ends_after_all stream start ts x r = grind (arith, end_at, append-nil)
 
 -- ---- one event
 
@@ -143,15 +135,7 @@ placed : (stream earlier prefix content rest : List ℕ) (start low high : ℕ) 
 placed stream earlier prefix content rest start low high w l h =
     let n : length (prefix ++ content) ≡ length prefix + length content = length-append prefix content in
     let m : length (earlier ++ prefix) ≡ length earlier + length prefix = length-append earlier prefix in
-    let z : length (earlier ++ prefix) ≡ high - length content - start = omega arith in
-    let s : stream ≡ (earlier ++ prefix) ++ (content ++ rest) = w ∙ simp append_assoc refl in
-    let d : drop (high - length content - start) stream ≡ content ++ rest = grind (arith, drop_at) in
-    record {
-      after_start = omega arith;
-      above = omega arith;
-      ends = omega arith;
-      part = grind (arith, take_at);
-    }
+    grind (arith, append_assoc, drop_at, take_at)
 
 range_is : (stream : List ℕ) (start low high : ℕ) (content : List ℕ) → Placed stream start low high content
     → LiesIn (high - length content) ((high - length content) + length content) low high
@@ -182,8 +166,7 @@ lies_between stream earlier passed rest start low high features (section kind id
     section_lies stream start low high features kind id content
     (placed stream earlier before content rest start low high (cc) l
     (h ∙ ap (λ (x : List ℕ). low + length x) c))
-lies_between stream earlier passed rest start low high features (code_start count width size) w l h c =
-    omega arith
+lies_between stream earlier passed rest start low high features (code_start count width size) w l h c = grind arith
 lies_between stream earlier passed rest start low high features (code_entry content) w l h (before, c) =
     let p : Placed stream start low high content = placed stream earlier before content rest start low high
     (cc) l (h ∙ ap (λ (x : List ℕ). low + length x) c) in
@@ -203,9 +186,7 @@ at_offsets_more P at (x ∷ es) e low l h s =
 
 pub tiles_consume : (start features : ℕ) (ts : List Tile) → consumed_by (events_of start features ts) ≡ bytes_of ts
 tiles_consume start features [] = refl
-tiles_consume start features (t ∷ ts) =
-    consumed_more (events_of start features ts) (event_of features (start + length (bytes_of ts)) t)
-    ∙ ap (λ (l : List ℕ). l ++ t.bytes) (tiles_consume start features ts)
+tiles_consume start features (t ∷ ts) = grind (arith, consumed_more, tiles_consume start features ts)
 
 tiles_lie : (stream : List ℕ) (start features : ℕ) (ts : List Tile) (rest : List ℕ) → Faultless start ts → stream ≡ bytes_of ts ++ rest
     → EndToEnd stream start features start (events_of start features ts)
@@ -221,8 +202,7 @@ tiles_lie stream start features (t ∷ ts) rest f w =
 last_lies : (stream : List ℕ) (start features : ℕ) (ts : List Tile) (end : Ending) → Reads stream start ts end
     → LiesBetween stream start features (start + length (bytes_of ts)) (start + length (bytes_of ts) + 0) (stream_end end)
 last_lies stream start features ts (fault f) r = tt
-last_lies stream start features ts (ended x) r = let z : x ≡ start + length (bytes_of ts) = (ends_after_all stream start ts x r).1 in
-    (z, omega arith)
+last_lies stream start features ts (ended x) r = omega (arith, ends_after_all)
 
 pub events_lie_end_to_end : EventsLieEndToEnd
 events_lie_end_to_end stream start features ts end r =
