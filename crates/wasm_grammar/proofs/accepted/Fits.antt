@@ -67,10 +67,6 @@ code_from encoding fs p k o c h = grind (arith, same_of, some_from)
 data_right : (b all : Bool) (e : FaultAt) → (b ≡ true → all ≡ true) → when (b && not all) e ≡ None
 data_right b all e h = grind arith
 
--- a count with which nothing is wrong agrees if it is required
-right_data : (b all : Bool) (e : FaultAt) → when (b && not all) e ≡ None → b ≡ true → all ≡ true
-right_data b all e h z = grind arith
-
 -- sections of items are a module's
 items_in : (encoding : Encoding) (id : ℕ) → kind_of encoding id ≡ whole items → encoding ≡ Module
 items_in encoding id e = grind arith
@@ -89,4 +85,4 @@ data_to encoding fs p k f o h _ e = refl
 pub data_from : (encoding : Encoding) (fs : List SectionFrame) (p : SectionContext) → Knows encoding fs p
     → (f : SectionFrame) (o : ℕ) (w : IsWhole (kind_of encoding f.id)) → wrong_data p w.0 f.id o f.sized.content ≡ None
     → IsSection encoding data_id f → HasCount encoding data_count_id (frame_count f) fs
-data_from encoding fs p k f o w h s = grind (arith, same_form, same_of, right_data, eq-eqb)
+data_from encoding fs p k f o w h s = grind (arith, same_form, same_of, eq-eqb)

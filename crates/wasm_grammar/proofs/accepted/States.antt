@@ -196,12 +196,6 @@ code_pending ts o t q s e =
     } in
     rw z r
 
--- the bytes of a code section with one more body
-body_joined : (first field head : List ℕ) (bodies : List Sized) (s : Sized)
-    → (first ++ code_id ∷ (field ++ (head ++ flat_map sized_bytes bodies))) ++ sized_bytes s ≡ first ++ code_id
-    ∷ (field ++ (head ++ flat_map sized_bytes (bodies ++ s ∷ [])))
-body_joined first field head bodies s = grind (arith, append_assoc, flat_map_more)
-
 -- how many they are
 body_bytes : (head : List ℕ) (bodies : List Sized) (s : Sized) → length head + length (flat_map sized_bytes bodies) + length (sized_bytes s)
     ≡ length head + length (flat_map sized_bytes (bodies ++ s ∷ []))
@@ -232,7 +226,7 @@ body_pending ts t q h =
       counted = q.counted;
       bodies = q.bodies ++ s ∷ [];
       each = All-push IsSized q.bodies s q.each h.whole;
-      joined = grind (arith, body_joined);
+      joined = grind (arith, append_assoc, flat_map_more);
       bodies_miss = m;
       bytes_miss = y;
       knows = λ f a c. knows_body Module (q.frames ++ f ∷ []) ts h.content b (q.knows f a c);

@@ -15,7 +15,7 @@ use Rattle.wasm_grammar.specs.declared.encoding.Encoding.TheVariants.{Module, Co
 use Rattle.wasm_grammar.specs.Content.{Kind, code, kind_of, rank_of, Ending, when, wrong_content, Form, whole}
 use Rattle.wasm_grammar.specs.Grammar.{Shape, version, section, code_start, code_entry, Tile, tile, SectionContext, Grammar, accept, check}
 use Rattle.wasm_grammar.specs.Grammar.{u32_field, bytes, section_start, verdict, header_grammar, section_grammar, body_grammar}
-use Rattle.wasm_grammar.specs.Grammar.{content_grammar, whole_grammar, code_grammar, after_id, wrong_count, wrong_data}
+use Rattle.wasm_grammar.specs.Grammar.{content_grammar, whole_grammar, after_id, wrong_count, wrong_data}
 use Rattle.wasm_grammar.specs.Accepted.{IsNumber, header_bytes}
 use Rattle.wasm_grammar.proofs.parts.Placed.{Follows}
 use Rattle.wasm_grammar.proofs.parts.Guarded.{one_byte}
@@ -158,12 +158,6 @@ pub section_tile : (p : SectionContext) (o id : ℕ) (field content : List ℕ) 
     → verdict (section_grammar p o) (id ∷ (field ++ content)) ≡ tile (made (section w.0 id content) (id ∷ (field ++ content)))
 section_tile p o id field content f w n a b = search (framed_tile, no_magic, content_tile)
 
--- a right count is the head of a code section
-code_tile : (p : SectionContext) (o size count : ℕ) (head : List ℕ) → IsNumber head count → length head ≤ size → wrong_count p o count
-    ≡ None
-    → verdict (code_grammar p o size) head ≡ tile (made (code_start count (length head) (size - length head)) head)
-code_tile p o size count head e l w = search (all_of_it, number_tile, when_tile, le-ltb, refuse_tile, takes_tile)
-
 -- a code section up to its count
 pub code_head_tile : (p : SectionContext) (o size count : ℕ) (field head : List ℕ) → HeadIsRight p o 10 field size
     → kind_of p.encoding code_id
@@ -173,7 +167,7 @@ pub code_head_tile : (p : SectionContext) (o size count : ℕ) (field head : Lis
     (made (code_start count (length head) (size - length head)) (10 ∷ (field ++ head)))
 code_head_tile p o size count field head f k e l w =
     framed_tile p o 10 field size head (code_start count (length head) (size - length head)) f refl
-    (rw k (search code_tile))
+    (rw k (search (all_of_it, number_tile, when_tile, le-ltb, refuse_tile, takes_tile)))
 
 -- a body
 pub body_tile : (m l o : ℕ) (field content : List ℕ) → IsNumber field (length content) → length field + length content ≤ l

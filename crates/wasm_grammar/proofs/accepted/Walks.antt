@@ -8,7 +8,7 @@ use Rattle.std.proofs.lemmas.List.Elements.{All-head, All-tail}
 use Rattle.wasm_grammar.specs.declared.encoding.Encoding.{Encoding}
 use Rattle.wasm_grammar.specs.declared.encoding.Encoding.TheVariants.{Module}
 use Rattle.wasm_grammar.specs.Content.{code, kind_of, ended}
-use Rattle.wasm_grammar.specs.FrameEvents.{header_event, section_event, code_events, FrameEvents, FramesEvents, body_events}
+use Rattle.wasm_grammar.specs.FrameEvents.{header_event, section_event, code_events, FrameEvents, FramesEvents}
 use Rattle.wasm_grammar.specs.Grammar.{version, section, code_start, Tile, tile, final, SectionContext, verdict, end_at_section}
 use Rattle.wasm_grammar.specs.Grammar.{section_grammar}
 use Rattle.wasm_grammar.specs.Tiling.{bytes_of, grammar, Faultless, context_of, bodies_left, bytes_left, is_start}
@@ -105,14 +105,6 @@ code_bytes : (f : SectionFrame) (d : CodeDivision f.sized.content) → f.id ≡ 
     → (prefix ++ 10 ∷ (f.sized.field ++ d.field)) ++ flat_map sized_bytes d.bodies ≡ prefix ++ frame_bytes f
 code_bytes f d z prefix = grind (arith, append_assoc)
 
--- the events of a code section's head and bodies are the section's
-code_listed : (start features : ℕ) (ts : List Tile) (f : SectionFrame) (d : CodeDivision f.sized.content) → f.id ≡ code_id
-    → events_of start features (made (code_start (length d.bodies) (length d.field) (length f.sized.content - length d.field))
-    (10 ∷ (f.sized.field ++ d.field)) ∷ ts)
-    ++ body_events features (start + length (bytes_of ts ++ 10 ∷ (f.sized.field ++ d.field))) d.bodies
-    ≡ events_of start features ts ++ code_events features (start + length (bytes_of ts)) f d
-code_listed start features ts f d z = grind (arith, length-append, append_assoc, start_tile_event)
-
 -- one more code section that fits
 module_step : (start : ℕ) (fs : List SectionFrame) (f : SectionFrame) → f.id ≡ code_id → CodeDivision f.sized.content
     → Reached start Module fs
@@ -139,7 +131,7 @@ module_step start fs f z d q r i a =
             reported_more start features Module fs f ts t.tiles (code_events features (start + length (bytes_of ts)) f d)
             c.joined (c.reported_as features)
             (rw (ap (kind_of Module) z) (d, refl))
-            (grind (arith, code_listed));
+            (grind (arith, length-append, append_assoc, start_tile_event));
       };
     }
 
@@ -159,11 +151,6 @@ frame_step start encoding fs f q r i a =
       | inr k ↦ code_frame start encoding fs f (code_has_its_id encoding f.id k).0 q r i a k
     ]
 
--- the first frames are no longer than all
-stream_prefix : (encoding : Encoding) (fs later : List SectionFrame)
-    → length (stream_of encoding fs) ≤ length (stream_of encoding (fs ++ later))
-stream_prefix encoding fs later = grind (arith, flat_map-append, length-append)
-
 -- all frames, from some on
 frames_walk : (start : ℕ) (encoding : Encoding) (all : List SectionFrame) → start + length (stream_of encoding all) < 2 ^ 64
     → ((earlier later : List SectionFrame) (f : SectionFrame) → all ≡ earlier ++ f ∷ later → FitsAfter encoding earlier f)
@@ -173,7 +160,7 @@ frames_walk start encoding all r order [] earlier e a q = subst (Reached start e
 frames_walk start encoding all r order (f ∷ later) earlier e a q =
     let w : (earlier ++ f ∷ []) ++ later ≡ all = append_assoc earlier (f ∷ []) later ∙ e in
     let l : length (stream_of encoding (earlier ++ f ∷ [])) ≤ length (stream_of encoding all) =
-    grind (arith, stream_prefix) in
+    grind (arith, flat_map-append, length-append) in
     frames_walk start encoding all r order later (earlier ++ f ∷ []) w (All-tail (IsFrame encoding) f later a)
     (grind (arith, frame_step, All-head))
 

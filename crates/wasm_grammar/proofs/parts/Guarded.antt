@@ -1,18 +1,17 @@
 -- What each grammar of the stream keeps: its tiles are guarded, and take at least one byte.
-use Rattle.std.proofs.Common.{◌≡◌, ℕ, zero, suc, ◌+◌, ◌<◌, ◌≤◌, Bool, true, cond, List, [], ◌∷◌, ◌++◌, length, take, drop}
-use Rattle.std.proofs.Common.{Option, nat_le, refl, arith, length-append, leb-true, eqb-true}
+use Rattle.std.proofs.Common.{◌≡◌, ℕ, zero, suc, ◌+◌, ◌<◌, ◌≤◌, Bool, true, cond, List, ◌∷◌, ◌++◌, length, take, drop}
+use Rattle.std.proofs.Common.{Option, refl, arith, length-append, leb-true, eqb-true}
 use Rattle.std.proofs.lemmas.List.{length-take-le}
 use Rattle.std.proofs.lemmas.Bool.{and_parts}
 use Rattle.wasm_base.specs.FaultAt.{FaultAt}
 use Rattle.wasm_base.specs.Number.{read, number}
 use Rattle.wasm_grammar.specs.Content.{Kind, kind_of, Ending}
 use Rattle.wasm_base.specs.Header.{magic, agree}
-use Rattle.wasm_grammar.specs.Grammar.{Tile, Verdict, tile, final, after, Grammar, check, u32_field, bytes, section_start}
+use Rattle.wasm_grammar.specs.Grammar.{Tile, tile, Grammar, check, u32_field, bytes, section_start}
 use Rattle.wasm_grammar.specs.Grammar.{verdict, SectionContext, header_grammar, content_grammar, after_length, after_id}
 use Rattle.wasm_grammar.specs.Grammar.{section_grammar, body_of, body_grammar}
 use Rattle.wasm_grammar.specs.Tiling.{grammar}
 use Rattle.wasm_base.specs.declared.fault.NumberKind.TheVariants.{VarU32}
-use Rattle.wasm_grammar.specs.declared.encoding.Encoding.{Encoding}
 use Rattle.wasm_base.proofs.NumberLaws.{number-used}
 use Rattle.wasm_grammar.proofs.parts.Verdicts.{Guarded, after-tile}
 
@@ -24,15 +23,11 @@ pub refused : (e : Option FaultAt) (g : Grammar) (xs : List ℕ) (t : Tile) → 
 unfolding verdict
 refused e g xs t h = grind arith
 
-bytes_least_at : (b : Bool) (count : ℕ) (xs : List ℕ) (v : Verdict) (e : Ending) (t : Tile) → nat_le count (length xs) ≡ b
-    → cond b (after (take count xs) v) (final e) ≡ tile t → count ≤ length t.bytes
-bytes_least_at b count xs v e t h w = grind (arith, after-tile, length-append, length-take-le, leb-true)
-
 -- a tile has the bytes that it begins with
 pub bytes_least : (count o : ℕ) (next : List ℕ → Grammar) (xs : List ℕ) (t : Tile) → verdict (bytes count o next) xs ≡ tile t
     → count ≤ length t.bytes
 unfolding verdict
-bytes_least count o next xs t w = search bytes_least_at
+bytes_least count o next xs t w = grind (arith, after-tile, length-append, length-take-le, leb-true)
 
 -- what a tile that begins with a number is
 pub record Numbered (next : ℕ → ℕ → Grammar) (xs : List ℕ) (t : Tile) : Type 0 where
@@ -57,20 +52,12 @@ pub one_byte : (xs : List ℕ) → number VarU32 (0x61 ∷ xs) ≡ read 0x61 1
 unfolding number
 one_byte xs = refl
 
-first_is : (k : ℕ) (xs ys : List ℕ) → 0 < k → 0 < length xs → agree (take k xs ++ ys) (0x61 ∷ 0x73 ∷ 0x6d ∷ []) ≡ true → (zs : List ℕ)
-    × (xs ≡ 0x61 ∷ zs)
-first_is k xs ys h l e = grind arith
-
-custom_long : (p : SectionContext) (en : Encoding) (f o : ℕ) (xs : List ℕ) (t : Tile)
-    → verdict (after_length p (kind_of en 0) 0 f o 0x61) xs ≡ tile t → 0x61 ≤ length t.bytes
-custom_long p en f o xs t w = grind (arith, bytes_least, refused)
-
 longer : (p : SectionContext) (o id : ℕ) (xs : List ℕ) (s : Tile) → verdict (after_id p o id) xs ≡ tile s → agree (id ∷ s.bytes) magic
     ≡ true → 4 ≤ length (id ∷ s.bytes)
 longer p o id xs s w e =
     let n : Numbered (λ size width. after_length p (kind_of p.encoding id) id (o + 1) (o + 1 + width) size) xs s =
     numbered (o + 1) _ xs s (refused _ _ xs s w) in
-    grind (arith, number-used, and_parts, eqb-true, first_is, one_byte, custom_long)
+    grind (arith, number-used, and_parts, eqb-true, one_byte, bytes_least, refused)
 
 pub Guarded-section : (p : SectionContext) (o : ℕ) → Guarded (section_grammar p o)
 unfolding section_grammar

@@ -13,7 +13,7 @@ use Rattle.wasm_grammar.specs.SectionLaws.{BodiesFollowTheirCount}
 use Rattle.wasm_grammar.specs.Sections.{ReportsBody, BodiesFollow}
 use Rattle.wasm_grammar.specs.Tiling.{bytes_of, context_of, grammar, bodies_left, bytes_left, Faultless}
 use Rattle.wasm_grammar.proofs.readings.Endings.{inside_end}
-use Rattle.wasm_grammar.proofs.parts.Placed.{placed, IsBody, IsHeader, headed}
+use Rattle.wasm_grammar.proofs.parts.Placed.{placed, headed}
 use Rattle.wasm_grammar.proofs.PlainLists.{split_last}
 use Rattle.wasm_grammar.proofs.accepted.Parts.{BodyParts, body_parts}
 
@@ -23,9 +23,6 @@ split_end : {X : Type 0} (xs earlier later : List X) (x y : X) → xs ++ x ∷ [
 split_end {X} xs earlier later x y e = grind (arith, split_last, append_cancel_left, append_assoc)
 
 -- ---- which reports are a start or a body
-
-header_apart : (s : Shape) → IsHeader s → IsBody s → ⊥
-header_apart s q b = grind arith
 
 no_last : (end : Ending) (w : Window) → stream_end end ≡ code_entry w → ⊥
 no_last end w e = cc
@@ -92,7 +89,7 @@ follows start features (t ∷ ts) f before after e count from to size z c =
         → Open (t ∷ ts) count (l ++ event_of features (start + length (bytes_of ts)) t ∷ [])
         ⊎ Shut count (l ++ event_of features (start + length (bytes_of ts)) t ∷ [])
     more t ts f l (inr s) = inr (shut_more count l _ s)
-    more t [] f l (inl s) = inr (grind (arith, header_apart, headed))
+    more t [] f l (inl s) = inr (grind (arith, headed))
     more t (u ∷ ts) f l (inl s) = open_more start features u ts t count l (nat_eq (bodies_left (u ∷ ts) + bytes_left (u ∷ ts)) 0) refl
         (start + length (bytes_of (u ∷ ts))) f.1 s
 

@@ -1,11 +1,10 @@
 -- Events lie end to end.
-use Rattle.std.proofs.Common.{◌≡◌, ℕ, ◌+◌, ◌-◌, ◌≤◌, Bool, cond, ◌&&◌, List, [], ◌∷◌, ◌++◌, length, take, drop, Some, None, nat_le, refl}
+use Rattle.std.proofs.Common.{◌≡◌, ℕ, ◌+◌, ◌-◌, ◌≤◌, Bool, cond, ◌&&◌, List, [], ◌∷◌, ◌++◌, length, take, drop, None, nat_le, refl}
 use Rattle.std.proofs.Common.{sym, ap, subst, ◌∙◌, arith, length-append, append-nil, append_assoc}
 use Rattle.std.proofs.lemmas.List.{length-take-le, take_at, drop_at}
 use Rattle.std.proofs.lemmas.Grind.{flat_map-append}
 use Rattle.wasm_base.specs.FaultAt.{at_offset}
 use Rattle.wasm_base.specs.Header.{magic, agree}
-use Rattle.wasm_base.specs.Name.{Name, name_limit, name}
 use Rattle.wasm_base.specs.Number.{Number, number}
 use Rattle.wasm_base.specs.declared.fault.Fault.TheVariants.{UnexpectedEof, MagicAtSection}
 use Rattle.wasm_base.specs.declared.fault.NumberKind.TheVariants.{VarU32}
@@ -15,7 +14,7 @@ use Rattle.wasm_grammar.specs.Grammar.{Shape, version, section, code_start, code
 use Rattle.wasm_grammar.specs.Grammar.{check, u32_field, bytes, section_start, after, after_number, verdict, SectionContext}
 use Rattle.wasm_grammar.specs.Grammar.{header_grammar, content_grammar, section_grammar, body_grammar}
 use Rattle.wasm_grammar.specs.Laws.{EventsLieEndToEnd}
-use Rattle.wasm_grammar.specs.Reading.{Event, custom_report, section_report, tile_report, event_of, stream_end, last_event, events_of}
+use Rattle.wasm_grammar.specs.Reading.{Event, section_report, tile_report, event_of, stream_end, last_event, events_of}
 use Rattle.wasm_grammar.specs.Reading.{Reads}
 use Rattle.wasm_grammar.specs.EventRanges.{consumed_by, LiesIn, LiesBetween, AtOffsets, EndToEnd}
 use Rattle.wasm_grammar.specs.Tiling.{grammar, bytes_of, Faultless}
@@ -78,11 +77,8 @@ closes passed (section_start o e next) (id ∷ xs) t c h =
     (λ s. closes (passed ++ id ∷ []) (next id) xs s (c id)) (agree (id ∷ xs) magic && nat_le 4 (length (id ∷ xs))) h
 closes passed _ _ t c h = cc
 
-Closing-code : (passed : List ℕ) (k : ℕ) (b : List ℕ) → length b ≡ k → k ≤ length (passed ++ b)
-Closing-code passed k b e = omega (arith, length-append passed b)
-
 Closing-content : (passed : List ℕ) (p : SectionContext) (kind : Kind) (id o n : ℕ) → Closing passed (content_grammar p kind id o n)
-Closing-content passed p kind id o n = grind (arith, Closing-code)
+Closing-content passed p kind id o n = grind (arith, length-append)
 
 Closing-section : (p : SectionContext) (o : ℕ) → Closing [] (section_grammar p o)
 unfolding section_grammar
@@ -96,11 +92,8 @@ Closing-body : (m l o : ℕ) → Closing [] (body_grammar m l o)
 unfolding body_grammar
 Closing-body m l o = grind arith
 
-Closing-inside : (b : Bool) (p : SectionContext) (m l o : ℕ) → Closing [] (cond b (section_grammar p o) (body_grammar m l o))
-Closing-inside b p m l o = grind (arith, Closing-section, Closing-body)
-
 Closing-grammar : (start : ℕ) (ts : List Tile) → Closing [] (grammar start ts)
-Closing-grammar start ts = grind (arith, Closing-header, Closing-inside)
+Closing-grammar start ts = grind (arith, Closing-header, Closing-section, Closing-body)
 
 -- a tile's bytes end with its content
 pub tile_closes : (start : ℕ) (ts : List Tile) (xs : List ℕ) (t : Tile) → verdict (grammar start ts) xs ≡ tile t → Closes t.shape t.bytes
@@ -145,15 +138,10 @@ whole_range : (stream : List ℕ) (start low high : ℕ) (content : List ℕ) �
     → LiesIn (high - length content) high low high
 whole_range stream start low high content p = grind arith
 
-custom_lies : (stream : List ℕ) (start low high features : ℕ) (content : List ℕ) (n : Name) → name (Some name_limit) content ≡ n
-    → Placed stream start low high content → LiesBetween stream start features low high
-    (custom_report features (high - length content) high content n)
-custom_lies stream start low high features content n e p = grind (arith, name_used)
-
 section_lies : (stream : List ℕ) (start low high features : ℕ) (kind : Form) (id : ℕ) (content : List ℕ)
     → Placed stream start low high content → LiesBetween stream start features low high
     (section_report features (high - length content) high kind id content)
-section_lies stream start low high features custom id content p = search custom_lies
+section_lies stream start low high features custom id content p = grind (arith, name_used)
 section_lies stream start low high features items id content p = grind arith
 section_lies stream start low high features unknown id content p = (whole_range stream start low high content p, refl, p.part, p.ends)
 section_lies stream start low high features _ id content p = (whole_range stream start low high content p, refl)

@@ -54,11 +54,6 @@ StopsAtTheTop (final e) = PassesTheTop e
 abbrev Moves : ℕ → Verdict → Verdict → Type 0
 Moves by v w = (w ≡ moved_verdict by v) ⊎ StopsAtTheTop w
 
-refuse_moves : (by : ℕ) (e f : Option FaultAt) (next then : Grammar) (xs : List ℕ) → MovesFault by e f
-    → Moves by (verdict next xs) (verdict then xs) → Moves by (verdict (check e next) xs) (verdict (check f then) xs)
-unfolding verdict
-refuse_moves by e f next then xs m ih = grind arith
-
 number_moves : (by o : ℕ) (next then : ℕ → ℕ → Grammar) (xs : List ℕ)
     → ((v k : ℕ) (zs : List ℕ) → Moves by (verdict (next v k) zs) (verdict (then v k) zs))
     → (n : Number) → Moves by (after_number o xs n (λ v k. verdict (next v k) (drop k xs)))
@@ -77,7 +72,7 @@ start_moves by o id v w m b = grind arith
 
 verdict_moves : (by : ℕ) (g h : Grammar) (xs : List ℕ) → Like by g h → Moves by (verdict g xs) (verdict h xs)
 unfolding verdict
-verdict_moves by (check e next) h xs (f, then, z, m, l) = grind (arith, refuse_moves, verdict_moves by next then xs l)
+verdict_moves by (check e next) h xs (f, then, z, m, l) = grind (arith, verdict_moves by next then xs l)
 verdict_moves by (u32_field o next) h xs (then, z, l) =
     rw z (number_moves by o next then xs (λ v k zs. verdict_moves by (next v k) (then v k) zs (l v k)) (number VarU32 xs))
 verdict_moves by (bytes count o next) h xs (then, z, l) =
