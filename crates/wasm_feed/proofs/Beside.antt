@@ -52,9 +52,7 @@ bounded_by : (old : Feed) (piece stored : List ℕ) (count : ℕ) → count ≤ 
     → length old.held ≤ old.stored → Bounds old piece (length stored + (length piece - count))
 bounded_by old piece stored count within same stores =
     let sizes = ap (λ (l : List ℕ). length l) same in
-    let both : length stored + (length piece - count) ≤ length old.held + length piece =
-    omega (arith, sizes, length-append stored (drop count piece), length-append old.held piece, length-drop count piece) in
-    grind arith
+    grind (arith, length-append, length-drop)
 
 idle_by : (old : Feed) (piece stored : List ℕ) (count : ℕ) (c : Cursor) → c.mark ≡ 0 → stored ++ drop count piece ≡ old.held ++ piece
     → length old.held ≤ old.stored → (HasDecided old piece → count ≡ 0) → HasDecided old piece → StaysIdle old count stored c
@@ -127,10 +125,6 @@ filled_alike text_of source rest taken written rest' f g w (inr (piece, gave, so
 
 -- ---- a step over a chunk
 
--- a step reads what is stored, if something is
-pub seen_some : (stored rest : List ℕ) → 0 < length stored → seen stored rest ≡ stored
-seen_some stored rest some = grind arith
-
 -- where more bytes are asked for, those that are there don't decide
 pub undecided : (p new : ParserState) (bytes : List ℕ) (one : Result Chunk Error) (hint : ℕ) → ParseAnswer p false bytes one new
     → one ≡ Ok (chunk.NeedMoreData hint) → waiting (grammar_of p) bytes ≡ decides_all → ⊥
@@ -177,12 +171,7 @@ module _ (f : Feed) (piece rest stored items bytes : List ℕ) (count : ℕ) (ol
         (grind (arith, held, eof));
     stores = omega (arith, length-drop last.mark kept);
     bounded = grind (arith, size, sizes);
-    idle = λ h.
-        let i = r.idle h in
-        let (none, kept_all) = idle (wants ∙ no_request h i) i.some in
-        let c = i.takes_none in
-        let b = i.bounded in
-        (omega (arith, none, c), omega (arith, kept_all, b));
+    idle = grind arith;
   }
     where
       size : length rest ≡ length (drop count piece)
@@ -199,4 +188,4 @@ module _ (f : Feed) (piece rest stored items bytes : List ℕ) (count : ℕ) (ol
           grind (arith, none_passed, last_is_no_request, reads)
 
       no_request : HasDecided f piece → StaysIdle f count stored old → is_request x ≡ false
-      no_request h i = grind (arith, decided, state, eof, reads, seen_some)
+      no_request h i = grind (arith, decided, state, eof, reads)

@@ -11,7 +11,7 @@ use Rattle.wasm_grammar.specs.Content.{Kind, custom, code, kind_of, Form, whole}
 use Rattle.wasm_grammar.specs.EventRanges.{consumed_by}
 use Rattle.wasm_grammar.specs.FrameEvents.{section_event, body_events, code_events, KindEvents, FrameEvents, FramesEvents}
 use Rattle.wasm_grammar.specs.Reading.{Event}
-use Rattle.wasm_grammar.specs.Shifted.{shifted_event, shifted_events}
+use Rattle.wasm_grammar.specs.Shifted.{shifted_events}
 use Rattle.wasm_grammar.specs.declared.encoding.Encoding.{Encoding}
 use Rattle.wasm_parser.proofs.ForCallers.{frames_read_the_same, custom_has_its_id}
 use Rattle.wasm_feed.specs.Stripped.{frame_stays, event_stays, kept_bytes, staying, IsMovedBack}
@@ -30,13 +30,6 @@ StaysOrGoes keeps f events =
     ((frame_stays keeps f ≡ true) × AllStay keeps events × (consumed_by events ≡ frame_bytes f))
     ⊎ ((frame_stays keeps f ≡ false) × (e : Event) × (events ≡ e ∷ []) × (event_stays keeps e ≡ false) × (e.consumed ≡ frame_bytes f))
 
--- a section with another id than 0 stays
-other_stays : (keeps : List ℕ → Bool) (f : SectionFrame) → (f.id ≡ custom_id → ⊥) → frame_stays keeps f ≡ true
-other_stays keeps f n = grind (arith, false_from_ne_true, eqb-true)
-
-custom_zero : (encoding : Encoding) (id : ℕ) (k : Kind) → kind_of encoding id ≡ k → id ≡ custom_id → k ≡ whole custom
-custom_zero encoding id k e z = grind arith
-
 custom_at : (keeps : List ℕ → Bool) (features at : ℕ) (f : SectionFrame) (text : List ℕ) (used : ℕ) → name (Some name_limit) f.sized.content
     ≡ named text used → f.id ≡ custom_id → (b : Bool) → keeps text ≡ b
     → StaysOrGoes keeps f (section_event features at custom f ∷ [])
@@ -51,7 +44,7 @@ custom_frame keeps features at f text used e z = custom_at keeps features at f t
 form_at : (keeps : List ℕ → Bool) (features at : ℕ) (encoding : Encoding) (f : SectionFrame) (form : Form)
     → kind_of encoding f.id ≡ whole form
     → IsFormed form f.sized.content → StaysOrGoes keeps f (section_event features at form f ∷ [])
-form_at keeps features at encoding f form k g = grind (arith, custom_frame, custom_has_its_id, other_stays, custom_zero, append-nil)
+form_at keeps features at encoding f form k g = grind (arith, custom_frame, custom_has_its_id, append-nil, false_from_ne_true, eqb-true)
 
 bodies_stay : (keeps : List ℕ → Bool) (features at : ℕ) (bodies : List Sized) → AllStay keeps (body_events features at bodies)
 bodies_stay keeps features at [] = tt
@@ -71,7 +64,7 @@ kind_at : (keeps : List ℕ → Bool) (features at : ℕ) (encoding : Encoding) 
 kind_at keeps features at encoding f (whole form) events k g e = rw e (form_at keeps features at encoding f form k g)
 kind_at keeps features at encoding f code events k g (d, e) =
     rw e (inl (
-      grind (arith, other_stays, custom_zero),
+      grind arith,
       (search bodies_stay),
       code_consumed features at f d,
     ))
@@ -88,9 +81,7 @@ stay_first : (keeps : List ℕ → Bool) (dropped : ℕ) (here : List Event) (re
     → AllZip IsMovedBack (staying keeps dropped rest) kept
     → AllZip IsMovedBack (staying keeps dropped (shifted_events dropped here ++ rest)) (here ++ kept)
 stay_first keeps dropped [] rest kept s z = z
-stay_first keeps dropped (e ∷ here) rest kept s z =
-    let b : event_stays keeps (shifted_event dropped e) ≡ true = s.0 in
-    rw b (refl, stay_first keeps dropped here rest kept s.1 z)
+stay_first keeps dropped (e ∷ here) rest kept s z = grind (arith, stay_first keeps dropped here rest kept s.1 z)
 
 -- the bytes of events that stay
 stay_bytes : (keeps : List ℕ → Bool) (events : List Event) → AllStay keeps events → filter (event_stays keeps) events ≡ events
@@ -127,7 +118,6 @@ kept_stays : (keeps : List ℕ → Bool) (features : ℕ) (encoding : Encoding) 
     → KeptOf keeps features encoding at dropped (f ∷ frames) (first ++ more) rest kept
 kept_stays keeps features encoding at dropped f frames first more rest kept h s a c t =
     let (here, e, m) = ((frames_read_the_same encoding [] [] f refl).1 features at dropped first).0 h in
-    let m' : first ≡ shifted_events dropped here = m in
     record {
       others = here ++ t.others;
       sections = rw s (here, t.others, refl, e, t.sections);

@@ -17,17 +17,11 @@ module _ (bytes part : List ℕ) (kept start end : ℕ) (order : kept ≤ start)
   fits : length part ≤ length (drop start bytes)
   fits = grind (arith, length-append)
 
-  same_size : start + length part - start ≡ length part
-  same_size = omega arith
-
-  moved_front : take (kept + length part) moved ≡ take kept bytes ++ part
-  moved_front = grind (arith, same_size, take-paste, fits, take_at)
-
   later : (xs : List ℕ) → drop end xs ≡ drop (start - kept) (drop (kept + length part) xs)
   later xs = ap (λ (n : ℕ). drop n xs) (omega (arith, order, size)) ∙ sym (drop-drop (start - kept) (kept + length part) xs)
 
   moved_rest : drop end moved ≡ drop end bytes
-  moved_rest = grind (arith, same_size, later, drop-paste, fits)
+  moved_rest = grind (arith, later, drop-paste, fits)
 
 -- bytes that are moved to where they are
 pub stays_there : (bytes : List ℕ) (start size to : ℕ) → to ≡ start → copy_within bytes start (start + size) to ≡ bytes
@@ -56,4 +50,4 @@ pub moves_on : (keeps : List ℕ → Bool) (stream bytes items part : List ℕ) 
     → items ≡ copy_within bytes (new.mark - length part) (new.mark - length part + length part) kept
     → HasKept keeps stream (feed_of bytes new) (take kept bytes ++ part)
     → HasKept keeps stream (feed_of items new) (take (kept + length part) items)
-moves_on keeps stream bytes items part kept old new before at i (events, a, b) = grind (arith, moved_rest, moved_front)
+moves_on keeps stream bytes items part kept old new before at i (events, a, b) = grind (arith, moved_rest, take-paste, fits, take_at)

@@ -12,7 +12,7 @@ use Rattle.wasm_parser.specs.ParserState.{ParserState, initial_state}
 use Rattle.wasm_parser.specs.Along.{Along, Came}
 use Rattle.wasm_feed.specs.Feed.{Feed}
 use Rattle.wasm_feed.specs.Step.{answer_of, Steps}
-use Rattle.wasm_feed.specs.Stripped.{event_stays, kept_bytes, EndsWithFault}
+use Rattle.wasm_feed.specs.Stripped.{kept_bytes, EndsWithFault}
 use Rattle.wasm_feed.specs.Strips.{IsFateOf, FateComes, IsFewer, HasKept, ReadsKept}
 use Rattle.wasm_feed.specs.declared.feeder.Step.TheVariants.{Parsed}
 use Rattle.wasm_feed.specs.declared.stripping.Fate.{Fate}
@@ -46,7 +46,6 @@ module _ (keeps : List ℕ → Bool) (stream : List ℕ) (events : List Event) (
       → IsFateOf keeps (report_of payload) fate → FateComes keeps stream events bytes.now fate g
   part_comes bytes payload End s i =
       let u : Came 0 all_features true stream events bytes.now payload g.state g.held = came bytes payload s in
-      let (offset, last) = u.last i in
       grind arith
   part_comes bytes payload _ s i =
       let u : Came 0 all_features true stream events bytes.now payload g.state g.held = came bytes payload s in
@@ -69,20 +68,14 @@ nothing_left keeps stream f s h = (
   refl,
 )
 
-one_stays : (keeps : List ℕ → Bool) (e : Event) → event_stays keeps e ≡ true → kept_bytes keeps (e ∷ []) ≡ e.consumed
-one_stays keeps e s = rw s (append-nil e.consumed)
-
-one_goes : (keeps : List ℕ → Bool) (e : Event) → event_stays keeps e ≡ false → kept_bytes keeps (e ∷ []) ≡ []
-one_goes keeps e s = rw s refl
-
 module _ (keeps : List ℕ → Bool) (stream kept : List ℕ) (f g : Feed) (h : HasKept keeps stream f kept) where
   -- a part that stays
   pub stays_kept : (bytes : List ℕ) → FateComes keeps stream h.0 bytes Stays g → HasKept keeps stream g (kept ++ bytes)
-  stays_kept bytes (e, (s, a), c) = grind (arith, one_stays, kept_more)
+  stays_kept bytes (e, (s, a), c) = grind (arith, kept_more, append-nil)
 
   -- a part that is dropped
   pub goes_kept : (bytes : List ℕ) → FateComes keeps stream h.0 bytes Goes g → HasKept keeps stream g kept
-  goes_kept bytes (e, (s, a)) = (search (append-nil, one_goes, kept_more))
+  goes_kept bytes (e, (s, a)) = (grind (arith, append-nil, kept_more))
 
   -- the end
   pub all_kept : (bytes : List ℕ) → FateComes keeps stream h.0 bytes End g → ReadsKept keeps stream kept

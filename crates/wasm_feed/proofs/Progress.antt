@@ -20,7 +20,7 @@ use Rattle.wasm_lines.specs.Listing.{listing_by}
 use Rattle.wasm_feed.specs.Lists.{IsEndedBy, IsWhole, IsListed, Begins, IsHead, Fills, Refills, ListsBy}
 use Rattle.wasm_feed.specs.Progress.{weight, Progress, Wants}
 use Rattle.wasm_lines.specs.Page.{WritesHead, IsCut, PutsBytes}
-use Rattle.wasm_feed.specs.Step.{chunk_of, answer_of, Stepped, Steps}
+use Rattle.wasm_feed.specs.Step.{chunk_of, Stepped, Steps}
 use Rattle.wasm_feed.specs.Turns.{text_after, turn_after}
 use Rattle.wasm_feed.specs.declared.feeder.Step.{Step}
 use Rattle.wasm_feed.specs.declared.feeder.Step.TheVariants.{NeedMoreData, Parsed}
@@ -98,10 +98,6 @@ module _ (text_of : Report → List ℕ) where
     parts = grind (arith, listing-append, append_assoc);
   }
 
-  -- a page of which a prefix was written
-  cut_page : (lines page moved unwritten : List ℕ) → page ≡ moved ++ unwritten → lines ++ page ≡ (lines ++ moved) ++ unwritten
-  cut_page lines page moved unwritten e = ap (λ (x : List ℕ). lines ++ x) e ∙ sym (append_assoc lines moved unwritten)
-
   -- a run that ends with this line, after these events
   record AtEnd (given : List ℕ) (events : List Event) (eof : Bool) (line : List ℕ) (how : Ended) : Type 0 where
     end : Ending
@@ -152,7 +148,7 @@ module _ (text_of : Report → List ℕ) where
       gave = p.gave;
       listed = search Appends-trans;
       begins = λ l. begins_listing p.given p.events (p.lines ++ w.moved) w.unwritten begins_here
-          (grind (arith, cut_page));
+          (grind (arith, append_assoc));
     }
 
     pub cut : (written' : Option (List ℕ)) (e : ListError) → IsCut written written' page e
@@ -247,8 +243,7 @@ module _ (text_of : Report → List ℕ) where
                 at_end = λ e. p.at_end (sym s.eof ∙ e);
                 lines = p.lines ++ w.moved;
                 listed = search Appends-trans;
-                parts = p.parts ∙ (ap (λ (z : List ℕ). p.lines ++ z) (sym (append-nil page) ∙ w.waits)
-                    ∙ sym (append_assoc p.lines w.moved page'));
+                parts = grind (arith, append-nil, append_assoc);
               };
               hint = hint;
               undecided = rw s.eof u;
@@ -288,11 +283,7 @@ module _ (text_of : Report → List ℕ) where
             same = refl;
             ends = rw is_it refl;
             within = λ l. (stepped (Err e) s l).0;
-            past_the_top = λ h.
-                let z = answers_go_along.past_the_top f.state g.state f.eof f.held (answer_of (Err e)) s.parses
-                (omega (arith, h, ends_at)) in
-                let y : fault_at e ≡ at_offset OffsetRange f.state.offset = cc in
-                ap fault y ∙ ap (λ (o : ℕ). fault (at_offset OffsetRange o)) passed;
+            past_the_top = grind (arith, ends_at, passed);
           }
 
     -- ---- the end
@@ -330,7 +321,7 @@ module _ (text_of : Report → List ℕ) where
                 (whole_begins 0 all_features true p.given (p.events ++ last_event a.end ∷ [])
                 (λ stream m. subst (λ (y : List ℕ). Reading y 0 all_features (p.events ++ last_event a.end ∷ [])) (sym m)
                 (grind (arith, all_given))) p.given refl)
-                (grind (arith, cut_page));
+                (grind (arith, append_assoc));
           }
 
       pub end_cut : (how : Ended) → turn.End how ≡ turn_after x → (written'' : Option (List ℕ)) (e : ListError)
@@ -368,19 +359,7 @@ module _ (text_of : Report → List ℕ) where
     pub filled : (rest' : Option (List ℕ)) (g : Feed) → Fills rest rest' f g
         → Progress text_of (from_to source rest') (from_to taken written) g []
         × (weight g < weight f)
-    filled rest' g (inl (none, at_end, is)) = rw is (
-      record {
-        given = p.given;
-        events = p.events;
-        is_along = p.is_along;
-        gave = subst (Consumes source rest') (append-nil p.given) (Consumes-trans source rest rest' p.given [] p.gave none);
-        at_end = λ _. at_end;
-        lines = p.lines;
-        listed = p.listed;
-        parts = p.parts;
-      },
-      rw wants.undecided.0 (omega arith),
-    )
+    filled rest' g (inl (none, at_end, is)) = grind arith
     filled rest' g (inr (piece, gave, some, is)) = rw is (
       record {
         given = p.given ++ piece;

@@ -1,26 +1,24 @@
 -- A stripped stream is accepted, and is read as the stream is but for what was dropped.
 use Rattle.std.proofs.Common.{◌≡◌, ℕ, ◌+◌, ◌<◌, ◌≤◌, ◌^◌, ◌⊎◌, inl, inr, Bool, true, false, cond, List, [], ◌∷◌, ◌++◌, length}
-use Rattle.std.proofs.Common.{take, Result, Ok, Err, refl, ap, ◌∙◌, arith, length-append, eqb-true}
+use Rattle.std.proofs.Common.{take, Result, Ok, Err, refl, ◌∙◌, arith, length-append, eqb-true}
 use Rattle.std.specs.List.{All, filter, flat_map}
 use Rattle.std.proofs.lemmas.List.Elements.{All-append, All-tail}
 use Rattle.wasm_base.specs.FaultAt.{fault_at}
 use Rattle.wasm_base.specs.Owned.{out_of_memory}
 use Rattle.wasm_base.specs.declared.error.Error.{Error}
-use Rattle.wasm_grammar.specs.Accepted.{header_bytes, SectionFrame, frame_bytes, frame_rank, IsFrame, IsAccepted}
+use Rattle.wasm_grammar.specs.Accepted.{header_bytes, SectionFrame, frame_bytes, IsFrame, IsAccepted}
 use Rattle.wasm_grammar.specs.Content.{Ending, fault, ended}
 use Rattle.wasm_grammar.specs.FrameEvents.{header_event, TellsFrames}
 use Rattle.wasm_grammar.specs.Grammar.{Tile}
-use Rattle.wasm_grammar.specs.Reading.{stream_end, Event, last_event, Reads, Reading, Stream}
-use Rattle.wasm_grammar.specs.Shifted.{shifted_event}
+use Rattle.wasm_grammar.specs.Reading.{Event, last_event, Reads, Reading, Stream}
 use Rattle.wasm_grammar.specs.declared.encoding.Encoding.{Encoding}
 use Rattle.wasm_parser.proofs.ForCallers.{reads_accepted, fault_ends, rankless_may_go, one_division, frames_give_events}
 use Rattle.wasm_grammar.proofs.PlainLists.{all_prefix, Spares, filter_twice, each_of}
 use Rattle.wasm_feed.specs.Stripped.{frame_stays, stripped, AreKept, IsStripped, EndsWithFault, RefusesToStrip, LeavesStream}
 use Rattle.wasm_feed.specs.Stripped.{StripsToFront, StrippingTwiceIsOnce}
 use Rattle.wasm_feed.specs.Strips.{MovesKept, ReadsKept}
-use Rattle.wasm_feed.proofs.KeptFrames.{bytes_of_frames, KeptOf, KeptAfter, kept_of}
+use Rattle.wasm_feed.proofs.KeptFrames.{bytes_of_frames, KeptOf, kept_of}
 use Rattle.wasm_base.specs.Features.{all_features}
-use Rattle.wasm_grammar.specs.Ids.{custom_id}
 
 -- ---- how a reading ends
 
@@ -31,18 +29,13 @@ push_same [] (b ∷ c ∷ ys) x y e = let z : [] ≡ c ∷ (ys ++ y ∷ []) = cc
 push_same (a ∷ []) [] x y e = let z : x ∷ [] ≡ [] = cc in cc
 push_same (a ∷ c ∷ xs) [] x y e = let z : c ∷ (xs ++ x ∷ []) ≡ [] = cc in cc
 push_same (a ∷ xs) (b ∷ ys) x y e =
-    let h : a ≡ b = cc in
     let t : xs ++ x ∷ [] ≡ ys ++ y ∷ [] = cc in
-    let (p, q) = push_same xs ys x y t in
-    grind arith
-
-end_same : (a b : Ending) → last_event a ≡ last_event b → a ≡ b
-end_same a b e = let z : stream_end a ≡ stream_end b = ap (λ (x : Event). x.report) e in cc
+    grind (arith, push_same xs ys x y t)
 
 -- a reading whose last event reports this ending ends so
 ends_so : (stream : List ℕ) (events : List Event) (end : Ending) → Reading stream 0 all_features (events ++ last_event end ∷ [])
     → (tiles : List Tile) × Reads stream 0 tiles end
-ends_so stream events end r = grind (arith, push_same, end_same)
+ends_so stream events end r = grind (arith, push_same)
 
 -- a stream that is read up to its end is accepted
 accepted_of : (keeps : List ℕ → Bool) (stream kept : List ℕ) → Stream stream 0 → ReadsKept keeps stream kept → IsAccepted stream
@@ -111,37 +104,19 @@ stream_kept keeps stream a s =
       fits = omega (arith, f, n, length_kept (frame_stays keeps) a.frames, length-append h (bytes_of_frames keeps a.frames));
     }
 
--- a custom section has no rank
-custom_rank : (encoding : Encoding) (f : SectionFrame) → f.id ≡ custom_id → frame_rank encoding f ≡ 0
-custom_rank encoding f z = grind arith
-
--- a section with a rank stays
-ranked_stays : (keeps : List ℕ → Bool) (encoding : Encoding) (f : SectionFrame) → 0 < frame_rank encoding f → frame_stays keeps f ≡ true
-ranked_stays keeps encoding f r = grind (arith, custom_rank, eqb-true)
-
 -- an accepted stream is accepted when stripped, with the sections that stay
 pub accepted_kept : (keeps : List ℕ → Bool) (stream : List ℕ) (a : IsAccepted stream)
     → (b : IsAccepted (stripped keeps a.encoding a.frames)) × (b.encoding ≡ a.encoding) × (b.frames ≡ filter (frame_stays keeps) a.frames)
-accepted_kept keeps stream a = search (rankless_may_go, each_of, ranked_stays)
+accepted_kept keeps stream a = grind (arith, rankless_may_go, each_of, eqb-true)
 
 -- ---- how it is read
-
-header_stays : (encoding : Encoding) → header_event 0 encoding ≡ shifted_event 0 (header_event 0 encoding)
-header_stays encoding = grind arith
-
--- the end is moved back by all that was dropped
-end_left : (keeps : List ℕ → Bool) (encoding : Encoding) (frames : List SectionFrame)
-    → KeptAfter keeps (0 + length (header_bytes encoding)) 0 frames
-    (last_event (ended (0 + length (header_bytes encoding ++ flat_map frame_bytes frames))) ∷ [])
-    (last_event (ended (0 + length (header_bytes encoding ++ bytes_of_frames keeps frames))) ∷ [])
-end_left keeps encoding frames total e = grind (arith, bytes_of_frames, length-append)
 
 kept_here : (keeps : List ℕ → Bool) (features : ℕ) (encoding : Encoding) (frames : List SectionFrame) (events : List Event)
     → All (IsFrame encoding) frames → (t : TellsFrames 0 features encoding frames events)
     → KeptOf keeps features encoding (0 + length (header_bytes encoding)) 0 frames t.inner
     (last_event (ended (0 + length (header_bytes encoding ++ flat_map frame_bytes frames))) ∷ [])
     (last_event (ended (0 + length (header_bytes encoding ++ bytes_of_frames keeps frames))) ∷ [])
-kept_here keeps features encoding frames events a t = grind (arith, kept_of, end_left)
+kept_here keeps features encoding frames events a t = grind (arith, kept_of)
 
 -- it is read as the stream, but for what was dropped
 read_kept : (keeps : List ℕ → Bool) (stream : List ℕ) (a : IsAccepted stream) → Stream stream 0 → (features : ℕ) (events : List Event)
@@ -158,7 +133,7 @@ read_kept keeps stream a s features events r =
       others,
       (frames_give_events (stripped keeps a.encoding a.frames) 0 features others (stream_kept keeps stream a s) b).1
           (grind arith),
-      grind (arith, header_stays),
+      grind arith,
     )
 
 -- the stream is stripped

@@ -68,14 +68,4 @@ idle_over : (f g : Feed) (piece : List ℕ) (x : Result Step Error) (taken : ℕ
 idle_over f g piece x taken w goes some decides l s = grind arith
 
 pub feeders_wait : FeedersWait
-feeders_wait = record {
-  begins = begins;
-  pushes = pushes;
-  finishes = finishes;
-  steps = steps;
-  steps_over = steps_over;
-  past_the_top = past_the_top;
-  bounded = bounded;
-  bounded_over = bounded_over;
-  idle_over = idle_over;
-}
+feeders_wait = search (begins, pushes, finishes, steps, steps_over, past_the_top, bounded, bounded_over, idle_over)

@@ -51,65 +51,36 @@ pushed start features given p held events piece a = record {
 
 pub whole_begins : (start features : ℕ) (eof : Bool) (given : List ℕ) (events : List Event) → ReadsEach start features eof given events
     → BeginsEach start features eof given events
-whole_begins start features eof given events r stream m = record {
-  events = events;
-  more = [];
-  reading = r stream m;
-  begins = sym (append-nil events);
-}
+whole_begins start features eof given events r stream m = grind (arith, begins, append-nil)
 
 may_be : (eof : Bool) (given stream : List ℕ) → MayBe eof given stream → (more : List ℕ) × (stream ≡ given ++ more)
-may_be true given stream m = ([], m ∙ sym (append-nil given))
-may_be false given stream m = m
+may_be eof given stream m = grind (arith, append-nil)
 
 -- where the parser is, by what it passed
 module _ (start features : ℕ) (given : List ℕ) (p : ParserState) (held : List ℕ) (events : List Event)
     (a : Along start features given p held events) where
   -- the stored bytes end where the bytes so far do
   pub ends_at : p.offset + length held ≡ start + length given
-  ends_at =
-      let o : p.offset ≡ start + length a.prefix = a.is_after.offset in
-      let n : length given ≡ length a.prefix + length held = ap (λ (x : List ℕ). length x) a.whole ∙ length-append a.prefix held in
-      omega (arith, o, n)
+  ends_at = grind (arith, length-append)
 
   verdict_same : (rest : List ℕ) → verdict (grammar_of p) rest ≡ verdict (grammar start a.is_after.tiles) rest
   verdict_same rest = ap (λ (g : Grammar). verdict g rest) (grammar_same p start a.prefix a.is_after)
 
-  -- a stream of which the bytes so far are a prefix
-  from_here : (stream more : List ℕ) → stream ≡ given ++ more → stream ≡ bytes_of a.is_after.tiles ++ (held ++ more)
-  from_here stream more e =
-      e ∙ (ap (λ (x : List ℕ). x ++ more) a.whole ∙ (append_assoc a.prefix held more
-      ∙ ap (λ (x : List ℕ). x ++ (held ++ more)) (sym a.is_after.is_prefix)))
-
   -- its reading, where no tile comes next
   reading_here : (stream more : List ℕ) (end : Ending) → stream ≡ given ++ more → verdict (grammar_of p) (held ++ more) ≡ final end
       → Reading stream start features (events ++ last_event end ∷ [])
-  reading_here stream more end e v = record {
-    tiles = a.is_after.tiles;
-    end = end;
-    reads = record {
-      rest = held ++ more;
-      whole = from_here stream more e;
-      faultless = a.is_after.faultless;
-      stops = sym (verdict_same (held ++ more)) ∙ v;
-    };
-    listed = ap (λ (x : List Event). x ++ last_event end ∷ []) a.listed;
-  }
+  reading_here stream more end e v = grind (arith, verdict_same, append_assoc)
 
   begins_with : (stream more : List ℕ) → stream ≡ given ++ more → ReadingBegins start features stream events
   begins_with stream more e =
-      let o : Onward stream start a.is_after.tiles = onward stream start a.is_after.tiles (held ++ more) a.is_after.faultless
-      (from_here stream more e) in
+      let o : Onward stream start a.is_after.tiles = grind (arith, onward, append_assoc) in
       let m : MoreEvents (events_of start features a.is_after.tiles) (events_of start features (o.later ++ a.is_after.tiles)) =
       events_later start features o.later a.is_after.tiles in
       record {
         events = events_of start features o.tiles ++ last_event o.end ∷ [];
         more = m.more ++ last_event o.end ∷ [];
         reading = record { tiles = o.tiles; end = o.end; reads = o.reads; listed = refl };
-        begins = ap (λ (x : List Tile). events_of start features x ++ last_event o.end ∷ []) o.begins
-            ∙ (ap (λ (x : List Event). x ++ last_event o.end ∷ []) m.parts
-            ∙ (append_assoc (events_of start features a.is_after.tiles) m.more (last_event o.end ∷ [])
-            ∙ ap (λ (x : List Event). x ++ (m.more ++ last_event o.end ∷ [])) (sym a.listed)));
+        begins = grind (arith, append_assoc);
       }
 
   -- the events so far
@@ -119,9 +90,7 @@ module _ (start features : ℕ) (given : List ℕ) (p : ParserState) (held : Lis
   -- where no tile comes next, nor will
   decides : (eof : Bool) → (eof ≡ true) ⊎ (waiting (grammar_of p) held ≡ enough) → (stream : List ℕ) → MayBe eof given stream
       → (more : List ℕ) × (stream ≡ given ++ more) × (verdict (grammar_of p) (held ++ more) ≡ verdict (grammar_of p) held)
-  decides true d stream m = ([], m ∙ sym (append-nil given), ap (verdict (grammar_of p)) (append-nil held))
-  decides false (inl e) stream m = cc
-  decides false (inr w) stream m = (m.0, m.1, verdict-more (grammar_of p) held m.0 w)
+  decides eof d stream m = grind (arith, append-nil, verdict-more)
 
   pub reads_each : (eof : Bool) (end : Ending) → (eof ≡ true) ⊎ (waiting (grammar_of p) held ≡ enough) → verdict (grammar_of p) held
       ≡ final end → ReadsEach start features eof given (events ++ last_event end ∷ [])
@@ -166,11 +135,9 @@ module _ (start features : ℕ) (given : List ℕ) (p : ParserState) (held : Lis
       let after : Along start features given (state_after_tile p t) rest (events ++ event_here t ∷ []) = record {
         prefix = a.prefix ++ t.bytes;
         is_after = state_goes_on p start a.prefix a.is_after held t v;
-        whole = a.whole ∙ (ap (λ (x : List ℕ). a.prefix ++ x) (w ∙ ap (λ (x : List ℕ). x ++ rest) b)
-            ∙ sym (append_assoc a.prefix t.bytes rest));
+        whole = grind (arith, append_assoc);
         has_features = a.has_features;
-        listed = ap (λ (x : List Event). x ++ event_here t ∷ []) a.listed
-            ∙ ap (events_of start features) (sym (state_goes_on-tiles p start a.prefix a.is_after held t v));
+        listed = grind (arith, state_goes_on-tiles);
       } in (
         subst (λ (x : ParserState). Along start features given x rest (events ++ event_here t ∷ [])) (sym s) after,
         sym b,
@@ -218,8 +185,7 @@ module _ (start features : ℕ) (given : List ℕ) (p : ParserState) (held : Lis
       ≡ taken_by x
       → GoesAlong start features eof given events x bytes new rest
   answered eof (Ok (NeedMoreData hint)) bytes new rest v d e r w n = absurd (asks_never p new hint v r)
-  answered eof (Ok (Parsed consumed payload)) bytes new rest (tile t) d e r w n =
-      tile_came eof t bytes rest payload new e (n ∙ r.0) w r.2 r.1
+  answered eof (Ok (Parsed consumed payload)) bytes new rest (tile t) d e r w n = grind (arith, tile_came)
   answered eof (Ok (Parsed consumed payload)) bytes new rest (final (ended offset)) d e r w n =
       end_came eof offset bytes rest payload new d e (n ∙ r.0) r.1
   answered eof (Ok (Parsed consumed payload)) bytes new rest (final (fault f)) d e r w n = absurd r
@@ -302,8 +268,7 @@ answers_go_along = record {
   more = pushed;
   ends = ends_at;
   first = λ start features given p held events eof a. events_begin start features given p held events a eof;
-  answers = λ start features given p held events eof answer bytes new rest a l r w n.
-      goes_along start features given p held events a eof answer bytes new rest l r w n;
+  answers = search goes_along;
   cut_short = λ start features given p held events eof hint a u. undecided_ends start features given p held events a eof hint u;
   consumed = consumed;
   consumes = consumes;

@@ -1,6 +1,6 @@
 -- How far a call of the parser, and a walk over a whole stream, go.
 use Rattle.std.proofs.Common.{◌≡◌, ℕ, ◌+◌, ◌<◌, ◌≤◌, ◌^◌, Bool, true, false, cond, List, ◌++◌, length, Result, Ok, Err, nat_eq}
-use Rattle.std.proofs.Common.{nat_lt, ltb-false, refl, ap, ◌∙◌, arith, length-append, inl, inr}
+use Rattle.std.proofs.Common.{nat_lt, ltb-false, refl, arith, length-append, inl, inr}
 use Rattle.std.specs.Prelude.{◌⊎◌}
 use Rattle.wasm_base.specs.declared.error.Error.{Error}
 use Rattle.wasm_parser.specs.ParseAnswer.{report_of, is_end, Consumes, AsksForSome, IsRequest, ParseAnswer, FaultsWithin, IsUnchanged}
@@ -34,9 +34,7 @@ takes_at true p xs t e =
     let c : Cut (header_grammar p.offset) xs t = search (verdict-cut, Guarded-header) in
     record { some = least_header p.offset xs t e; rest = c.rest; split = c.split }
 takes_at false p xs t e =
-    let b : Bool = nat_eq (p.bodies + p.code_bytes) 0 in
-    let c : Cut (inside (known_context p) p.bodies p.code_bytes p.offset) xs t =
-    search (verdict-cut, Guarded-inside_at) in
+    let c : Cut (inside (known_context p) p.bodies p.code_bytes p.offset) xs t = search (verdict-cut, Guarded-inside_at) in
     search least_inside
 
 pub tile_takes : (p : ParserState) (xs : List ℕ) (t : Tile) → verdict (grammar_of p) xs ≡ tile t → Takes xs t
@@ -64,18 +62,12 @@ consumes_at : (p new : ParserState) (rest : List ℕ) (consumed : ℕ) (payload 
     → (consumed ≤ length rest) × (nat_eq consumed 0 ≡ is_end (report_of payload))
 consumes_at p new rest consumed payload (tile t) e a =
     let k : Takes rest t = tile_takes p rest t e in
-    let n : length rest ≡ length t.bytes + length k.rest = ap (λ (x : List ℕ). length x) k.split ∙ length-append t.bytes k.rest in
-    grind (arith, not_zero, goes_on)
+    grind (arith, length-append, not_zero, goes_on)
 consumes_at p new rest consumed payload (final (fault f)) e a = absurd a
 consumes_at p new rest consumed payload (final (ended o)) e a = grind arith
 
--- what the calls of a parser consume
-consumes_any : (p new : ParserState) (rest : List ℕ) (r : Result Chunk Error) → Answers p (verdict (grammar_of p) rest) r new
-    → Consumes rest r
-consumes_any p new rest r a = grind (arith, consumes_at)
-
 consumes_on : (p new : ParserState) (eof : Bool) (rest : List ℕ) (r : Result Chunk Error) → IsOn p eof rest r new → Consumes rest r
-consumes_on p new eof rest r h = grind (arith, consumes_any)
+consumes_on p new eof rest r h = grind (arith, consumes_at)
 
 consumes_by : (b : Bool) (p new : ParserState) (eof : Bool) (rest : List ℕ) (r : Result Chunk Error)
     → nat_lt (p.offset + length rest) (2 ^ 64) ≡ b → ParseAnswer p eof rest r new → Consumes rest r

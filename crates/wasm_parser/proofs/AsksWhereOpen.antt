@@ -34,7 +34,6 @@ asks_at p new start front came r s t l (wants need hint) w a = grind (arith, two
 pub asks_where_open : (p new : ParserState) (eof : Bool) (came : List ℕ) (r : Result Chunk Error) → ParseAnswer p eof came r new
     → AsksWhereOpen p eof came r
 asks_where_open p new eof came r h e start front s t l =
-    let o : p.offset ≡ start + length front = s.offset in
     let n : length (front ++ came) ≡ length front + length came = length-append front came in
     let a : AnswersOn false (waiting (grammar_of p) came) p (verdict (grammar_of p) came) r new =
     grind (arith, AnswersOn, as_table) in

@@ -42,7 +42,6 @@ pub code_short : (context : SectionContext) (size : ℕ) (p q : Place) (count : 
     → hint_of e ≡ None → ReadsByGrammar (code_grammar context p.offset size) p (Err e) a
 code_short context size p q count e a h l f hint =
     let m : ReadNumber p count q = read_number p count q h in
-    let o : q.offset ≡ p.offset + m.used = ap (λ (x : Place). x.offset) m.after in
     let w : when (nat_lt size m.used) (at_offset UnexpectedEof p.offset)
     ≡ Some (fault_at e) = grind arith in
     search (report_number, report_wrong)
@@ -72,10 +71,6 @@ pub code_read : (context : SectionContext) (size : ℕ) (p q : Place) (count : �
     → ReadsByGrammar (code_grammar context p.offset size) p (Ok payload) q
 code_read context size p q count payload h l w report =
     let m : ReadNumber p count q = read_number p count q h in
-    let o : q.offset ≡ p.offset + m.used = ap (λ (x : Place). x.offset) m.after in
-    let from : p.offset ≡ p.offset + m.used - m.used = omega arith in
-    let to : p.offset + size ≡ p.offset + m.used + (size - m.used) = omega arith in
-    let code_bytes : p.offset + size - q.offset ≡ size - m.used = omega arith in
     let said : IsPayload (code_start count (p.offset + m.used - m.used) (p.offset + m.used + (size - m.used)) (size - m.used)) payload =
     grind arith in
     counted_right context size p q count (Ok payload) q m l (λ s.
@@ -180,7 +175,6 @@ body_read bodies code_bytes p q size w b payload l h past k report =
     let m : ReadNumber p size q = read_number p size q h in
     let c : HasContent size (advanced m.used p) w b = body_content p q size w b m k in
     let n : length (take size (drop m.used p.rest)) ≡ size = length-take-le size (drop m.used p.rest) c.there in
-    let from : p.offset + m.used ≡ p.offset + m.used + size - length (take size (drop m.used p.rest)) = omega arith in
     let said : IsPayload (code_entry (window_over p.features (p.offset + m.used + size - length (take size (drop m.used p.rest)))
     (take size (drop m.used p.rest)))) payload = grind arith in
     body_sized bodies code_bytes p q size false (Ok payload) b m l past

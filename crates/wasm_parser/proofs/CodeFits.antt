@@ -1,5 +1,5 @@
 -- A code section that is begun ends below the top of the offsets.
-use Rattle.std.proofs.Common.{◌≡◌, ℕ, ◌+◌, ◌^◌, ◌<◌, Bool, true, false, cond, List, [], ◌∷◌, ◌++◌, length, take, drop}
+use Rattle.std.proofs.Common.{◌≡◌, ℕ, ◌+◌, ◌^◌, ◌<◌, Bool, true, false, cond, List, [], ◌∷◌, length, take, drop}
 use Rattle.std.proofs.Common.{None, nat_le, refl, arith, length-append, leb-true}
 use Rattle.std.proofs.lemmas.List.{length-take-le}
 use Rattle.wasm_base.specs.Number.{Number, read, number}
@@ -29,10 +29,7 @@ AllFit here (section_start o e next) = (id : ℕ) → AllFit (here + 1) (next id
 
 fits_after : (here k : ℕ) (f : List ℕ) (v : Verdict) (t : Tile) → length f ≡ k
     → ((s : Tile) → v ≡ tile s → Fits (here + k + length s.bytes) s.shape) → after f v ≡ tile t → Fits (here + length t.bytes) t.shape
-fits_after here k f v t l h e =
-    let (s, r, q) = after-tile f v t e in
-    let n : here + k + length s.bytes ≡ here + length (f ++ s.bytes) = omega (arith, l, length-append f s.bytes) in
-    grind arith
+fits_after here k f v t l h e = grind (arith, after-tile, length-append)
 
 fits_number : (here o : ℕ) (xs : List ℕ) (next : ℕ → ℕ → Verdict) (t : Tile)
     → ((v k : ℕ) (s : Tile) → next v k ≡ tile s → Fits (here + k + length s.bytes) s.shape)
@@ -76,12 +73,9 @@ body_fits : (m l o : ℕ) → AllFit o (body_grammar m l o)
 unfolding body_grammar
 body_fits m l o = grind arith
 
-inside_fits : (b : Bool) (p : SectionContext) (m l o : ℕ) → AllFit o (cond b (section_grammar p o) (body_grammar m l o))
-inside_fits b p m l o = grind (arith, section_fits, body_fits)
-
 parser_fits : (h : Bool) (p : ParserState) → AllFit p.offset (cond h (header_grammar p.offset)
     (inside (known_context p) p.bodies p.code_bytes p.offset))
-parser_fits h p = grind (arith, header_fits, inside_fits)
+parser_fits h p = grind (arith, header_fits, section_fits, body_fits)
 
 -- what a tile begins that comes next ends below the top
 pub tile_fits : (p : ParserState) (xs : List ℕ) (t : Tile) → verdict (grammar_of p) xs ≡ tile t → Fits (p.offset + length t.bytes) t.shape

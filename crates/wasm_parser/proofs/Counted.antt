@@ -1,17 +1,17 @@
 -- Contents that are one number, or begin with a count.
-use Rattle.std.proofs.Common.{◌≡◌, ℕ, ◌+◌, ◌<◌, Bool, true, false, List, length, take, drop, Some, None, Ok, Err}
-use Rattle.std.proofs.Common.{nat_lt, nat_eq, refl, sym, ap, subst, ◌∙◌, arith, lt-ltb, le-ltb, length-drop}
+use Rattle.std.proofs.Common.{◌≡◌, ℕ, ◌+◌, ◌<◌, Bool, true, false, List, length, take, Some, None, Ok, Err}
+use Rattle.std.proofs.Common.{nat_eq, subst, ◌∙◌, arith, lt-ltb, le-ltb, length-drop}
 use Rattle.std.proofs.lemmas.List.{length-take-le}
 use Rattle.wasm_base.specs.FaultAt.{FaultAt, fault_at, hint_of, at_offset}
-use Rattle.wasm_base.specs.Number.{Number, read, number, in_window, unsigned_at}
+use Rattle.wasm_base.specs.Number.{Number, number, in_window, unsigned_at}
 use Rattle.wasm_base.specs.Section.{Section}
-use Rattle.wasm_base.specs.Window.{Window, Place, place, advanced, window_over}
+use Rattle.wasm_base.specs.Window.{Window, Place, place, window_over}
 use Rattle.wasm_base.specs.declared.error.Error.{Error}
 use Rattle.wasm_base.specs.declared.fault.Fault.{Fault}
 use Rattle.wasm_base.specs.declared.fault.Fault.TheVariants.{StartContent, DataCountContent, DataCountDiffer}
 use Rattle.wasm_base.specs.declared.fault.NumberKind.TheVariants.{VarU32}
 use Rattle.wasm_parser.specs.ParseAnswer.{counted_by, report_of, BeginsAfterCount, ItemsBegin, IsPayload, ReadsByGrammar}
-use Rattle.wasm_grammar.specs.Content.{items, index, data_count, wrong_number, wrong_single, when, wrong_content, value_of, count_of, Form}
+use Rattle.wasm_grammar.specs.Content.{items, index, data_count, wrong_single, when, wrong_content, value_of, count_of, Form}
 use Rattle.wasm_parser.specs.ReadsPart.{content_at, ReadsSingleNumber, IsCounted, ReadsCounted, is_miscounted_by}
 use Rattle.wasm_grammar.specs.Grammar.{SectionContext, whole_grammar, wrong_data}
 use Rattle.wasm_grammar.specs.Reading.{Report, counted, start_section, data_count_section, section_report}
@@ -20,30 +20,14 @@ use Rattle.wasm_parser.proofs.Framed.{HasContent, has_content, whole_good, whole
 
 -- ---- numbers
 
-number_refused : (p : Place) (f : FaultAt) (n : Number) → in_window p n ≡ Err f → wrong_number p.offset p.rest n ≡ Some f
-number_refused p f n h = grind arith
-
 single_good : (trailing : Fault) (p : Place) (v : ℕ) (q : Place) (n : Number) → in_window p n ≡ Ok (v, q) → length q.rest ≡ 0
     → (wrong_single trailing p.offset p.rest n ≡ None) × (value_of n ≡ v)
-single_good trailing p v q (read w k) h l =
-    let a : ℕ × Place = (w, advanced k p) in
-    let z : a ≡ (v, q) = cc in
-    let r : length (drop k p.rest) ≡ length q.rest = ap (λ (x : ℕ × Place). length x.1.rest) z in
-    let t : nat_lt k (length p.rest) ≡ false = le-ltb k (length p.rest) (omega (arith, length-drop k p.rest)) in
-    (rw t refl, ap (λ (x : ℕ × Place). x.0) z)
-single_good trailing p v q _ h l = cc
+single_good trailing p v q n h l = grind (arith, le-ltb, length-drop)
 
 single_more : (trailing : Fault) (p : Place) (v : ℕ) (q : Place) (f : FaultAt) (n : Number) → in_window p n ≡ Ok (v, q) → 0 < length q.rest
     → f
     ≡ at_offset trailing q.offset → wrong_single trailing p.offset p.rest n ≡ Some f
-single_more trailing p v q f (read w k) h l e =
-    let a : ℕ × Place = (w, advanced k p) in
-    let z : a ≡ (v, q) = cc in
-    let r : length (drop k p.rest) ≡ length q.rest = ap (λ (x : ℕ × Place). length x.1.rest) z in
-    let o : p.offset + k ≡ q.offset = ap (λ (x : ℕ × Place). x.1.offset) z in
-    let t : nat_lt k (length p.rest) ≡ true = lt-ltb k (length p.rest) (omega (arith, length-drop k p.rest)) in
-    cc
-single_more trailing p v q f _ h l e = cc
+single_more trailing p v q f n h l e = grind (arith, lt-ltb, length-drop)
 
 -- ---- the result of a call that reads one number
 
@@ -122,7 +106,6 @@ items_miscounted context id size p w q payload e a h n m f hint =
     let i : HoldsItems id w payload = holds_items id w payload n in
     let k : HasContent size p w q = has_content size p w q h in
     let g = count_read size p w q i.s.count (place i.s.reader) h i.counted.gives in
-    let o : q.offset ≡ p.offset + size = rw k.after in
     let d = data_wrong context id (p.offset + size) (take size p.rest) i.s (report_of payload) true i.report g.1 m in
     whole_miscounted context items id size p w q e a h g.0 (cc) hint
 
@@ -133,8 +116,7 @@ pub items_refused : (context : SectionContext) (id size : ℕ) (p : Place) (w : 
 unfolding unsigned_at wrong_content
 items_refused context id size p w q e a h n hint =
     let k : HasContent size p w q = has_content size p w q h in
-    let at : place w ≡ content_place size p = at_content size p w k.window in
-    whole_bad context items id size p w q e a h (grind (arith, number_refused)) hint
+    whole_bad context items id size p w q e a h (grind arith) hint
 
 -- a form whose content is one number: what is wrong with it, and what is reported of it
 pub record IsSingle (trailing : Fault) (form : Form) (says : (value from to : ℕ) → Report) : Type 0 where
@@ -146,19 +128,11 @@ pub record IsSingle (trailing : Fault) (form : Form) (says : (value from to : �
 
 pub start_single : IsSingle StartContent index start_section
 unfolding wrong_content
-start_single = record {
-  wrong = λ offset content. refl;
-  counts = λ context id offset content. refl;
-  report = λ features from to id content. refl;
-}
+start_single = grind arith
 
 pub data_count_single : IsSingle DataCountContent data_count data_count_section
 unfolding wrong_content
-data_count_single = record {
-  wrong = λ offset content. refl;
-  counts = λ context id offset content. refl;
-  report = λ features from to id content. refl;
-}
+data_count_single = grind arith
 
 module _ (trailing : Fault) (form : Form) (says : (value from to : ℕ) → Report) (f : IsSingle trailing form says) where
   pub single_section : (context : SectionContext) (id size : ℕ) (p : Place) (w : Window) (q : Place) (v : ℕ) (payload : Payload)
@@ -166,18 +140,7 @@ module _ (trailing : Fault) (form : Form) (says : (value from to : ℕ) → Repo
       → IsPayload (says v w.start (w.start + length w.bytes)) payload
       → ReadsByGrammar (whole_grammar context form id p.offset size) p (Ok payload) q
   single_section context id size p w q v payload h n report =
-      let k : HasContent size p w q = has_content size p w q h in
-      let l : length (take size p.rest) ≡ size = length-take-le size p.rest k.there in
-      let g : ReadsSingleNumber trailing (content_place size p) (Ok v) =
-      subst (λ (x : Place). ReadsSingleNumber trailing x (Ok v)) (at_content size p w k.window) n in
-      let at_w : IsPayload (says v p.offset (p.offset + length (take size p.rest))) payload =
-      subst (λ (x : Window). IsPayload (says v x.start (x.start + length x.bytes)) payload) k.window report in
-      whole_good context form id size p w q payload h (f.wrong p.offset (take size p.rest) ∙ g.0)
-      (f.counts context id (p.offset + size) (take size p.rest)) (
-        at_w.0 ∙ ((λ i. says (sym g.1 i) p.offset (p.offset + l i))
-            ∙ sym (f.report p.features p.offset (p.offset + size) id (take size p.rest))),
-        at_w.1,
-      )
+      grind (arith, has_content, length-take-le, at_content, whole_good)
 
   pub single_section_refused : (context : SectionContext) (id size : ℕ) (p : Place) (w : Window) (q : Place) (e : Error) (a : Place)
       → content_at size p ≡ Ok (w, q) → ReadsSingleNumber trailing (place w) (Err e)

@@ -39,7 +39,6 @@ gives_tile : (p new : ParserState) (eof : Bool) (start : ℕ) (prefix bytes : Li
     → verdict (grammar_of p) bytes ≡ tile t → (r : Result Chunk Error) → Answers p (tile t) r new
     → GivesEvent (event_of p.features (start + length (bytes_of s.tiles)) t) p eof start prefix bytes r new
 gives_tile p new eof start prefix bytes s t v (Ok (Parsed consumed payload)) a =
-    let o : p.offset ≡ start + length (bytes_of s.tiles) = cc in
     let v' : verdict (grammar start s.tiles) bytes ≡ tile t = rw (grammar_same p start prefix s) at v in
     let g : Grown start s.tiles bytes t = grows start s.tiles bytes t s.faultless v' in grind (arith, take_at, state_goes_on)
 gives_tile p new eof start prefix bytes s t v _ a = absurd a
@@ -50,29 +49,10 @@ ended_at : (h b : Bool) (p : ParserState) (bytes : List ℕ) (o : ℕ) → nat_e
     (body_grammar p.bodies p.code_bytes p.offset))) bytes ≡ final (ended o) → p.bodies + p.code_bytes ≡ 0
 ended_at h b p bytes o n v = grind (arith, header_end, inside_end)
 
-ended_code : (p : ParserState) (bytes : List ℕ) (o : ℕ) → verdict (grammar_of p) bytes ≡ final (ended o) → p.bodies + p.code_bytes ≡ 0
-ended_code p bytes o v = ended_at p.expects_header (nat_eq (p.bodies + p.code_bytes) 0) p bytes o refl v
-
 -- a parser that reported the end is where it was
 at_the_end : (p : ParserState) (start : ℕ) (prefix : List ℕ) → IsStateAfter p start prefix → p.bodies + p.code_bytes ≡ 0
     → IsStateAfter (ended_state p) start prefix
-at_the_end p start prefix s z = record {
-  tiles = s.tiles;
-  faultless = s.faultless;
-  is_prefix = s.is_prefix;
-  offset = s.offset;
-  expects_header = s.expects_header;
-  encoding = s.encoding;
-  rank = s.rank;
-  functions = s.functions;
-  codes = s.codes;
-  datas = s.datas;
-  data_counts = s.data_counts;
-  bodies = s.bodies;
-  code_bytes = s.code_bytes;
-  in_code = λ e. cc;
-  open_code = λ l. let a = s.bodies in let b = s.code_bytes in absurd (omega (arith, a, b, z, l));
-}
+at_the_end p start prefix s z = grind arith
 
 gives_last : (p new : ParserState) (eof : Bool) (start : ℕ) (prefix bytes : List ℕ) → IsStateAfter p start prefix → (end : Ending)
     → verdict (grammar_of p) bytes ≡ final end → (r : Result Chunk Error) → Answers p (final end) r new
@@ -82,7 +62,7 @@ gives_last p new eof start prefix bytes s (ended o) v (Ok (Parsed consumed paylo
   a.0,
   subst (λ (n : ℕ). take n bytes ≡ []) (sym a.0) refl,
   subst₂ (λ (q : ParserState) (x : List ℕ). IsStateAfter q start x) (sym a.2) (sym (append-nil prefix))
-      (search (at_the_end, ended_code)),
+      (search (at_the_end, ended_at)),
   ap (λ (q : ParserState). q.features) a.2,
 )
 gives_last p new eof start prefix bytes s (fault f) v (Err e) a = (ap (λ (x : FaultAt). stream_end (fault x)) (sym a.0), refl, a.1)
@@ -129,10 +109,7 @@ gives_on p new false start prefix bytes rest e n r (wants need hint) q a = grind
 
 -- these bytes are no longer than all the rest
 may_fit : (eof : Bool) (bytes rest : List ℕ) → MayBe eof bytes rest → length bytes ≤ length rest
-may_fit true bytes rest m = let n : length rest ≡ length bytes = ap (λ (x : List ℕ). length x) m in omega arith
-may_fit false bytes rest m =
-    let n : length rest ≡ length bytes + length m.0 = ap (λ (x : List ℕ). length x) m.1 ∙ length-append bytes m.0 in
-    omega arith
+may_fit eof bytes rest m = grind (arith, length-append)
 
 pub gives_next : (p new : ParserState) (eof : Bool) (bytes : List ℕ) (r : Result Chunk Error) → ParseAnswer p eof bytes r new
     → GivesNextEvent p eof bytes r new
@@ -140,8 +117,7 @@ gives_next p new eof bytes r h s next =
     let o : p.offset ≡ s.start + length s.prefix = s.is_after.offset in
     let k : length bytes ≤ length s.rest = may_fit eof bytes s.rest s.may_be in
     let l = s.below in
-    let read : Reading (s.prefix ++ s.rest) s.start p.features (next.before ++ next.event ∷ next.later) =
-    grind arith in
+    let read : Reading (s.prefix ++ s.rest) s.start p.features (next.before ++ next.event ∷ next.later) = grind arith in
     gives_on p new eof s.start s.prefix bytes s.rest next.event (record {
       s = s.is_after;
       may_be = s.may_be;

@@ -1,7 +1,6 @@
 -- What is at the start of a section, and what is read there.
 use Rattle.std.proofs.Common.{◌≡◌, ℕ, nat_eq, ◌+◌, ◌-◌, ◌^◌, ◌<◌, ◌≤◌, Bool, true, false, not, ◌&&◌, List, [], ◌∷◌, length, take, drop}
-use Rattle.std.proofs.Common.{Some, None, Result, Ok, Err, nat_le, nat_lt, refl, sym, ap, subst, subst₂, ◌∙◌, arith, le-leb, lt-ltb, le-ltb}
-use lib.Dec.{is_le}
+use Rattle.std.proofs.Common.{Some, None, Result, Ok, Err, nat_le, nat_lt, refl, sym, ap, subst, subst₂, arith, le-leb, lt-ltb, le-ltb}
 use Rattle.std.specs.List.{starts_with}
 use Rattle.std.proofs.lemmas.Bool.{lt-leb}
 use Rattle.std.proofs.lemmas.List.{length-take-le}
@@ -20,7 +19,7 @@ use Rattle.wasm_grammar.specs.Waiting.{enough, waiting}
 use Rattle.wasm_grammar.specs.Content.{Kind, custom, unknown, kind_of, rank_of, when, wrong_content, Form}
 use Rattle.wasm_parser.specs.ReadsPart.{content_at, ReadsNextSection}
 use Rattle.wasm_custom.specs.Custom.{Custom, IsCustom}
-use Rattle.wasm_grammar.specs.Grammar.{SectionContext, Grammar, check, u32_field, verdict, whole_grammar, wrong_data}
+use Rattle.wasm_grammar.specs.Grammar.{SectionContext, Grammar, u32_field, verdict, whole_grammar, wrong_data}
 use Rattle.wasm_grammar.specs.Grammar.{content_grammar, after_length, after_id, section_grammar}
 use Rattle.wasm_grammar.specs.Reading.{section_report, custom_section, unknown_section}
 use Rattle.wasm_parser.specs.declared.payload.Payload.{Payload}
@@ -78,16 +77,6 @@ sized_large context kind id field size p e a h f hint =
 abbrev pub is_disordered : SectionContext → Kind → ℕ → Bool
 is_disordered context kind id = nat_lt 0 (rank_of kind id) && not (context.may_follow (rank_of kind id))
 
--- what is after a length that fits
-fitting : (context : SectionContext) (kind : Kind) (id field size : ℕ) (p : Place) (r : Result Payload Error) (a : Place)
-    → p.offset + size ≤ 2 ^ 64 - 1
-    → ReadsByGrammar (check (when (is_disordered context kind id) (at_offset OutOfOrder p.offset))
-    (content_grammar context kind id p.offset size)) p r a → ReadsByGrammar (after_length context kind id field p.offset size) p r a
-fitting context kind id field size p r a h next =
-    let x : FaultAt = record { fault = SectionTooLarge; offset = field; number = Some size } in
-    let fits : when (nat_lt (2 ^ 64 - 1) (p.offset + size)) x ≡ None = rw (le-ltb (2 ^ 64 - 1) (p.offset + size) h) refl in
-    λ s. report_right s p (when (nat_lt (2 ^ 64 - 1) (p.offset + size)) x) _ r a fits (next s)
-
 -- one that ranks no higher than one before it
 pub sized_disordered : (context : SectionContext) (kind : Kind) (id field size : ℕ) (p : Place) (e : Error) (a : Place)
     → p.offset + size ≤ 2 ^ 64 - 1 → is_disordered context kind id ≡ true → fault_at e ≡ at_offset OutOfOrder p.offset
@@ -95,7 +84,7 @@ pub sized_disordered : (context : SectionContext) (kind : Kind) (id field size :
 sized_disordered context kind id field size p e a h k f hint =
     let y : FaultAt = at_offset OutOfOrder p.offset in
     let ranks : when (is_disordered context kind id) y ≡ Some (fault_at e) = rw k (ap Some (sym f)) in
-    search (fitting, report_wrong)
+    search (report_wrong, le-ltb, report_right)
 
 -- one that is in its place
 pub sized_ordered : (context : SectionContext) (kind : Kind) (id field size : ℕ) (p : Place) (r : Result Payload Error) (a : Place)
@@ -105,7 +94,7 @@ pub sized_ordered : (context : SectionContext) (kind : Kind) (id field size : �
 sized_ordered context kind id field size p r a h k next =
     let y : FaultAt = at_offset OutOfOrder p.offset in
     let ranks : when (is_disordered context kind id) y ≡ None = rw k refl in
-    search (fitting, report_right)
+    search (report_right, le-ltb)
 
 -- the same for the kind that was found
 pub sized_as : (context : SectionContext) (found kind : Kind) (id field size : ℕ) (p : Place) (r : Result Payload Error) (a : Place) → found
@@ -239,10 +228,6 @@ framed_at (x ∷ xs) context p q id r a z m b next s =
     grind arith in
     grind (arith, report_at)
 
--- bytes that begin no header
-not_begun : (b l : Bool) (m n : ℕ) → nat_le m n ≡ l → false ≡ (b && l) → (b && nat_lt n m) ≡ false → b ≡ false
-not_begun b l m n t f g = grind arith
-
 framed_hints : (xs : List ℕ) (context : SectionContext) (p q : Place) (id : ℕ) (r : Result Payload Error) → p.rest ≡ xs → agree xs magic
     ≡ false → first_of p xs ≡ Ok (id, q)
     → HintsAs (waiting (after_id context p.offset id) q.rest) r → HintsAs (waiting (section_grammar context p.offset) xs) r
@@ -255,22 +240,14 @@ pub section_framed : (p : ParserState) (here q : Place) (id : ℕ) (r : Result P
 section_framed p here q id r a m b next = (
   framed_at here.rest (known_context p) here q id r a refl m b next,
   λ begun. framed_hints here.rest (known_context p) here q id r refl
-      (search not_begun) b (next 0).1,
+      (grind arith) b (next 0).1,
 )
-
--- bytes begin with others exactly if they agree with them, and are as many
-turned : (m n : ℕ) (a b : Bool) → nat_eq m n ≡ a → nat_eq n m ≡ b → a ≡ b
-turned m n a b p q = grind arith
-
-begins_at : (b b' : Bool) → b ≡ b' → (r s l : Bool) → r ≡ (s && l) → (b && r) ≡ ((b' && s) && l)
-begins_at b b' e r s l h = grind arith
 
 begins_with : (first bytes : List ℕ) → starts_with nat_eq bytes first ≡ (agree bytes first && nat_le (length first) (length bytes))
 begins_with [] [] = refl
 begins_with [] (x ∷ bytes) = sym (le-leb 0 (length (x ∷ bytes)) (omega arith))
 begins_with (m ∷ first) [] = sym (lt-leb (length (m ∷ first)) 0 (omega arith))
-begins_with (m ∷ first) (x ∷ bytes) = begins_at (nat_eq m x) (nat_eq x m) (turned m x _ _ refl refl) _ _ _ (begins_with first bytes)
-    ∙ ap (λ o. (nat_eq x m && agree bytes first) && is_le o) (grind arith)
+begins_with (m ∷ first) (x ∷ bytes) = grind (arith, begins_with first bytes)
 
 pub begins_with_magic : (bytes : List ℕ) → starts_with nat_eq bytes magic ≡ (agree bytes magic && nat_le 4 (length bytes))
 begins_with_magic bytes = begins_with magic bytes

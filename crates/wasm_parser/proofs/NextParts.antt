@@ -1,10 +1,10 @@
 -- What a parser reads at its offset, and what it then returns.
 use Rattle.std.proofs.Common.{◌≡◌, ℕ, ◌+◌, ◌-◌, ◌^◌, ◌<◌, Bool, true, false, not, List, length, Result, Ok, Err, nat_eq, refl}
-use Rattle.std.proofs.Common.{ap, subst, ◌∙◌, arith, add-zero}
+use Rattle.std.proofs.Common.{subst, arith, add-zero}
 use Rattle.wasm_base.specs.Window.{Window, Place, place, window_over}
 use Rattle.wasm_base.specs.declared.error.Error.{Error}
 use Rattle.wasm_grammar.specs.Content.{fault, ended}
-use Rattle.wasm_grammar.specs.Grammar.{Shape, Verdict, tile, final, Grammar, body_grammar, verdict}
+use Rattle.wasm_grammar.specs.Grammar.{Verdict, tile, final, Grammar, body_grammar, verdict}
 use Rattle.wasm_parser.specs.ParseAnswer.{IsPayload, MatchesVerdict, MatchesGrammar, Advances, ParseAnswer, report_of}
 use Rattle.wasm_parser.specs.ParserState.{ParserState, grammar_of}
 use Rattle.wasm_parser.specs.ReadsPart.{IsBegun, Refuses, ReadsHeader, ReadsBody, ReadsNext}
@@ -37,15 +37,11 @@ next_body p here after r h c o m = matches p here after r (body_grammar p.bodies
 
 -- ---- a tile
 
-missing_same : (f g s from to : ℕ) (shape : Shape) (taken code_bytes : ℕ) → missing_bytes (tile_report f s from shape) taken code_bytes
-    ≡ missing_bytes (tile_report g s to shape) taken code_bytes
-missing_same f g s from to shape taken code_bytes = grind arith
-
 fits_at : (p : ParserState) (here after : Place) (payload : Payload) (end : ℕ) (v : Verdict) → verdict (grammar_of p) here.rest ≡ v
     → MatchesVerdict p.offset here v (Ok payload) after → here.offset ≡ p.offset → end ≡ after.offset → end < 2 ^ 64
     → p.offset + p.code_bytes < 2 ^ 64
     → end + missing_bytes (report_of payload) (end - p.offset) p.code_bytes < 2 ^ 64
-fits_at p here after payload end v e m o at l k = grind (arith, tile_fits, missing_same)
+fits_at p here after payload end v e m o at l k = grind (arith, tile_fits)
 
 pub advance_fits : (p : ParserState) (here after : Place) (payload : Payload) (end : ℕ) → ReadsNext p here (Ok payload) after → here.offset
     ≡ p.offset → end ≡ after.offset → end < 2 ^ 64 → p.offset + p.code_bytes < 2 ^ 64
@@ -58,9 +54,7 @@ answers_at : (p q : ParserState) (eof : Bool) (here after : Place) (payload : Pa
     → ParseAnswer p eof here.rest (Ok (Parsed (end - p.offset) payload)) q
 answers_at p q eof here after payload end (tile t) e m l o f at a =
     let x : after.offset ≡ here.offset + length t.bytes = rw m.0 in
-    let to : end ≡ p.offset + length t.bytes = at ∙ (x ∙ ap (λ (x : ℕ). x + length t.bytes) o) in
-    let says : IsPayload (tile_report p.features p.offset (p.offset + length t.bytes) t.shape) payload =
-    grind arith in
+    let says : IsPayload (tile_report p.features p.offset (p.offset + length t.bytes) t.shape) payload = grind arith in
     let moves : q ≡ state_after_tile p t = grind arith in
     answers_tile p q eof here.rest (Ok (Parsed (end - p.offset) payload)) t l e (omega arith, says, moves)
 answers_at p q eof here after payload end (final (fault x)) e m l o f at a = absurd m

@@ -66,9 +66,6 @@ asks_at : (rest : List ℕ) (p : SectionContext) (o hint : ℕ) → asked_at_sec
 unfolding section_grammar waiting
 asks_at rest p o hint h = grind arith
 
-grammar_at_section : (p : ParserState) → is_at_section p ≡ true → grammar_of p ≡ section_grammar (known_context p) p.offset
-grammar_at_section p h = grind arith
-
 -- what is asked for is what is wanted
 asks_for : (p : ParserState) (rest : List ℕ) (hint : ℕ) (w : Waiting) (v : Verdict) → asked w ≡ Some hint
     → AnswersOn false w p v (Ok (NeedMoreData hint)) p
@@ -78,8 +75,7 @@ pub asks_at_section : (p : ParserState) (rest : List ℕ) (hint : ℕ) → p.off
     → asked_at_section rest ≡ Some hint → ParseAnswer p false rest (Ok (NeedMoreData hint)) p
 asks_at_section p rest hint l h a = from_table p p false rest (Ok (NeedMoreData hint)) (record {
   past_the_top = λ k. absurd (omega arith);
-  within = λ k. asks_for p rest hint (waiting (grammar_of p) rest) (verdict (grammar_of p) rest)
-      (search (grammar_at_section, asks_at));
+  within = grind (arith, asks_for, asks_at);
 })
 
 -- ---- what was read is returned

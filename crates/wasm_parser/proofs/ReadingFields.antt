@@ -1,5 +1,5 @@
 -- How what is at a place is reported, field by field.
-use Rattle.std.proofs.Common.{◌≡◌, ℕ, ◌+◌, ◌<◌, ◌≤◌, List, ◌++◌, length, take, Option, Some, None, Result, Ok, Err, refl, sym}
+use Rattle.std.proofs.Common.{◌≡◌, ℕ, ◌<◌, ◌≤◌, List, length, take, Option, Some, None, Result, Ok, Err, refl, sym}
 use Rattle.std.proofs.Common.{subst, arith, length-append}
 use Rattle.std.proofs.lemmas.List.{length-take-le}
 use Rattle.wasm_base.specs.FaultAt.{FaultAt, fault_at, hint_of, at_offset}
@@ -12,7 +12,7 @@ use Rattle.wasm_base.specs.declared.fault.NumberKind.TheVariants.{VarU32}
 use Rattle.wasm_base.proofs.NumberLaws.{number-used}
 use Rattle.wasm_base.proofs.Texts.{advanced_twice}
 use Rattle.wasm_parser.specs.ParseAnswer.{IsPayload, MatchesVerdict, HintsAs, MatchesGrammar}
-use Rattle.wasm_grammar.specs.Grammar.{Shape, Verdict, tile, after, after_number, Grammar, accept, reject, check, u32_field, bytes, verdict}
+use Rattle.wasm_grammar.specs.Grammar.{Shape, Verdict, after, after_number, Grammar, accept, reject, check, u32_field, bytes, verdict}
 use Rattle.wasm_grammar.specs.Reading.{tile_report}
 use Rattle.wasm_grammar.specs.Waiting.{Waiting, later, later_number, waiting}
 use Rattle.wasm_parser.specs.declared.payload.Payload.{Payload}
@@ -21,10 +21,7 @@ use Rattle.wasm_grammar.proofs.endings.BadNumbers.{bad_hint}
 -- a tile that begins with these bytes
 pub report_after : (s : ℕ) (p : Place) (f : List ℕ) (v : Verdict) (r : Result Payload Error) (a : Place)
     → MatchesVerdict s (advanced (length f) p) v r a → MatchesVerdict s p (after f v) r a
-report_after s p f (tile t) (Ok payload) a h =
-    let n : length f + length t.bytes ≡ length (f ++ t.bytes) = sym (length-append f t.bytes) in
-    let to : p.offset + length f + length t.bytes ≡ p.offset + length (f ++ t.bytes) = omega arith in grind (arith, advanced_twice)
-report_after s p f _ _ a h = h
+report_after s p f v r a h = grind (arith, length-append, advanced_twice)
 
 pub report_at : (s : ℕ) (p : Place) (k : ℕ) (f : List ℕ) (v : Verdict) (r : Result Payload Error) (a : Place) → length f ≡ k
     → MatchesVerdict s (advanced k p) v r a → MatchesVerdict s p (after f v) r a

@@ -20,17 +20,12 @@ use Rattle.wasm_grammar.proofs.readings.Longest.{longest}
 use Rattle.wasm_grammar.proofs.readings.Readings.{stops_at}
 use Rattle.wasm_grammar.proofs.parts.Placed.{IsBody, bodied}
 use Rattle.wasm_grammar.proofs.parts.Guarded.{tile_least}
-use Rattle.wasm_grammar.specs.Ids.{code_id, data_id, function_id}
 
 -- where bytes of a code section are left, a body comes
 body_at : (b : Bool) (context : SectionContext) (bodies code_bytes offset : ℕ) (d : List ℕ) (t : Tile) → nat_eq (bodies + code_bytes) 0 ≡ b
     → 0 < code_bytes
     → verdict (cond b (section_grammar context offset) (body_grammar bodies code_bytes offset)) d ≡ tile t → IsBody t.shape
 body_at b context bodies code_bytes offset d t e l v = grind (arith, bodied)
-
-body_next : (start : ℕ) (ts : List Tile) (d : List ℕ) (t : Tile) → 0 < bytes_left ts → verdict (grammar start ts) d ≡ tile t
-    → IsBody t.shape
-body_next start ts d t l v = grind (arith, body_at)
 
 -- tiles after which a parser knows the same as after others, except for the remaining bytes of a code section
 record KnowsSame (ts us : List Tile) : Type 0 where
@@ -41,37 +36,16 @@ record KnowsSame (ts us : List Tile) : Type 0 where
   not_start : is_start ts ≡ is_start us
   code_bytes : bytes_left ts + length (bytes_of ts) ≡ bytes_left us + length (bytes_of us)
 
--- one more body
-after_body : (ts us : List Tile) (shape : Shape) (bytes : List ℕ) → IsBody shape → length bytes ≤ bytes_left ts → is_start us ≡ false
-    → KnowsSame ts us → KnowsSame (record { shape = shape; bytes = bytes } ∷ ts) us
-after_body ts us (code_entry content) bytes b l s k = record {
-  encoding = k.encoding;
-  rank = omega arith;
-  same_counts = λ n. k.same_counts n;
-  in_code = refl;
-  not_start = sym s;
-  code_bytes = let e = k.code_bytes in omega (arith, e, length-append (bytes_of ts) bytes);
-}
-after_body ts us _ bytes b l s k = absurd b
-
 -- tiles that take no more than the remaining bytes of a code section are its bodies
 only_bodies : (start : ℕ) (us later : List Tile) → ends_in_code us ≡ true → is_start us ≡ false → Faultless start (later ++ us)
     → length (bytes_of (later ++ us)) ≤ length (bytes_of us) + bytes_left us → KnowsSame (later ++ us) us
-only_bodies start us [] c s f l = record {
-  encoding = refl;
-  rank = refl;
-  same_counts = λ n. refl;
-  in_code = c;
-  not_start = refl;
-  code_bytes = refl;
-}
+only_bodies start us [] c s f l = grind arith
 only_bodies start us (t ∷ later) c s f l =
     let n = length-append (bytes_of (later ++ us)) t.bytes in
     let k : KnowsSame (later ++ us) us = only_bodies start us later c s f.0 (omega (arith, l, n)) in
-    let e = k.code_bytes in
     let some : 0 < length t.bytes = tile_least start (later ++ us) t.bytes t f.1 in
-    let b : IsBody t.shape = grind (arith, body_next) in
-    grind (arith, after_body)
+    let b : IsBody t.shape = grind (arith, body_at) in
+    grind arith
 
 -- a code section has begun
 some_tile : (ts : List Tile) → ends_in_code ts ≡ true → is_start ts ≡ false
@@ -80,30 +54,7 @@ some_tile ts c = grind arith
 skipped_at : (p : ParserState) (start : ℕ) (prefix bodies : List ℕ) (s : IsStateAfter p start prefix)
     (k : CompletesCode start prefix bodies) → p.in_code ≡ true → length bodies ≡ p.code_bytes → KnowsSame k.tiles s.tiles
     → IsStateAfter (skipped_state p) start (prefix ++ bodies)
-skipped_at p start prefix bodies s k c l same =
-    let n = length-append prefix bodies in
-    let o = s.offset in
-    let code_bytes = same.code_bytes in
-    let a = s.code_bytes in
-    let b : length (bytes_of k.tiles) ≡ length (prefix ++ bodies) = rw k.whole in
-    let d : length (bytes_of s.tiles) ≡ length prefix = rw s.is_prefix in
-    record {
-      tiles = k.tiles;
-      faultless = k.faultless;
-      is_prefix = k.whole;
-      offset = omega (arith, n, o, l);
-      expects_header = s.expects_header ∙ sym same.not_start;
-      encoding = s.encoding ∙ sym same.encoding;
-      rank = s.rank ∙ sym same.rank;
-      functions = s.functions ∙ sym (same.same_counts function_id);
-      codes = s.codes ∙ sym (same.same_counts code_id);
-      datas = s.datas ∙ sym (same.same_counts data_id);
-      data_counts = grind arith;
-      bodies = sym k.no_body_left;
-      code_bytes = omega (arith, n, code_bytes, a, b, d, l);
-      in_code = λ e. same.in_code;
-      open_code = λ e. absurd (omega (arith, e));
-    }
+skipped_at p start prefix bodies s k c l same = grind (arith, length-append)
 
 pub skips_section : (p q : ParserState) → p.in_code ≡ true → q ≡ skipped_state p → SkipsSection p q
 skips_section p q c e start prefix bodies s l k =
@@ -142,17 +93,12 @@ record Bodies (start features : ℕ) (us later : List Tile) : Type 0 where
 
 bodies_later : (start features : ℕ) (us later : List Tile) → ends_in_code us ≡ true → is_start us ≡ false → Faultless start (later ++ us)
     → length (bytes_of (later ++ us)) ≤ length (bytes_of us) + bytes_left us → Bodies start features us later
-bodies_later start features us [] c s f l = record {
-  events = [];
-  each = All-nil ReportsBody;
-  parts = sym (append-nil (events_of start features us));
-}
+bodies_later start features us [] c s f l = grind (arith, All-nil, append-nil)
 bodies_later start features us (t ∷ later) c s f l =
     let n = length-append (bytes_of (later ++ us)) t.bytes in
     let k : KnowsSame (later ++ us) us = only_bodies start us later c s f.0 (omega (arith, l, n)) in
-    let e = k.code_bytes in
     let some : 0 < length t.bytes = tile_least start (later ++ us) t.bytes t f.1 in
-    let b : IsBody t.shape = grind (arith, body_next) in
+    let b : IsBody t.shape = grind (arith, body_at) in
     let r : Bodies start features us later = bodies_later start features us later c s f.0 (omega (arith, l, n)) in
     let x : Event = event_of features (start + length (bytes_of (later ++ us))) t in
     record {

@@ -5,7 +5,7 @@ use Rattle.std.specs.List.{list_all}
 use Rattle.std.proofs.lemmas.Bool.{and_parts}
 use Rattle.wasm_grammar.specs.Content.{Kind, items, data_count, index, count_of, kind_of}
 use Rattle.wasm_grammar.specs.Grammar.{Shape, section, code_start, Tile, tile, SectionContext, verdict}
-use Rattle.wasm_grammar.specs.Grammar.{header_grammar, section_grammar, body_grammar, content_grammar}
+use Rattle.wasm_grammar.specs.Grammar.{header_grammar, section_grammar, content_grammar}
 use Rattle.wasm_grammar.specs.Tiling.{bytes_of, grammar, context_of, inside, encoding_in, tile_rank, count_in, counts}
 use Rattle.wasm_grammar.specs.Tiling.{bodies_left, bytes_left, bodies_after, bytes_after, is_start}
 use Rattle.wasm_parser.specs.StateAfter.{known_rank, state_after_tile}
@@ -22,8 +22,7 @@ max_lt a g r = grind arith
 pub may_same : (t : Tile) (ts : List Tile) (r : ℕ) → nat_lt (greatest (t ∷ ts)) r
     ≡ list_all (λ (u : Tile). nat_lt (tile_rank u.shape) r) (t ∷ ts)
 may_same t [] r = grind arith
-may_same t (u ∷ ts) r = max_lt (tile_rank t.shape) (greatest (u ∷ ts)) r
-    ∙ ap (λ (b : Bool). nat_lt (tile_rank t.shape) r && b) (may_same u ts r)
+may_same t (u ∷ ts) r = grind (arith, max_lt, may_same u ts r)
 
 context_same : (p : ParserState) (start : ℕ) (prefix : List ℕ) (s : IsStateAfter p start prefix) (t : Tile) (ts : List Tile) → s.tiles ≡ t
     ∷ ts → known_context p ≡ context_of (t ∷ ts)
@@ -44,21 +43,13 @@ grammar_at p start prefix s (t ∷ ts) z =
 pub grammar_same : (p : ParserState) (start : ℕ) (prefix : List ℕ) (s : IsStateAfter p start prefix) → grammar_of p ≡ grammar start s.tiles
 grammar_same p start prefix s = grammar_at p start prefix s s.tiles refl
 
-below_self : (r s : ℕ) → nat_lt s r ≡ true → s ≡ r → ⊥
-below_self r s e z = let l : s < r = ltb-true s r e in omega arith
-
-none_cons : (b : Bool) (c : ℕ) (xs : List ℕ) → b ≡ false → xs ≡ [] → cond b (c ∷ xs) xs ≡ []
-none_cons b c xs e f = cc
-
 not_true : (b : Bool) → (b ≡ true → ⊥) → b ≡ false
 not_true b h = grind arith
 
 -- below the rank of a section there is none of them
 none_in : (n : ℕ) (s : Shape) (xs : List ℕ) → nat_lt (tile_rank s) (place_of n) ≡ true → xs ≡ [] → count_in n s xs ≡ []
-none_in n (section items id content) xs e f = none_cons (nat_eq id n) _ xs
-    (not_true _ (λ z. below_self (place_of n) (place_of id) e (ap place_of (eqb-true id n z)))) f
-none_in n (section data_count id content) xs e f = none_cons (nat_eq id n) _ xs
-    (not_true _ (λ z. below_self (place_of n) (place_of id) e (ap place_of (eqb-true id n z)))) f
+none_in n (section items id content) xs e f = grind (arith, not_true, eqb-true)
+none_in n (section data_count id content) xs e f = grind (arith, not_true, eqb-true)
 none_in n (code_start count width size) xs e f = grind arith
 none_in n _ xs e f = f
 
@@ -75,10 +66,7 @@ one_count b c old xs e f = grind arith
 
 none_of_rank : (n id : ℕ) (ts : List Tile) → 0 < place_of n → (0 < place_of id
     → list_all (λ (u : Tile). nat_lt (tile_rank u.shape) (place_of id)) ts ≡ true) → nat_eq id n ≡ true → counts n ts ≡ []
-none_of_rank n id ts h f z =
-    let q : id ≡ n = eqb-true id n z in
-    let r : 0 < place_of id = rw q h in
-    grind (arith, counts_none)
+none_of_rank n id ts h f z = grind (arith, eqb-true, counts_none)
 
 -- the known count of the section with this id, after one more tile
 abbrev count_after : ℕ → Shape → Option ℕ → Option ℕ
@@ -99,9 +87,7 @@ greatest_lt : (r : ℕ) (ts : List Tile) → 0 < r → list_all (λ (u : Tile). 
 greatest_lt r [] h e = h
 greatest_lt r (t ∷ ts) h e =
     let q : ((nat_lt (tile_rank t.shape) r ≡ true) × (list_all (λ (u : Tile). nat_lt (tile_rank u.shape) r) ts ≡ true)) = and_parts _ _ e in
-    let a : tile_rank t.shape < r = ltb-true _ _ q.0 in
-    let b : greatest ts < r = greatest_lt r ts h q.1 in
-    omega arith
+    grind (arith, ltb-true, greatest_lt r ts h q.1)
 
 rank_grows : (r old g : ℕ) → old ≡ g → (0 < r → g < r) → known_rank r old ≡ max r g
 rank_grows r old g e f = grind arith
@@ -139,13 +125,9 @@ unfolding section_grammar
 section_id p o xs t e = each_tile HasItsId (section_grammar p o)
     (λ id x n k y z. content_id p (kind_of p.encoding id) id (o + 1 + k) n (id_of_kind p.encoding id)) xs t e
 
-inside_id : (b : Bool) (p : SectionContext) (m l o : ℕ) (xs : List ℕ) (t : Tile)
-    → verdict (cond b (section_grammar p o) (body_grammar m l o)) xs ≡ tile t → HasItsId t.shape
-inside_id b p m l o xs t e = grind (arith, section_id, bodied)
-
 tile_id : (h : Bool) (p : ParserState) (xs : List ℕ) (t : Tile)
     → verdict (cond h (header_grammar p.offset) (inside (known_context p) p.bodies p.code_bytes p.offset)) xs ≡ tile t → HasItsId t.shape
-tile_id h p xs t e = grind (arith, headed, inside_id)
+tile_id h p xs t e = grind (arith, headed, section_id, bodied)
 
 -- ---- the state after a tile, by what is reported of it
 
@@ -194,7 +176,6 @@ state_goes_on p start prefix s d t e =
     let v : verdict (grammar start s.tiles) d ≡ tile t = rw (grammar_same p start prefix s) at e in
     let g : Grown start s.tiles d t = grows start s.tiles d t s.faultless v in
     let f : Fresh s.tiles t.shape = fresh start s.tiles d t v in
-    let o : p.offset ≡ start + length prefix = s.offset in
     let q : state_after_tile p t ≡ after_shape p t = state_same p d t e in
     record {
       tiles = t ∷ s.tiles;

@@ -6,7 +6,7 @@ use Rattle.std.proofs.lemmas.List.Elements.{All-nil, All-cons}
 use Rattle.std.specs.declared.ops.Range.{Range}
 use Rattle.std.specs.List.{cons_option}
 use Rattle.std.specs.Prelude.{◌↔◌, map, filter_map, All}
-use Rattle.std.specs.Iterator.{Yields, Drains}
+use Rattle.std.specs.Iterator.{Yields}
 use Rattle.wasm_base.specs.FaultAt.{fault_at}
 use Rattle.wasm_base.specs.declared.error.Error.{Error}
 use Rattle.wasm_parser.specs.ParseAnswer.{report_of, is_end}
@@ -56,11 +56,7 @@ here start features stream s tiles w = rw (grammar_same s.state start w.prefix w
 
 within : (start features : ℕ) (stream : List ℕ) (s : Walk) (tiles : List Tile) → Walked start features stream s tiles
     → s.state.offset + length s.bytes < 2 ^ 64
-within start features stream s tiles w =
-    let o : s.state.offset ≡ start + length w.prefix = w.is_after.offset in
-    let n : length stream ≡ length w.prefix + length s.bytes = ap (λ (x : List ℕ). length x) w.whole ∙ length-append w.prefix s.bytes in
-    let f : start + length stream < 2 ^ 64 = w.fits in
-    omega arith
+within start features stream s tiles w = grind (arith, length-append)
 
 -- a reading that stops here
 stops_here : (start features : ℕ) (stream : List ℕ) (s : Walk) (tiles : List Tile) (w : Walked start features stream s tiles) (end : Ending)
@@ -85,12 +81,7 @@ stops_here start features stream s tiles w end x v t = record {
 goes_further : (start features : ℕ) (stream : List ℕ) (tiles : List Tile) (t : Tile) (x : Report) (others : List Report) → x
     ≡ event_report (event_of features (start + length (bytes_of tiles)) t) → ReadsOn start features stream (t ∷ tiles) others
     → ReadsOn start features stream tiles (x ∷ others)
-goes_further start features stream tiles t x others e r = record {
-  events = event_of features (start + length (bytes_of tiles)) t ∷ r.events;
-  reading = rw (append_assoc (events_of start features tiles)
-      (event_of features (start + length (bytes_of tiles)) t ∷ []) r.events) at r.reading;
-  gives = (λ i. e i ∷ r.gives i);
-}
+goes_further start features stream tiles t x others e r = grind (arith, append_assoc)
 
 -- the walk after a tile
 steps_on : (start features : ℕ) (stream : List ℕ) (s m : Walk) (tiles : List Tile) (w : Walked start features stream s tiles) (t : Tile)
@@ -135,7 +126,6 @@ walks start features stream (Err e ∷ given) s t u tiles w going run end =
         (rw a.0)
     refused (final (ended o)) q a = absurd a
 walks start features stream (Ok payload ∷ given) s t u tiles w going run end =
-    let step = run.1.going going in
     answered (λ ts on still. walks start features stream given run.0 t u ts on still run.2 end) (verdict (grammar_of s.state) s.bytes) refl
     (grind (arith, as_table, within))
   where
@@ -167,10 +157,6 @@ begins start features bytes l = record {
   fits = l;
 }
 
-walk_reads : (start features : ℕ) (bytes : List ℕ) → start + length bytes < 2 ^ 64 → (given : List (Result Payload Error))
-    → Drains NextPayload (walk_over (initial_state start features) bytes) given → ReadsOn start features bytes [] (map given_report given)
-walk_reads start features bytes l given run = search (walks, begins)
-
 -- ---- how it ends
 
 ends_append : (o : ℕ) (xs : List Report) (x : Report) → EndsAt o (xs ++ x ∷ []) ↔ (x ≡ stream_end (ended o))
@@ -180,10 +166,6 @@ ends_append o _ x = (λ h. h, λ h. h)
 map_append : (xs ys : List Event) → map event_report (xs ++ ys) ≡ map event_report xs ++ map event_report ys
 map_append [] ys = refl
 map_append (x ∷ xs) ys = ap (λ (l : List Report). x.report ∷ l) (map_append xs ys)
-
--- the end that was reported is that of the reading
-report_end : (o : ℕ) (e : Ending) → stream_end e ≡ stream_end (ended o) → e ≡ ended o
-report_end o e h = cc
 
 -- what `filter_map` keeps of a mapped list
 mapped : {X Y Z : Type 0} (f : X → Y) (h : Y → Option Z) (xs : List X) → filter_map (λ x. h (f x)) xs ≡ filter_map h (map f xs)
@@ -208,11 +190,11 @@ gives_reading : (start features : ℕ) (bytes : List ℕ) → Stream bytes start
     → GivesReading start features bytes (walk_over (initial_state start features) bytes)
 gives_reading start features bytes stream = record {
   reading = λ given run events r.
-      let w : ReadsOn start features bytes [] (map given_report given) = search walk_reads in
+      let w : ReadsOn start features bytes [] (map given_report given) = search (walks, begins) in
       w.gives ∙ ap (map event_report) (search reading_same);
   items = λ given run. holds_all given (walk_over (initial_state start features) bytes) run.1.0 run.1.1;
   accepted = λ given run.
-      let w : ReadsOn start features bytes [] (map given_report given) = search walk_reads in
+      let w : ReadsOn start features bytes [] (map given_report given) = search (walks, begins) in
       let a = accepted_ends bytes start stream in
       let l : map given_report given ≡ map event_report (events_of start features w.reading.tiles) ++ stream_end w.reading.end ∷ [] =
       grind (arith, map_append) in
@@ -225,11 +207,11 @@ gives_reading start features bytes stream = record {
             subst (EndsAt (start + length bytes)) (sym l) (e.1 (ap stream_end same)),
         λ h.
             let same : w.reading.end ≡ ended (start + length bytes) =
-            grind (arith, report_end) in
+            grind arith in
             a.1 (grind arith),
       );
   sections = λ given run a.
-      let w : ReadsOn start features bytes [] (map given_report given) = search walk_reads in
+      let w : ReadsOn start features bytes [] (map given_report given) = search (walks, begins) in
       subst (λ (y : List (ℕ × Range ℕ)). TiledBySections bytes start y a.encoding a.frames) (same_sections given w.events w.gives)
       (search sections_tile);
 }

@@ -6,8 +6,8 @@ use Rattle.std.specs.List.{list_all, list_any}
 use Rattle.std.proofs.lemmas.Bool.Decides.{nat_tests}
 use Rattle.std.proofs.lemmas.Fmt.{decimal_by_steps}
 use Rattle.wasm_tree.specs.Json.{Place, State, Bracket, object, array, here, start, after_all, after_byte, has_value, is_digit}
-use Rattle.wasm_tree.specs.Json.{line_start, line_end, first_name, name, colon, first_value, value, string, escape, digits_of_escape}
-use Rattle.wasm_tree.specs.Json.{after_minus, after_zero, digits, word, ended, wrong, IsAt, Leads, StaysInString, after_value}
+use Rattle.wasm_tree.specs.Json.{first_value, value, string}
+use Rattle.wasm_tree.specs.Json.{after_minus, after_zero, digits, ended, IsAt, Leads, StaysInString, after_value}
 use Rattle.wasm_tree.specs.Json.{begins_value, escaped_byte, is_hexadecimal}
 use Rattle.wasm_tree.specs.Fields.{is_escaped}
 use Rattle.wasm_tree.specs.declared.objects.Spot.{Spot}
@@ -30,31 +30,21 @@ completion InText = codes "\"}\n"
 -- after a value comes what may follow one, though a number has no byte that ends it
 value_over : (p : Place) (inside : List Bracket) (b : ℕ) → has_value p ≡ true → is_digit b ≡ false → after_byte p inside b
     ≡ after_value inside b
-value_over after_zero inside b h d = refl
-value_over digits inside b h d = rw d refl
-value_over ended inside b h d = refl
-value_over other inside b h d = cc
+value_over p inside b h d = grind arith
 
 closes : (s : State) → has_value s.place ≡ true → s.inside ≡ object ∷ [] → after_all s (codes "}\n") ≡ start
-closes s h e = ap (λ (t : State). after_byte t.place t.inside 10) (value_over s.place s.inside 125 h refl
-    ∙ ap (λ (x : List Bracket). after_value x 125) e)
+closes s h e = grind arith
 
 pub completes : (spot : Spot) (s : State) → IsAt spot s → after_all s (completion spot) ≡ start
-completes Outside s e = e
-completes Ended s e = closes s e.0 e.1
-completes InName s e = rw e refl
-completes AtValue s e = rw e refl
-completes InText s e = rw e refl
+completes spot s e = grind arith
 
 -- ---- strings
 
 both : (a b : Bool) → (a && b) ≡ true → (a ≡ true) × (b ≡ true)
-both true b e = (refl, e)
-both false b e = cc
+both a b e = grind arith
 
 neither : (a b : Bool) → (a || b) ≡ false → (a ≡ false) × (b ≡ false)
-neither true b e = cc
-neither false b e = (refl, e)
+neither a b e = grind arith
 
 hexadecimal_at : (xs : List ℕ) (i : ℕ) → list_all is_hexadecimal xs ≡ true → i < length xs → is_hexadecimal (slice_index xs i) ≡ true
 hexadecimal_at [] i h l = absurd (omega arith)
@@ -65,36 +55,24 @@ hexadecimal_at (x ∷ xs) (suc i) h l = hexadecimal_at xs i (both (is_hexadecima
 module _ (k : Bool) (inside : List Bracket) where
   plain_stays : (b : ℕ) → nat_lt b 32 ≡ false → (nat_eq b 34 || nat_eq b 92) ≡ false
       → after_byte (string k) inside b ≡ here (string k) inside
-  plain_stays b low e =
-      let (quote, slash) = neither (nat_eq b 34) (nat_eq b 92) e in
-      rw (quote, slash, low) refl
+  plain_stays b low e = grind arith
 
   run_stays : (xs : List ℕ) → list_any is_escaped xs ≡ false → after_all (here (string k) inside) xs ≡ here (string k) inside
   run_stays [] e = refl
   run_stays (x ∷ xs) e =
       let (first, later) = neither (is_escaped x) (list_any is_escaped xs) e in
-      let (unquoted, slash) = neither (nat_lt x 32 || nat_lt 126 x || nat_eq x 34) (nat_eq x 92) first in
-      let (within, quote) = neither (nat_lt x 32 || nat_lt 126 x) (nat_eq x 34) unquoted in
-      let low = (neither (nat_lt x 32) (nat_lt 126 x) within).0 in
-      ap (λ (s : State). after_all s xs) (plain_stays x low (rw (quote, slash) refl)) ∙ run_stays xs later
+      grind (arith, neither, plain_stays, run_stays xs later)
 
   digits_stay : (high low : ℕ) → is_hexadecimal high ≡ true → is_hexadecimal low ≡ true
       → after_all (here (string k) inside) (92 ∷ 117 ∷ 48 ∷ 48 ∷ high ∷ low ∷ []) ≡ here (string k) inside
   digits_stay high low h l = rw (h, l) refl
 
   quote_stays : (b : ℕ) → (nat_eq b 34 || nat_eq b 92) ≡ true → after_all (here (string k) inside) (92 ∷ b ∷ []) ≡ here (string k) inside
-  quote_stays b e = by (nat_eq b 34) refl
-    where
-      by : (x : Bool) → nat_eq b 34 ≡ x → after_all (here (string k) inside) (92 ∷ b ∷ []) ≡ here (string k) inside
-      by true q = let is : b ≡ 34 = grind (arith, nat_tests) in rw is refl
-      by false q =
-          let slash : nat_eq b 92 ≡ true = sym (ap (λ (x : Bool). x || nat_eq b 92) q) ∙ e in
-          let is : b ≡ 92 = grind (arith, nat_tests) in rw is refl
+  quote_stays b e = grind arith
 
   escaped_by : (b : ℕ) → b < 256 → (x y : Bool) → nat_lt b 32 ≡ x → (nat_eq b 34 || nat_eq b 92) ≡ y
       → after_all (here (string k) inside) (escaped_byte b) ≡ here (string k) inside
   escaped_by b h true y low e =
-      let small : b < 32 = grind (arith, nat_tests) in
       rw low (digits_stay (slice_index (codes "0123456789abcdef") (b / 16)) (slice_index (codes "0123456789abcdef") (b % 16))
       (hexadecimal_at (codes "0123456789abcdef") (b / 16) refl (omega arith))
       (hexadecimal_at (codes "0123456789abcdef") (b % 16) refl (omega arith)))
@@ -120,35 +98,17 @@ record MayBegin (p : Place) : Type 0 where
   nothing : (inside : List Bracket) → after_byte p inside 48 ≡ here after_zero inside
   first : (inside : List Bracket) (d : ℕ) → 0 < d → d < 10 → after_byte p inside (48 + d) ≡ here digits inside
 
-digit_is : (d : ℕ) → d < 10 → is_digit (48 + d) ≡ true
-digit_is d h =
-    let low : nat_lt 47 (48 + d) ≡ true = grind (arith, nat_tests) in
-    let high : nat_lt (48 + d) 58 ≡ true = grind (arith, nat_tests) in
-    rw (low, high) refl
-
 value_begins : (inside : List Bracket) (d : ℕ) → 0 < d → d < 10 → begins_value inside (48 + d) ≡ here digits inside
-value_begins inside d some h =
-    let a : nat_eq (48 + d) 34 ≡ false = grind (arith, nat_tests) in
-    let b : nat_eq (48 + d) 123 ≡ false = grind (arith, nat_tests) in
-    let c : nat_eq (48 + d) 91 ≡ false = grind (arith, nat_tests) in
-    let e : nat_eq (48 + d) 45 ≡ false = grind (arith, nat_tests) in
-    let f : nat_eq (48 + d) 48 ≡ false = grind (arith, nat_tests) in
-    rw (a, b, c, e, f, digit_is d h) refl
+value_begins inside d some h = grind (arith, nat_tests)
 
 begins_at_value : MayBegin value
 begins_at_value = record { nothing = λ inside. refl; first = value_begins }
 
 begins_in_array : MayBegin first_value
-begins_in_array = record {
-  nothing = λ inside. refl;
-  first = λ inside d some h. let a : nat_eq (48 + d) 93 ≡ false = grind (arith, nat_tests) in rw a (value_begins inside d some h);
-}
+begins_in_array = grind (arith, nat_tests, value_begins)
 
 begins_after_minus : MayBegin after_minus
-begins_after_minus = record {
-  nothing = λ inside. refl;
-  first = λ inside d some h. let a : nat_eq (48 + d) 48 ≡ false = grind (arith, nat_tests) in rw (a, digit_is d h) refl;
-}
+begins_after_minus = grind arith
 
 -- after a number, these brackets are open
 record IsOver (inside : List Bracket) (s : State) : Type 0 where
@@ -163,16 +123,10 @@ module _ (p : Place) (m : MayBegin p) where
   one n h = (λ e. rw e refl, λ some inside. m.first inside n some h)
 
   further : (n : ℕ) (ds : List ℕ) → 10 ≤ n → Reads (n / 10) ds → Reads n (ds ++ (48 + n % 10) ∷ [])
-  further n ds h r = (
-    λ e. absurd (omega arith),
-    λ some inside. after_all-append (here p inside) ds ((48 + n % 10) ∷ [])
-        ∙ (ap (λ (s : State). after_byte s.place s.inside (48 + n % 10)) (r.1 (omega arith) inside)
-        ∙ rw (digit_is (n % 10) (omega arith)) refl),
-  )
+  further n ds h r = grind (arith, after_all-append)
 
   number_by : (n : ℕ) (ds : List ℕ) → Reads n ds → (inside : List Bracket) → IsOver inside (after_all (here p inside) ds)
-  number_by zero ds r inside = rw (r.0 refl, m.nothing inside) (record { has = refl; same = refl })
-  number_by (suc n) ds r inside = rw (r.1 (omega arith) inside) (record { has = refl; same = refl })
+  number_by n ds r inside = grind arith
 
   number_over : (n : ℕ) → n < 2 ^ 64 → (inside : List Bracket) → IsOver inside (after_all (here p inside) (decimal n))
   number_over n h inside = number_by n (decimal n) (decimal_by_steps Reads one further n h) inside

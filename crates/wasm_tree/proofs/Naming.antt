@@ -7,7 +7,6 @@ use Rattle.std.proofs.lemmas.Map.Made.{lookup-map_values}
 use Rattle.std.proofs.lemmas.Map.Views.{tells_apart}
 use Rattle.std.specs.BTreeMap.{BTreeMap, UpdatesBy, get_by, is_at}
 use Rattle.std.specs.Cmp.{nat_cmp_is}
-use Rattle.std.specs.Map.{lookup}
 use Rattle.std.specs.Option.{is_some, option_map, unwrap_or}
 use Rattle.std.specs.Ordering.{is_eq, nat_cmp, ordering_then}
 use Rattle.std.specs.String.{string_bytes}
@@ -67,22 +66,15 @@ same_or_other x y = elim (cases_Bool (finds x y)) [
 
 -- ---- names in a map
 
--- a small index, and a great one
-cut_small : {X : Type 0} (index : ℕ) (o : Option X) → index < 2 ^ 32 → (if nat_lt index (2 ^ 32) then o else None) ≡ o
-cut_small index o small = ap (λ b. if b then o else None) (lt-ltb index (2 ^ 32) small)
-
 pub named_far : (names : Names) (number : Number) → 2 ^ 32 ≤ number.index → named names number ≡ None
 unfolding named
-named_far names number far =
-    ap (λ b. if b then lookup (is_at (key_cmp (key_of number))) names else None) (le-ltb number.index (2 ^ 32) far)
+named_far names number far = search le-ltb
 
 module _ {A : Type 0} where
   pub named_in : (m : BTreeMap (ℕ × ℕ) (String A)) (number : Number) → number.index < 2 ^ 32
       → named (names_in m) number ≡ option_map string_bytes (get_by (key_cmp (key_of number)) m)
   unfolding named
-  named_in m number small =
-      cut_small number.index (lookup (is_at (key_cmp (key_of number))) (names_in m)) small
-      ∙ lookup-map_values string_bytes (is_at (key_cmp (key_of number))) m.entries
+  named_in m number small = search (lookup-map_values, lt-ltb)
 
   -- what was got from the map is the item's name
   pub got_name : (m : BTreeMap (ℕ × ℕ) (String A)) (number : Number) (o : Option (String A)) → number.index < 2 ^ 32
@@ -129,11 +121,7 @@ module _ {A : Type 0} where
   -- the item has a name
   pub had_name : (m : BTreeMap (ℕ × ℕ) (String A)) (number : Number) (name : List ℕ) → number.index < 2 ^ 32
       → is_some (get_by (key_cmp (key_of number)) m) ≡ true → AddsName (names_in m) number name (names_in m)
-  had_name m number name small some = record {
-    first = has_first (named (names_in m) number) name
-        (ap is_some (named_in m number small) ∙ mapped_some (get_by (key_cmp (key_of number)) m) some);
-    others = λ other apart. refl;
-  }
+  had_name m number name small some = search (has_first, named_in, mapped_some)
 
   -- it has none, and the map has the name after it was put there
   pub has_name : (m n : BTreeMap (ℕ × ℕ) (String A)) (number : Number) (text : String A) → number.index < 2 ^ 32

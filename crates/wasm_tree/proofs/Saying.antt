@@ -1,24 +1,21 @@
 -- What was put on the line that is begun, after each call that puts more.
 use Rattle.std.proofs.Common.{◌≡◌, ℕ, ◌+◌, ◌<◌, ◌^◌, zero, suc, Bool, true, false, List, [], ◌∷◌, ◌++◌, codes}
 use Rattle.std.proofs.Common.{Option, Some, None, refl, sym}
-use Rattle.std.proofs.Common.{Err, ◌%◌, nat_lt}
+use Rattle.std.proofs.Common.{◌%◌}
 use Rattle.std.specs.Prelude.{slice_index, if◌then◌else◌}
 use Rattle.wasm_tree.specs.Fields.{Field, field_text, named, word, with_fields, is_escaped, quoted_byte}
 use Rattle.std.proofs.Common.{ap, subst, ◌∙◌, append_assoc, append-nil, ◌||◌, nat_eq, decimal, length, take, get_or, arith}
 use Rattle.std.specs.List.{flat_map, list_any}
 use Rattle.std.proofs.KnownBytes.{Appends-nil, Appends-trans}
-use Rattle.std.specs.Io.KnownBytes.{Appends}
 use Rattle.std.proofs.lemmas.Bool.Decides.{nat_tests}
 use Rattle.std.proofs.lemmas.Fmt.{decimal_by_steps}
 use Rattle.std.proofs.lemmas.Grind.{flat_map-append}
 use Rattle.std.proofs.Math.Seq.{take-length}
 use Rattle.std.proofs.lemmas.List.{take_more}
 use Rattle.std.proofs.lemmas.List.Folds.{list_any-append}
-use Rattle.wasm_lines.specs.Calls.{output_failed}
-use Rattle.wasm_lines.specs.Page.{WritesHead, IsCut}
+use Rattle.wasm_lines.specs.Page.{IsCut}
 use Rattle.wasm_lines.specs.declared.devices.ListError.{ListError}
-use Rattle.wasm_lines.specs.declared.devices.ListError.TheVariants.{Input, Output, Memory}
-use Rattle.wasm_tree.specs.Said.{StopsIn, PutsText, HasLine, Says, SaysSome, SaysWith}
+use Rattle.wasm_tree.specs.Said.{PutsText, HasLine, Says, SaysSome, SaysWith}
 use Rattle.wasm_tree.specs.Tree.{Writing, PutsAs, Puts, has_line_feed}
 use Rattle.wasm_tree.specs.declared.tree.Style.{Style}
 use Rattle.wasm_tree.specs.declared.tree.Style.TheVariants.{Lines, Objects}
@@ -28,79 +25,25 @@ use Rattle.wasm_tree.specs.declared.tree.Style.TheVariants.{Lines, Objects}
 -- what is put after a text that was put
 after_text : (waiting text moved waiting' bytes : List ℕ) → waiting ++ text ≡ moved ++ waiting'
     → waiting ++ (text ++ bytes) ≡ moved ++ (waiting' ++ bytes)
-after_text waiting text moved waiting' bytes e = sym (append_assoc waiting text bytes)
-    ∙ (ap (λ (x : List ℕ). x ++ bytes) e ∙ append_assoc moved waiting' bytes)
-
--- a page that is abandoned before more is put on it
-wider : (taken written : Option (List ℕ)) (waiting bytes : List ℕ) → WritesHead taken written waiting
-    → WritesHead taken written (waiting ++ bytes)
-wider taken written waiting bytes w = record {
-  moved = w.moved;
-  unwritten = w.unwritten ++ bytes;
-  parts = ap (λ (x : List ℕ). x ++ bytes) w.parts ∙ append_assoc w.moved w.unwritten bytes;
-  wrote = w.wrote;
-}
+after_text waiting text moved waiting' bytes e = grind (arith, append_assoc)
 
 cut_wider : (taken written : Option (List ℕ)) (waiting bytes : List ℕ) (why : ListError) → IsCut taken written waiting why
     → IsCut taken written (waiting ++ bytes) why
-cut_wider taken written waiting bytes Output w = wider taken written waiting bytes w
-cut_wider taken written waiting bytes Memory w = wider taken written waiting bytes w
-cut_wider taken written waiting bytes Input w = absurd w
-
--- of a page that is abandoned later
-begins_later : (taken mid written : Option (List ℕ)) (waiting text moved waiting' bytes : List ℕ) → Appends taken mid moved
-    → waiting ++ text ≡ moved ++ waiting' → WritesHead mid written (waiting' ++ bytes)
-    → WritesHead taken written (waiting ++ (text ++ bytes))
-begins_later taken mid written waiting text moved waiting' bytes a e w = record {
-  moved = moved ++ w.moved;
-  unwritten = w.unwritten;
-  parts = after_text waiting text moved waiting' bytes e ∙ (ap (λ (x : List ℕ). moved ++ x) w.parts
-      ∙ sym (append_assoc moved w.moved w.unwritten));
-  wrote = Appends-trans taken mid written moved w.moved a w.wrote;
-}
-
-cut_later : (taken mid written : Option (List ℕ)) (waiting text moved waiting' bytes : List ℕ) (why : ListError)
-    → Appends taken mid moved → waiting ++ text ≡ moved ++ waiting' → IsCut mid written (waiting' ++ bytes) why
-    → IsCut taken written (waiting ++ (text ++ bytes)) why
-cut_later taken mid written waiting text moved waiting' bytes Output a e w =
-    begins_later taken mid written waiting text moved waiting' bytes a e w
-cut_later taken mid written waiting text moved waiting' bytes Memory a e w =
-    begins_later taken mid written waiting text moved waiting' bytes a e w
-cut_later taken mid written waiting text moved waiting' bytes Input a e w = absurd w
+cut_wider taken written waiting bytes why w = grind (arith, append_assoc)
 
 -- ---- a writer
 
 -- bytes that are put are a text
 as_text : (old new : Writing) (bytes : List ℕ) (a b : Option ListError) → PutsAs a b bytes old new → PutsText a b bytes old new
-as_text old new bytes (Some why) b p = p
-as_text old new bytes None None p = p
-as_text old new bytes None (Some why) p = record {
-  cut = cut_wider old.taken new.taken old.waiting bytes why p.cut;
-  begun = p.begun;
-  failed = p.failed;
-  style = p.style;
-  spot = p.spot;
-}
+as_text old new bytes a b p = grind (arith, cut_wider)
 
 -- what is put after what was put
 module _ (since now new : Writing) (text bytes : List ℕ) where
   -- by why each has stopped
   joined : (a b c : Option ListError) → since.why ≡ a → now.why ≡ b → new.why ≡ c → PutsText a b text since now
       → PutsText b c bytes now new → PutsText a c (text ++ bytes) since new
-  joined (Some why) b c ea eb ec p q =
-      let stopped : b ≡ Some why = sym eb ∙ (ap (λ (w : Writing). w.why) p ∙ ea) in
-      subst (λ (x : Option ListError). PutsText x c bytes now new) stopped q ∙ p
-  joined None (Some why) c ea eb ec p q =
-      let same : Some why ≡ c = sym eb ∙ (ap (λ (w : Writing). w.why) (sym q) ∙ ec) in
-      subst (λ (x : Option ListError). PutsText None x (text ++ bytes) since new) same
-      (subst (λ (w : Writing). StopsIn (text ++ bytes) why since w) (sym q) (record {
-        cut = subst (λ (x : List ℕ). IsCut since.taken now.taken x why) (append_assoc since.waiting text bytes)
-            (cut_wider since.taken now.taken (since.waiting ++ text) bytes why p.cut);
-        begun = p.begun;
-        failed = p.failed;
-        style = p.style;
-        spot = p.spot;
-      }))
+  joined (Some why) b c ea eb ec p q = grind arith
+  joined None (Some why) c ea eb ec p q = grind (arith, append_assoc, cut_wider)
   joined None None None ea eb ec p q = record {
     puts = record {
       moved = p.puts.moved ++ q.puts.moved;
@@ -115,45 +58,21 @@ module _ (since now new : Writing) (text bytes : List ℕ) where
     spot = q.spot ∙ p.spot;
     unshown = q.unshown ∙ p.unshown;
   }
-  joined None None (Some why) ea eb ec p q = record {
-    cut = cut_later since.taken now.taken new.taken since.waiting text p.puts.moved now.waiting bytes why p.puts.writes p.puts.waits q.cut;
-    begun = q.begun ∙ p.begun;
-    failed = q.failed ∙ ap (λ (b : Bool). output_failed {A = Unit {0}} (Err why) b) p.failed;
-    style = q.style ∙ p.style;
-    spot = q.spot ∙ p.spot;
-  }
-
-  pub puts_more : HasLine since text now → Puts bytes now new → HasLine since (text ++ bytes) new
-  puts_more h q = record {
-    begun = h.begun;
-    lines = h.lines;
-    puts = joined since.why now.why new.why refl refl refl h.puts (as_text now new bytes now.why new.why q);
-  }
+  joined None None (Some why) ea eb ec p q = grind (arith, after_text, append_assoc, Appends-trans)
 
   joins : HasLine since text now → HasLine now bytes new → HasLine since (text ++ bytes) new
   joins h k = record { begun = h.begun; lines = h.lines; puts = joined since.why now.why new.why refl refl refl h.puts k.puts }
 
 begun_by : (since now : Writing) (text : List ℕ) (a b : Option ListError) → since.is_begun ≡ true → PutsText a b text since now
     → now.is_begun ≡ true
-begun_by since now text (Some why) b e p = ap (λ (w : Writing). w.is_begun) p ∙ e
-begun_by since now text None None e p = p.begun ∙ e
-begun_by since now text None (Some why) e p = p.begun ∙ e
+begun_by since now text a b e p = grind arith
 
 -- the line is still begun
 pub still_begun : (since now : Writing) (text : List ℕ) → HasLine since text now → now.is_begun ≡ true
 still_begun since now text h = begun_by since now text since.why now.why h.begun h.puts
 
 nothing_by : (w : Writing) (why : Option ListError) → w.why ≡ why → PutsText why why [] w w
-nothing_by w (Some why) e = refl
-nothing_by w None e = record {
-  puts = record { moved = []; writes = Appends-nil w.taken; waits = append-nil w.waiting };
-  begun = refl;
-  failed = refl;
-  why = refl;
-  style = refl;
-  spot = refl;
-  unshown = refl;
-}
+nothing_by w why e = grind (arith, Appends-nil, append-nil)
 
 -- nothing was put on a line that is begun
 pub has_nothing : (w : Writing) → w.is_begun ≡ true → w.style ≡ Lines → HasLine w [] w
@@ -161,17 +80,14 @@ has_nothing w e lines = record { begun = e; lines = lines; puts = nothing_by w w
 
 lines_by : (since now : Writing) (text : List ℕ) (a b : Option ListError) → since.style ≡ Lines → PutsText a b text since now
     → now.style ≡ Lines
-lines_by since now text (Some why) b e p = ap (λ (w : Writing). w.style) p ∙ e
-lines_by since now text None None e p = p.style ∙ e
-lines_by since now text None (Some why) e p = p.style ∙ e
+lines_by since now text a b e p = grind arith
 
 -- lines are still written
 pub still_lines : (since now : Writing) (text : List ℕ) → HasLine since text now → now.style ≡ Lines
 still_lines since now text h = lines_by since now text since.why now.why h.lines h.puts
 
 no_lines : (style : Style) → style ≡ Lines → style ≡ Objects → ⊥
-no_lines Lines e f = cc
-no_lines Objects e f = cc
+no_lines style e f = grind arith
 
 -- in objects there are no lines
 pub says_never : (text : List ℕ) (old new : Writing) → old.style ≡ Objects → Says text old new
@@ -184,16 +100,14 @@ says_none_ever old new objects since m = absurd (no_lines old.style (still_lines
 
 -- a part of a line that is begun already
 pub says_piece : (old mid new : Writing) (bytes : List ℕ) → (old.is_begun ≡ true → mid ≡ old) → Puts bytes mid new → Says bytes old new
-says_piece old mid new bytes same p since before h = puts_more since mid new before bytes
-    (subst (HasLine since before) (sym (same (still_begun since old before h))) h) p
+says_piece old mid new bytes same p since before h = grind (arith, still_begun, joined, as_text)
 
 pub says_nothing : (w : Writing) → Says [] w w
 says_nothing w since before h = subst (λ (t : List ℕ). HasLine since t w) (sym (append-nil before)) h
 
 -- one text after the other
 pub says_then : (a b : List ℕ) (x y z : Writing) → Says a x y → Says b y z → Says (a ++ b) x z
-says_then a b x y z p q since before h =
-    subst (λ (t : List ℕ). HasLine since t z) (append_assoc before a b) (q since (before ++ a) (p since before h))
+says_then a b x y z p q since before h = grind (arith, append_assoc)
 
 pub says_same : (a b : List ℕ) (x y : Writing) → a ≡ b → Says a x y → Says b x y
 says_same a b x y e p = subst (λ (t : List ℕ). Says t x y) e p
@@ -201,8 +115,7 @@ says_same a b x y e p = subst (λ (t : List ℕ). Says t x y) e p
 -- the value of a field
 pub says_value : (name value : List ℕ) (x y z : Writing) → Says (codes " " ++ (name ++ codes "=")) x y → Says value y z
     → Says (codes " " ++ (name ++ (codes "=" ++ value))) x z
-says_value name value x y z p q = says_same _ _ x z (ap (λ (t : List ℕ). codes " " ++ t) (append_assoc name (codes "=") value))
-    (says_then (codes " " ++ (name ++ codes "=")) value x y z p q)
+says_value name value x y z p q = grind (arith, says_same, append_assoc, says_then)
 
 -- ---- some text
 
@@ -218,8 +131,7 @@ says_named name x y z p q since before h =
     let m = p since before h in
     let r = q y (record {
       text = [];
-      has = has_nothing y (still_begun since y (before ++ start) m) (still_lines since y
-          (before ++ start) m);
+      has = grind (arith, has_nothing, still_begun, still_lines);
     }) in (
       r.text,
       subst (λ (t : List ℕ). HasLine since t z) (append_assoc before start r.text
@@ -235,8 +147,7 @@ more_fields before (x ∷ xs) ys = more_fields (before ++ field_text x) xs ys
 -- ---- parts of a text
 
 neither : (a b : Bool) → (a || b) ≡ false → (a ≡ false) × (b ≡ false)
-neither true b e = cc
-neither false b e = (refl, e)
+neither a b e = grind arith
 
 parts_without : (xs ys : List ℕ) → has_line_feed (xs ++ ys) ≡ false → (has_line_feed xs ≡ false) × (has_line_feed ys ≡ false)
 parts_without xs ys e = neither (has_line_feed xs) (has_line_feed ys) (sym (list_any-append (λ b. nat_eq b 10) xs ys) ∙ e)
@@ -262,8 +173,7 @@ none_in_decimal = decimal_by_steps (λ n ds. has_line_feed ds ≡ false) (λ n h
 
 pub none_in_signed : (negative : Bool) (n : ℕ) → n < 2 ^ 64
     → has_line_feed ((if negative then codes "-" else []) ++ decimal n) ≡ false
-none_in_signed true n h = none_in_decimal n h
-none_in_signed false n h = none_in_decimal n h
+none_in_signed negative n h = grind (arith, none_in_decimal)
 
 -- nor is one escaped in quotes
 plain_digit : (n : ℕ) → n < 10 → list_any is_escaped ((48 + n) ∷ []) ≡ false
@@ -285,13 +195,7 @@ none_in_digits i j = rw (none_at (codes "0123456789abcdef") i refl, none_at (cod
 
 -- nor is a plain byte in quotes
 pub none_in_quoted : (byte : ℕ) → is_escaped byte ≡ false → has_line_feed (byte ∷ []) ≡ false
-none_in_quoted byte e =
-    let unquoted = (neither _ (nat_eq byte 92) e).0 in
-    let above = (neither (nat_lt byte 32) (nat_lt 126 byte) (neither (nat_lt byte 32 || nat_lt 126 byte) (nat_eq byte 34) unquoted).0).0 in
-    rw (other byte above) refl
-  where
-    other : (n : ℕ) → nat_lt n 32 ≡ false → nat_eq n 10 ≡ false
-    other n h = grind (arith, nat_tests)
+none_in_quoted byte e = grind arith
 
 -- ---- plain bytes in quotes
 

@@ -17,10 +17,10 @@ use Rattle.wasm_lines.specs.declared.devices.ListError.TheVariants.{Input, Outpu
 use Rattle.wasm_tree.specs.Numbers.{Number, blank_numbers, number_text}
 use Rattle.wasm_tree.specs.Said.{PutsText, StopsIn}
 use Rattle.wasm_tree.specs.Tree.{Part, words, number, Line, first, under, row, has_line_feed, is_part, is_line, part_text, text_of}
-use Rattle.wasm_tree.specs.Tree.{begun, begun_numbers, bytes_of, first_of, name_text, row_text, with_bytes, AddsBytes}
+use Rattle.wasm_tree.specs.Tree.{begun, begun_numbers, bytes_of, first_of, name_text, row_text, with_bytes}
 use Rattle.wasm_tree.specs.Tree.{part_numbers, numbers_of, IsFirst, IsOutlined, Writing, Origin, with_numbers}
 use Rattle.wasm_tree.specs.Tree.{IsGoing, IsGoingInObjects, IsGoingIn, IsCutShort, IsWrittenAs, IsWritten, IsShaped, with_line}
-use Rattle.wasm_tree.specs.Tree.{IsPushed, IsStuck, PutsAs, Puts, Adds, AddsFirst, AddsThese}
+use Rattle.wasm_tree.specs.Tree.{IsPushed, IsStuck, PutsAs, Puts, Adds, AddsFirst}
 use Rattle.wasm_tree.specs.Tree.{Put, Rest, stopped_without_memory, with_rest}
 use Rattle.wasm_tree.specs.Json.{AreObjects, IsAt, Leads, after_all, start}
 use Rattle.wasm_tree.specs.declared.objects.Spot.{Spot}
@@ -446,23 +446,19 @@ module _ (o : Origin) (old new : Writing) (lines : old.style ≡ Lines) where
   pub begins : old.is_begun ≡ false → Puts (codes "  ") old new → IsWritten o old → IsWritten o (record new { is_begun = true })
   begins b p i =
       let e : o.style ≡ Lines = sym i.0 ∙ lines in
-      changes o old new true new.spot new.unshown o (codes "  ") refl p i
-      (λ g h. from_lines o o (record new { is_begun = true }) refl e (part_begins o old new (in_lines o old e g) b h)) (λ why w c. c)
+      search (changes, from_lines, part_begins, in_lines)
 
   pub ends : old.is_begun ≡ true → Puts (codes "\n") old new → IsWritten o old → IsWritten o (record new { is_begun = false })
   ends b p i =
       let e : o.style ≡ Lines = sym i.0 ∙ lines in
-      changes o old new false new.spot new.unshown o (codes "\n") refl p i
-      (λ g h. from_lines o o (record new { is_begun = false }) refl e (part_ends o old new (in_lines o old e g) b h)) (λ why w c. c)
+      search (changes, from_lines, part_ends, in_lines)
 
   -- a row of bytes that were to be shown
   pub puts_row : (offset : ℕ) (bytes left : List ℕ) → old.is_begun ≡ false → Puts (row_text offset bytes) old new
       → old.unshown ≡ bytes ++ left → IsWritten o old → IsWritten o (record new { unshown = left })
   puts_row offset bytes left b p u i =
       let e : o.style ≡ Lines = sym i.0 ∙ lines in
-      changes o old new new.is_begun new.spot left o (row_text offset bytes) refl p i
-      (λ g h. from_lines o o (record new { unshown = left }) refl e (row_grows o old new (in_lines o old e g) offset bytes left b h u))
-      (λ why w c. c)
+      search (changes, from_lines, row_grows, in_lines)
 
 -- ---- a line of the first level that was put as several texts
 
@@ -502,15 +498,7 @@ module _ (o : Origin) (old new : Writing) (line outline : List ℕ) (numbers : L
 
   -- all of it was put
   line_pushed : old.is_begun ≡ false → IsPushed line in_line new → IsPushed line old after_line
-  line_pushed b p = record {
-    puts = p.puts;
-    begun = sym b;
-    failed = p.failed;
-    why = p.why;
-    style = p.style;
-    spot = p.spot;
-    unshown = p.unshown;
-  }
+  line_pushed b p = search
 
   by_text : (before after : Option ListError) → old.why ≡ before → new.why ≡ after → o.style ≡ Lines → old.is_begun ≡ false
       → PutsText before after line in_line new → IsWritten o old → IsWrittenAs new.why with_this after_line
@@ -558,9 +546,7 @@ module _ (o : Origin) (old new : Writing) where
       → IsWritten o old → IsWritten o (record new { spot = spot })
   puts_in_object bytes spot objects leads p i =
       let e : o.style ≡ Objects = sym i.0 ∙ objects in
-      changes o old new new.is_begun spot new.unshown o bytes refl p i
-      (λ g h. from_objects o (record new { spot = spot }) e (object_grows o old new bytes spot (in_objects o old e g) leads h))
-      (λ why w c. c)
+      search (changes, from_objects, object_grows, in_objects)
 
   all_in : (style : Style) → o.style ≡ style → IsGoingIn style o old → IsPushed [] old new → IsGoingIn style o new
   all_in Lines e i p = all_moves o old new i p

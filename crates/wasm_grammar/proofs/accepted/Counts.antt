@@ -1,5 +1,5 @@
 -- What the tiles before a section say to it, reported of the frames before it.
-use Rattle.std.proofs.Common.{◌≡◌, ℕ, ◌<◌, Bool, true, false, cond, not, ◌&&◌, ◌||◌, List, [], ◌∷◌, ◌++◌, length, refl, sym, ap, ◌∙◌}
+use Rattle.std.proofs.Common.{◌≡◌, ℕ, ◌<◌, Bool, true, false, cond, not, ◌&&◌, ◌||◌, List, [], ◌∷◌, ◌++◌, length, refl, sym, ◌∙◌}
 use Rattle.std.proofs.Common.{nat_lt, nat_eq, eqb-true, eq-eqb, append-nil, append_assoc}
 use Rattle.std.specs.List.{All, list_all, list_any}
 use Rattle.std.proofs.Math.Bool.{and_comm, or_comm}
@@ -49,9 +49,7 @@ yes_section Component n f s = let z : Component ≡ Module = s.0 in cc
 pub counts_push : (encoding : Encoding) (n : ℕ) (fs : List SectionFrame) (f : SectionFrame) → counts_of encoding n (fs ++ f ∷ [])
     ≡ one_count encoding n f ++ counts_of encoding n fs
 counts_push encoding n [] f = sym (append-nil (one_count encoding n f))
-counts_push encoding n (g ∷ fs) f =
-    ap (λ (x : List ℕ). x ++ one_count encoding n g) (counts_push encoding n fs f)
-    ∙ append_assoc (one_count encoding n f) (counts_of encoding n fs) (one_count encoding n g)
+counts_push encoding n (g ∷ fs) f = search (append_assoc, counts_push encoding n fs f)
 
 -- a frame passes a test of its count, if it is such a section
 abbrev pub advances : Encoding → ℕ → (ℕ → Bool) → SectionFrame → Bool
@@ -75,21 +73,13 @@ one_any false p c = refl
 pub all_counts : (encoding : Encoding) (n : ℕ) (p : ℕ → Bool) (fs : List SectionFrame) → list_all p (counts_of encoding n fs)
     ≡ list_all (advances encoding n p) fs
 all_counts encoding n p [] = refl
-all_counts encoding n p (f ∷ fs) =
-    list_all-append p (counts_of encoding n fs) (one_count encoding n f)
-    ∙ (and_comm (list_all p (counts_of encoding n fs)) (list_all p (one_count encoding n f))
-    ∙ (ap (λ (b : Bool). b && list_all p (counts_of encoding n fs)) (search one_all)
-    ∙ ap (λ (b : Bool). advances encoding n p f && b) (all_counts encoding n p fs)))
+all_counts encoding n p (f ∷ fs) = search (list_all-append, and_comm, one_all, all_counts encoding n p fs)
 
 -- a count passes exactly if a frame does
 pub any_counts : (encoding : Encoding) (n : ℕ) (p : ℕ → Bool) (fs : List SectionFrame) → list_any p (counts_of encoding n fs)
     ≡ list_any (offends encoding n p) fs
 any_counts encoding n p [] = refl
-any_counts encoding n p (f ∷ fs) =
-    list_any-append p (counts_of encoding n fs) (one_count encoding n f)
-    ∙ (or_comm (list_any p (counts_of encoding n fs)) (list_any p (one_count encoding n f))
-    ∙ (ap (λ (b : Bool). b || list_any p (counts_of encoding n fs)) (search one_any)
-    ∙ ap (λ (b : Bool). offends encoding n p f || b) (any_counts encoding n p fs)))
+any_counts encoding n p (f ∷ fs) = search (list_any-append, or_comm, one_any, any_counts encoding n p fs)
 
 -- one more section, if it is one, is one more count
 none_step : (b : Bool) (c : ℕ) (xs : List ℕ) (t : Bool) → nat_eq (length xs) 0 ≡ not t → nat_eq (length (xs ++ cond b (c ∷ []) [])) 0
@@ -102,8 +92,7 @@ none_step false c xs t h = rw append-nil h
 pub no_counts : (encoding : Encoding) (n : ℕ) (fs : List SectionFrame) → nat_eq (length (counts_of encoding n fs)) 0
     ≡ not (list_any (is_section encoding n) fs)
 no_counts encoding n [] = refl
-no_counts encoding n (f ∷ fs) = none_step (is_section encoding n f) (frame_count f) (counts_of encoding n fs)
-    (list_any (is_section encoding n) fs) (no_counts encoding n fs)
+no_counts encoding n (f ∷ fs) = search (none_step, no_counts encoding n fs)
 
 -- a test that holds if it is required
 passes_to : (b t : Bool) → (b ≡ true → t ≡ true) → (not b || t) ≡ true

@@ -1,6 +1,6 @@
 -- A section may follow other tiles exactly if it fits after their frames.
-use Rattle.std.proofs.Common.{◌≡◌, ℕ, ◌<◌, ◌⊎◌, ◌==◌, Bool, true, false, not, ◌&&◌, List, length, refl, sym, ap}
-use Rattle.std.proofs.Common.{subst, ◌∙◌, arith, None, nat_lt, nat_eq, eqb-true, eq-eqb, ltb-true, lt-ltb}
+use Rattle.std.proofs.Common.{◌≡◌, ℕ, ◌<◌, ◌⊎◌, ◌==◌, Bool, true, false, not, ◌&&◌, List, length, refl, ap}
+use Rattle.std.proofs.Common.{◌∙◌, arith, None, nat_lt, nat_eq, eqb-true, eq-eqb, ltb-true, lt-ltb}
 use Rattle.std.specs.List.{All, Any, list_all}
 use Rattle.wasm_base.specs.FaultAt.{FaultAt, at_offset}
 use Rattle.wasm_base.specs.declared.fault.Fault.TheVariants.{DataCountDiffer}
@@ -67,10 +67,6 @@ code_from encoding fs p k o c h = grind (arith, same_of, some_from)
 data_right : (b all : Bool) (e : FaultAt) → (b ≡ true → all ≡ true) → when (b && not all) e ≡ None
 data_right b all e h = grind arith
 
--- a count with which nothing is wrong agrees if it is required
-right_data : (b all : Bool) (e : FaultAt) → when (b && not all) e ≡ None → b ≡ true → all ≡ true
-right_data b all e h z = grind arith
-
 -- sections of items are a module's
 items_in : (encoding : Encoding) (id : ℕ) → kind_of encoding id ≡ whole items → encoding ≡ Module
 items_in encoding id e = grind arith
@@ -89,11 +85,4 @@ data_to encoding fs p k f o h _ e = refl
 pub data_from : (encoding : Encoding) (fs : List SectionFrame) (p : SectionContext) → Knows encoding fs p
     → (f : SectionFrame) (o : ℕ) (w : IsWhole (kind_of encoding f.id)) → wrong_data p w.0 f.id o f.sized.content ≡ None
     → IsSection encoding data_id f → HasCount encoding data_count_id (frame_count f) fs
-data_from encoding fs p k f o w h s =
-    let z : kind_of encoding f.id ≡ whole items = ap (λ (x : Encoding). kind_of x f.id) s.0 ∙ ap (kind_of Module) s.1 in
-    let v : wrong_data p items f.id o f.sized.content ≡ None = subst (λ (x : Form). wrong_data p x f.id o f.sized.content ≡ None)
-    (same_form w.0 items (sym w.1 ∙ z)) h in
-    same_of encoding data_count_id (frame_count f) fs
-    (sym (ap (list_all (nat_eq (frame_count f))) k.data_counts)
-    ∙ right_data (f.id == data_id) (list_all (nat_eq (frame_count f)) p.data_counts) (at_offset DataCountDiffer o) v
-    (eq-eqb f.id 11 s.1))
+data_from encoding fs p k f o w h s = grind (arith, same_form, same_of, eq-eqb)

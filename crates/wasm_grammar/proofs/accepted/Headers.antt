@@ -38,9 +38,7 @@ agree_whole : (xs ys : List ℕ) → length xs ≡ length ys → agree xs ys ≡
 agree_whole [] [] l e = refl
 agree_whole (x ∷ xs) (y ∷ ys) l e =
     let q : ((nat_eq x y ≡ true) × (agree xs ys ≡ true)) = and_parts _ _ e in
-    let a : x ≡ y = eqb-true x y q.0 in
-    let b : xs ≡ ys = agree_whole xs ys (omega arith) q.1 in
-    cc
+    grind (arith, eqb-true, agree_whole xs ys (omega arith) q.1)
 agree_whole _ _ l e = absurd (omega arith)
 
 -- four bytes
@@ -52,10 +50,6 @@ four_parts _ l = absurd (omega arith)
 four_bytes : (encoding : Encoding) (four : List ℕ) → length four ≡ 4 → All (λ b. b < 256) (magic ++ four) → of_four four
     ≡ header_bits encoding → four ≡ last_four encoding
 four_bytes encoding four l each e = grind (arith, four_parts)
-
--- the magic and the last four bytes are the header
-header_whole : (encoding : Encoding) → magic ++ last_four encoding ≡ header_bytes encoding
-header_whole encoding = grind arith
 
 -- what a header's tile is
 pub record HeaderParts (t : Tile) : Type 0 where
@@ -69,18 +63,13 @@ header_parts o xs t each h =
     let m : BytesParts 4 (λ prefix. check (when (not (agree prefix magic)) (at_offset BadMagic o))
     (bytes 4 (o + 4) (λ four. version_of o (of_four four)))) t = bytes_parts 4 o _ xs t h in
     let a : ((when (not (agree m.prefix magic)) (at_offset BadMagic o) ≡ None)
-    × (verdict (bytes 4 (o + 4) (λ four. version_of o (of_four four))) m.others ≡ tile m.rest)) =
-    refuse_parts _ _ m.others m.rest m.goes_on in
+    × (verdict (bytes 4 (o + 4) (λ four. version_of o (of_four four))) m.others ≡ tile m.rest)) = search refuse_parts in
     let z : m.prefix ≡ magic = search (agree_whole, not-false, none_when) in
     let f : BytesParts 4 (λ four. version_of o (of_four four)) m.rest = bytes_parts 4 (o + 4) _ m.others m.rest a.1 in
     let (encoding, b, r) = of_header o (of_four f.prefix) (encoding_named (of_four f.prefix % 65536) (of_four f.prefix / 65536)) f.others
     f.rest refl f.goes_on in
-    let u : m.rest ≡ made (version (header_version encoding) encoding) f.prefix =
-    search ends_there in
+    let u : m.rest ≡ made (version (header_version encoding) encoding) f.prefix = search ends_there in
     let w : t ≡ made (version (header_version encoding) encoding) (magic ++ f.prefix) = grind (arith, header_version) in
     let e : All (λ b. b < 256) (magic ++ f.prefix) = rw w at each in
     let l : f.prefix ≡ last_four encoding = four_bytes encoding f.prefix f.size e b in
-    record {
-      encoding = encoding;
-      is = grind (arith, made, header_version, header_whole);
-    }
+    grind arith

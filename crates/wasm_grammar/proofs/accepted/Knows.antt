@@ -30,14 +30,7 @@ grammar_open start (t ∷ ts) b e = cc
 -- after a header there is no frame yet
 pub knows_header : (encoding : Encoding) (bytes : List ℕ) → Knows encoding []
     (context_of (made (version (header_version encoding) encoding) bytes ∷ []))
-knows_header encoding bytes = record {
-  named = refl;
-  ranks = λ r l. and_from (nat_lt 0 r) true (lt-ltb 0 r l) refl;
-  functions = refl;
-  codes = refl;
-  datas = refl;
-  data_counts = refl;
-}
+knows_header encoding bytes = search (and_from, lt-ltb)
 
 -- a body says nothing
 pub knows_body : (encoding : Encoding) (fs : List SectionFrame) (ts : List Tile) (content bytes : List ℕ)
@@ -50,10 +43,6 @@ knows_body encoding fs ts content bytes k = record {
   datas = k.datas;
   data_counts = k.data_counts;
 }
-
--- one more frame passes a test with the others
-all_push : (p : SectionFrame → Bool) (fs : List SectionFrame) (f : SectionFrame) → list_all p (fs ++ f ∷ []) ≡ (p f && list_all p fs)
-all_push p fs f = search (list_all-append, and_comm)
 
 -- a section of this kind has a count
 abbrev pub IsCounting : Kind → Type 0
@@ -115,7 +104,7 @@ knows_section encoding fs ts f bytes w k = record {
   ranks = λ r l.
       ap (λ (x : Kind). nat_lt (rank_of x f.id) r && (context_of ts).may_follow r) (sym w.1)
       ∙ (ap (λ (b : Bool). nat_lt (frame_rank encoding f) r && b) (k.ranks r l)
-      ∙ sym (search all_push));
+      ∙ sym (search (list_all-append, and_comm)));
   functions = counts_more encoding function_id fs f (counts function_id ts) _ k.functions
       (section_count 3 (inl tt) encoding f (counts function_id ts) w);
   codes = counts_more encoding code_id fs f (counts code_id ts) _ k.codes (section_count 10 (inr refl) encoding f (counts code_id ts) w);
@@ -134,7 +123,7 @@ knows_code fs ts f count width size bytes z c k = record {
       ap (λ (b : Bool). nat_lt (rank_of code 10) r && b) (k.ranks r l)
       ∙ (ap (λ (x : ℕ). nat_lt (rank_of (kind_of Module x) x) r && list_all (λ (g : SectionFrame). nat_lt (frame_rank Module g) r) fs)
       (sym z)
-      ∙ sym (search all_push));
+      ∙ sym (search (list_all-append, and_comm)));
   functions = counts_more Module function_id fs f (counts function_id ts) _ k.functions
       (cc);
   codes = counts_more Module code_id fs f (counts code_id ts) _ k.codes

@@ -1,13 +1,11 @@
 -- Tiles are bytes in the textbook form.
 use Rattle.std.proofs.Common.{◌≡◌, ℕ, zero, suc, ◌+◌, ◌-◌, ◌<◌, ◌≤◌, Bool, cond, not, ◌&&◌, List, [], ◌∷◌, ◌++◌, length, take, drop, Option}
-use Rattle.std.proofs.Common.{None, nat_lt, nat_le, refl, sym, ap, ◌∙◌, arith, append-nil, ltb-false}
+use Rattle.std.proofs.Common.{None, nat_lt, nat_le, refl, arith, append-nil}
 use Rattle.std.proofs.lemmas.List.{length-take-le}
 use Rattle.wasm_base.specs.FaultAt.{FaultAt, at_offset}
 use Rattle.wasm_base.specs.Header.{magic, agree}
-use Rattle.wasm_base.specs.Number.{read}
-use Rattle.wasm_base.specs.declared.fault.NumberKind.TheVariants.{VarU32}
 use Rattle.wasm_base.specs.declared.fault.Fault.TheVariants.{MagicAtSection, UnexpectedEof}
-use Rattle.wasm_base.proofs.NumberLaws.{number-used, Used}
+use Rattle.wasm_base.proofs.NumberLaws.{number-used}
 use Rattle.wasm_grammar.specs.Content.{Kind, kind_of, rank_of, Ending, fault, when, wrong_content, Form}
 use Rattle.wasm_grammar.specs.Grammar.{Shape, section, code_start, code_entry, Tile, tile, final, after, SectionContext, Grammar, accept}
 use Rattle.wasm_grammar.specs.Grammar.{check, u32_field, bytes, verdict, section_grammar, body_grammar, content_grammar, whole_grammar}
@@ -37,17 +35,7 @@ record NumberParts (next : ℕ → ℕ → Grammar) (t : Tile) : Type 0 where
 number_parts : (o : ℕ) (next : ℕ → ℕ → Grammar) (xs : List ℕ) (t : Tile) → verdict (u32_field o next) xs ≡ tile t → NumberParts next t
 number_parts o next xs t h =
     let n : Numbered next xs t = numbered o next xs t h in
-    let u : Used VarU32 xs n.value n.used = number-used VarU32 xs n.value n.used n.reads in
-    let l : length (take n.used xs) ≡ n.used = length-take-le n.used xs u.there in
-    record {
-      value = n.value;
-      field = take n.used xs;
-      whole = u.alone ∙ ap (read n.value) (sym l);
-      others = drop n.used xs;
-      rest = n.rest;
-      goes_on = cc;
-      is = n.is;
-    }
+    grind (arith, number-used, length-take-le)
 
 -- a tile that begins with n bytes
 pub record BytesParts (n : ℕ) (next : List ℕ → Grammar) (t : Tile) : Type 0 where
@@ -75,8 +63,7 @@ takes_parts s xs t h = cc
 
 -- a tile after bytes with which it ends
 pub ends_there : (t u : Tile) (s : Shape) (prefix : List ℕ) → t ≡ made u.shape (prefix ++ u.bytes) → u ≡ made s [] → t ≡ made s prefix
-ends_there t u s prefix e f =
-    e ∙ (ap (λ (x : Tile). made x.shape (prefix ++ x.bytes)) f ∙ ap (made s) (append-nil prefix))
+ends_there t u s prefix e f = grind (arith, made, append-nil)
 
 -- a section whose head is right, and what follows it
 pub record SectionParts (p : SectionContext) (o : ℕ) (t : Tile) : Type 0 where
@@ -96,24 +83,12 @@ framed_parts : (p : SectionContext) (o id : ℕ) (xs : List ℕ) (s t : Tile) �
     ≡ made s.shape (id ∷ s.bytes) → SectionParts p o t
 framed_parts p o id xs s t h e =
     let a : ((when (nat_le 128 id) _ ≡ None) × (verdict _ xs ≡ tile s)) = refuse_parts _ _ xs s h in
-    let n : NumberParts (λ size width. after_length p (kind_of p.encoding id) id (o + 1) (o + 1 + width) size) s =
-    number_parts (o + 1) _ xs s a.1 in
+    let n : NumberParts (λ size width. after_length p (kind_of p.encoding id) id (o + 1) (o + 1 + width) size) s = search number_parts in
     let b : ((_ ≡ None) × (verdict _ n.others ≡ tile n.rest)) = refuse_parts _ _ n.others n.rest n.goes_on in
     let c : ((when (nat_lt 0 (rank_of (kind_of p.encoding id) id) && not (p.may_follow (rank_of (kind_of p.encoding id) id))) _ ≡ None)
     × (verdict (content_grammar p (kind_of p.encoding id) id (o + 1 + length n.field) n.value) n.others ≡ tile n.rest)) =
     refuse_parts _ _ n.others n.rest b.1 in
-    record {
-      id = id;
-      below = grind arith;
-      field = n.field;
-      size = n.value;
-      whole = n.whole;
-      follows = none_when _ _ c.0;
-      others = n.others;
-      rest = n.rest;
-      goes_on = c.1;
-      is = cc;
-    }
+    grind (arith, none_when)
 
 -- what a section's tile consists of, if it begins no header
 start_at : (b : Bool) (p : SectionContext) (o id : ℕ) (xs : List ℕ) (x : FaultAt) (t : Tile)
@@ -198,15 +173,6 @@ body_parts (suc m) l o xs t h =
     let a : ((when (nat_lt l (length n.field + n.value)) (at_offset UnexpectedEof o) ≡ None)
     × (verdict (bytes n.value (o + length n.field) (λ content. accept (code_entry content))) n.others ≡ tile n.rest)) =
     refuse_parts _ _ n.others n.rest n.goes_on in
-    let b : BytesParts n.value (λ content. accept (code_entry content)) n.rest =
-    search bytes_parts in
+    let b : BytesParts n.value (λ content. accept (code_entry content)) n.rest = search bytes_parts in
     let r : n.rest ≡ made (code_entry b.prefix) b.prefix = search (ends_there, takes_parts) in
-    record {
-      others = m;
-      missing = refl;
-      field = n.field;
-      content = b.prefix;
-      whole = cc;
-      fits = omega (arith, b.size, ltb-false l (length n.field + n.value) (none_when _ _ a.0));
-      is = cc;
-    }
+    grind arith

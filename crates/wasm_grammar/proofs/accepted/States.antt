@@ -1,5 +1,5 @@
 -- The frames that tiles are, and the code section within which they end.
-use Rattle.std.proofs.Common.{◌≡◌, ℕ, ◌+◌, ◌-◌, ◌⊎◌, inl, inr, true, List, [], ◌∷◌, ◌++◌, length, None, nat_eq, refl, sym, ap, ◌∙◌}
+use Rattle.std.proofs.Common.{◌≡◌, ℕ, ◌+◌, ◌-◌, ◌⊎◌, true, List, [], ◌∷◌, ◌++◌, length, None, nat_eq, refl, sym, ◌∙◌}
 use Rattle.std.proofs.Common.{arith, length-append, append-nil, append_assoc, lit<}
 use Rattle.std.specs.List.{All, flat_map}
 use Rattle.std.proofs.lemmas.List.{flat_map_more}
@@ -35,17 +35,13 @@ no_more (g ∷ earlier) later f e = cc
 
 -- no section is in order
 pub in_order_none : (encoding : Encoding) → InOrder encoding []
-in_order_none encoding = record {
-  each = All-nil (IsFrame encoding);
-  order = λ earlier later f e. absurd (no_more earlier later f e);
-}
+in_order_none encoding = grind (arith, All-nil, no_more)
 
 -- each of the sections and one more fits
 fits_push : (encoding : Encoding) (fs earlier : List SectionFrame) (f g : SectionFrame) → FitsAfter encoding fs f
     → ((earlier later : List SectionFrame) (h : SectionFrame) → fs ≡ earlier ++ h ∷ later → FitsAfter encoding earlier h)
     → ((earlier ≡ fs) × (g ≡ f)) ⊎ ((more : List SectionFrame) × (fs ≡ earlier ++ g ∷ more)) → FitsAfter encoding earlier g
-fits_push encoding fs earlier f g a order (inl q) = grind arith
-fits_push encoding fs earlier f g a order (inr q) = order earlier q.0 g q.1
+fits_push encoding fs earlier f g a order h7 = grind arith
 
 -- one more that fits
 pub in_order_push : (encoding : Encoding) (fs : List SectionFrame) (f : SectionFrame) → InOrder encoding fs → IsFrame encoding f
@@ -93,17 +89,9 @@ pub settles : (ts : List Tile) → Pending ts → nat_eq (bodies_left ts + bytes
 settles ts p e =
     let z : bodies_left ts + bytes_left ts ≡ 0 = grind arith in
     let f : SectionFrame = whole_code p.field p.head p.bodies in
-    let m : p.count ≡ length p.bodies = omega (arith, p.bodies_miss) in
-    let s : p.size ≡ length (p.head ++ flat_map sized_bytes p.bodies) =
-    omega (arith, p.bytes_miss, length-append p.head (flat_map sized_bytes p.bodies)) in
+    let s : p.size ≡ length (p.head ++ flat_map sized_bytes p.bodies) = grind (arith, length-append) in
     let c : frame_count f ≡ p.count = grind (arith, number_on) in
-    let d : CodeDivision f.sized.content = record {
-      field = p.head;
-      bodies = p.bodies;
-      whole = refl;
-      count = cc;
-      each = p.each;
-    } in
+    let d : CodeDivision f.sized.content = grind arith in
     let i : IsFrame Module f = record { id = lit< tt; sized = cc; content = d } in
     let w : bytes_of ts ≡ stream_of Module (p.frames ++ f ∷ []) = p.joined
     ∙ stream_more Module p.frames f (stream_of Module p.frames) refl in
@@ -123,11 +111,7 @@ frame_of id field content = record { id = id; sized = record { field = field; co
 whole_frame : (p : SectionContext) (o : ℕ) (t : Tile) (s : SectionParts p o t) (at : ℕ) (w : IsWhole (kind_of p.encoding s.id))
     (c : WholeParts p w.0 s.id at s.size s.rest)
     → IsFrame p.encoding (frame_of s.id s.field c.content)
-whole_frame p o t s at w c = record {
-  id = s.below;
-  sized = cc;
-  content = grind (arith, good_from);
-}
+whole_frame p o t s at w c = grind (arith, good_from)
 
 -- a section that is one tile fits after the frames before it
 whole_fits : (p : SectionContext) (fs : List SectionFrame) (o : ℕ) (t : Tile) (s : SectionParts p o t) (at : ℕ) → Knows p.encoding fs p
@@ -149,8 +133,7 @@ pub whole_settled : (ts : List Tile) (o : ℕ) (t : Tile) → Settled ts → (s 
 whole_settled ts o t q s w =
     let e : Encoding = encoding_of ts in
     let at : ℕ = o + 1 + length s.field in
-    let c : WholeParts (context_of ts) w.0 s.id at s.size s.rest =
-    search content_parts in
+    let c : WholeParts (context_of ts) w.0 s.id at s.size s.rest = grind (arith, content_parts) in
     let f : SectionFrame = frame_of s.id s.field c.content in
     let z : t ≡ made (section w.0 s.id c.content) (frame_bytes f) = cc in
     let r : Settled (made (section w.0 s.id c.content) (frame_bytes f) ∷ ts) = record {
@@ -191,9 +174,6 @@ code_pending ts o t q s e =
     let z : t ≡ made (code_start h.count (length h.head) n) b =
     cc in
     let k : Knows Module q.frames (context_of ts) = rw (← m) q.knows in
-    let y : Follows (context_of ts) (rank_of (kind_of Module s.id) s.id) =
-    cc in
-    let w : bytes_of ts ≡ stream_of Module q.frames = cc in
     let l : s.size ≡ length h.head + 0 + n = omega (arith, h.fits) in
     let r : Pending (made (code_start h.count (length h.head) n) b ∷ ts) = record {
       of_module = m;
@@ -207,8 +187,7 @@ code_pending ts o t q s e =
       counted = h.whole;
       bodies = [];
       each = All-nil IsSized;
-      joined = ap (λ (x : List ℕ). x ++ b) w ∙ ap (λ (x : List ℕ). stream_of Module q.frames ++ code_id ∷ (s.field ++ x))
-          (sym (append-nil h.head));
+      joined = grind (arith, stream_of, append-nil);
       bodies_miss = omega arith;
       bytes_miss = l;
       knows = λ f a c. knows_code q.frames ts f h.count (length h.head) n b a c k;
@@ -217,28 +196,13 @@ code_pending ts o t q s e =
     } in
     rw z r
 
--- the bytes of a code section with one more body
-body_joined : (first field head : List ℕ) (bodies : List Sized) (s : Sized)
-    → (first ++ code_id ∷ (field ++ (head ++ flat_map sized_bytes bodies))) ++ sized_bytes s ≡ first ++ code_id
-    ∷ (field ++ (head ++ flat_map sized_bytes (bodies ++ s ∷ [])))
-body_joined first field head bodies s =
-    append_assoc first (code_id ∷ (field ++ (head ++ flat_map sized_bytes bodies))) (sized_bytes s)
-    ∙ (ap (λ (x : List ℕ). first ++ code_id ∷ x) (append_assoc field (head ++ flat_map sized_bytes bodies) (sized_bytes s))
-    ∙ ap (λ (x : List ℕ). first ++ code_id ∷ (field ++ x)) (flat_map_more sized_bytes head bodies s))
-
 -- how many they are
 body_bytes : (head : List ℕ) (bodies : List Sized) (s : Sized) → length head + length (flat_map sized_bytes bodies) + length (sized_bytes s)
     ≡ length head + length (flat_map sized_bytes (bodies ++ s ∷ []))
 body_bytes head bodies s =
     let e : length ((head ++ flat_map sized_bytes bodies) ++ sized_bytes s)
-    ≡ length (head ++ flat_map sized_bytes (bodies ++ s ∷ [])) =
-    grind (arith, flat_map_more) in
-    omega (
-      arith,
-      length-append (head ++ flat_map sized_bytes bodies) (sized_bytes s),
-      length-append head (flat_map sized_bytes bodies),
-      length-append head (flat_map sized_bytes (bodies ++ s ∷ [])),
-    )
+    ≡ length (head ++ flat_map sized_bytes (bodies ++ s ∷ [])) = grind (arith, flat_map_more) in
+    grind (arith, length-append)
 
 -- within a code section, one more body
 pub body_pending : (ts : List Tile) (t : Tile) → Pending ts → BodyParts (bodies_left ts) (bytes_left ts) t → Pending (t ∷ ts)
@@ -262,7 +226,7 @@ body_pending ts t q h =
       counted = q.counted;
       bodies = q.bodies ++ s ∷ [];
       each = All-push IsSized q.bodies s q.each h.whole;
-      joined = grind (arith, body_joined);
+      joined = grind (arith, append_assoc, flat_map_more);
       bodies_miss = m;
       bytes_miss = y;
       knows = λ f a c. knows_body Module (q.frames ++ f ∷ []) ts h.content b (q.knows f a c);

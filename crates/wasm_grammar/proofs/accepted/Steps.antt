@@ -1,19 +1,18 @@
 -- A good section that fits after other tiles is one tile more, or the head of a code section and its bodies.
-use Rattle.std.proofs.Common.{◌≡◌, ℕ, suc, ◌+◌, ◌-◌, ◌^◌, ◌<◌, ◌≤◌, true, false, List, [], ◌∷◌, ◌++◌, length, nat_eq, refl, sym, ap}
-use Rattle.std.proofs.Common.{subst, ◌∙◌, arith, length-append, append-nil, append_assoc, lit<}
+use Rattle.std.proofs.Common.{◌≡◌, ℕ, suc, ◌+◌, ◌-◌, ◌^◌, ◌<◌, ◌≤◌, true, false, List, [], ◌∷◌, ◌++◌, length, nat_eq, refl, ap}
+use Rattle.std.proofs.Common.{subst, ◌∙◌, arith, length-append, append-nil, append_assoc}
 use Rattle.std.specs.List.{All, flat_map}
 use Rattle.std.proofs.lemmas.Bool.{ne_eqb}
 use Rattle.std.proofs.lemmas.List.Elements.{All-head, All-tail}
 use Rattle.wasm_grammar.specs.declared.encoding.Encoding.{Encoding}
 use Rattle.wasm_grammar.specs.declared.encoding.Encoding.TheVariants.{Module}
-use Rattle.wasm_grammar.specs.Content.{kind_of, rank_of, value_of, count_of}
+use Rattle.wasm_grammar.specs.Content.{kind_of, value_of, count_of}
 use Rattle.wasm_grammar.specs.FrameEvents.{body_events}
 use Rattle.wasm_grammar.specs.Grammar.{section, code_start, code_entry, Tile, tile, SectionContext, verdict, section_grammar}
 use Rattle.wasm_grammar.specs.Tiling.{bytes_of, grammar, Faultless, context_of, bodies_left, bytes_left, is_start}
 use Rattle.wasm_grammar.specs.Reading.{events_of}
-use Rattle.wasm_grammar.specs.Accepted.{Sized, sized_bytes, IsSized, SectionFrame, frame_bytes, frame_count, frame_rank, IsFrame}
+use Rattle.wasm_grammar.specs.Accepted.{Sized, sized_bytes, IsSized, SectionFrame, frame_bytes, frame_count, IsFrame}
 use Rattle.wasm_grammar.specs.Accepted.{FitsAfter, CodeDivision}
-use Rattle.wasm_grammar.proofs.parts.Placed.{Follows}
 use Rattle.wasm_grammar.proofs.accepted.Counts.{Knows}
 use Rattle.wasm_grammar.proofs.accepted.Fits.{rank_to, CodeFits, code_to, data_to}
 use Rattle.wasm_grammar.proofs.accepted.Contents.{good_to}
@@ -68,15 +67,7 @@ head_of_code : (p : SectionContext) (fs : List SectionFrame) (o : ℕ) (f : Sect
     → IsFrame Module f
     → FitsAfter Module fs f → o + length (frame_bytes f) < 2 ^ 64
     → HeadIsRight p o 10 f.sized.field (length f.sized.content)
-head_of_code p fs o f z k i a r =
-    let q : Follows p (frame_rank Module f) = search rank_to in
-    let s : Follows p (rank_of (kind_of Module code_id) code_id) = cc in
-    record {
-      below = lit< tt;
-      number = i.sized;
-      room = omega (arith, length-append f.sized.field f.sized.content);
-      follows = cc;
-    }
+head_of_code p fs o f z k i a r = grind (arith, rank_to, length-append)
 
 -- a good code section that fits begins with the tile of its head
 pub code_step : (p : SectionContext) (fs : List SectionFrame) (o : ℕ) (f : SectionFrame) (d : CodeDivision f.sized.content) → f.id ≡ code_id
@@ -110,33 +101,19 @@ some_left a b n e = ne_eqb (a + b) 0 (λ z. absurd (omega arith))
 body_at : (start : ℕ) (ts : List Tile) (s : Sized) (n : ℕ) → is_start ts ≡ false → IsSized s → bodies_left ts ≡ suc n
     → length (sized_bytes s) ≤ bytes_left ts
     → verdict (grammar start ts) (sized_bytes s) ≡ tile (made (code_entry s.content) (sized_bytes s))
-body_at start ts s n b i e l =
-    rw (grammar_open start ts b (some_left (bodies_left ts) (bytes_left ts) n e), e)
-    (body_tile n (bytes_left ts) (start + length (bytes_of ts)) s.field s.content i (omega (arith, length-append s.field s.content)))
+body_at start ts s n b i e l = grind (arith, grammar_open, some_left, body_tile, length-append)
 
 -- the events of bodies after one more
 body_listed : (start features : ℕ) (ts : List Tile) (s : Sized) (bodies : List Sized)
     → events_of start features (made (code_entry s.content) (sized_bytes s) ∷ ts)
     ++ body_events features (start + length (bytes_of ts ++ sized_bytes s)) bodies
     ≡ events_of start features ts ++ body_events features (start + length (bytes_of ts)) (s ∷ bodies)
-body_listed start features ts s bodies =
-    let o : start + length (bytes_of ts ++ sized_bytes s) ≡ start + length (bytes_of ts) + length (sized_bytes s) =
-    omega (arith, length-append (bytes_of ts) (sized_bytes s)) in
-    append_assoc (events_of start features ts) _ _
-    ∙ (λ i. events_of start features ts ++ body_tile_event features (start + length (bytes_of ts)) s i ∷ body_events features (o i) bodies)
+body_listed start features ts s bodies = grind (arith, length-append, append_assoc, body_tile_event)
 
 -- bodies that a code section misses are tiles
 pub bodies_walk : (start : ℕ) (bodies : List Sized) (ts : List Tile) → is_start ts ≡ false → Faultless start ts → All IsSized bodies
     → bodies_left ts ≡ length bodies → bytes_left ts ≡ length (flat_map sized_bytes bodies) → Through start ts bodies
-bodies_walk start [] ts b f a m l = record {
-  tiles = ts;
-  begun = b;
-  faultless = f;
-  joined = sym (append-nil (bytes_of ts));
-  closed = rw (m, l) refl;
-  knows = λ encoding fs k. k;
-  listed = λ features. sym (append-nil (events_of start features ts));
-}
+bodies_walk start [] ts b f a m l = grind (arith, append-nil)
 bodies_walk start (s ∷ bodies) ts b f a m l =
     let h : length (flat_map sized_bytes (s ∷ bodies)) ≡ length (sized_bytes s) + length (flat_map sized_bytes bodies) =
     length-append (sized_bytes s) (flat_map sized_bytes bodies) in

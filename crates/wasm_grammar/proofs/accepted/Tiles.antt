@@ -1,6 +1,6 @@
 -- Bytes in the textbook form are tiles.
 use Rattle.std.proofs.Common.{◌≡◌, ℕ, suc, ◌+◌, ◌-◌, ◌^◌, ◌<◌, ◌≤◌, ◌⊎◌, inl, inr, Bool, true, false, ◌&&◌, List, [], ◌∷◌, ◌++◌}
-use Rattle.std.proofs.Common.{length, take, drop, Option, Some, None, nat_lt, nat_le, refl, ap, subst, arith, append-nil}
+use Rattle.std.proofs.Common.{length, Option, Some, None, nat_lt, nat_le, refl, ap, subst, arith, append-nil}
 use Rattle.std.proofs.Common.{length-append, le-leb, le-ltb, lt-ltb}
 use Rattle.std.proofs.lemmas.List.{take_at, drop_at}
 use Rattle.wasm_base.specs.FaultAt.{FaultAt}
@@ -15,7 +15,7 @@ use Rattle.wasm_grammar.specs.declared.encoding.Encoding.TheVariants.{Module, Co
 use Rattle.wasm_grammar.specs.Content.{Kind, code, kind_of, rank_of, Ending, when, wrong_content, Form, whole}
 use Rattle.wasm_grammar.specs.Grammar.{Shape, version, section, code_start, code_entry, Tile, tile, SectionContext, Grammar, accept, check}
 use Rattle.wasm_grammar.specs.Grammar.{u32_field, bytes, section_start, verdict, header_grammar, section_grammar, body_grammar}
-use Rattle.wasm_grammar.specs.Grammar.{content_grammar, whole_grammar, code_grammar, after_id, wrong_count, wrong_data}
+use Rattle.wasm_grammar.specs.Grammar.{content_grammar, whole_grammar, after_id, wrong_count, wrong_data}
 use Rattle.wasm_grammar.specs.Accepted.{IsNumber, header_bytes}
 use Rattle.wasm_grammar.proofs.parts.Placed.{Follows}
 use Rattle.wasm_grammar.proofs.parts.Guarded.{one_byte}
@@ -39,11 +39,7 @@ number_tile o next field rest v s b e h = grind (arith, number_on, take_at, drop
 bytes_tile : (n o : ℕ) (next : List ℕ → Grammar) (prefix rest : List ℕ) (s : Shape) (b : List ℕ) → length prefix ≡ n
     → verdict (next prefix) rest ≡ tile (made s b) → verdict (bytes n o next) (prefix ++ rest) ≡ tile (made s (prefix ++ b))
 unfolding verdict
-bytes_tile n o next prefix rest s b len h =
-    let l : nat_le n (length (prefix ++ rest)) ≡ true = le-leb _ _ (omega (arith, length-append prefix rest)) in
-    let t : take n (prefix ++ rest) ≡ prefix = take_at prefix rest n len in
-    let d : drop n (prefix ++ rest) ≡ rest = drop_at prefix rest n len in
-    rw l (rw (t, d) (rw h refl))
+bytes_tile n o next prefix rest s b len h = grind (arith, le-leb, length-append, take_at, drop_at)
 
 -- nothing is wrong, and then a tile
 refuse_tile : (e : Option FaultAt) (next : Grammar) (xs : List ℕ) (t : Tile) → e ≡ None → verdict next xs ≡ tile t
@@ -162,15 +158,6 @@ pub section_tile : (p : SectionContext) (o id : ℕ) (field content : List ℕ) 
     → verdict (section_grammar p o) (id ∷ (field ++ content)) ≡ tile (made (section w.0 id content) (id ∷ (field ++ content)))
 section_tile p o id field content f w n a b = search (framed_tile, no_magic, content_tile)
 
--- a right count is the head of a code section
-code_tile : (p : SectionContext) (o size count : ℕ) (head : List ℕ) → IsNumber head count → length head ≤ size → wrong_count p o count
-    ≡ None
-    → verdict (code_grammar p o size) head ≡ tile (made (code_start count (length head) (size - length head)) head)
-code_tile p o size count head e l w =
-    all_of_it (code_grammar p o size) (code_start count (length head) (size - length head)) head
-    (number_tile o _ head [] count (code_start count (length head) (size - length head)) [] e
-    (when_tile (nat_lt size (length head)) _ _ [] _ (le-ltb size (length head) l) (refuse_tile _ _ [] _ w (takes_tile _ []))))
-
 -- a code section up to its count
 pub code_head_tile : (p : SectionContext) (o size count : ℕ) (field head : List ℕ) → HeadIsRight p o 10 field size
     → kind_of p.encoding code_id
@@ -180,16 +167,13 @@ pub code_head_tile : (p : SectionContext) (o size count : ℕ) (field head : Lis
     (made (code_start count (length head) (size - length head)) (10 ∷ (field ++ head)))
 code_head_tile p o size count field head f k e l w =
     framed_tile p o 10 field size head (code_start count (length head) (size - length head)) f refl
-    (rw k (search code_tile))
+    (rw k (search (all_of_it, number_tile, when_tile, le-ltb, refuse_tile, takes_tile)))
 
 -- a body
 pub body_tile : (m l o : ℕ) (field content : List ℕ) → IsNumber field (length content) → length field + length content ≤ l
     → verdict (body_grammar (suc m) l o) (field ++ content) ≡ tile (made (code_entry content) (field ++ content))
 unfolding body_grammar
-body_tile m l o field content e h =
-    number_tile o _ field content (length content) (code_entry content) content e
-    (when_tile (nat_lt l (length field + length content)) _ _ content _ (le-ltb l (length field + length content) h)
-    (search (all_of_it, bytes_tile, takes_tile)))
+body_tile m l o field content e h = search (number_tile, when_tile, le-ltb, all_of_it, bytes_tile, takes_tile)
 
 -- the version of an encoding
 abbrev pub header_version : Encoding → ℕ

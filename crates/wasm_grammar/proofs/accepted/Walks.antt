@@ -8,7 +8,7 @@ use Rattle.std.proofs.lemmas.List.Elements.{All-head, All-tail}
 use Rattle.wasm_grammar.specs.declared.encoding.Encoding.{Encoding}
 use Rattle.wasm_grammar.specs.declared.encoding.Encoding.TheVariants.{Module}
 use Rattle.wasm_grammar.specs.Content.{code, kind_of, ended}
-use Rattle.wasm_grammar.specs.FrameEvents.{header_event, section_event, code_events, FrameEvents, FramesEvents, body_events}
+use Rattle.wasm_grammar.specs.FrameEvents.{header_event, section_event, code_events, FrameEvents, FramesEvents}
 use Rattle.wasm_grammar.specs.Grammar.{version, section, code_start, Tile, tile, final, SectionContext, verdict, end_at_section}
 use Rattle.wasm_grammar.specs.Grammar.{section_grammar}
 use Rattle.wasm_grammar.specs.Tiling.{bytes_of, grammar, Faultless, context_of, bodies_left, bytes_left, is_start}
@@ -103,24 +103,7 @@ whole_step start encoding fs f q r i a w =
 -- the bytes of a code section's head and bodies are the section's
 code_bytes : (f : SectionFrame) (d : CodeDivision f.sized.content) → f.id ≡ code_id → (prefix : List ℕ)
     → (prefix ++ 10 ∷ (f.sized.field ++ d.field)) ++ flat_map sized_bytes d.bodies ≡ prefix ++ frame_bytes f
-code_bytes f d z prefix =
-    append_assoc prefix (10 ∷ (f.sized.field ++ d.field)) (flat_map sized_bytes d.bodies)
-    ∙ (ap (λ (x : List ℕ). prefix ++ 10 ∷ x) (append_assoc f.sized.field d.field (flat_map sized_bytes d.bodies))
-    ∙ (cc))
-
--- the events of a code section's head and bodies are the section's
-code_listed : (start features : ℕ) (ts : List Tile) (f : SectionFrame) (d : CodeDivision f.sized.content) → f.id ≡ code_id
-    → events_of start features (made (code_start (length d.bodies) (length d.field) (length f.sized.content - length d.field))
-    (10 ∷ (f.sized.field ++ d.field)) ∷ ts)
-    ++ body_events features (start + length (bytes_of ts ++ 10 ∷ (f.sized.field ++ d.field))) d.bodies
-    ≡ events_of start features ts ++ code_events features (start + length (bytes_of ts)) f d
-code_listed start features ts f d z =
-    let o : start + length (bytes_of ts ++ 10 ∷ (f.sized.field ++ d.field))
-    ≡ start + length (bytes_of ts) + 1 + length f.sized.field + length d.field =
-    omega (arith, length-append (bytes_of ts) (10 ∷ (f.sized.field ++ d.field)), length-append f.sized.field d.field) in
-    append_assoc (events_of start features ts) _ _
-    ∙ (λ i. events_of start features ts ++ start_tile_event features (start + length (bytes_of ts)) f d z i
-    ∷ body_events features (o i) d.bodies)
+code_bytes f d z prefix = grind (arith, append_assoc)
 
 -- one more code section that fits
 module_step : (start : ℕ) (fs : List SectionFrame) (f : SectionFrame) → f.id ≡ code_id → CodeDivision f.sized.content
@@ -133,8 +116,7 @@ module_step start fs f z d q r i a =
     let n : ℕ = length f.sized.content - length d.field in
     let hb : List ℕ = 10 ∷ (f.sized.field ++ d.field) in
     let h : Tile = made (code_start (length d.bodies) (length d.field) n) hb in
-    let v : verdict (grammar start ts) hb ≡ tile h =
-    search (closed_verdict, code_step, room_for) in
+    let v : verdict (grammar start ts) hb ≡ tile h = search (closed_verdict, code_step, room_for) in
     let l : length f.sized.content ≡ length d.field + length (flat_map sized_bytes d.bodies) = division_length f d in
     let t : Through start (h ∷ ts) d.bodies = grind (arith, bodies_walk) in
     record {
@@ -149,7 +131,7 @@ module_step start fs f z d q r i a =
             reported_more start features Module fs f ts t.tiles (code_events features (start + length (bytes_of ts)) f d)
             c.joined (c.reported_as features)
             (rw (ap (kind_of Module) z) (d, refl))
-            (grind (arith, code_listed));
+            (grind (arith, length-append, append_assoc, start_tile_event));
       };
     }
 
@@ -169,19 +151,6 @@ frame_step start encoding fs f q r i a =
       | inr k ↦ code_frame start encoding fs f (code_has_its_id encoding f.id k).0 q r i a k
     ]
 
--- the first frames are no longer than all
-stream_prefix : (encoding : Encoding) (fs later : List SectionFrame)
-    → length (stream_of encoding fs) ≤ length (stream_of encoding (fs ++ later))
-stream_prefix encoding fs later =
-    let e : flat_map frame_bytes (fs ++ later) ≡ flat_map frame_bytes fs
-    ++ flat_map frame_bytes later = flat_map-append frame_bytes fs later in
-    rw e (omega (
-      arith,
-      length-append (header_bytes encoding) (flat_map frame_bytes fs),
-      length-append (header_bytes encoding) (flat_map frame_bytes fs ++ flat_map frame_bytes later),
-      length-append (flat_map frame_bytes fs) (flat_map frame_bytes later),
-    ))
-
 -- all frames, from some on
 frames_walk : (start : ℕ) (encoding : Encoding) (all : List SectionFrame) → start + length (stream_of encoding all) < 2 ^ 64
     → ((earlier later : List SectionFrame) (f : SectionFrame) → all ≡ earlier ++ f ∷ later → FitsAfter encoding earlier f)
@@ -191,7 +160,7 @@ frames_walk start encoding all r order [] earlier e a q = subst (Reached start e
 frames_walk start encoding all r order (f ∷ later) earlier e a q =
     let w : (earlier ++ f ∷ []) ++ later ≡ all = append_assoc earlier (f ∷ []) later ∙ e in
     let l : length (stream_of encoding (earlier ++ f ∷ [])) ≤ length (stream_of encoding all) =
-    grind (arith, stream_prefix) in
+    grind (arith, flat_map-append, length-append) in
     frames_walk start encoding all r order later (earlier ++ f ∷ []) w (All-tail (IsFrame encoding) f later a)
     (grind (arith, frame_step, All-head))
 
@@ -199,19 +168,7 @@ frames_walk start encoding all r order (f ∷ later) earlier e a q =
 begins : (start : ℕ) (encoding : Encoding) → Reached start encoding []
 begins start encoding = record {
   tiles = made (version (header_version encoding) encoding) (header_bytes encoding) ∷ [];
-  there = record {
-    begun = refl;
-    faultless = (tt, header_tile start encoding);
-    joined = sym (append-nil (header_bytes encoding));
-    knows = knows_header encoding (header_bytes encoding);
-    closed = refl;
-    reported_as = λ features. record {
-      inner = [];
-      sections = refl;
-      listed =
-          ap (λ (e : Event). e ∷ []) (header_tile_event start features encoding);
-    };
-  };
+  there = grind (arith, header_tile, append-nil, knows_header, header_tile_event);
 }
 
 -- where a stream may end and nothing follows it ends
@@ -230,17 +187,10 @@ accepted_walk stream start r a =
 pub accepted_ends_there : (stream : List ℕ) (start : ℕ) (a : IsAccepted stream) (q : Reached start a.encoding a.frames)
     → Reads stream start q.tiles (ended (start + length stream))
 accepted_ends_there stream start a q =
-    let c : Closed start a.encoding a.frames q.tiles = q.there in
-    let w : bytes_of q.tiles ≡ stream = c.joined ∙ sym a.whole in
     let o : ℕ = start + length (bytes_of q.tiles) in
     let v : verdict (grammar start q.tiles) [] ≡ final (ended o) =
     search (grammar_closed, end_verdict, end_to) in
-    record {
-      rest = [];
-      whole = sym w ∙ sym (append-nil (bytes_of q.tiles));
-      faultless = c.faultless;
-      stops = cc;
-    }
+    grind (arith, append-nil)
 
 -- an accepted stream's reading ends at its end
 pub accepted_reads : (stream : List ℕ) (start : ℕ) → start + length stream < 2 ^ 64 → IsAccepted stream → (tiles : List Tile)

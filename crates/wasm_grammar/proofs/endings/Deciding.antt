@@ -1,21 +1,19 @@
 -- If bytes don't suffice, something else is there after the suffix that decides than where the stream ends.
-use Rattle.std.proofs.Common.{◌≡◌, ◌≢◌, ℕ, ◌+◌, ◌-◌, ◌<◌, ◌≤◌, Bool, true, false, cond, ◌&&◌, List, [], ◌∷◌, ◌++◌, length, take, drop}
+use Rattle.std.proofs.Common.{◌≡◌, ◌≢◌, ℕ, ◌+◌, ◌-◌, ◌<◌, Bool, true, false, cond, ◌&&◌, List, [], ◌∷◌, ◌++◌, length, take, drop}
 use Rattle.std.proofs.Common.{replicate, Option, Some, None, nat_lt, nat_le, nat_eq, refl, ◌∙◌, arith, length-append, leb-true, le-leb}
 use Rattle.std.specs.List.{list_any}
-use Rattle.std.proofs.lemmas.Bool.{leb-false, and_parts, lt-leb}
+use Rattle.std.proofs.lemmas.Bool.{leb-false, and_parts}
 use Rattle.std.proofs.lemmas.List.{append_cancel_left, take-append-le, drop-append-le, length-replicate, take_all, drop_all}
 use Rattle.wasm_base.specs.FaultAt.{FaultAt, at_offset}
 use Rattle.wasm_base.specs.Header.{magic, agree}
-use Rattle.wasm_base.specs.Hints.{hint_at}
 use Rattle.wasm_base.specs.Name.{name_limit, name, after_size}
 use Rattle.wasm_base.specs.Number.{Number, read, bad, short, number}
-use Rattle.wasm_base.specs.declared.fault.Fault.{Fault}
 use Rattle.wasm_base.specs.declared.fault.Fault.TheVariants.{UnexpectedEof, BadMagic, MagicAtSection, MalformedSectionId}
 use Rattle.wasm_base.specs.declared.fault.Fault.TheVariants.{FunctionWithoutCode, DataCountWithoutData}
 use Rattle.wasm_base.specs.declared.fault.NumberKind.TheVariants.{VarU32}
 use Rattle.wasm_base.proofs.NumberLaws.{number-used, number-more, number-long}
 use Rattle.wasm_grammar.specs.Content.{Form, Kind, code, kind_of, Ending, fault, ended, when}
-use Rattle.wasm_grammar.specs.Content.{whole, wrong_number, wrong_single, wrong_name, wrong_content}
+use Rattle.wasm_grammar.specs.Content.{whole, wrong_name, wrong_content}
 use Rattle.wasm_grammar.specs.Grammar.{Shape, code_entry, Tile, Verdict, final, after, after_number, SectionContext, Grammar, accept, check}
 use Rattle.wasm_grammar.specs.Grammar.{u32_field, bytes, section_start, verdict, header_of, header_grammar, end_at_section, wrong_data}
 use Rattle.wasm_grammar.specs.Grammar.{content_grammar, after_id, section_grammar, body_grammar}
@@ -67,30 +65,9 @@ bytes_differs : (count o : ℕ) (xs : List ℕ) (next : List ℕ → Grammar) (n
     ≢ verdict (bytes count o next) (xs ++ cond x (deciding_ending (next (take count xs)) (drop count xs)) (replicate (count - length xs) 0))
 unfolding verdict
 bytes_differs count o xs next n h s ih true e w z =
-    let ys : List ℕ = deciding_ending (next (take count xs)) (drop count xs) in
-    let l : count ≤ length xs = leb-true count (length xs) e in
-    let m : count ≤ length (xs ++ ys) = omega (arith, length-append xs ys) in
-    let t : take count (xs ++ ys) ≡ take count xs = take-append-le count xs ys l in
-    let d : drop count (xs ++ ys) ≡ drop count xs ++ ys = drop-append-le count xs ys l in
-    let (j, q, r) = later-wants count (waiting (next (take count xs)) (drop count xs)) n h w in
-    let g : cond (nat_le count (length (xs ++ ys))) (after (take count (xs ++ ys))
-    (verdict (next (take count (xs ++ ys))) (drop count (xs ++ ys)))) (final (fault (at_offset UnexpectedEof o)))
-    ≡ after (take count xs) (verdict (next (take count xs)) (drop count xs ++ ys)) =
-    grind arith in
-    grind (arith, after_same)
+    grind (arith, leb-true, length-append, take-append-le, drop-append-le, later-wants, after_same)
 bytes_differs count o xs next n h s ih false e w z =
-    let ys : List ℕ = replicate (count - length xs) 0 in
-    let l : length xs < count = leb-false count (length xs) e in
-    let m : length (xs ++ ys) ≡ count = omega (arith, length-append xs ys, length-replicate {A = ℕ} (count - length xs) 0) in
-    let t : take count (xs ++ ys) ≡ xs ++ ys = take_all count (xs ++ ys) (omega arith) in
-    let d : drop count (xs ++ ys) ≡ [] = drop_all count (xs ++ ys) (omega arith) in
-    let c : nat_le count (length (xs ++ ys)) ≡ true = le-leb count (length (xs ++ ys)) (omega arith) in
-    let g : cond (nat_le count (length (xs ++ ys))) (after (take count (xs ++ ys))
-    (verdict (next (take count (xs ++ ys))) (drop count (xs ++ ys)))) (final (fault (at_offset UnexpectedEof o)))
-    ≡ after (xs ++ ys) (verdict (next (xs ++ ys)) []) =
-    rw c (rw (t, d) refl) in
-    let p : 0 < length (xs ++ ys) = omega arith in
-    grind arith
+    grind (arith, leb-false, length-append, length-replicate, take_all, drop_all, le-leb)
 
 unmagic : (o : ℕ) (e : Ending) (next : ℕ → Grammar) (id : ℕ) (xs ys : List ℕ) → agree (id ∷ xs) magic ≡ false
     → verdict (section_start o e next) (id ∷ xs) ≡ verdict (section_start o e next) (id ∷ (xs ++ ys))
@@ -130,14 +107,6 @@ abbrev NotMissing : (offset : ℕ) → Option FaultAt → Type 0
 NotMissing o None = Unit {0}
 NotMissing o (Some f) = f ≢ at_offset UnexpectedEof o
 
--- content of some bytes misses none at its start
-number_other : (o : ℕ) (c : List ℕ) → 0 < length c → (n : Number) → number VarU32 c ≡ n → NotMissing o (wrong_number o c n)
-number_other o c l n e = grind (arith, bad_hint)
-
-single_other : (f : Fault) (o : ℕ) (c : List ℕ) → hint_at 1 f ≡ None → 0 < length c → (n : Number) → number VarU32 c ≡ n
-    → NotMissing o (wrong_single f o c n)
-single_other f o c h l n e = grind (arith, bad_hint)
-
 name_other_at : (o : ℕ) (c : List ℕ) → 0 < length c → (n : Number) → number VarU32 c ≡ n
     → NotMissing o (wrong_name o (after_size (Some name_limit) c n))
 name_other_at o c l n e = grind (arith, bad_hint, number-used)
@@ -148,7 +117,7 @@ name_other o c l = name_other_at o c l (number VarU32 c) refl
 
 content_other : (form : Form) (o : ℕ) (c : List ℕ) → 0 < length c → NotMissing o (wrong_content form o c)
 unfolding wrong_content
-content_other form o c l = grind (arith, name_other, number_other, single_other)
+content_other form o c l = grind (arith, name_other, bad_hint)
 
 data_other : (p : SectionContext) (form : Form) (id o q : ℕ) (c : List ℕ) → NotMissing q (wrong_data p form id o c)
 data_other p form id o q c = grind arith
@@ -172,9 +141,6 @@ Differs-body : (m l o : ℕ) → Differs (body_grammar m l o)
 unfolding body_grammar
 Differs-body m l o = grind (arith, body_there)
 
-Differs-header_of : (o bits : ℕ) (e : Option Encoding) → Differs (header_of o bits e)
-Differs-header_of o bits e = grind arith
-
 version_other : (o p bits : ℕ) (e : Option Encoding) → verdict (header_of o bits e) [] ≢ final (fault (at_offset UnexpectedEof p))
 unfolding verdict
 version_other o p bits (Some e) z = cc
@@ -188,7 +154,7 @@ magic_other false o next z = grind arith
 
 Differs-header : (o : ℕ) → Differs (header_grammar o)
 unfolding header_grammar
-Differs-header o = search (magic_other, version_other, Differs-header_of)
+Differs-header o = grind (arith, magic_other, version_other)
 
 end_other : (a b : Bool) (o : ℕ) → cond a (fault (at_offset FunctionWithoutCode o))
     (cond b (fault (at_offset DataCountWithoutData o)) (ended o)) ≢ fault (at_offset MalformedSectionId o)
@@ -214,9 +180,6 @@ begun_start : (p : SectionContext) (o : ℕ) (id : ℕ) (xs : List ℕ) → agre
     → verdict (section_start o (end_at_section p o) (after_id p o)) (id ∷ xs) ≢ final (fault (at_offset MagicAtSection o))
 unfolding verdict
 begun_start p o id xs a l z =
-    let q : id ≡ 0 = grind arith in
-    let n : nat_le 4 (length (id ∷ xs)) ≡ false = lt-leb 4 (length (id ∷ xs)) l in
-    let w : after (id ∷ []) (verdict (after_id p o id) xs) ≡ final (fault (at_offset MagicAtSection o)) = rw (a, n) at z in
     begun_magic p o xs (and_parts (nat_eq id 0) (agree xs (0x61 ∷ 0x73 ∷ 0x6d ∷ [])) a).1 (omega arith)
     (grind (arith, after_final))
 
@@ -238,8 +201,5 @@ Differs-section p o = (
   λ id xs a l z. begun_start p o id xs a l (z ∙ whole_magic o (end_at_section p o) (after_id p o) id xs a l),
 )
 
-Differs-inside : (b : Bool) (p : SectionContext) (m l o : ℕ) → Differs (cond b (section_grammar p o) (body_grammar m l o))
-Differs-inside b p m l o = grind (arith, Differs-section, Differs-body)
-
 pub Differs-grammar : (start : ℕ) (ts : List Tile) → Differs (grammar start ts)
-Differs-grammar start ts = grind (arith, Differs-header, Differs-inside)
+Differs-grammar start ts = grind (arith, Differs-header, Differs-section, Differs-body)

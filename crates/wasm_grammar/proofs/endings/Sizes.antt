@@ -1,9 +1,8 @@
 -- A suffix that decides consists of bytes, at most 2^32 of them.
 use Rattle.std.proofs.Common.{◌≡◌, ℕ, suc, ◌+◌, ◌-◌, ◌^◌, ◌<◌, ◌≤◌, ◌⊎◌, Bool, true, false, cond, All, List, [], ◌∷◌, length, take, drop}
-use Rattle.std.proofs.Common.{replicate, slice_index, Option, Some, None, nat_lt, nat_le, refl, arith, add-one, lit≤}
+use Rattle.std.proofs.Common.{replicate, slice_index, Option, Some, None, nat_lt, refl, arith, add-one, lit≤}
 use Rattle.std.proofs.lemmas.List.{length-replicate, length-drop}
 use Rattle.std.proofs.lemmas.List.Elements.{All-nil, All-replicate, All-drop}
-use Rattle.wasm_base.specs.Header.{magic, agree}
 use Rattle.wasm_base.specs.Name.{of_four}
 use Rattle.wasm_base.specs.Number.{Number, read, bad, number, last_place, ends_at, septets, is_unused_right}
 use Rattle.wasm_base.specs.declared.fault.Fault.{Fault}
@@ -71,19 +70,13 @@ small_bytes : (n : ℕ) (xs : List ℕ) (ending : List ℕ) → n ≤ 2 ^ 32 →
     → IsSmall (cond b ending (replicate (n - length xs) 0))
 small_bytes n xs ending l s b = grind (arith, small_many)
 
-small_start : (id : ℕ) (xs : List ℕ) (ending : List ℕ) → IsSmall ending → (b : Bool)
-    → IsSmall (cond b (drop (length (id ∷ xs)) magic) ending)
-small_start id xs ending s b = grind (arith, small_drop)
-
 small_ending : (g : Grammar) → Bounded g → (xs : List ℕ) → IsSmall (deciding_ending g xs)
 unfolding deciding_ending
 small_ending (check None next) b xs = let s : IsSmall (deciding_ending next xs) = small_ending next b xs in s
 small_ending (u32_field o next) b xs = small_number xs next (λ v k l zs. small_ending (next v k) (b v k l) zs) (number VarU32 xs) refl
-small_ending (bytes n o next) b xs = small_bytes n xs (deciding_ending (next (take n xs)) (drop n xs)) b.0
-    (small_ending (next (take n xs)) (b.1 (take n xs)) (drop n xs)) (nat_le n (length xs))
+small_ending (bytes n o next) b xs = search (small_bytes, small_ending (next (take n xs)) (b.1 (take n xs)) (drop n xs))
 small_ending (section_start o e next) b [] = grind arith
-small_ending (section_start o e next) b (id ∷ xs) = small_start id xs (deciding_ending (next id) xs) (small_ending (next id) (b id) xs)
-    (agree (id ∷ xs) magic)
+small_ending (section_start o e next) b (id ∷ xs) = grind (arith, small_ending (next id) (b id) xs, small_drop)
 small_ending _ b xs = small_nil
 
 -- ---- the grammars of a stream
@@ -103,11 +96,8 @@ Bounded-header : (o : ℕ) → Bounded (header_grammar o)
 unfolding header_grammar
 Bounded-header o = (lit≤ tt, λ a. (lit≤ tt, λ b. Bounded-header_of o (of_four b) _))
 
-Bounded-inside : (b : Bool) (p : SectionContext) (m l o : ℕ) → Bounded (cond b (section_grammar p o) (body_grammar m l o))
-Bounded-inside b p m l o = grind (arith, Bounded-section, Bounded-body)
-
 Bounded-grammar : (start : ℕ) (ts : List Tile) → Bounded (grammar start ts)
-Bounded-grammar start ts = grind (arith, Bounded-header, Bounded-inside)
+Bounded-grammar start ts = grind (arith, Bounded-header, Bounded-section, Bounded-body)
 
 pub ending_is_small : (start : ℕ) (ts : List Tile) (xs : List ℕ) → IsSmall (deciding_ending (grammar start ts) xs)
 ending_is_small start ts xs = small_ending (grammar start ts) (Bounded-grammar start ts) xs

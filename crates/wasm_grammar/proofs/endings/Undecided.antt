@@ -31,8 +31,7 @@ something_comes : (start features : ℕ) (tiles : List Tile) (front rest : List 
     × ComesNext start features front rest event
 something_comes start features tiles front rest t =
     let o : Onward (front ++ rest) start [] = reads_all (front ++ rest) start in
-    let read : Reading (front ++ rest) start features (events_of start features o.tiles ++ last_event o.end ∷ []) =
-    record { tiles = o.tiles; end = o.end; reads = o.reads; listed = refl } in
+    let read : Reading (front ++ rest) start features (events_of start features o.tiles ++ last_event o.end ∷ []) = search in
     let n : NextEvent (events_of start features o.tiles ++ last_event o.end ∷ []) front =
     subst (NextEvent (events_of start features o.tiles ++ last_event o.end ∷ [])) t.1
     (next_there start features tiles rest _ t.0 (rw t.1 read)) in
@@ -48,8 +47,7 @@ one_comes start front tiles t features rest = (
 
 pub enough_is_decided : (start : ℕ) (front came : List ℕ) → EnoughIsDecided start front came
 enough_is_decided start front came tiles t w one other features x y a b =
-    let v : verdict (grammar start tiles) (came ++ one) ≡ verdict (grammar start tiles) (came ++ other) =
-    search verdict-more in
+    let v : verdict (grammar start tiles) (came ++ one) ≡ verdict (grammar start tiles) (came ++ other) = search verdict-more in
     what_comes start features tiles front (came ++ one) x t a ∙ (ap (event_at start features tiles) v
     ∙ sym (search what_comes))
 

@@ -1,11 +1,11 @@
 -- Laws of bytes that don't decide yet what is there.
-use Rattle.std.proofs.Common.{◌≡◌, ℕ, ◌-◌, ◌+◌, ◌<◌, ◌≤◌, Bool, true, false, cond, List, [], ◌∷◌, ◌++◌, length, take, drop, None}
-use Rattle.std.proofs.Common.{nat_le, refl, ◌∙◌, arith, length-append, length-drop, leb-true}
+use Rattle.std.proofs.Common.{◌≡◌, ℕ, ◌-◌, ◌+◌, ◌<◌, ◌≤◌, Bool, cond, List, [], ◌∷◌, ◌++◌, length, take, drop, None}
+use Rattle.std.proofs.Common.{nat_le, refl, arith, length-append, length-drop, leb-true}
 use Rattle.std.proofs.lemmas.List.{take-append-le, drop-append-le}
 use Rattle.wasm_base.specs.Header.{magic, agree}
-use Rattle.wasm_base.specs.Number.{Number, read, bad, short, number}
+use Rattle.wasm_base.specs.Number.{Number, number}
 use Rattle.wasm_base.specs.declared.fault.NumberKind.TheVariants.{VarU32}
-use Rattle.wasm_base.proofs.NumberLaws.{number-more, number-short, number-used, Used}
+use Rattle.wasm_base.proofs.NumberLaws.{number-more, number-short, number-used}
 use Rattle.wasm_grammar.specs.Grammar.{Tile, tile, Grammar, check, u32_field, bytes, section_start, verdict}
 use Rattle.wasm_grammar.specs.Waiting.{Waiting, enough, wants, later, later_number, waiting}
 use Rattle.wasm_grammar.proofs.parts.Verdicts.{agree_same, agree-more, Guarded, Cut, verdict-cut}
@@ -24,11 +24,7 @@ wait_bytes : (count : ℕ) (xs ys : List ℕ) (next : List ℕ → Grammar)
     → cond t (later count (waiting (next (take count xs)) (drop count xs))) (wants count (count - length xs)) ≡ enough
     → cond (nat_le count (length (xs ++ ys))) (later count (waiting (next (take count (xs ++ ys))) (drop count (xs ++ ys))))
     (wants count (count - length (xs ++ ys))) ≡ enough
-wait_bytes count xs ys next ih true e w =
-    let l : count ≤ length xs = leb-true count (length xs) e in
-    let m : count ≤ length (xs ++ ys) = omega (arith, length-append xs ys) in
-    grind (arith, take-append-le, drop-append-le)
-wait_bytes count xs ys next ih false e w = cc
+wait_bytes count xs ys next ih t e w = grind (arith, leb-true, length-append, take-append-le, drop-append-le)
 
 wait_start : (id : ℕ) (xs ys : List ℕ) (next : ℕ → Grammar)
     → ((zs : List ℕ) → waiting (next id) zs ≡ enough → waiting (next id) (zs ++ ys) ≡ enough)
@@ -36,13 +32,7 @@ wait_start : (id : ℕ) (xs ys : List ℕ) (next : ℕ → Grammar)
     → cond a (cond l enough (wants 4 (4 - length (id ∷ xs)))) (later 1 (waiting (next id) xs)) ≡ enough
     → cond (agree (id ∷ (xs ++ ys)) magic) (cond (nat_le 4 (length (id ∷ (xs ++ ys)))) enough (wants 4 (4 - length (id ∷ (xs ++ ys)))))
     (later 1 (waiting (next id) (xs ++ ys))) ≡ enough
-wait_start id xs ys next ih true true e f w =
-    let l : 4 ≤ length (id ∷ xs) = leb-true 4 (length (id ∷ xs)) f in
-    let m : 4 ≤ length (id ∷ (xs ++ ys)) = omega (arith, length-append xs ys) in
-    let g : agree (id ∷ (xs ++ ys)) magic ≡ true = agree_same (id ∷ xs) ys magic l ∙ e in
-    grind arith
-wait_start id xs ys next ih true false e f w = cc
-wait_start id xs ys next ih false l e f w = grind (arith, agree-more)
+wait_start id xs ys next ih a l e f w = grind (arith, leb-true, length-append, agree_same, agree-more)
 
 pub waiting-more : (g : Grammar) (xs ys : List ℕ) → waiting g xs ≡ enough → waiting g (xs ++ ys) ≡ enough
 unfolding waiting
@@ -74,27 +64,14 @@ later-wants k w need hint e = grind arith
 ask_number : (xs : List ℕ) (next : ℕ → ℕ → Grammar) (need hint : ℕ)
     → ((v k : ℕ) (zs : List ℕ) (n : ℕ) → waiting (next v k) zs ≡ wants n hint → Asks zs n hint)
     → (n : Number) → number VarU32 xs ≡ n → later_number n (λ v k. waiting (next v k) (drop k xs)) ≡ wants need hint → Asks xs need hint
-ask_number xs next need hint ih (read v k) e w =
-    let u : Used VarU32 xs v k = number-used VarU32 xs v k e in
-    let (n, q, r) = later-wants k (waiting (next v k) (drop k xs)) need hint w in
-    let a : Asks (drop k xs) n hint = ih v k (drop k xs) n q in
-    let s = a.above in
-    record { above = omega (arith, length-drop k xs, r, s); some = a.some }
-ask_number xs next need hint ih (bad f p) e w = cc
-ask_number xs next need hint ih short e w = grind (arith, number-short)
+ask_number xs next need hint ih n e w = grind (arith, number-used, later-wants, length-drop, number-short)
 
 ask_bytes : (count : ℕ) (xs : List ℕ) (next : List ℕ → Grammar) (need hint : ℕ)
     → ((b zs : List ℕ) (n : ℕ) → waiting (next b) zs ≡ wants n hint → Asks zs n hint)
     → (t : Bool) → nat_le count (length xs) ≡ t
     → cond t (later count (waiting (next (take count xs)) (drop count xs))) (wants count (count - length xs)) ≡ wants need hint
     → Asks xs need hint
-ask_bytes count xs next need hint ih true e w =
-    let (n, q, r) = later-wants count (waiting (next (take count xs)) (drop count xs)) need hint w in
-    let a : Asks (drop count xs) n hint = ih (take count xs) (drop count xs) n q in
-    let s = a.above in
-    let l = leb-true count (length xs) e in
-    record { above = omega (arith, length-drop count xs, r, s, l); some = a.some }
-ask_bytes count xs next need hint ih false e w = grind arith
+ask_bytes count xs next need hint ih t e w = grind (arith, later-wants, leb-true, length-drop)
 
 ask_start : (id : ℕ) (xs : List ℕ) (next : ℕ → Grammar) (need hint : ℕ)
     → ((zs : List ℕ) (n : ℕ) → waiting (next id) zs ≡ wants n hint → Asks zs n hint)
@@ -104,8 +81,7 @@ ask_start id xs next need hint zs n a l w = grind arith
 
 pub waiting-asks : (g : Grammar) (xs : List ℕ) (need hint : ℕ) → waiting g xs ≡ wants need hint → Asks xs need hint
 unfolding waiting
-waiting-asks (check None next) xs need hint w =
-    let a : Asks xs need hint = waiting-asks next xs need hint w in a
+waiting-asks (check None next) xs need hint w = grind (arith, waiting-asks next xs need hint w)
 waiting-asks (u32_field offset next) xs need hint w = ask_number xs next need hint (λ v k zs n. waiting-asks (next v k) zs n hint)
     (number VarU32 xs) refl w
 waiting-asks (bytes count offset next) xs need hint w = ask_bytes count xs next need hint (λ b zs n. waiting-asks (next b) zs n hint)

@@ -91,8 +91,7 @@ rankless encoding n g h f s = grind arith
 some_same : (encoding : Encoding) (n : ℕ) (earlier others : List SectionFrame) → nat_lt 0 (rank_of (kind_of Module n) n) ≡ true
     → SayTheSame encoding earlier others → Any (IsSection encoding n) earlier → Any (IsSection encoding n) others
 some_same encoding n earlier others h s a =
-    let spared : (g : SectionFrame) → Spares (is_section encoding n) (has_rank encoding) g = λ g e.
-    ranked encoding n g h (section_yes encoding n g e) in
+    let spared : (g : SectionFrame) → Spares (is_section encoding n) (has_rank encoding) g = search (ranked, section_yes) in
     let t : list_any (is_section encoding n) earlier ≡ true = search (any_to, yes_section) in
     any_of (is_section encoding n) (IsSection encoding n) (λ g. section_yes encoding n g) others
     (sym (any_left (is_section encoding n) (has_rank encoding) others
@@ -122,12 +121,7 @@ body_events_move : (features at by : ℕ) (bodies : List Sized) → shifted_even
     ≡ body_events features (at + by) bodies
 body_events_move features at by [] = refl
 body_events_move features at by (s ∷ bodies) =
-    let a : at + length (sized_bytes s) + by ≡ at + by + length (sized_bytes s) = omega arith in
-    let h : shifted_event by (body_event features at s) ≡ body_event features (at + by) s = body_event_moves features at by s in
-    let t : shifted_events by (body_events features (at + length (sized_bytes s)) bodies)
-    ≡ body_events features (at + by + length (sized_bytes s)) bodies =
-    body_events_move features (at + length (sized_bytes s)) by bodies ∙ ap (λ (x : ℕ). body_events features x bodies) a in
-    λ i. h i ∷ t i
+    grind (arith, body_event_moves, body_events_move features (at + length (sized_bytes s)) by bodies)
 
 code_events_move : (features at by : ℕ) (f : SectionFrame) (d : CodeDivision f.sized.content)
     → shifted_events by (code_events features at f d) ≡ code_events features (at + by) f d

@@ -5,7 +5,7 @@ use Rattle.std.proofs.Common.{refl, ap, ◌∙◌, arith, length-append, append-
 use Rattle.std.proofs.lemmas.List.Elements.{filter_map-append}
 use Rattle.wasm_grammar.specs.declared.encoding.Encoding.{Encoding}
 use Rattle.wasm_grammar.specs.declared.encoding.Encoding.TheVariants.{Module}
-use Rattle.wasm_grammar.specs.Content.{Kind, custom, index, data_count, kind_of, Ending, Form, whole}
+use Rattle.wasm_grammar.specs.Content.{Kind, kind_of, Ending, whole}
 use Rattle.wasm_grammar.specs.Grammar.{Shape, version, section, code_start, code_entry, Tile, tile, SectionContext, verdict}
 use Rattle.wasm_grammar.specs.Grammar.{section_grammar, body_grammar, content_grammar}
 use Rattle.wasm_grammar.specs.Reading.{Event, tile_report, event_of, last_event, events_of}
@@ -54,18 +54,10 @@ section_at high (section kind id content) = Some (id, record { start = high - le
 section_at high (code_start count width size) = Some (10, record { start = high - width; end = high + size })
 section_at high _ = None
 
--- the id that is reported of a section of this kind
-abbrev id_report : Form → ℕ → ℕ
-id_report custom id = 0
-id_report index id = 8
-id_report data_count id = 12
-id_report _ id = id
-
 report_shape : (encoding : Encoding) (features low : ℕ) (bytes : List ℕ) (s : Shape) → Kinded encoding s → Closes s bytes
     → section_of (tile_report features low (low + length bytes) s) ≡ section_at (low + length bytes) s
 report_shape encoding features low bytes (section kind id content) k (before, c) =
     let n : length bytes ≡ length before + length content = ap (λ (x : List ℕ). length x) c ∙ length-append before content in
-    let i : id_report kind id ≡ id = grind arith in
     grind arith
 report_shape encoding features low bytes (version num other) k c = absurd k
 report_shape encoding features low bytes _ k c = refl
@@ -77,24 +69,17 @@ report_after start features low u ts t e = search (report_shape, kinded, tile_cl
 
 -- ---- what is reported of all tiles
 
-sections_push : (es : List Event) (e : Event) → sections_of (es ++ e ∷ []) ≡ sections_of es ++ option_to_list (section_of e.report)
-sections_push es e = grind (arith, filter_map-append)
-
 -- one tile more after a header
 pub sections_more : (start features : ℕ) (u : Tile) (ts : List Tile) (t : Tile) → verdict (grammar start (u ∷ ts)) t.bytes ≡ tile t
     → sections_of (events_of start features (t ∷ u ∷ ts)) ≡ sections_of (events_of start features (u ∷ ts))
     ++ option_to_list (section_at (start + length (bytes_of (u ∷ ts)) + length t.bytes) t.shape)
-sections_more start features u ts t e = grind (arith, sections_push, report_after)
+sections_more start features u ts t e = grind (arith, report_after, filter_map-append)
 
 -- a header alone
 pub sections_first : (start features : ℕ) (t : Tile) → verdict (grammar start []) t.bytes ≡ tile t
     → sections_of (events_of start features (t ∷ [])) ≡ []
 sections_first start features t e = grind (arith, headed)
 
-report_last : (e : Ending) → section_of (last_event e).report ≡ None
-report_last e = cc
-
 -- how a stream ends is no section
 pub sections_all : (es : List Event) (e : Ending) → sections_of (es ++ last_event e ∷ []) ≡ sections_of es
-sections_all es e = sections_push es (last_event e) ∙ (ap (λ (x : Option (ℕ × Range ℕ)). sections_of es ++ option_to_list x) (report_last e)
-    ∙ append-nil (sections_of es))
+sections_all es e = grind (arith, append-nil, filter_map-append)

@@ -1,5 +1,5 @@
 -- The sections of an accepted stream determine its reading, and there is one division into sections.
-use Rattle.std.proofs.Common.{◌≡◌, ℕ, ◌+◌, List, [], ◌∷◌, ◌++◌, length, refl, sym, ◌∙◌, arith}
+use Rattle.std.proofs.Common.{◌≡◌, ℕ, ◌+◌, List, [], ◌∷◌, length, refl, sym, ◌∙◌, arith}
 use Rattle.std.specs.List.{All, flat_map}
 use Rattle.std.proofs.lemmas.List.Elements.{All-head, All-tail}
 use Rattle.wasm_grammar.specs.Accepted.{Sized, sized_bytes, IsSized, SectionFrame, frame_bytes, CodeDivision}
@@ -22,30 +22,21 @@ bodies_same : (ss ts : List Sized) → All IsSized ss → All IsSized ts → len
     ≡ flat_map sized_bytes ts → ss ≡ ts
 bodies_same [] [] a b n e = refl
 bodies_same (s ∷ ss) (t ∷ ts) a b n e =
-    let q : ((s ≡ t) × (flat_map sized_bytes ss ≡ flat_map sized_bytes ts)) =
-    grind (arith, sized_same, All-head) in
-    let h : s ≡ t = q.0 in
-    let l : ss ≡ ts = bodies_same ss ts (All-tail IsSized s ss a) (All-tail IsSized t ts b) (omega arith) q.1 in
-    λ i. h i ∷ l i
+    let q : ((s ≡ t) × (flat_map sized_bytes ss ≡ flat_map sized_bytes ts)) = grind (arith, sized_same, All-head) in
+    grind (arith, All-tail, bodies_same ss ts (All-tail IsSized s ss a) (All-tail IsSized t ts b) (omega arith) q.1)
 bodies_same _ _ a b n e = absurd (omega arith)
 
 -- a code section has one division
 division_same : (content : List ℕ) (d e : CodeDivision content) → (d.field ≡ e.field) × (d.bodies ≡ e.bodies)
 division_same content d e =
-    let z : d.field ++ flat_map sized_bytes d.bodies ≡ e.field ++ flat_map sized_bytes e.bodies = sym d.whole ∙ e.whole in
-    let n : ((length d.bodies ≡ length e.bodies) × (length d.field ≡ length e.field)) =
-    grind (arith, numbers_same) in
-    let p : ((d.field ≡ e.field) × (flat_map sized_bytes d.bodies ≡ flat_map sized_bytes e.bodies)) =
-    grind (arith, prefixes_same) in
-    search bodies_same
+    let n : ((length d.bodies ≡ length e.bodies) × (length d.field ≡ length e.field)) = grind (arith, numbers_same) in
+    grind (arith, prefixes_same, bodies_same)
 
 code_events_same : (features at : ℕ) (f : SectionFrame) (d e : CodeDivision f.sized.content) → code_events features at f d
     ≡ code_events features at f e
 code_events_same features at f d e =
     let q : ((d.field ≡ e.field) × (d.bodies ≡ e.bodies)) = division_same f.sized.content d e in
-    let x : d.field ≡ e.field = q.0 in
-    let y : d.bodies ≡ e.bodies = q.1 in
-    cc
+    grind arith
 
 -- a section has one list of events
 kind_events_same : (features at : ℕ) (k : Kind) (f : SectionFrame) (xs ys : List Event) → KindEvents features at k f xs
@@ -57,9 +48,7 @@ frames_events_same : (features : ℕ) (encoding : Encoding) (at : ℕ) (frames :
     → FramesEvents features encoding at frames xs → FramesEvents features encoding at frames ys → xs ≡ ys
 frames_events_same features encoding at [] xs ys x y = x ∙ sym y
 frames_events_same features encoding at (f ∷ frames) xs ys (a, b, w, h, t) (c, d, v, i, u) =
-    let p : a ≡ c = grind (arith, kind_events_same) in
-    let q : b ≡ d = frames_events_same features encoding (at + length (frame_bytes f)) frames b d t u in
-    w ∙ ((λ j. p j ++ q j) ∙ sym v)
+    grind (arith, kind_events_same, frames_events_same features encoding (at + length (frame_bytes f)) frames b d t u)
 
 -- ---- determined by sections
 

@@ -5,8 +5,7 @@ use Rattle.std.proofs.lemmas.List.{take_at, drop_at}
 use Rattle.std.proofs.lemmas.List.Elements.{All-head, All-tail}
 use Rattle.wasm_base.specs.Number.{read, number}
 use Rattle.wasm_base.specs.declared.fault.NumberKind.TheVariants.{VarU32}
-use Rattle.wasm_grammar.specs.Accepted.{header_bytes, IsNumber, Sized, sized_bytes, IsSized, SectionFrame, frame_bytes}
-use Rattle.wasm_grammar.specs.declared.encoding.Encoding.{Encoding}
+use Rattle.wasm_grammar.specs.Accepted.{IsNumber, Sized, sized_bytes, IsSized, SectionFrame, frame_bytes}
 use Rattle.wasm_grammar.proofs.accepted.Tiles.{number_on}
 
 -- prefixes of one length are one
@@ -25,15 +24,7 @@ numbers_same xs ys us vs m n p q e =
 
 -- bytes after their length are
 pub sized_same : (s t : Sized) (us vs : List ℕ) → IsSized s → IsSized t → sized_bytes s ++ us ≡ sized_bytes t ++ vs → (s ≡ t) × (us ≡ vs)
-sized_same s t us vs p q e =
-    let z : s.field ++ (s.content ++ us) ≡ t.field ++ (t.content ++ vs) = sym (append_assoc s.field s.content us)
-    ∙ (e ∙ append_assoc t.field t.content vs) in
-    let n : ((length s.content ≡ length t.content) × (length s.field ≡ length t.field)) =
-    grind (arith, numbers_same) in
-    let f : ((s.field ≡ t.field) × (s.content ++ us ≡ t.content ++ vs)) =
-    grind (arith, prefixes_same) in
-    let c : ((s.content ≡ t.content) × (us ≡ vs)) = prefixes_same s.content t.content us vs n.0 f.1 in
-    grind arith
+sized_same s t us vs p q e = grind (arith, append_assoc, numbers_same, prefixes_same)
 
 frame_same : (f g : SectionFrame) → f.id ≡ g.id → f.sized ≡ g.sized → f ≡ g
 frame_same f g e h = λ i. record { id = e i; sized = h i }
@@ -51,7 +42,3 @@ frames_same (f ∷ fs) (g ∷ gs) a b e =
     let t : fs ≡ gs = frames_same fs gs (All-tail (λ x. IsSized x.sized) f fs a) (All-tail (λ x. IsSized x.sized) g gs b) q.1 in
     cc
 frames_same _ _ a b e = cc
-
--- a header names one encoding
-pub headers_same : (e f : Encoding) (us vs : List ℕ) → header_bytes e ++ us ≡ header_bytes f ++ vs → (e ≡ f) × (us ≡ vs)
-headers_same e f us vs z = grind arith

@@ -1,7 +1,7 @@
 -- What the events of a reading say of sections and bodies is what their bytes are.
 use Rattle.std.specs.declared.ops.Range.{Range}
-use Rattle.std.proofs.Common.{◌≡◌, ℕ, ◌+◌, ◌-◌, Bool, true, false, cond, List, [], ◌∷◌, ◌++◌, length, Option, Some, None, refl, sym}
-use Rattle.std.proofs.Common.{ap, subst, ◌∙◌, arith, length-append, inl, inr}
+use Rattle.std.proofs.Common.{◌≡◌, ℕ, ◌+◌, ◌-◌, Bool, true, false, cond, List, [], ◌∷◌, ◌++◌, length, Option, Some, None, sym}
+use Rattle.std.proofs.Common.{ap, subst, arith, length-append, inl, inr}
 use Rattle.std.specs.Prelude.{◌⊎◌}
 use Rattle.wasm_grammar.specs.Accepted.{IsNumber, IsFormed}
 use Rattle.wasm_grammar.specs.Content.{code, kind_of, Form}
@@ -10,7 +10,7 @@ use Rattle.wasm_grammar.specs.Grammar.{Shape, section, Tile, tile, SectionContex
 use Rattle.wasm_grammar.specs.Grammar.{code_grammar}
 use Rattle.wasm_grammar.specs.Laws.{EventsSayTheirBytes}
 use Rattle.wasm_grammar.specs.Reading.{Report, section_report, event_of, events_of}
-use Rattle.wasm_grammar.specs.SectionEvents.{bytes_of_bodies, SaysContent, IsSectionEvent, SaysItsBytes}
+use Rattle.wasm_grammar.specs.SectionEvents.{bytes_of_bodies, SaysContent, SaysItsBytes}
 use Rattle.wasm_grammar.specs.Sections.{section_of}
 use Rattle.wasm_grammar.specs.EventRanges.{AtOffsets}
 use Rattle.wasm_grammar.specs.Tiling.{bytes_of, grammar, Faultless}
@@ -21,7 +21,6 @@ use Rattle.wasm_grammar.proofs.accepted.Parts.{SectionParts, section_parts, Whol
 use Rattle.wasm_grammar.proofs.accepted.Parts.{body_parts}
 use Rattle.wasm_grammar.proofs.accepted.Tiles.{made, IsWhole, whole_or_code}
 use Rattle.wasm_grammar.proofs.frames.Reported.{section_at, report_after}
-use Rattle.wasm_grammar.specs.Ids.{code_id}
 
 -- ---- what is reported of good content
 
@@ -54,91 +53,11 @@ id_is i j r s e = ap id_in e
 range_is : (i j : ℕ) (r s : Range ℕ) → Same j s (Some (i, r)) → r ≡ s
 range_is i j r s e = ap (range_in r) e
 
--- a section that is one tile
-whole_event : (features o id : ℕ) (field content : List ℕ) (kind : Form) → IsNumber field (length content) → IsFormed kind content
-    → (i : ℕ) (range : Range ℕ) → Same i range (section_at (o + length (id ∷ (field ++ content))) (section kind id content))
-    → IsSectionEvent features o i range (event_of features o (made (section kind id content) (id ∷ (field ++ content))))
-whole_event features o id field content kind n g i range e =
-    let high : ℕ = o + length (id ∷ (field ++ content)) in
-    let s : Said features (high - length content) content (section_report features (high - length content) high kind id content) =
-    search said in
-    let b : bytes_of_bodies (section_report features (high - length content) high kind id content) ≡ 0 = s.no_bodies in
-    let l : length (field ++ content) ≡ length field + length content = length-append field content in
-    let at : IsSectionEvent features o id (record { start = high - length content; end = high })
-    (event_of features o (made (section kind id content) (id ∷ (field ++ content)))) = record {
-      field = field;
-      content = content;
-      bytes = refl;
-      sized = grind arith;
-      start = omega (arith, l);
-      end = omega (arith, b, l);
-      says = s.says;
-    } in
-    let a : id ≡ i = search id_is in
-    let r : record { start = high - length content; end = high }
-    ≡ range = search range_is in
-    grind arith
-
--- the head of a code section
-head_event : (features o id size count : ℕ) (field head : List ℕ) → id ≡ code_id → IsNumber field (length head + size) → IsNumber head count
-    → (i : ℕ) (range : Range ℕ) → Same i range (section_at (o + length (id ∷ (field ++ head)))
-    (Grammar.code_start count (length head) size))
-    → IsSectionEvent features o i range (event_of features o (made (Grammar.code_start count (length head) size) (id ∷ (field ++ head))))
-head_event features o id size count field head z n c i range e =
-    let high : ℕ = o + length (id ∷ (field ++ head)) in
-    let l : length (field ++ head) ≡ length field + length head = length-append field head in
-    let at : IsSectionEvent features o id (record { start = high - length head; end = high + size })
-    (event_of features o (made (Grammar.code_start count (length head) size) (id ∷ (field ++ head)))) = record {
-      field = field;
-      content = head;
-      bytes = refl;
-      sized = n;
-      start = omega (arith, l);
-      end = omega (arith, l);
-      says = c;
-    } in
-    let a : id ≡ i = grind arith in
-    let r : record { start = high - length head; end = high + size }
-    ≡ range = search range_is in
-    grind arith
-
 -- ---- the event of a tile
 
 -- The section that is reported of a tile is the one that ends where the tile does.
 abbrev ReportedThere : (features o : ℕ) → Tile → Type 0
 ReportedThere features o t = section_of (event_of features o t).report ≡ section_at (o + length t.bytes) t.shape
-
--- the event of a section that is one tile
-whole_says : (features o id : ℕ) (field content : List ℕ) (kind : Form) → IsNumber field (length content) → IsFormed kind content
-    → ReportedThere features o (made (section kind id content) (id ∷ (field ++ content)))
-    → SaysItsBytes features o (event_of features o (made (section kind id content) (id ∷ (field ++ content))))
-whole_says features o id field content kind n g q = grind (arith, whole_event)
-
--- the event of the head of a code section
-head_says : (features o id size count : ℕ) (field head : List ℕ) → id ≡ code_id → IsNumber field (length head + size) → IsNumber head count
-    → ReportedThere features o (made (Grammar.code_start count (length head) size) (id ∷ (field ++ head)))
-    → SaysItsBytes features o (event_of features o (made (Grammar.code_start count (length head) size) (id ∷ (field ++ head))))
-head_says features o id size count field head z n c q = record {
-  section = λ i range e. head_event features o id size count field head z n c i range (sym q ∙ e);
-  body = λ window e. cc;
-}
-
-body_says : (features o : ℕ) (field content : List ℕ) → IsNumber field (length content)
-    → SaysItsBytes features o (event_of features o (made (Grammar.code_entry content) (field ++ content)))
-body_says features o field content n =
-    let high : ℕ = o + length (field ++ content) in
-    let l : length (field ++ content) ≡ length field + length content = length-append field content in
-    let from : high - length content ≡ o + length field = omega (arith, l) in
-    record {
-      section = λ i range e. cc;
-      body = λ window e. record {
-        field = field;
-        content = content;
-        bytes = refl;
-        sized = n;
-        over = cc;
-      };
-    }
 
 -- the event of a section's tile
 section_says : (features o : ℕ) (p : SectionContext) (t : Tile) → ReportedThere features o t → (s : SectionParts p o t)
@@ -152,17 +71,17 @@ section_says features o p t q s = at (whole_or_code (kind_of p.encoding s.id))
         let z : t ≡ made (section w.0 s.id c.content) (s.id ∷ (s.field ++ c.content)) = cc in
         let n : IsNumber s.field (length c.content) = rw c.long s.whole in
         subst (λ (x : Tile). SaysItsBytes features o (event_of features o x)) (sym z)
-        (grind (arith, whole_says, good_from))
+        (grind (arith, good_from, said, length-append, made, id_is, range_is))
     at (inr k) =
         let g : verdict (code_grammar p (o + 1 + length s.field) s.size) s.others
         ≡ tile s.rest = cc in
         let c : HeadParts p (o + 1 + length s.field) s.size s.rest = search head_parts in
         let z : t ≡ made (Grammar.code_start c.count (length c.head) (s.size - length c.head)) (s.id ∷ (s.field ++ c.head)) = cc in
         let n : IsNumber s.field (length c.head + (s.size - length c.head)) = grind arith in
-        grind (arith, head_says)
+        grind (arith, length-append, made, range_is)
 
 body_tile_says : (features o m l : ℕ) (t : Tile) → BodyParts m l t → SaysItsBytes features o (event_of features o t)
-body_tile_says features o m l t b = grind (arith, body_says)
+body_tile_says features o m l t b = grind (arith, length-append)
 
 -- the event of a tile after a header
 inside_says : (features o : ℕ) (b : Bool) (p : SectionContext) (m l : ℕ) (t : Tile) → ReportedThere features o t
@@ -181,10 +100,7 @@ tiles_say : (start features : ℕ) (ts : List Tile) → Faultless start ts
     → AtOffsets (SaysItsBytes features) start (events_of start features ts)
 tiles_say start features [] f = tt
 tiles_say start features (t ∷ ts) f =
-    at_offsets_more (SaysItsBytes features) start (events_of start features ts) (event_of features (start + length (bytes_of ts)) t)
-    (start + length (bytes_of ts))
-    (search tiles_consume) (tiles_say start features ts f.0)
-    (tile_says start features ts t f.1)
+    grind (arith, at_offsets_more, tiles_consume, tile_says, tiles_say start features ts f.0)
 
 pub events_say_their_bytes : EventsSayTheirBytes
 events_say_their_bytes stream start features events r = grind (arith, at_offsets_more, tiles_say)

@@ -1,12 +1,12 @@
 -- The sections of a reading tile an accepted stream.
 use Rattle.std.specs.declared.ops.Range.{Range}
-use Rattle.std.proofs.Common.{◌≡◌, ℕ, ◌+◌, ◌-◌, ◌<◌, List, [], ◌∷◌, ◌++◌, length, drop, map, option_to_list, nat_eq, refl, sym, ap}
+use Rattle.std.proofs.Common.{◌≡◌, ℕ, ◌+◌, ◌-◌, ◌<◌, List, [], ◌∷◌, ◌++◌, length, map, nat_eq, refl, sym, ap}
 use Rattle.std.proofs.Common.{◌∙◌, arith, length-append, append-nil, append_assoc, eqb-true}
 use Rattle.std.specs.List.{All, flat_map}
 use Rattle.std.proofs.lemmas.List.{take_at, drop_at}
-use Rattle.std.proofs.lemmas.List.Elements.{All-nil, All-push}
+use Rattle.std.proofs.lemmas.List.Elements.{All-push}
 use Rattle.wasm_grammar.specs.Accepted.{header_bytes, IsNumber, IsSized, SectionFrame, frame_bytes, IsAccepted}
-use Rattle.wasm_grammar.specs.Content.{Kind, code, kind_of, ended}
+use Rattle.wasm_grammar.specs.Content.{code, kind_of, ended}
 use Rattle.wasm_grammar.specs.Grammar.{section, code_start, Tile, tile, verdict, content_grammar}
 use Rattle.wasm_grammar.specs.Reading.{events_of, Reads}
 use Rattle.wasm_grammar.specs.SectionLaws.{SectionsTile}
@@ -23,7 +23,7 @@ use Rattle.wasm_grammar.proofs.accepted.Parts.{SectionParts, WholeParts, content
 use Rattle.wasm_grammar.proofs.accepted.Tiles.{made, IsWhole}
 use Rattle.wasm_grammar.proofs.accepted.Walks.{stream_of, stream_more, accepted_reads}
 use Rattle.wasm_grammar.proofs.frames.OpenSections.{Goes, closed_at, sections_of_tiles}
-use Rattle.wasm_grammar.proofs.frames.Reported.{section_at, sections_more, sections_first, sections_all}
+use Rattle.wasm_grammar.proofs.frames.Reported.{section_at, sections_more, sections_all}
 use Rattle.wasm_grammar.specs.Ids.{code_id}
 
 -- ---- where sections are
@@ -36,12 +36,7 @@ size_of fs = length (flat_map frame_bytes fs)
 places_push : (offset : ℕ) (fs : List SectionFrame) (f : SectionFrame) → places_of offset (fs ++ f ∷ []) ≡ places_of offset fs
     ++ places_of (offset + size_of fs) (f ∷ [])
 places_push offset [] f = ap (λ (o : ℕ). places_of o (f ∷ [])) (omega arith)
-places_push offset (g ∷ fs) f =
-    let n : length (frame_bytes g ++ flat_map frame_bytes fs) ≡ length (frame_bytes g) + size_of fs =
-    length-append (frame_bytes g) (flat_map frame_bytes fs) in
-    let o : offset + length (frame_bytes g) + size_of fs ≡ offset + size_of (g ∷ fs) = omega arith in
-    rw (places_push (offset + length (frame_bytes g)) fs f ∙ ap (λ (x : ℕ). places_of (offset + length (frame_bytes g)) fs
-    ++ places_of x (f ∷ [])) o)
+places_push offset (g ∷ fs) f = grind (arith, length-append, places_push (offset + length (frame_bytes g)) fs f)
 
 -- the range of a section has its content
 range_bytes : (stream prefix rest : List ℕ) (start offset : ℕ) (f : SectionFrame) → stream ≡ prefix ++ (frame_bytes f ++ rest) → offset
@@ -50,12 +45,10 @@ range_bytes : (stream prefix rest : List ℕ) (start offset : ℕ) (f : SectionF
 range_bytes stream prefix rest start offset f w o =
     let field : List ℕ = f.id ∷ f.sized.field in
     let content : List ℕ = f.sized.content in
-    let a : ℕ = offset + 1 + length f.sized.field in
     let n : length (f.sized.field ++ content) ≡ length f.sized.field + length content = length-append f.sized.field content in
     let m : length (prefix ++ field) ≡ length prefix + length field = length-append prefix field in
     let s : stream ≡ (prefix ++ field) ++ (content ++ rest) = w ∙ simp append_assoc refl in
-    let d : drop (a - start) stream ≡ content ++ rest = grind (arith, drop_at) in
-    grind (arith, take_at)
+    grind (arith, drop_at, take_at)
 
 -- the ranges of sections have their contents
 ranges_bytes : (stream prefix : List ℕ) (start offset : ℕ) (fs : List SectionFrame) → stream ≡ prefix ++ flat_map frame_bytes fs → offset
@@ -107,29 +100,14 @@ push_places : (start : ℕ) (encoding : Encoding) (fs : List SectionFrame) (f : 
     ≡ start + length (stream_of encoding fs) + 1 + length f.sized.field → high ≡ low + length f.sized.content
     → places_of (start + length (header_bytes encoding)) fs ++ (f.id, record { start = low; end = high }) ∷ []
     ≡ places_of (start + length (header_bytes encoding)) (fs ++ f ∷ [])
-push_places start encoding fs f low high l h =
-    let n : length (stream_of encoding fs) ≡ length (header_bytes encoding) + size_of fs =
-    grind arith in
-    let m : length (f.sized.field ++ f.sized.content) ≡ length f.sized.field + length f.sized.content =
-    length-append f.sized.field f.sized.content in
-    let o : ℕ = start + length (header_bytes encoding) + size_of fs in
-    let a : low ≡ o + 1 + length f.sized.field = omega arith in
-    let b : high ≡ o + length (frame_bytes f) = omega arith in
-    grind (arith, places_push)
+push_places start encoding fs f low high l h = grind (arith, stream_of, length-append, places_push)
 
 -- a header alone
 header_closed : (start features : ℕ) (t : Tile) → All (λ b. b < 256) t.bytes → verdict (grammar start []) t.bytes ≡ tile t
     → Closed start features (t ∷ [])
 header_closed start features t a h =
     let p : HeaderParts t = header_parts start t.bytes t a h in
-    record {
-      encoding = p.encoding;
-      frames = [];
-      sized = All-nil (λ f. IsSized f.sized);
-      joined = grind arith;
-      places = sections_first start features t h;
-      whole = rw p.is;
-    }
+    grind arith
 
 -- a code section that misses nothing is whole
 closes : (start features : ℕ) (ts : List Tile) → Open start features ts → bodies_left ts + bytes_left ts ≡ 0
@@ -152,10 +130,8 @@ closed_whole : (start features : ℕ) (u : Tile) (ts : List Tile) (o : ℕ) (t :
     → Closed start features (u ∷ ts) → (s : SectionParts (context_of (u ∷ ts)) o t)
     → IsWhole (kind_of (encoding_of (u ∷ ts)) s.id) → Closed start features (t ∷ u ∷ ts)
 closed_whole start features u ts o t h q s w =
-    let kind : Kind = kind_of (encoding_of (u ∷ ts)) s.id in
     let at : ℕ = o + 1 + length s.field in
-    let c : WholeParts (context_of (u ∷ ts)) w.0 s.id at s.size s.rest =
-    search content_parts in
+    let c : WholeParts (context_of (u ∷ ts)) w.0 s.id at s.size s.rest = grind (arith, content_parts) in
     let f : SectionFrame = record { id = s.id; sized = record { field = s.field; content = c.content } } in
     let z : t ≡ made (section w.0 s.id c.content) (frame_bytes f) = cc in
     let low : ℕ = start + length (bytes_of (u ∷ ts)) in
@@ -190,43 +166,27 @@ closed_code start features u ts o t h q s e =
     let c : HeadParts (context_of (u ∷ ts)) at s.size s.rest = search head_parts in
     let code_bytes : ℕ = s.size - length c.head in
     let bytes : List ℕ = 10 ∷ (s.field ++ c.head) in
-    let z : t ≡ made (code_start c.count (length c.head) code_bytes) bytes =
-    grind arith in
+    let z : t ≡ made (code_start c.count (length c.head) code_bytes) bytes = grind arith in
     let low : ℕ = start + length (bytes_of (u ∷ ts)) in
     let n : length (bytes_of (u ∷ ts)) ≡ length (stream_of q.encoding q.frames) = rw q.joined in
     let m : length (s.field ++ c.head) ≡ length s.field + length c.head = length-append s.field c.head in
     let from : ℕ = start + length (stream_of q.encoding q.frames) + 1 + length s.field in
-    let a : low + length bytes - length c.head ≡ from = omega arith in
     let b : low + length bytes + code_bytes ≡ from + s.size = omega (arith, c.fits) in
     let p : sections_of (events_of start features (t ∷ u ∷ ts)) ≡ sections_of (events_of start features (u ∷ ts))
     ++ (10, record { start = low + length bytes - length c.head; end = low + length bytes + code_bytes }) ∷ [] =
     grind (arith, sections_more) in
     let l : bytes_left (t ∷ u ∷ ts) ≡ code_bytes = rw z in
-    record {
-      encoding = q.encoding;
-      frames = q.frames;
-      sized = q.sized;
-      size = s.size;
-      field = s.field;
-      long = s.whole;
-      inner = c.head;
-      misses = omega (arith, c.fits, l);
-      joined = (λ k. q.joined k ++ (z k).bytes);
-      places = cc;
-    }
+    grind arith
 
 -- within a code section, one more body
 open_body : (start features : ℕ) (u : Tile) (ts : List Tile) (t : Tile) → verdict (grammar start (u ∷ ts)) t.bytes ≡ tile t
     → Open start features (u ∷ ts) → BodyParts (bodies_left (u ∷ ts)) (bytes_left (u ∷ ts)) t → Open start features (t ∷ u ∷ ts)
 open_body start features u ts t h q c =
-    let low : ℕ = start + length (bytes_of (u ∷ ts)) in
     let l : bytes_left (t ∷ u ∷ ts) ≡ bytes_left (u ∷ ts) - length (c.field ++ c.content) =
     cc in
     let b : length t.bytes ≡ length (c.field ++ c.content) = rw c.is in
     let p : sections_of (events_of start features (t ∷ u ∷ ts)) ≡ sections_of (events_of start features (u ∷ ts)) =
-    sections_more start features u ts t h
-    ∙ (ap (λ (x : Tile). sections_of (events_of start features (u ∷ ts)) ++ option_to_list (section_at (low + length x.bytes) x.shape)) c.is
-    ∙ append-nil (sections_of (events_of start features (u ∷ ts)))) in
+    grind (arith, sections_more, section_at, append-nil) in
     record {
       encoding = q.encoding;
       frames = q.frames;
@@ -236,9 +196,7 @@ open_body start features u ts t h q c =
       long = q.long;
       inner = q.inner ++ t.bytes;
       misses = omega (arith, q.misses, c.fits, length-append c.field c.content, length-append q.inner t.bytes);
-      joined = ap (λ (x : List ℕ). x ++ t.bytes) q.joined ∙ (append_assoc (stream_of q.encoding q.frames) (10 ∷ (q.field ++ q.inner))
-          t.bytes
-          ∙ ap (λ (x : List ℕ). stream_of q.encoding q.frames ++ 10 ∷ x) (append_assoc q.field q.inner t.bytes));
+      joined = grind (arith, append_assoc, stream_of);
       places = p ∙ q.places;
     }
 
@@ -275,8 +233,7 @@ report_sections : (stream : List ℕ) (start features : ℕ) (a : IsAccepted str
     ≡ bytes_of ts → All (λ f. IsSized f.sized) a.frames
     → sections_of (events_of start features ts) ≡ places_of (start + length (header_bytes a.encoding)) a.frames
 report_sections stream start features a ts c w s =
-    let q : ((c.encoding ≡ a.encoding) × (flat_map frame_bytes c.frames ≡ flat_map frame_bytes a.frames)) =
-    grind arith in
+    let q : ((c.encoding ≡ a.encoding) × (flat_map frame_bytes c.frames ≡ flat_map frame_bytes a.frames)) = grind arith in
     let f : c.frames ≡ a.frames = frames_same c.frames a.frames c.sized s q.1 in
     cc
 
@@ -289,10 +246,4 @@ sections_tile stream start features events s a r =
     let sized : All (λ f. IsSized f.sized) a.frames = grind arith in
     let p : sections_of events ≡ places_of (start + length (header_bytes a.encoding)) a.frames =
     ap sections_of r.listed ∙ (search (sections_all, report_sections)) in
-    record {
-      whole = a.whole;
-      sized = sized;
-      places = p;
-      contents = ap (map (id_and_bytes stream start)) p ∙ ranges_bytes stream (header_bytes a.encoding) start
-          (start + length (header_bytes a.encoding)) a.frames a.whole refl;
-    }
+    grind (arith, ranges_bytes)

@@ -1,17 +1,14 @@
 -- Where the faults of a grammar lie.
-use Rattle.std.proofs.Common.{◌≡◌, ℕ, ◌+◌, ◌≤◌, Bool, cond, ◌&&◌, List, [], ◌∷◌, length, take, drop}
-use Rattle.std.proofs.Common.{Option, Some, None, nat_le, refl, ap, ◌∙◌, arith, le_refl, length-append}
+use Rattle.std.proofs.Common.{◌≡◌, ℕ, ◌+◌, ◌≤◌, Bool, cond, List, [], ◌∷◌, length, take, drop}
+use Rattle.std.proofs.Common.{Option, Some, None, nat_le, refl, arith, le_refl, length-append}
 use Rattle.std.proofs.lemmas.List.{length-take-le, length-drop}
 use Rattle.wasm_base.specs.FaultAt.{FaultAt, at_offset}
-use Rattle.wasm_base.specs.Header.{magic, agree}
-use Rattle.wasm_base.specs.Name.{Name, name_limit, name}
 use Rattle.wasm_base.specs.Number.{Number, number}
-use Rattle.wasm_base.specs.declared.fault.Fault.{Fault}
-use Rattle.wasm_base.specs.declared.fault.Fault.TheVariants.{UnexpectedEof, MagicAtSection}
+use Rattle.wasm_base.specs.declared.fault.Fault.TheVariants.{UnexpectedEof}
 use Rattle.wasm_base.specs.declared.fault.NumberKind.TheVariants.{VarU32}
 use Rattle.wasm_base.proofs.NumberLaws.{number-used}
 use Rattle.wasm_grammar.specs.Content.{Kind, code, kind_of, Ending, fault, ended, when}
-use Rattle.wasm_grammar.specs.Content.{wrong_number, wrong_single, wrong_name, wrong_content, Form, whole}
+use Rattle.wasm_grammar.specs.Content.{wrong_content, Form, whole}
 use Rattle.wasm_grammar.specs.Grammar.{Tile, Verdict, final, Grammar, accept, reject, check, u32_field, bytes, section_start, after}
 use Rattle.wasm_grammar.specs.Grammar.{after_number, verdict, SectionContext, header_grammar, end_at_section, wrong_data, whole_grammar}
 use Rattle.wasm_grammar.specs.Grammar.{content_grammar, after_length, section_grammar, body_grammar}
@@ -56,12 +53,6 @@ bytes_lie : (low here count o : ℕ) (xs : List ℕ) (next : List ℕ → Gramma
     → Between low (here + length xs) f.offset
 bytes_lie low here count o xs next f w b zs t h = grind (arith, length-take-le, length-drop)
 
-start_lies : (low here o id : ℕ) (xs : List ℕ) (v : Verdict) (f : FaultAt) → Between low here o
-    → (v ≡ final (fault f) → Between low (here + 1 + length xs) f.offset)
-    → (t : Bool) → cond t (final (fault (at_offset MagicAtSection o))) (after (id ∷ []) v) ≡ final (fault f)
-    → Between low (here + length (id ∷ xs)) f.offset
-start_lies low here o id xs v f w ih t h = grind arith
-
 -- a fault lies among the bytes, or at their end
 pub verdict_lies : (low here : ℕ) (g : Grammar) (xs : List ℕ) (f : FaultAt) → Within low here g → verdict g xs ≡ final (fault f)
     → Between low (here + length xs) f.offset
@@ -76,9 +67,7 @@ verdict_lies low here (bytes count o next) xs f w h =
     bytes_lie low here count o xs next f w.0 (λ b zs l. verdict_lies low (here + count) (next b) zs f (w.1 b l)) (nat_le count (length xs))
     refl h
 verdict_lies low here (section_start o e next) [] f w h = grind arith
-verdict_lies low here (section_start o e next) (id ∷ xs) f w h =
-    start_lies low here o id xs (verdict (next id) xs) f w.0 (verdict_lies low (here + 1) (next id) xs f (w.2 id))
-    (agree (id ∷ xs) magic && nat_le 4 (length (id ∷ xs))) h
+verdict_lies low here (section_start o e next) (id ∷ xs) f w h = grind (arith, verdict_lies low (here + 1) (next id) xs f (w.2 id))
 
 -- ---- the grammars of a stream
 
@@ -88,21 +77,9 @@ when_lies low high t e w = grind arith
 lies : (low high a : ℕ) → low ≤ a → a ≤ high → Between low high a
 lies low high a l m = (l, m)
 
-number_wrong : (offset : ℕ) (content : List ℕ) (n : Number) → number VarU32 content ≡ n
-    → MayLie offset (offset + length content) (wrong_number offset content n)
-number_wrong offset content n e = grind (arith, number_place)
-
-single_wrong : (code_bytes : Fault) (offset : ℕ) (content : List ℕ) (n : Number) → number VarU32 content ≡ n
-    → MayLie offset (offset + length content) (wrong_single code_bytes offset content n)
-single_wrong code_bytes offset content n e = grind (arith, number_place)
-
-name_wrong : (offset : ℕ) (content : List ℕ) (n : Name) → name (Some name_limit) content ≡ n
-    → MayLie offset (offset + length content) (wrong_name offset n)
-name_wrong offset content n e = grind (arith, name_place)
-
 content_wrong : (kind : Form) (offset : ℕ) (content : List ℕ) → MayLie offset (offset + length content) (wrong_content kind offset content)
 unfolding wrong_content
-content_wrong kind offset content = grind (arith, name_wrong, number_wrong, single_wrong)
+content_wrong kind offset content = grind (arith, number_place, name_place)
 
 data_wrong : (p : SectionContext) (kind : Form) (id offset : ℕ) (content : List ℕ)
     → MayLie offset offset (wrong_data p kind id offset content)
@@ -147,20 +124,14 @@ Within-header : (o : ℕ) → Within o o (header_grammar o)
 unfolding header_grammar
 Within-header o = grind arith
 
-Within-inside : (b : Bool) (p : SectionContext) (bodies code_bytes o : ℕ)
-    → Within o o (cond b (section_grammar p o) (body_grammar bodies code_bytes o))
-Within-inside b p bodies code_bytes o = grind (arith, Within-section, Within-body)
-
 pub Within-grammar : (start : ℕ) (ts : List Tile) → Within (start + length (bytes_of ts)) (start + length (bytes_of ts)) (grammar start ts)
-Within-grammar start ts = grind (arith, Within-header, Within-inside)
+Within-grammar start ts = grind (arith, Within-header, Within-section, Within-body)
 
 pub fault_lies_within : FaultLiesWithin
 fault_lies_within stream start tiles f r =
     let (a, b) = verdict_lies _ _ (grammar start tiles) r.rest f (Within-grammar start tiles) r.stops in
-    let n : length stream ≡ length (bytes_of tiles) + length r.rest = ap (λ (x : List ℕ). length x) r.whole
-    ∙ length-append (bytes_of tiles) r.rest in
-    (a, omega arith)
+    grind (arith, length-append)
 
 pub Within-any : (h b : Bool) (p : SectionContext) (bodies code_bytes o : ℕ)
     → Within o o (cond h (header_grammar o) (cond b (section_grammar p o) (body_grammar bodies code_bytes o)))
-Within-any h b p bodies code_bytes o = grind (arith, Within-header, Within-inside)
+Within-any h b p bodies code_bytes o = grind (arith, Within-header, Within-section, Within-body)

@@ -1,19 +1,18 @@
 -- What each grammar of the stream keeps: its tiles are guarded, and take at least one byte.
-use Rattle.std.proofs.Common.{◌≡◌, ℕ, zero, suc, ◌+◌, ◌<◌, ◌≤◌, Bool, true, false, cond, List, [], ◌∷◌, ◌++◌, length, take, drop}
-use Rattle.std.proofs.Common.{Option, nat_le, nat_eq, refl, sym, ap, ◌∙◌, arith, length-append, leb-true, eqb-true}
+use Rattle.std.proofs.Common.{◌≡◌, ℕ, zero, suc, ◌+◌, ◌<◌, ◌≤◌, Bool, true, cond, List, ◌∷◌, ◌++◌, length, take, drop}
+use Rattle.std.proofs.Common.{Option, refl, arith, length-append, leb-true, eqb-true}
 use Rattle.std.proofs.lemmas.List.{length-take-le}
 use Rattle.std.proofs.lemmas.Bool.{and_parts}
 use Rattle.wasm_base.specs.FaultAt.{FaultAt}
 use Rattle.wasm_base.specs.Number.{read, number}
 use Rattle.wasm_grammar.specs.Content.{Kind, kind_of, Ending}
 use Rattle.wasm_base.specs.Header.{magic, agree}
-use Rattle.wasm_grammar.specs.Grammar.{Tile, Verdict, tile, final, after, Grammar, check, u32_field, bytes, section_start}
+use Rattle.wasm_grammar.specs.Grammar.{Tile, tile, Grammar, check, u32_field, bytes, section_start}
 use Rattle.wasm_grammar.specs.Grammar.{verdict, SectionContext, header_grammar, content_grammar, after_length, after_id}
 use Rattle.wasm_grammar.specs.Grammar.{section_grammar, body_of, body_grammar}
 use Rattle.wasm_grammar.specs.Tiling.{grammar}
 use Rattle.wasm_base.specs.declared.fault.NumberKind.TheVariants.{VarU32}
-use Rattle.wasm_grammar.specs.declared.encoding.Encoding.{Encoding}
-use Rattle.wasm_base.proofs.NumberLaws.{number-used, Used}
+use Rattle.wasm_base.proofs.NumberLaws.{number-used}
 use Rattle.wasm_grammar.proofs.parts.Verdicts.{Guarded, after-tile}
 
 Guarded-content : (p : SectionContext) (k : Kind) (id o n : ℕ) → Guarded (content_grammar p k id o n)
@@ -24,19 +23,11 @@ pub refused : (e : Option FaultAt) (g : Grammar) (xs : List ℕ) (t : Tile) → 
 unfolding verdict
 refused e g xs t h = grind arith
 
-bytes_least_at : (b : Bool) (count : ℕ) (xs : List ℕ) (v : Verdict) (e : Ending) (t : Tile) → nat_le count (length xs) ≡ b
-    → cond b (after (take count xs) v) (final e) ≡ tile t → count ≤ length t.bytes
-bytes_least_at true count xs v e t h w =
-    let (s, r, q) = after-tile (take count xs) v t w in
-    let z : t.bytes ≡ take count xs ++ s.bytes = ap (λ (x : Tile). x.bytes) q in
-    rw z (omega (arith, length-append (take count xs) s.bytes, length-take-le count xs (leb-true _ _ h)))
-bytes_least_at false count xs v e t h w = cc
-
 -- a tile has the bytes that it begins with
 pub bytes_least : (count o : ℕ) (next : List ℕ → Grammar) (xs : List ℕ) (t : Tile) → verdict (bytes count o next) xs ≡ tile t
     → count ≤ length t.bytes
 unfolding verdict
-bytes_least count o next xs t w = search bytes_least_at
+bytes_least count o next xs t w = grind (arith, after-tile, length-append, length-take-le, leb-true)
 
 -- what a tile that begins with a number is
 pub record Numbered (next : ℕ → ℕ → Grammar) (xs : List ℕ) (t : Tile) : Type 0 where
@@ -54,46 +45,19 @@ numbered o next xs t w = grind arith
 pub number_least : (o : ℕ) (next : ℕ → ℕ → Grammar) (xs : List ℕ) (t : Tile) → verdict (u32_field o next) xs ≡ tile t → 0 < length t.bytes
 number_least o next xs t w =
     let n : Numbered next xs t = numbered o next xs t w in
-    let u : Used VarU32 xs n.value n.used = number-used VarU32 xs n.value n.used n.reads in
-    let z : t.bytes ≡ take n.used xs ++ n.rest.bytes = ap (λ (x : Tile). x.bytes) n.is in
-    let l : length (take n.used xs) ≡ n.used = length-take-le n.used xs u.there in
-    let a : 0 < n.used = u.some in
-    grind arith
+    grind (arith, number-used, length-take-le)
 
 -- 0x61 alone is a number, 97
 pub one_byte : (xs : List ℕ) → number VarU32 (0x61 ∷ xs) ≡ read 0x61 1
 unfolding number
 one_byte xs = refl
 
-first_is : (k : ℕ) (xs ys : List ℕ) → 0 < k → 0 < length xs → agree (take k xs ++ ys) (0x61 ∷ 0x73 ∷ 0x6d ∷ []) ≡ true → (zs : List ℕ)
-    × (xs ≡ 0x61 ∷ zs)
-first_is k xs ys h l e = grind arith
-
-custom_long : (p : SectionContext) (en : Encoding) (f o : ℕ) (xs : List ℕ) (t : Tile)
-    → verdict (after_length p (kind_of en 0) 0 f o 0x61) xs ≡ tile t → 0x61 ≤ length t.bytes
-custom_long p en f o xs t w = grind (arith, bytes_least, refused)
-
 longer : (p : SectionContext) (o id : ℕ) (xs : List ℕ) (s : Tile) → verdict (after_id p o id) xs ≡ tile s → agree (id ∷ s.bytes) magic
     ≡ true → 4 ≤ length (id ∷ s.bytes)
 longer p o id xs s w e =
     let n : Numbered (λ size width. after_length p (kind_of p.encoding id) id (o + 1) (o + 1 + width) size) xs s =
     numbered (o + 1) _ xs s (refused _ _ xs s w) in
-    let u : Used VarU32 xs n.value n.used = number-used VarU32 xs n.value n.used n.reads in
-    let b : s.bytes ≡ take n.used xs ++ n.rest.bytes = ap (λ (x : Tile). x.bytes) n.is in
-    let parts : ((nat_eq id 0 ≡ true) × (agree s.bytes (0x61 ∷ 0x73 ∷ 0x6d ∷ []) ≡ true)) =
-    search and_parts in
-    let z : id ≡ 0 = eqb-true id 0 parts.0 in
-    let (zs, q) = first_is n.used xs n.rest.bytes u.some (omega (arith, u.some, u.there)) (rw b at parts.1) in
-    let m : number VarU32 xs ≡ read 0x61 1 = ap (number VarU32) q ∙ one_byte zs in
-    let v : n.value ≡ 0x61 = value_is n.value n.used 0x61 1 (sym n.reads ∙ m) in
-    let g : verdict (after_length p (kind_of p.encoding 0) 0 (o + 1) (o + 1 + n.used) 0x61) (drop n.used xs) ≡ tile n.rest =
-    cc in
-    let l : 0x61 ≤ length n.rest.bytes = search custom_long in
-    let r : length s.bytes ≡ length (take n.used xs) + length n.rest.bytes = grind arith in
-    omega arith
-  where
-    value_is : (a b c d : ℕ) → read a b ≡ read c d → a ≡ c
-    value_is a b c d e = cc
+    grind (arith, number-used, and_parts, eqb-true, one_byte, bytes_least, refused)
 
 pub Guarded-section : (p : SectionContext) (o : ℕ) → Guarded (section_grammar p o)
 unfolding section_grammar

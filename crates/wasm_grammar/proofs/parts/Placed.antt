@@ -99,10 +99,6 @@ headed o xs t e = each_tile IsHeader (header_grammar o) (λ a x b. header_each o
 abbrev pub Fresh : List Tile → Shape → Type 0
 Fresh ts s = 0 < tile_rank s → list_all (λ (u : Tile). nat_lt (tile_rank u.shape) (tile_rank s)) ts ≡ true
 
--- where a section of a rank may follow, each tile ranks below it
-pub follows_all : (r : ℕ) (b : Bool) → (nat_lt 0 r && not b) ≡ false → 0 < r → b ≡ true
-follows_all r b e h = grind arith
-
 fresh_placed : (ts : List Tile) (s : Shape) → Placed (context_of ts) s → Fresh ts s
 fresh_placed ts (section kind id content) f h = grind arith
 fresh_placed ts (code_start count width size) f h = grind arith

@@ -1,9 +1,9 @@
 -- Laws of every grammar.
-use Rattle.std.proofs.Common.{◌≡◌, ◌≢◌, ℕ, ◌-◌, ◌≤◌, Bool, true, false, cond, ◌&&◌, List, [], ◌∷◌, ◌++◌, length, take, drop, None, nat_le}
-use Rattle.std.proofs.Common.{nat_eq, refl, sym, ap, true≢false, ◌∙◌, arith, length-append, leb-true, le-leb, append_assoc}
+use Rattle.std.proofs.Common.{◌≡◌, ℕ, ◌-◌, ◌≤◌, Bool, true, false, cond, ◌&&◌, List, [], ◌∷◌, ◌++◌, length, take, drop, None, nat_le}
+use Rattle.std.proofs.Common.{refl, arith, length-append, leb-true, le-leb, append_assoc}
 use Rattle.std.proofs.lemmas.List.{take-append-le, drop-append-le, take-append-drop, take_at, drop_at, length-take-le}
 use Rattle.wasm_base.specs.FaultAt.{at_offset}
-use Rattle.wasm_base.specs.Number.{Number, read, short, number}
+use Rattle.wasm_base.specs.Number.{Number, read, number}
 use Rattle.wasm_base.specs.Header.{magic, agree}
 use Rattle.wasm_grammar.specs.Grammar.{Tile, Verdict, tile, final, after, after_number, Grammar, accept, check, u32_field, bytes}
 use Rattle.wasm_grammar.specs.Grammar.{section_start, verdict}
@@ -15,11 +15,7 @@ use Rattle.wasm_base.proofs.NumberLaws.{number-more, number-used, Used}
 
 -- lists that don't agree still don't, whatever follows
 pub agree-more : (xs ys zs : List ℕ) → agree xs zs ≡ false → agree (xs ++ ys) zs ≡ false
-agree-more (x ∷ xs) ys (z ∷ zs) e = and_false (nat_eq x z) (agree xs zs) (agree (xs ++ ys) zs) (agree-more xs ys zs) e
-  where
-    and_false : (t a b : Bool) → (a ≡ false → b ≡ false) → (t && a) ≡ false → (t && b) ≡ false
-    and_false true a b f e = f e
-    and_false false a b f e = refl
+agree-more (x ∷ xs) ys (z ∷ zs) e = grind (arith, agree-more xs ys zs)
 agree-more _ ys _ e = cc
 
 number_more : (offset : ℕ) (xs ys : List ℕ) (next : ℕ → ℕ → Grammar)
@@ -37,13 +33,7 @@ bytes_more : (count offset : ℕ) (xs ys : List ℕ) (next : List ℕ → Gramma
     → cond (nat_le count (length (xs ++ ys))) (after (take count (xs ++ ys))
     (verdict (next (take count (xs ++ ys))) (drop count (xs ++ ys)))) (final (fault (at_offset UnexpectedEof offset)))
     ≡ cond t (after (take count xs) (verdict (next (take count xs)) (drop count xs))) (final (fault (at_offset UnexpectedEof offset)))
-bytes_more count offset xs ys next ih true e w =
-    let l : count ≤ length xs = leb-true count (length xs) e in
-    let m : count ≤ length (xs ++ ys) = omega (arith, length-append xs ys) in
-    let t : take count (xs ++ ys) ≡ take count xs = take-append-le count xs ys l in
-    let d : drop count (xs ++ ys) ≡ drop count xs ++ ys = drop-append-le count xs ys l in
-    grind arith
-bytes_more count offset xs ys next ih false e w = cc
+bytes_more count offset xs ys next ih t e w = grind (arith, leb-true, length-append, take-append-le, drop-append-le)
 
 pub agree_same : (xs ys zs : List ℕ) → length zs ≤ length xs → agree (xs ++ ys) zs ≡ agree xs zs
 agree_same [] ys [] h = nil ys
@@ -62,13 +52,7 @@ start_more : (offset id : ℕ) (xs ys : List ℕ) (next : ℕ → Grammar)
     → cond (agree (id ∷ (xs ++ ys)) magic && nat_le 4 (length (id ∷ (xs ++ ys)))) (final (fault (at_offset MagicAtSection offset)))
     (after (id ∷ []) (verdict (next id) (xs ++ ys)))
     ≡ cond (a && l) (final (fault (at_offset MagicAtSection offset))) (after (id ∷ []) (verdict (next id) xs))
-start_more offset id xs ys next ih true true e f w =
-    let l : 4 ≤ length (id ∷ xs) = leb-true 4 (length (id ∷ xs)) f in
-    let m : 4 ≤ length (id ∷ (xs ++ ys)) = omega (arith, length-append xs ys) in
-    let g : agree (id ∷ (xs ++ ys)) magic ≡ true = agree_same (id ∷ xs) ys magic l ∙ e in
-    rw (g, le-leb 4 (length (id ∷ (xs ++ ys))) m)
-start_more offset id xs ys next ih true false e f w = cc
-start_more offset id xs ys next ih false l e f w = grind (arith, agree-more)
+start_more offset id xs ys next ih a l e f w = grind (arith, leb-true, length-append, agree_same, le-leb, agree-more)
 
 -- what bytes that suffice decide stays so, whatever follows
 pub verdict-more : (g : Grammar) (xs ys : List ℕ) → waiting g xs ≡ enough → verdict g (xs ++ ys) ≡ verdict g xs
@@ -99,17 +83,7 @@ pub record Cut (g : Grammar) (xs : List ℕ) (t : Tile) : Type 0 where
 number_join : (offset : ℕ) (next : ℕ → ℕ → Grammar) (v k : ℕ) (f zs : List ℕ) (s : Tile) → length f ≡ k → number VarU32 f ≡ read v k
     → Cut (next v k) zs s → Cut (u32_field offset next) (f ++ zs) (record s { bytes = f ++ s.bytes })
 unfolding verdict waiting
-number_join offset next v k f zs s len e c =
-    let ns : number VarU32 f ≢ short = λ z. (cc) in
-    let m : number VarU32 (f ++ s.bytes) ≡ read v k = number-more VarU32 f s.bytes ns ∙ e in
-    let t : take k (f ++ s.bytes) ≡ f = take_at f s.bytes k len in
-    let d : drop k (f ++ s.bytes) ≡ s.bytes = drop_at f s.bytes k len in
-    record {
-      rest = c.rest;
-      split = ap (λ (x : List ℕ). f ++ x) c.split ∙ sym (append_assoc f s.bytes c.rest);
-      waits = rw m (rw d (rw c.waits refl));
-      alone = rw m (rw (t, d) (rw c.alone refl));
-    }
+number_join offset next v k f zs s len e c = grind (arith, number-more, take_at, drop_at, append_assoc)
 
 number_cut : (offset : ℕ) (xs : List ℕ) (next : ℕ → ℕ → Grammar)
     → ((v k : ℕ) (zs : List ℕ) (s : Tile) → verdict (next v k) zs ≡ tile s → Cut (next v k) zs s)
@@ -126,16 +100,7 @@ number_cut offset xs next ih _ e t w = cc
 bytes_join : (count offset : ℕ) (next : List ℕ → Grammar) (f zs : List ℕ) (s : Tile) → length f ≡ count
     → Cut (next f) zs s → Cut (bytes count offset next) (f ++ zs) (record s { bytes = f ++ s.bytes })
 unfolding verdict waiting
-bytes_join count offset next f zs s len c =
-    let l : nat_le count (length (f ++ s.bytes)) ≡ true = le-leb _ _ (omega (arith, length-append f s.bytes)) in
-    let t : take count (f ++ s.bytes) ≡ f = take_at f s.bytes count len in
-    let d : drop count (f ++ s.bytes) ≡ s.bytes = drop_at f s.bytes count len in
-    record {
-      rest = c.rest;
-      split = ap (λ (x : List ℕ). f ++ x) c.split ∙ sym (append_assoc f s.bytes c.rest);
-      waits = rw l (rw (t, d) (rw c.waits refl));
-      alone = rw l (rw (t, d) (rw c.alone refl));
-    }
+bytes_join count offset next f zs s len c = grind (arith, le-leb, length-append, take_at, drop_at, append_assoc)
 
 bytes_cut : (count offset : ℕ) (xs : List ℕ) (next : List ℕ → Grammar)
     → ((b zs : List ℕ) (s : Tile) → verdict (next b) zs ≡ tile s → Cut (next b) zs s)
@@ -162,20 +127,7 @@ start_join : (offset : ℕ) (z : Ending) (next : ℕ → Grammar) (id : ℕ) (zs
     → (b ≡ true → 4 ≤ length (id ∷ s.bytes)) → ((agree (id ∷ zs) magic && nat_le 4 (length (id ∷ zs))) ≡ false)
     → Cut (next id) zs s → Cut (section_start offset z next) (id ∷ zs) (record s { bytes = id ∷ s.bytes })
 unfolding verdict waiting
-start_join offset z next id zs s true e g m c =
-    let l : 4 ≤ length (id ∷ s.bytes) = g refl in
-    let n : 4 ≤ length (id ∷ (s.bytes ++ c.rest)) = omega (arith, length-append s.bytes c.rest) in
-    let a : agree (id ∷ (s.bytes ++ c.rest)) magic ≡ true = agree_same (id ∷ s.bytes) c.rest magic l ∙ e in
-    let m' : (agree (id ∷ (s.bytes ++ c.rest)) magic && nat_le 4 (length (id ∷ (s.bytes ++ c.rest))))
-    ≡ false = cc in
-    let k : true ≡ false = grind arith in
-    absurd (true≢false k)
-start_join offset z next id zs s false e g m c = record {
-  rest = c.rest;
-  split = rw c.split;
-  waits = rw e (rw c.waits refl);
-  alone = rw e (rw c.alone refl);
-}
+start_join offset z next id zs s b e g m c = grind (arith, length-append, agree_same)
 
 start_cut : (offset : ℕ) (z : Ending) (next : ℕ → Grammar) (id : ℕ) (xs : List ℕ)
     → ((s : Tile) → verdict (next id) xs ≡ tile s → Cut (next id) xs s)
@@ -183,24 +135,18 @@ start_cut : (offset : ℕ) (z : Ending) (next : ℕ → Grammar) (id : ℕ) (xs 
     → (b : Bool) → (agree (id ∷ xs) magic && nat_le 4 (length (id ∷ xs))) ≡ b → (t : Tile)
     → cond b (final (fault (at_offset MagicAtSection offset))) (after (id ∷ []) (verdict (next id) xs)) ≡ tile t
     → Cut (section_start offset z next) (id ∷ xs) t
-start_cut offset z next id xs ih g true e t w = cc
-start_cut offset z next id xs ih g false e t w = grind (arith, start_join)
+start_cut offset z next id xs ih g b e t w = grind (arith, start_join)
 
 -- a tile has the first of the bytes, and no other byte matters to it
 pub verdict-cut : (g : Grammar) → Guarded g → (xs : List ℕ) (t : Tile) → verdict g xs ≡ tile t → Cut g xs t
 unfolding verdict waiting
 verdict-cut (accept s) gd xs t w =
     let c : Cut (accept s) xs (record { shape = s; bytes = [] }) = record { rest = xs; split = refl; waits = refl; alone = refl } in
-    let e : record { shape = s; bytes = [] } ≡ t = cc in
-    rw e at c
-verdict-cut (check None next) gd xs t w =
-    let c : Cut next xs t = verdict-cut next gd xs t w in
-    record { rest = c.rest; split = c.split; waits = c.waits; alone = c.alone }
+    grind arith
+verdict-cut (check None next) gd xs t w = grind (arith, verdict-cut next gd xs t w)
 verdict-cut (u32_field offset next) gd xs t w = number_cut offset xs next (λ v k. verdict-cut (next v k) (gd v k)) (number VarU32 xs) refl t
     w
 verdict-cut (bytes count offset next) gd xs t w = bytes_cut count offset xs next (λ b. verdict-cut (next b) (gd b))
     (nat_le count (length xs)) refl t w
-verdict-cut (section_start offset z next) gd (id ∷ xs) t w =
-    start_cut offset z next id xs (verdict-cut (next id) ((gd id).0) xs) ((gd id).1 xs)
-    (agree (id ∷ xs) magic && nat_le 4 (length (id ∷ xs))) refl t w
+verdict-cut (section_start offset z next) gd (id ∷ xs) t w = grind (arith, start_cut, verdict-cut (next id) ((gd id).0) xs)
 verdict-cut _ gd _ t w = cc

@@ -1,44 +1,28 @@
 -- As many bodies follow the start of a code section as it counts, or a fault comes first.
-use Rattle.std.proofs.Common.{◌≡◌, ℕ, zero, suc, ◌+◌, ◌-◌, ◌<◌, ◌⊎◌, inl, inr, Bool, true, false, cond, List, [], ◌∷◌, ◌++◌, length}
+use Rattle.std.proofs.Common.{◌≡◌, ℕ, ◌+◌, ◌-◌, ◌⊎◌, inl, inr, Bool, true, false, cond, List, [], ◌∷◌, ◌++◌, length}
 use Rattle.std.proofs.Common.{nat_eq, refl, sym, ap, subst, ◌∙◌, arith, length-append, append_assoc, eqb-true}
 use Rattle.std.specs.List.{All}
 use Rattle.std.proofs.lemmas.List.{append_cancel_left}
 use Rattle.std.proofs.lemmas.List.Elements.{All-nil, All-push}
 use Rattle.wasm_base.specs.Window.{Window}
-use Rattle.wasm_grammar.specs.Content.{Ending, fault, ended}
+use Rattle.wasm_grammar.specs.Content.{Ending}
 use Rattle.wasm_grammar.specs.Grammar
 use Rattle.wasm_grammar.specs.Grammar.{Shape, section, Tile, tile, final, SectionContext, verdict, section_grammar, body_grammar}
 use Rattle.wasm_grammar.specs.Reading.{code_start, code_entry, Event, tile_report, event_of, stream_end, last_event, events_of}
 use Rattle.wasm_grammar.specs.SectionLaws.{BodiesFollowTheirCount}
-use Rattle.wasm_grammar.specs.Sections.{ReportsBody, ReportsFault, BodiesFollow}
+use Rattle.wasm_grammar.specs.Sections.{ReportsBody, BodiesFollow}
 use Rattle.wasm_grammar.specs.Tiling.{bytes_of, context_of, grammar, bodies_left, bytes_left, Faultless}
 use Rattle.wasm_grammar.proofs.readings.Endings.{inside_end}
-use Rattle.wasm_grammar.proofs.parts.Placed.{placed, IsBody, IsHeader, headed}
+use Rattle.wasm_grammar.proofs.parts.Placed.{placed, headed}
 use Rattle.wasm_grammar.proofs.PlainLists.{split_last}
 use Rattle.wasm_grammar.proofs.accepted.Parts.{BodyParts, body_parts}
 
 -- where the last element of a list is, or an earlier one, with what is after it
 split_end : {X : Type 0} (xs earlier later : List X) (x y : X) → xs ++ x ∷ [] ≡ earlier ++ y ∷ later
     → ((y ≡ x) × (later ≡ [])) ⊎ ((more : List X) × (xs ≡ earlier ++ y ∷ more) × (later ≡ more ++ x ∷ []))
-split_end {X} xs earlier later x y e = elim (split_last xs earlier later x y e) [
-  | inl q ↦ inl (q.1, at_end q.0 q.1)
-  | inr q ↦ inr (q.0, q.1, before_end q.0 q.1)
-]
-  where
-    tail_same : (a b : X) (xs ys : List X) → a ∷ xs ≡ b ∷ ys → xs ≡ ys
-    tail_same a b xs ys e = cc
-
-    at_end : earlier ≡ xs → y ≡ x → later ≡ []
-    at_end p q = sym (grind (arith, append_cancel_left))
-
-    before_end : (more : List X) → xs ≡ earlier ++ y ∷ more → later ≡ more ++ x ∷ []
-    before_end more p = sym (tail_same y y (more ++ x ∷ []) later (append_cancel_left earlier (y ∷ (more ++ x ∷ [])) (y ∷ later)
-        (sym (append_assoc earlier (y ∷ more) (x ∷ [])) ∙ subst (λ (l : List X). l ++ x ∷ [] ≡ earlier ++ y ∷ later) p e)))
+split_end {X} xs earlier later x y e = grind (arith, split_last, append_cancel_left, append_assoc)
 
 -- ---- which reports are a start or a body
-
-header_apart : (s : Shape) → IsHeader s → IsBody s → ⊥
-header_apart s q b = grind arith
 
 no_last : (end : Ending) (w : Window) → stream_end end ≡ code_entry w → ⊥
 no_last end w e = cc
@@ -62,15 +46,7 @@ record Shut (count : ℕ) (after : List Event) : Type 0 where
 
 -- whatever follows
 shut_more : (count : ℕ) (after : List Event) (e : Event) → Shut count after → Shut count (after ++ e ∷ [])
-shut_more count after e s = record {
-  bodies = s.bodies;
-  next = s.next;
-  later = s.later ++ e ∷ [];
-  whole = ap (λ (l : List Event). l ++ e ∷ []) s.whole ∙ append_assoc s.bodies (s.next ∷ s.later) (e ∷ []);
-  each = s.each;
-  other = s.other;
-  many = s.many;
-}
+shut_more count after e s = grind (arith, append_assoc)
 
 -- a tile more after the bodies so far
 open_more : (start features : ℕ) (u : Tile) (ts : List Tile) (t : Tile) (count : ℕ) (after : List Event) (b : Bool)
@@ -80,8 +56,7 @@ open_more : (start features : ℕ) (u : Tile) (ts : List Tile) (t : Tile) (count
     → (Open (t ∷ u ∷ ts) count (after ++ event_of features o t ∷ [])) ⊎ Shut count (after ++ event_of features o t ∷ [])
 open_more start features u ts t count after true z o e s = grind (arith, placed)
 open_more start features u ts t count after false z o e s =
-    let p : BodyParts (bodies_left (u ∷ ts)) (bytes_left (u ∷ ts)) t =
-    search body_parts in
+    let p : BodyParts (bodies_left (u ∷ ts)) (bytes_left (u ∷ ts)) t = grind (arith, body_parts) in
     let h : t.shape ≡ Grammar.code_entry p.content = ap (λ (x : Tile). x.shape) p.is in
     let l : bodies_left (t ∷ u ∷ ts) ≡ bodies_left (u ∷ ts) - 1 = rw h in
     inl (record {
@@ -114,49 +89,17 @@ follows start features (t ∷ ts) f before after e count from to size z c =
         → Open (t ∷ ts) count (l ++ event_of features (start + length (bytes_of ts)) t ∷ [])
         ⊎ Shut count (l ++ event_of features (start + length (bytes_of ts)) t ∷ [])
     more t ts f l (inr s) = inr (shut_more count l _ s)
-    more t [] f l (inl s) = inr (grind (arith, header_apart, headed))
+    more t [] f l (inl s) = inr (grind (arith, headed))
     more t (u ∷ ts) f l (inl s) = open_more start features u ts t count l (nat_eq (bodies_left (u ∷ ts) + bytes_left (u ∷ ts)) 0) refl
         (start + length (bytes_of (u ∷ ts))) f.1 s
 
 -- the same of the reading, with how it ends
 ends : (start features : ℕ) (ts : List Tile) (rest : List ℕ) (end : Ending) → verdict (grammar start ts) rest ≡ final end
     → (count : ℕ) (after : List Event) → Open ts count after → BodiesFollow count (after ++ last_event end ∷ [])
-ends start features ts rest end v count after s = record {
-  bodies = after;
-  next = last_event end;
-  later = [];
-  whole = refl;
-  each = s.each;
-  other = λ q. no_last end q.0 q.1;
-  many = many ts end v s (bodies_left ts) refl;
-}
-  where
-    none_left : (ts : List Tile) (o : ℕ) → verdict (grammar start ts) rest ≡ final (ended o) → bodies_left ts ≡ 0
-    none_left [] o v = refl
-    none_left (t ∷ ts) o v =
-        let (z, d, x) = inside_end (nat_eq (bodies_left (t ∷ ts) + bytes_left (t ∷ ts)) 0) (context_of (t ∷ ts))
-        (bodies_left (t ∷ ts))
-        (bytes_left (t ∷ ts)) (start + length (bytes_of (t ∷ ts))) rest o v in
-        let n : bodies_left (t ∷ ts) + bytes_left (t ∷ ts) ≡ 0 = eqb-true _ _ z in
-        omega arith
-
-    many : (ts : List Tile) (end : Ending) → verdict (grammar start ts) rest ≡ final end → Open ts count after → (m : ℕ) → bodies_left ts
-        ≡ m
-        → (length after ≡ count) ⊎ ((length after < count) × ReportsFault (last_event end) × (let l : List Event = [] in l ≡ []))
-    many ts end v s zero m = inl (omega (arith, s.misses))
-    many ts (fault f) v s (suc n) m = inr (omega (arith, s.misses), (f, refl), refl)
-    many ts (ended o) v s (suc n) m = let z : bodies_left ts ≡ 0 = none_left ts o v in absurd (omega arith)
+ends start features ts rest end v count after s = grind (arith, no_last, inside_end, eqb-true)
 
 shut_follow : (count : ℕ) (after : List Event) → Shut count after → BodiesFollow count after
-shut_follow count after s = record {
-  bodies = s.bodies;
-  next = s.next;
-  later = s.later;
-  whole = s.whole;
-  each = s.each;
-  other = s.other;
-  many = inl s.many;
-}
+shut_follow count after s = grind arith
 
 pub bodies_follow : BodiesFollowTheirCount
 bodies_follow stream start features events before after e count from to size r z c =

@@ -1,11 +1,10 @@
 -- Events lie end to end.
-use Rattle.std.proofs.Common.{◌≡◌, ℕ, ◌+◌, ◌-◌, ◌≤◌, Bool, cond, ◌&&◌, List, [], ◌∷◌, ◌++◌, length, take, drop, Some, None, nat_le, refl}
+use Rattle.std.proofs.Common.{◌≡◌, ℕ, ◌+◌, ◌-◌, ◌≤◌, Bool, cond, ◌&&◌, List, [], ◌∷◌, ◌++◌, length, take, drop, None, nat_le, refl}
 use Rattle.std.proofs.Common.{sym, ap, subst, ◌∙◌, arith, length-append, append-nil, append_assoc}
 use Rattle.std.proofs.lemmas.List.{length-take-le, take_at, drop_at}
 use Rattle.std.proofs.lemmas.Grind.{flat_map-append}
 use Rattle.wasm_base.specs.FaultAt.{at_offset}
 use Rattle.wasm_base.specs.Header.{magic, agree}
-use Rattle.wasm_base.specs.Name.{Name, name_limit, name}
 use Rattle.wasm_base.specs.Number.{Number, number}
 use Rattle.wasm_base.specs.declared.fault.Fault.TheVariants.{UnexpectedEof, MagicAtSection}
 use Rattle.wasm_base.specs.declared.fault.NumberKind.TheVariants.{VarU32}
@@ -15,7 +14,7 @@ use Rattle.wasm_grammar.specs.Grammar.{Shape, version, section, code_start, code
 use Rattle.wasm_grammar.specs.Grammar.{check, u32_field, bytes, section_start, after, after_number, verdict, SectionContext}
 use Rattle.wasm_grammar.specs.Grammar.{header_grammar, content_grammar, section_grammar, body_grammar}
 use Rattle.wasm_grammar.specs.Laws.{EventsLieEndToEnd}
-use Rattle.wasm_grammar.specs.Reading.{Event, custom_report, section_report, tile_report, event_of, stream_end, last_event, events_of}
+use Rattle.wasm_grammar.specs.Reading.{Event, section_report, tile_report, event_of, stream_end, last_event, events_of}
 use Rattle.wasm_grammar.specs.Reading.{Reads}
 use Rattle.wasm_grammar.specs.EventRanges.{consumed_by, LiesIn, LiesBetween, AtOffsets, EndToEnd}
 use Rattle.wasm_grammar.specs.Tiling.{grammar, bytes_of, Faultless}
@@ -44,10 +43,7 @@ Closing passed (section_start o e next) = (id : ℕ) → Closing (passed ++ id �
 closes_after : (passed prefix : List ℕ) (v : Verdict) (t : Tile)
     → ((s : Tile) → v ≡ tile s → Closes s.shape ((passed ++ prefix) ++ s.bytes)) → after prefix v ≡ tile t
     → Closes t.shape (passed ++ t.bytes)
-closes_after passed prefix v t ih h =
-    let (s, r, q) = after-tile prefix v t h in
-    let c : Closes s.shape (passed ++ (prefix ++ s.bytes)) = rw (append_assoc passed prefix s.bytes) at (ih s r) in
-    rw q c
+closes_after passed prefix v t ih h = grind (arith, after-tile, append_assoc)
 
 closes_number : (passed : List ℕ) (o : ℕ) (xs : List ℕ) (next : ℕ → ℕ → Grammar) (t : Tile)
     → ((v k : ℕ) (b zs : List ℕ) (s : Tile) → length b ≡ k → verdict (next v k) zs ≡ tile s → Closes s.shape ((passed ++ b) ++ s.bytes))
@@ -69,9 +65,7 @@ closes_start passed id v t e ih b h = grind (arith, closes_after)
 closes : (passed : List ℕ) (g : Grammar) (xs : List ℕ) (t : Tile) → Closing passed g → verdict g xs ≡ tile t
     → Closes t.shape (passed ++ t.bytes)
 unfolding verdict
-closes passed (accept shape) xs t c h =
-    let z : record { shape = shape; bytes = [] } ≡ t = cc in
-    rw (← z) (subst (Closes shape) (sym (append-nil passed)) c)
+closes passed (accept shape) xs t c h = grind (arith, append-nil)
 closes passed (check None next) xs t c h = closes passed next xs t c h
 closes passed (u32_field o next) xs t c h =
     closes_number passed o xs next t (λ v k b zs s l. closes (passed ++ b) (next v k) zs s (c v k b l)) (number VarU32 xs) refl h
@@ -83,11 +77,8 @@ closes passed (section_start o e next) (id ∷ xs) t c h =
     (λ s. closes (passed ++ id ∷ []) (next id) xs s (c id)) (agree (id ∷ xs) magic && nat_le 4 (length (id ∷ xs))) h
 closes passed _ _ t c h = cc
 
-Closing-code : (passed : List ℕ) (k : ℕ) (b : List ℕ) → length b ≡ k → k ≤ length (passed ++ b)
-Closing-code passed k b e = omega (arith, length-append passed b)
-
 Closing-content : (passed : List ℕ) (p : SectionContext) (kind : Kind) (id o n : ℕ) → Closing passed (content_grammar p kind id o n)
-Closing-content passed p kind id o n = grind (arith, Closing-code)
+Closing-content passed p kind id o n = grind (arith, length-append)
 
 Closing-section : (p : SectionContext) (o : ℕ) → Closing [] (section_grammar p o)
 unfolding section_grammar
@@ -101,11 +92,8 @@ Closing-body : (m l o : ℕ) → Closing [] (body_grammar m l o)
 unfolding body_grammar
 Closing-body m l o = grind arith
 
-Closing-inside : (b : Bool) (p : SectionContext) (m l o : ℕ) → Closing [] (cond b (section_grammar p o) (body_grammar m l o))
-Closing-inside b p m l o = grind (arith, Closing-section, Closing-body)
-
 Closing-grammar : (start : ℕ) (ts : List Tile) → Closing [] (grammar start ts)
-Closing-grammar start ts = grind (arith, Closing-header, Closing-inside)
+Closing-grammar start ts = grind (arith, Closing-header, Closing-section, Closing-body)
 
 -- a tile's bytes end with its content
 pub tile_closes : (start : ℕ) (ts : List Tile) (xs : List ℕ) (t : Tile) → verdict (grammar start ts) xs ≡ tile t → Closes t.shape t.bytes
@@ -124,10 +112,7 @@ end_at start ts xs x h = grind (arith, header_end, inside_end)
 -- a reading that doesn't stop at a fault ends after the whole stream
 pub ends_after_all : (stream : List ℕ) (start : ℕ) (ts : List Tile) (x : ℕ) → Reads stream start ts (ended x) → (x ≡ start + length stream)
     × (x ≡ start + length (bytes_of ts))
-ends_after_all stream start ts x r =
-    let (none, z) = end_at start ts r.rest x r.stops in
-    let w : stream ≡ bytes_of ts = r.whole ∙ (ap (λ (y : List ℕ). bytes_of ts ++ y) none ∙ append-nil (bytes_of ts)) in
-    grind arith
+ends_after_all stream start ts x r = grind (arith, end_at, append-nil)
 
 -- ---- one event
 
@@ -143,15 +128,7 @@ placed : (stream earlier prefix content rest : List ℕ) (start low high : ℕ) 
 placed stream earlier prefix content rest start low high w l h =
     let n : length (prefix ++ content) ≡ length prefix + length content = length-append prefix content in
     let m : length (earlier ++ prefix) ≡ length earlier + length prefix = length-append earlier prefix in
-    let z : length (earlier ++ prefix) ≡ high - length content - start = omega arith in
-    let s : stream ≡ (earlier ++ prefix) ++ (content ++ rest) = w ∙ simp append_assoc refl in
-    let d : drop (high - length content - start) stream ≡ content ++ rest = grind (arith, drop_at) in
-    record {
-      after_start = omega arith;
-      above = omega arith;
-      ends = omega arith;
-      part = grind (arith, take_at);
-    }
+    grind (arith, append_assoc, drop_at, take_at)
 
 range_is : (stream : List ℕ) (start low high : ℕ) (content : List ℕ) → Placed stream start low high content
     → LiesIn (high - length content) ((high - length content) + length content) low high
@@ -161,15 +138,10 @@ whole_range : (stream : List ℕ) (start low high : ℕ) (content : List ℕ) �
     → LiesIn (high - length content) high low high
 whole_range stream start low high content p = grind arith
 
-custom_lies : (stream : List ℕ) (start low high features : ℕ) (content : List ℕ) (n : Name) → name (Some name_limit) content ≡ n
-    → Placed stream start low high content → LiesBetween stream start features low high
-    (custom_report features (high - length content) high content n)
-custom_lies stream start low high features content n e p = grind (arith, name_used)
-
 section_lies : (stream : List ℕ) (start low high features : ℕ) (kind : Form) (id : ℕ) (content : List ℕ)
     → Placed stream start low high content → LiesBetween stream start features low high
     (section_report features (high - length content) high kind id content)
-section_lies stream start low high features custom id content p = search custom_lies
+section_lies stream start low high features custom id content p = grind (arith, name_used)
 section_lies stream start low high features items id content p = grind arith
 section_lies stream start low high features unknown id content p = (whole_range stream start low high content p, refl, p.part, p.ends)
 section_lies stream start low high features _ id content p = (whole_range stream start low high content p, refl)
@@ -182,8 +154,7 @@ lies_between stream earlier passed rest start low high features (section kind id
     section_lies stream start low high features kind id content
     (placed stream earlier before content rest start low high (cc) l
     (h ∙ ap (λ (x : List ℕ). low + length x) c))
-lies_between stream earlier passed rest start low high features (code_start count width size) w l h c =
-    omega arith
+lies_between stream earlier passed rest start low high features (code_start count width size) w l h c = grind arith
 lies_between stream earlier passed rest start low high features (code_entry content) w l h (before, c) =
     let p : Placed stream start low high content = placed stream earlier before content rest start low high
     (cc) l (h ∙ ap (λ (x : List ℕ). low + length x) c) in
@@ -203,9 +174,7 @@ at_offsets_more P at (x ∷ es) e low l h s =
 
 pub tiles_consume : (start features : ℕ) (ts : List Tile) → consumed_by (events_of start features ts) ≡ bytes_of ts
 tiles_consume start features [] = refl
-tiles_consume start features (t ∷ ts) =
-    consumed_more (events_of start features ts) (event_of features (start + length (bytes_of ts)) t)
-    ∙ ap (λ (l : List ℕ). l ++ t.bytes) (tiles_consume start features ts)
+tiles_consume start features (t ∷ ts) = grind (arith, consumed_more, tiles_consume start features ts)
 
 tiles_lie : (stream : List ℕ) (start features : ℕ) (ts : List Tile) (rest : List ℕ) → Faultless start ts → stream ≡ bytes_of ts ++ rest
     → EndToEnd stream start features start (events_of start features ts)
@@ -221,8 +190,7 @@ tiles_lie stream start features (t ∷ ts) rest f w =
 last_lies : (stream : List ℕ) (start features : ℕ) (ts : List Tile) (end : Ending) → Reads stream start ts end
     → LiesBetween stream start features (start + length (bytes_of ts)) (start + length (bytes_of ts) + 0) (stream_end end)
 last_lies stream start features ts (fault f) r = tt
-last_lies stream start features ts (ended x) r = let z : x ≡ start + length (bytes_of ts) = (ends_after_all stream start ts x r).1 in
-    (z, omega arith)
+last_lies stream start features ts (ended x) r = omega (arith, ends_after_all)
 
 pub events_lie_end_to_end : EventsLieEndToEnd
 events_lie_end_to_end stream start features ts end r =

@@ -4,7 +4,7 @@ use Rattle.std.proofs.Common.{nat_le, refl}
 use Rattle.wasm_base.specs.FaultAt.{FaultAt, at_offset}
 use Rattle.wasm_base.specs.Header.{magic, agree}
 use Rattle.wasm_base.specs.Number.{Number, read, number}
-use Rattle.wasm_base.specs.declared.fault.Fault.TheVariants.{MagicAtSection, UnexpectedEof}
+use Rattle.wasm_base.specs.declared.fault.Fault.TheVariants.{MagicAtSection}
 use Rattle.wasm_base.specs.declared.fault.NumberKind.TheVariants.{VarU32}
 use Rattle.wasm_grammar.specs.declared.encoding.Encoding.{Encoding}
 use Rattle.wasm_grammar.specs.Content.{Kind, code, kind_of, Ending, fault, ended, whole}
@@ -43,8 +43,7 @@ unfolding verdict
 no_end (check None next) h d p e = no_end next h d p e
 no_end (u32_field o next) h d p e = end_number o d (number VarU32 d) (λ v k. verdict (next v k) (drop k d)) p
     (λ v k. no_end (next v k) (h v k) (drop k d) p) e
-no_end (bytes n o next) h d p e = end_test (nat_le n (length d)) (take n d) (verdict (next (take n d)) (drop n d))
-    (at_offset UnexpectedEof o) p (no_end (next (take n d)) (h (take n d)) (drop n d) p) e
+no_end (bytes n o next) h d p e = search (end_test, no_end (next (take n d)) (h (take n d)) (drop n d) p)
 no_end (section_start o e next) h d p z = h
 no_end _ h d p e = cc
 

@@ -27,8 +27,7 @@ each_more (x ∷ xs) e h l = (h.0, each_more xs e h.1 l)
 
 pub tiles_each : (start features : ℕ) (ts : List Tile) → Faultless start ts → EachConsumes (events_of start features ts)
 tiles_each start features [] f = tt
-tiles_each start features (t ∷ ts) f = each_more (events_of start features ts) (event_of features (start + length (bytes_of ts)) t)
-    (tiles_each start features ts f.0) (tile_least start ts t.bytes t f.1)
+tiles_each start features (t ∷ ts) f = search (each_more, tile_least, tiles_each start features ts f.0)
 
 same_head : (x y : Event) (xs ys : List Event) → x ∷ xs ≡ y ∷ ys → (x ≡ y) × (xs ≡ ys)
 same_head x y xs ys e = (cc, cc)
@@ -39,17 +38,14 @@ same_place : (xs before : List Event) (x e : Event) (after later : List Event) �
     → before ++ e ∷ later ≡ xs ++ x ∷ after → consumed_by before ≡ consumed_by xs → e ≡ x
 same_place [] [] x e after later h l w c = (same_head e x later after w).0
 same_place [] (b ∷ before) x e after later h (inl l) w c =
-    let s = same_head b x (before ++ e ∷ later) after w in
     let n : length (b.consumed ++ consumed_by before) ≡ 0 = rw c in
-    let z : length b.consumed ≡ length x.consumed = rw s.0 in
-    absurd (omega (arith, length-append b.consumed (consumed_by before)))
+    grind (arith, length-append)
 same_place [] (b ∷ before) x e after later h (inr l) w c =
     let s = same_head b x (before ++ e ∷ later) after w in
     let n : length (before ++ e ∷ later) ≡ 0 = rw (s.1 ∙ l) in
     absurd (omega (arith, length-append before (e ∷ later)))
 same_place (y ∷ xs) [] x e after later h l w c =
     let n : 0 ≡ length (y.consumed ++ consumed_by xs) = ap (λ (z : List ℕ). length z) c in
-    let some : 0 < length y.consumed = h.0 in
     absurd (omega (arith, length-append y.consumed (consumed_by xs)))
 same_place (y ∷ xs) (b ∷ before) x e after later h l w c =
     let s = same_head b y (before ++ e ∷ later) (xs ++ x ∷ after) w in
@@ -66,14 +62,7 @@ pub record MoreEvents (first all : List Event) : Type 0 where
 pub events_later : (start features : ℕ) (later ts : List Tile) → MoreEvents (events_of start features ts)
     (events_of start features (later ++ ts))
 events_later start features [] ts = record { more = []; parts = sym (append-nil (events_of start features ts)) }
-events_later start features (t ∷ later) ts =
-    let m : MoreEvents (events_of start features ts) (events_of start features (later ++ ts)) = events_later start features later ts in
-    let e : Event = event_of features (start + length (bytes_of (later ++ ts))) t in
-    record {
-      more = m.more ++ event_of features (start + length (bytes_of (later ++ ts))) t ∷ [];
-      parts = ap (λ (x : List Event). x ++ event_of features (start + length (bytes_of (later ++ ts))) t ∷ []) m.parts
-          ∙ append_assoc (events_of start features ts) m.more (event_of features (start + length (bytes_of (later ++ ts))) t ∷ []);
-    }
+events_later start features (t ∷ later) ts = grind (arith, append_assoc, events_later start features later ts)
 
 -- ---- the next event
 
@@ -88,18 +77,11 @@ tile_comes : (start features : ℕ) (ts : List Tile) (rest : List ℕ) (t : Tile
     → consumed_by before ≡ bytes_of ts → e ≡ event_of features (start + length (bytes_of ts)) t
 tile_comes start features ts rest t f v before later e r c =
     let g : Grown start ts rest t = grows start ts rest t f v in
-    let w : bytes_of ts ++ rest ≡ bytes_of (t ∷ ts) ++ g.rest = ap (λ (x : List ℕ). bytes_of ts ++ x) g.split
-    ∙ sym (append_assoc (bytes_of ts) t.bytes g.rest) in
+    let w : bytes_of ts ++ rest ≡ bytes_of (t ∷ ts) ++ g.rest = grind (arith, append_assoc) in
     let l = longest (bytes_of ts ++ rest) start r.tiles (t ∷ ts) r.end g.rest r.reads g.faultless w in
-    let m : MoreEvents (events_of start features (t ∷ ts)) (events_of start features (l.0 ++ t ∷ ts)) =
-    events_later start features l.0 (t ∷ ts) in
+    let m : MoreEvents (events_of start features (t ∷ ts)) (events_of start features (l.0 ++ t ∷ ts)) = search events_later in
     let all : before ++ e ∷ later ≡ events_of start features ts ++ event_of features (start + length (bytes_of ts)) t
-    ∷ (m.more ++ last_event r.end ∷ []) =
-    r.listed ∙ (ap (λ (y : List Tile). events_of start features y ++ last_event r.end ∷ []) l.1
-    ∙ (ap (λ (y : List Event). y ++ last_event r.end ∷ []) m.parts
-    ∙ (append_assoc (events_of start features (t ∷ ts)) m.more (last_event r.end ∷ [])
-    ∙ append_assoc (events_of start features ts) (event_of features (start + length (bytes_of ts)) t ∷ [])
-    (m.more ++ last_event r.end ∷ [])))) in
+    ∷ (m.more ++ last_event r.end ∷ []) = grind (arith, append_assoc) in
     same_place (events_of start features ts) before (event_of features (start + length (bytes_of ts)) t) e (m.more ++ last_event r.end ∷ [])
     later (tiles_each start features ts f) (inl g.some) all (c ∙ sym (tiles_consume start features ts))
 

@@ -59,13 +59,10 @@ runs_same start ts d [] [] e f p q = grind arith
 runs_same start ts d [] (y ∷ ys) e f p q = let h : final e ≡ tile y = sym p ∙ q.0 in cc
 runs_same start ts d (x ∷ xs) [] e f p q = let h : tile x ≡ final f = sym p.0 ∙ q in cc
 runs_same start ts d (x ∷ xs) (y ∷ ys) e f p q =
-    let h : tile x ≡ tile y = sym p.0 ∙ q.0 in
-    let z : x ≡ y = cc in
     let b : x.bytes ++ p.1 ≡ x.bytes ++ q.1 = cc in
     let r : q.1 ≡ p.1 = sym (append_cancel_left x.bytes p.1 q.1 b) in
     let q' : Runs start (x ∷ ts) p.1 ys f = grind arith in
-    let (s, k) = runs_same start (x ∷ ts) p.1 xs ys e f p.3 q' in
-    (cc, k)
+    grind (arith, runs_same start (x ∷ ts) p.1 xs ys e f p.3 q')
 
 -- one stream has one longest faultless tiling, and one ending
 pub reads_same : (stream : List ℕ) (start : ℕ) (ts us : List Tile) (e f : Ending) → Reads stream start ts e → Reads stream start us f
@@ -110,7 +107,6 @@ onward_at stream start ts rest f w next (final e) q =
 onward_at stream start ts rest f w next (tile t) q =
     let g : Grown start ts rest t = grows start ts rest t f q in
     let n : length rest ≡ length t.bytes + length g.rest = ap (λ (x : List ℕ). length x) g.split ∙ length-append t.bytes g.rest in
-    let s : 0 < length t.bytes = g.some in
     shorter stream start ts t (next t g.rest (omega arith) g.faultless
     (w ∙ (ap (λ (x : List ℕ). bytes_of ts ++ x) g.split ∙ sym (append_assoc (bytes_of ts) t.bytes g.rest))))
 
@@ -138,5 +134,4 @@ stops_at start ts f (final e) q = record { rest = []; whole = sym (append-nil (b
 stops_at start ts f (tile t) q =
     let g : Grown start ts [] t = grows start ts [] t f q in
     let n : 0 ≡ length t.bytes + length g.rest = ap (λ (x : List ℕ). length x) g.split ∙ length-append t.bytes g.rest in
-    let s : 0 < length t.bytes = g.some in
     absurd (omega arith)

@@ -1,5 +1,5 @@
 -- The start offset only moves offsets.
-use Rattle.std.proofs.Common.{◌≡◌, ℕ, zero, suc, ◌+◌, ◌-◌, Bool, cond, ◌&&◌, not, List, [], ◌∷◌, ◌++◌, length, take, drop, Option, Some}
+use Rattle.std.proofs.Common.{◌≡◌, ℕ, zero, suc, ◌+◌, ◌-◌, Bool, cond, not, List, [], ◌∷◌, ◌++◌, length, take, drop, Option, Some}
 use Rattle.std.proofs.Common.{None, option_map, nat_lt, nat_le, nat_eq, ◌⊎◌, inl, refl, ap, subst, subst₂, ◌∙◌, arith, length-append}
 use Rattle.std.proofs.lemmas.List.{map-append}
 use Rattle.wasm_base.specs.FaultAt.{FaultAt, at_offset}
@@ -16,7 +16,7 @@ use Rattle.wasm_grammar.specs.Grammar.{end_at_section, wrong_count, code_grammar
 use Rattle.wasm_grammar.specs.Grammar.{after_id, section_grammar, body_of, body_grammar}
 use Rattle.wasm_grammar.specs.Laws.{StartOnlyMoves}
 use Rattle.wasm_grammar.specs.Shifted.{shifted_fault, shifted_ending, shifted_report, shifted_event, shifted_events, PassesTheTop}
-use Rattle.wasm_grammar.specs.Reading.{section_report, tile_report, event_of, last_event, events_of, Reads}
+use Rattle.wasm_grammar.specs.Reading.{section_report, tile_report, event_of, events_of, Reads}
 use Rattle.wasm_grammar.specs.Tiling.{inside, context_of, grammar, bodies_left, bytes_left, bytes_of, Faultless}
 use Rattle.wasm_grammar.specs.declared.encoding.Encoding.{Encoding}
 use Rattle.wasm_grammar.proofs.readings.EndToEnd.{Closes, tile_closes}
@@ -54,11 +54,6 @@ StopsAtTheTop (final e) = PassesTheTop e
 abbrev Moves : ℕ → Verdict → Verdict → Type 0
 Moves by v w = (w ≡ moved_verdict by v) ⊎ StopsAtTheTop w
 
-refuse_moves : (by : ℕ) (e f : Option FaultAt) (next then : Grammar) (xs : List ℕ) → MovesFault by e f
-    → Moves by (verdict next xs) (verdict then xs) → Moves by (verdict (check e next) xs) (verdict (check f then) xs)
-unfolding verdict
-refuse_moves by e f next then xs m ih = grind arith
-
 number_moves : (by o : ℕ) (next then : ℕ → ℕ → Grammar) (xs : List ℕ)
     → ((v k : ℕ) (zs : List ℕ) → Moves by (verdict (next v k) zs) (verdict (then v k) zs))
     → (n : Number) → Moves by (after_number o xs n (λ v k. verdict (next v k) (drop k xs)))
@@ -77,17 +72,14 @@ start_moves by o id v w m b = grind arith
 
 verdict_moves : (by : ℕ) (g h : Grammar) (xs : List ℕ) → Like by g h → Moves by (verdict g xs) (verdict h xs)
 unfolding verdict
-verdict_moves by (check e next) h xs (f, then, z, m, l) =
-    rw z (refuse_moves by e f next then xs m (verdict_moves by next then xs l))
+verdict_moves by (check e next) h xs (f, then, z, m, l) = grind (arith, verdict_moves by next then xs l)
 verdict_moves by (u32_field o next) h xs (then, z, l) =
     rw z (number_moves by o next then xs (λ v k zs. verdict_moves by (next v k) (then v k) zs (l v k)) (number VarU32 xs))
 verdict_moves by (bytes count o next) h xs (then, z, l) =
-    rw z (bytes_move by o (take count xs) (verdict (next (take count xs)) (drop count xs)) (verdict (then (take count xs)) (drop count xs))
-    (verdict_moves by (next (take count xs)) (then (take count xs)) (drop count xs) (l (take count xs))) (nat_le count (length xs)))
+    grind (arith, bytes_move, verdict_moves by (next (take count xs)) (then (take count xs)) (drop count xs) (l (take count xs)))
 verdict_moves by (section_start o e next) h [] (then, z, l) = grind arith
 verdict_moves by (section_start o e next) h (id ∷ xs) (then, z, l) =
-    rw z (start_moves by o id (verdict (next id) xs) (verdict (then id) xs) (verdict_moves by (next id) (then id) xs (l id))
-    (agree (id ∷ xs) magic && nat_le 4 (length (id ∷ xs))))
+    grind (arith, start_moves, verdict_moves by (next id) (then id) xs (l id))
 verdict_moves by _ h xs l = inl (ap (λ (x : Grammar). verdict x xs) l)
 
 -- ---- the grammars of a stream
@@ -218,9 +210,7 @@ section_moves by features from to kind id content = grind arith
 
 content_place : (by low high : ℕ) (passed before content : List ℕ) → high ≡ low + length passed → passed ≡ before ++ content
     → high + by - length content ≡ (high - length content) + by
-content_place by low high passed before content h c =
-    let n : length passed ≡ length before + length content = ap (λ (x : List ℕ). length x) c ∙ length-append before content in
-    omega arith
+content_place by low high passed before content h c = grind (arith, length-append)
 
 report_moves : (by features low high : ℕ) (shape : Shape) (passed : List ℕ) → high ≡ low + length passed → Closes shape passed
     → tile_report features (low + by) (high + by) shape ≡ shifted_report by (tile_report features low high shape)
@@ -236,36 +226,17 @@ event_moves : (by features o : ℕ) (t : Tile) → Closes t.shape t.bytes → ev
     ≡ shifted_event by (event_of features o t)
 event_moves by features o t c =
     let z : o + by + length t.bytes ≡ o + length t.bytes + by = omega arith in
-    let report : tile_report features (o + by) (o + by + length t.bytes) t.shape
-    ≡ shifted_report by (tile_report features o (o + length t.bytes) t.shape) =
-    grind (arith, report_moves) in
-    cc
+    grind (arith, report_moves)
 
 events_move : (by start features : ℕ) (ts : List Tile) → Faultless start ts → events_of (start + by) features ts
     ≡ shifted_events by (events_of start features ts)
 events_move by start features [] f = refl
 events_move by start features (t ∷ ts) f =
-    let o : start + by + length (bytes_of ts) ≡ start + length (bytes_of ts) + by = omega arith in
-    let e : event_of features (start + by + length (bytes_of ts)) t
-    ≡ shifted_event by (event_of features (start + length (bytes_of ts)) t) =
-    grind (arith, event_moves, tile_closes)
-    in
-    let all : events_of (start + by) features ts ≡ shifted_events by (events_of start features ts) = events_move by start features ts f.0 in
-    grind (arith, map-append)
+    grind (arith, event_moves, tile_closes, map-append, events_move by start features ts f.0)
 
 pub start_only_moves : StartOnlyMoves
 start_only_moves stream start by features xs ys x y n =
-    let b : Back by (verdict (grammar start y.tiles) y.reads.rest) y.end =
-    search (final_back, verdict_moves, Like-grammar)
-    in
-    let r : Reads stream start y.tiles b.end = record {
-      rest = y.reads.rest;
-      whole = y.reads.whole;
-      faultless = faultless_back by start y.tiles y.reads.faultless;
-      stops = b.stops;
-    } in
+    let b : Back by (verdict (grammar start y.tiles) y.reads.rest) y.end = search (final_back, verdict_moves, Like-grammar) in
+    let r : Reads stream start y.tiles b.end = grind (arith, faultless_back) in
     let (tiles, end) = reads_same stream start y.tiles x.tiles b.end x.end r x.reads in
-    let events : events_of (start + by) features y.tiles ≡ shifted_events by (events_of start features x.tiles) =
-    grind (arith, events_move) in
-    let last : last_event y.end ≡ shifted_event by (last_event x.end) = grind arith in
-    grind (arith, map-append)
+    grind (arith, events_move, map-append)

@@ -1,5 +1,4 @@
 use Rattle.std.proofs.Common.{Bool, List, sym, subst₂, ◌∙◌}
-use Rattle.wasm_feed.specs.Cursors.{feed_of}
 use Rattle.wasm_feed.specs.Pieces.{HasEnded}
 use Rattle.wasm_feed.specs.declared.events.Event.{Event}
 use Rattle.wasm_feed.proofs.Adding.{asks, adds, ends, fewer, steps_in}

@@ -1,6 +1,5 @@
 use Rattle.std.proofs.Common.{Err, Ok}
 use Rattle.std.proofs.lemmas.Result.{err_from_is_err_and}
-use Rattle.wasm_feed.specs.Cursors.{feed_of}
 use Rattle.wasm_feed.specs.Stripped.{stays_by}
 use Rattle.wasm_feed.proofs.Adding.{steps_in}
 use Rattle.wasm_feed.proofs.KeptParts.{fault_comes, part_comes, part_goes_on}

@@ -1,6 +1,6 @@
-use Rattle.std.proofs.Common.{◌++◌, ap, codes, append_assoc, refl}
+use Rattle.std.proofs.Common.{◌++◌, ap, codes}
 use Rattle.std.specs.List.{flat_map}
-use Rattle.wasm_tree.specs.Fields.{quoted, quoted_byte, value_text}
+use Rattle.wasm_tree.specs.Fields.{quoted_byte}
 use Rattle.wasm_tree.proofs.Saying.{says_same, says_then}
 use Rattle.wasm_tree.proofs.lines.Lines.in_quotes.Goals as goal
 

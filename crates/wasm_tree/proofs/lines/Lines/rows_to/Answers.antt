@@ -1,6 +1,5 @@
-use Rattle.std.proofs.Common.{◌≡◌, ◌++◌, List, ℕ, take, drop, take-append-drop, sym, ap, refl, arith, length, ◌∙◌}
+use Rattle.std.proofs.Common.{◌++◌, List, ℕ, take, take-append-drop, sym, ap, refl, arith, length, ◌∙◌}
 use Rattle.std.proofs.Math.ListN.{length-drop}
-use Rattle.wasm_tree.specs.Tree.{Puts, row_text}
 use Rattle.wasm_tree.specs.Written.{lines, lines_rest}
 use Rattle.wasm_tree.proofs.Writing.{puts_row}
 use Rattle.wasm_tree.proofs.lines.Lines.rows_to.Goals as goal
