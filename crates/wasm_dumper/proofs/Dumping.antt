@@ -500,7 +500,7 @@ pub shows_step : (only : List Only) (has_bytes : Bool) (c c' : Counts) (f : Feed
 shows_step only has_bytes c c' f stored piece items rest bytes old new x now ready after next from sees read items_are rest_is parses shows
     finished wants turns kept answer counted = record {
       answer = x;
-      steps = progress.loan f stored piece items rest bytes old new x from sees read items_are rest_is parses shows finished wants;
+      steps = progress.both f stored piece items rest bytes old new x from sees read items_are rest_is parses shows finished wants;
       turns = turns;
       shows = rw (← kept) answer;
       counted = counted;

@@ -83,12 +83,12 @@ ready old piece (x ∷ xs) count c within first same state eof wants sees stores
 -- ---- a step
 
 -- what the cursor says of a step is what the feeder beside the chunk does
-pub loan : (f : Feed) (stored piece items rest bytes : List ℕ) (old new : Cursor) (x : Result Step Error) → lending stored piece old ≡ f
+pub both : (f : Feed) (stored piece items rest bytes : List ℕ) (old new : Cursor) (x : Result Step Error) → lending stored piece old ≡ f
     → ReadsEnough stored piece old → bytes ≡ seen items rest → items ≡ stored → rest ≡ piece
     → ParseAnswer old.parser old.is_finished (drop old.mark bytes) (answer_of x) new.parser
     → drop old.mark bytes ≡ shown x ++ drop new.mark bytes → new.is_finished ≡ old.is_finished → new.wants_more ≡ is_request x
     → Steps f x (lending stored piece new)
-loan f stored piece items rest bytes old new x from sees read items_are rest_is parses shows finished wants =
+both f stored piece items rest bytes old new x from sees read items_are rest_is parses shows finished wants =
     steps_from (lending stored piece old) f x (lending stored piece new) from (grind (arith, same, append_assoc))
   where
     same : bytes ≡ seen stored piece
@@ -145,7 +145,7 @@ module _ (f : Feed) (piece rest stored items bytes : List ℕ) (count : ℕ) (ol
     (shows : drop old.mark bytes ≡ shown x ++ drop new.mark bytes) (finished : new.is_finished ≡ old.is_finished)
     (wants : new.wants_more ≡ is_request x) (moves : new.mark ≡ old.mark + length (shown x)) where
   stepped : Steps (beside f piece) x (lending stored (drop count piece) new)
-  stepped = search loan
+  stepped = search both
 
   reads : bytes ≡ seen stored rest
   reads = read ∙ ap (λ (l : List ℕ). seen l rest) items_are

@@ -128,7 +128,7 @@ read_kept keeps stream a s features events r =
     let others : List Event = header_event 0 a.encoding ∷ (l.others
     ++ last_event (ended (0 + length (header_bytes a.encoding ++ bytes_of_frames keeps a.frames))) ∷ []) in
     let (b, e, f) = accepted_kept keeps stream a in
-    let reported_as : TellsFrames 0 features a.encoding (filter (frame_stays keeps) a.frames) others =
+    let framed : TellsFrames 0 features a.encoding (filter (frame_stays keeps) a.frames) others =
     grind arith in (
       others,
       (frames_give_events (stripped keeps a.encoding a.frames) 0 features others (stream_kept keeps stream a s) b).1

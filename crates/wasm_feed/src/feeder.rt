@@ -383,9 +383,9 @@ impl<A: Allocator> Feeder<A> {
         requires may_come { MayCome self.old piece.now }
         requires callable { F.IsAlwaysCallable look }
         // On success.
-        ensures steps { IfOk result (λ reported_as. (s : _) × F.post look s reported_as.1
-            × StepsOver self.old piece.now s reported_as.0 self.new) }
-        ensures within { IfOk result (λ reported_as. reported_as.0 ≤ length piece.now) }
+        ensures steps { IfOk result (λ out. (s : _) × F.post look s out.1
+            × StepsOver self.old piece.now s out.0 self.new) }
+        ensures within { IfOk result (λ out. out.0 ≤ length piece.now) }
         // On an error.
         ensures unchanged { OnErr result (self.new ≡ self.old) }
         ensures memory { IfErr result (λ e. fault_at e ≡ out_of_memory) }
@@ -397,9 +397,9 @@ impl<A: Allocator> Feeder<A> {
             return Err(Error::new(Fault::OutOfMemory, 0));
         };
         let rest = &piece[ready..];
-        let reported_as = look(parse_next(&mut self.cursor, seen(&self.bytes, rest)));
+        let looked = look(parse_next(&mut self.cursor, seen(&self.bytes, rest)));
         let taken = take_left(&mut self.cursor, &mut self.bytes, rest);
-        Ok((ready + taken, reported_as))
+        Ok((ready + taken, looked))
     }
 }
 

@@ -17,38 +17,38 @@ const AMPLE: u64 = 20;
 
 // What a step is: how many bytes it shows, or how many it asks for.
 #[derive(Clone, Copy, Debug, PartialEq, Eq)]
-pub(super) enum ReportedAs {
+pub(super) enum Reported {
     Shows(usize),
     Asks(usize),
     Ends(u64),
     Refuses(Error),
 }
 
-fn reported_by(step: &Step<'_>) -> ReportedAs {
+fn reported_by(step: &Step<'_>) -> Reported {
     match step {
-        Step::NeedMoreData(hint) => ReportedAs::Asks(*hint),
+        Step::NeedMoreData(hint) => Reported::Asks(*hint),
         Step::Parsed {
             payload: Payload::End(at),
             ..
-        } => ReportedAs::Ends(*at),
-        Step::Parsed { bytes, .. } => ReportedAs::Shows(bytes.len()),
+        } => Reported::Ends(*at),
+        Step::Parsed { bytes, .. } => Reported::Shows(bytes.len()),
     }
 }
 
-pub(super) fn say(step: Result<Step<'_>>) -> ReportedAs {
+pub(super) fn say(step: Result<Step<'_>>) -> Reported {
     match step {
         Ok(step) => reported_by(&step),
-        Err(error) => ReportedAs::Refuses(error),
+        Err(error) => Reported::Refuses(error),
     }
 }
 
 // What the next step is.
-fn step(feeder: &mut Feeder) -> ReportedAs {
+fn step(feeder: &mut Feeder) -> Reported {
     say(feeder.step())
 }
 
 // Like `step`, by `step_with`, of a feeder with any memory.
-fn step_with<A: Allocator>(feeder: &mut Feeder<A>) -> ReportedAs {
+fn step_with<A: Allocator>(feeder: &mut Feeder<A>) -> Reported {
     feeder.step_with(say)
 }
 
@@ -62,13 +62,13 @@ pub(super) fn push<A: Allocator>(feeder: &mut Feeder<A>, piece: &[u8]) -> Result
 }
 
 // Pushes a chunk and steps until more is asked for: the last step, and how many bytes are held and stored.
-fn steps_after(rt: &impl Abort, feeder: &mut Feeder, piece: &[u8]) -> (ReportedAs, usize, usize) {
+fn steps_after(rt: &impl Abort, feeder: &mut Feeder, piece: &[u8]) -> (Reported, usize, usize) {
     assert!(rt; feeder.wants_more());
     same(rt, push(feeder, piece), Ok(()));
     same(rt, feeder.held(), feeder.stored());
     let mut now = step(feeder);
     for _ in 0..3 {
-        if let ReportedAs::Shows(_) = now {
+        if let Reported::Shows(_) = now {
             now = step(feeder);
         }
     }
@@ -78,22 +78,22 @@ fn steps_after(rt: &impl Abort, feeder: &mut Feeder, piece: &[u8]) -> (ReportedA
 #[test]
 fn a_module_in_three_pieces(rt: HostRuntime) {
     let mut feeder = Feeder::new(rt.alloc(), 0, WasmFeatures::all());
-    let rows: [(&[u8], (ReportedAs, usize, usize)); 3] = [
-        (&MODULE[..5], (ReportedAs::Asks(3), 5, 5)),
-        (&MODULE[5..10], (ReportedAs::Asks(2), 2, 10)),
-        (&MODULE[10..15], (ReportedAs::Asks(1), 0, 7)),
+    let rows: [(&[u8], (Reported, usize, usize)); 3] = [
+        (&MODULE[..5], (Reported::Asks(3), 5, 5)),
+        (&MODULE[5..10], (Reported::Asks(2), 2, 10)),
+        (&MODULE[10..15], (Reported::Asks(1), 0, 7)),
     ];
     for (piece, wanted) in rows {
         same(&rt, steps_after(&rt, &mut feeder, piece), wanted);
     }
     same(&rt, push(&mut feeder, &MODULE[15..]), Ok(()));
-    same(&rt, step(&mut feeder), ReportedAs::Shows(3));
-    same(&rt, step(&mut feeder), ReportedAs::Asks(1));
+    same(&rt, step(&mut feeder), Reported::Shows(3));
+    same(&rt, step(&mut feeder), Reported::Asks(1));
     feeder.finish();
     assert!(rt; !feeder.wants_more());
     for _ in 0..2 {
         feeder.finish();
-        same(&rt, step(&mut feeder), ReportedAs::Ends(18));
+        same(&rt, step(&mut feeder), Reported::Ends(18));
     }
 }
 
@@ -125,14 +125,14 @@ fn faults_and_features(rt: HostRuntime) {
     let mut feeder = Feeder::new(rt.alloc(), 7, WasmFeatures::MEMORY64);
     let pushed = push(&mut feeder, b"\0asm\x01\0\0\0\x02\x01\0\x02");
     same(&rt, pushed, Ok(()));
-    same(&rt, step_with(&mut feeder), ReportedAs::Shows(8));
+    same(&rt, step_with(&mut feeder), Reported::Shows(8));
     let imports = next_imports(&mut feeder, b"\x02\x01\0");
     same(&rt, imports, Ok(Some(17..18)));
-    same(&rt, step(&mut feeder), ReportedAs::Asks(1));
+    same(&rt, step(&mut feeder), Reported::Asks(1));
     same(&rt, push(&mut feeder, b"\0"), Ok(()));
     let fault = Error::new(Fault::OutOfOrder, 20);
     for _ in 0..2 {
-        same(&rt, step(&mut feeder), ReportedAs::Refuses(fault));
+        same(&rt, step(&mut feeder), Reported::Refuses(fault));
     }
 }
 
@@ -140,19 +140,15 @@ fn faults_and_features(rt: HostRuntime) {
 fn pushes_past_the_top(rt: HostRuntime) {
     let mut feeder = Feeder::new(rt.alloc(), 18446744073709551607, WasmFeatures::all());
     same(&rt, push(&mut feeder, b"\0asm\x01\0\0\0"), Ok(()));
-    same(&rt, step(&mut feeder), ReportedAs::Shows(8));
-    same(&rt, step(&mut feeder), ReportedAs::Asks(1));
+    same(&rt, step(&mut feeder), Reported::Shows(8));
+    same(&rt, step(&mut feeder), Reported::Asks(1));
     let fault = Error::new(Fault::OffsetRange, 18446744073709551615);
     same(&rt, push(&mut feeder, b"\0"), Err(fault));
     same(&rt, (feeder.held(), feeder.stored()), (0, 8));
     assert!(rt; feeder.wants_more());
     same(&rt, push(&mut feeder, b""), Ok(()));
     feeder.finish();
-    same(
-        &rt,
-        step(&mut feeder),
-        ReportedAs::Ends(18446744073709551615),
-    );
+    same(&rt, step(&mut feeder), Reported::Ends(18446744073709551615));
 }
 
 // Pushes the next bytes of a download where the feeder wants more, or says that it has ended. Returns the rest.
@@ -218,12 +214,12 @@ fn push_again(
 // Notes the steps of a feeder up to a request or the end.
 fn note_steps(
     feeder: &mut SparingFeeder<'_>,
-    steps: &mut Vec<ReportedAs>,
+    steps: &mut Vec<Reported>,
 ) -> std::result::Result<(), AllocError> {
     for _ in 0..4 {
         let step = step_with(feeder);
         steps.push(step)?;
-        let ReportedAs::Shows(_) = step else {
+        let Reported::Shows(_) = step else {
             break;
         };
     }
@@ -236,7 +232,7 @@ fn note_pieces(
     feeder: &mut SparingFeeder<'_>,
     heap: &Sparing<Global>,
     sizes: &[usize],
-    steps: &mut Vec<ReportedAs>,
+    steps: &mut Vec<Reported>,
 ) -> bool {
     let mut refused = false;
     let mut rest = MODULE;
@@ -257,7 +253,7 @@ fn says_which(
     alloc: Global,
     blocks: u64,
     sizes: &[usize],
-    wanted: &[ReportedAs],
+    wanted: &[Reported],
 ) -> bool {
     let heap = Sparing::new(alloc, blocks);
     let mut feeder = Feeder::new_in(&heap, 0, WasmFeatures::all());
@@ -268,7 +264,7 @@ fn says_which(
 }
 
 // Each growth is refused in turn, until all succeed.
-fn repeats(rt: &impl Abort, alloc: Global, sizes: &[usize], wanted: &[ReportedAs]) {
+fn repeats(rt: &impl Abort, alloc: Global, sizes: &[usize], wanted: &[Reported]) {
     let mut runs = 0;
     for blocks in 0..AMPLE {
         if !says_which(rt, alloc, blocks, sizes, wanted) {
@@ -281,7 +277,7 @@ fn repeats(rt: &impl Abort, alloc: Global, sizes: &[usize], wanted: &[ReportedAs
 
 #[test]
 fn refused_pushes_are_repeated(rt: HostRuntime) {
-    let (asks, shows) = (ReportedAs::Asks, ReportedAs::Shows);
+    let (asks, shows) = (Reported::Asks, Reported::Shows);
     let steps = [
         asks(3),
         shows(8),
@@ -291,7 +287,7 @@ fn refused_pushes_are_repeated(rt: HostRuntime) {
         asks(1),
         shows(3),
         asks(1),
-        ReportedAs::Ends(18),
+        Reported::Ends(18),
     ];
     repeats(&rt, rt.alloc(), &[5, 5, 5, 3], &steps);
     let steps = [
@@ -301,7 +297,7 @@ fn refused_pushes_are_repeated(rt: HostRuntime) {
         shows(3),
         shows(3),
         asks(1),
-        ReportedAs::Ends(18),
+        Reported::Ends(18),
     ];
     repeats(&rt, rt.alloc(), &[8, 10], &steps);
 }

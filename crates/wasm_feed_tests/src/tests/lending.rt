@@ -1,7 +1,7 @@
 // Chunks that a feeder borrows.
 ghost use Rattle.wasm_feed.specs.Beside.{MayCome};
 
-use super::feeding::{MODULE, ReportedAs, push, say};
+use super::feeding::{MODULE, Reported, push, say};
 use super::same;
 use bitflags::Flags;
 use std::alloc::{AllocError, Allocator, Global};
@@ -18,27 +18,20 @@ fn lendable<'a, A: Allocator>(feeder: &Feeder<A>, piece: &'a [u8]) -> &'a [u8]
 }
 
 // One step over a chunk: what it reports, and the remaining bytes of the chunk.
-fn over<'a, A: Allocator>(
-    feeder: &mut Feeder<A>,
-    piece: &'a [u8],
-) -> Result<(ReportedAs, &'a [u8])> {
-    let loan = lendable(feeder, piece);
-    let (taken, reported_as) = feeder.step_over(loan, say)?;
-    Ok((reported_as, loan.split_at(taken).1))
+fn over<'a, A: Allocator>(feeder: &mut Feeder<A>, piece: &'a [u8]) -> Result<(Reported, &'a [u8])> {
+    let chunk = lendable(feeder, piece);
+    let (taken, said) = feeder.step_over(chunk, say)?;
+    Ok((said, chunk.split_at(taken).1))
 }
 
 // What a step over a chunk reports, if memory suffices.
-fn reported_over<A: Allocator>(
-    rt: &impl Abort,
-    feeder: &mut Feeder<A>,
-    piece: &[u8],
-) -> ReportedAs {
-    let (reported_as, _) = over(feeder, piece).expect(rt, "out of memory");
-    reported_as
+fn reported_over<A: Allocator>(rt: &impl Abort, feeder: &mut Feeder<A>, piece: &[u8]) -> Reported {
+    let (said, _) = over(feeder, piece).expect(rt, "out of memory");
+    said
 }
 
 // Each call that makes a step reports this, also over more bytes, and nothing more is held or stored.
-fn stays(rt: &impl Abort, feeder: &mut Feeder, reported_as: ReportedAs) {
+fn stays(rt: &impl Abort, feeder: &mut Feeder, said: Reported) {
     let before = (feeder.held(), feeder.stored());
     for _ in 0..2 {
         let steps = [
@@ -48,7 +41,7 @@ fn stays(rt: &impl Abort, feeder: &mut Feeder, reported_as: ReportedAs) {
             reported_over(rt, feeder, b"\x01\x01\0"),
             reported_over(rt, feeder, b""),
         ];
-        same(rt, steps, [reported_as; 5]);
+        same(rt, steps, [said; 5]);
         assert!(rt; !feeder.wants_more());
         same(rt, (feeder.held(), feeder.stored()), before);
     }
@@ -59,7 +52,7 @@ fn says_which<A: Allocator>(
     rt: &impl Abort,
     feeder: &mut Feeder<A>,
     piece: &[u8],
-    rows: &[(ReportedAs, usize, usize)],
+    rows: &[(Reported, usize, usize)],
 ) {
     let mut rest = piece;
     for row in rows {
@@ -72,7 +65,7 @@ fn says_which<A: Allocator>(
 
 #[test]
 fn parts_complete_in_a_piece_are_not_stored(rt: HostRuntime) {
-    let (asks, shows, ends) = (ReportedAs::Asks, ReportedAs::Shows, ReportedAs::Ends);
+    let (asks, shows, ends) = (Reported::Asks, Reported::Shows, Reported::Ends);
     let mut feeder = Feeder::new(rt.alloc(), 0, WasmFeatures::all());
     let (first, second) = MODULE.split_at(14);
     let rows = [(shows(8), 0, 0), (shows(4), 0, 0), (asks(1), 2, 2)];
@@ -97,7 +90,7 @@ fn custom_of_605(alloc: Global) -> std::result::Result<Vec<u8>, AllocError> {
 // Of the second chunk only what the first one misses is stored.
 #[test]
 fn only_what_a_part_misses_is_stored(rt: HostRuntime) {
-    let (asks, shows) = (ReportedAs::Asks, ReportedAs::Shows);
+    let (asks, shows) = (Reported::Asks, Reported::Shows);
     let mut feeder = Feeder::new(rt.alloc(), 0, WasmFeatures::all());
     let stream = custom_of_605(rt.alloc()).expect(&rt, "out of memory");
     let (first, second) = stream.as_slice().split_at(stream.len().min(20));
@@ -110,7 +103,7 @@ fn only_what_a_part_misses_is_stored(rt: HostRuntime) {
 // Pushes and steps over chunks take turns.
 #[test]
 fn a_piece_comes_after_what_was_pushed(rt: HostRuntime) {
-    let (asks, shows) = (ReportedAs::Asks, ReportedAs::Shows);
+    let (asks, shows) = (Reported::Asks, Reported::Shows);
     let mut feeder = Feeder::new(rt.alloc(), 0, WasmFeatures::all());
     let (first, second) = MODULE.split_at(13);
     same(&rt, push(&mut feeder, first), Ok(()));
@@ -129,8 +122,8 @@ fn a_refused_piece_is_pushed_again(rt: HostRuntime) {
     same(&rt, refused, Some(Error::new(Fault::OutOfMemory, 0)));
     assert!(rt; feeder.wants_more());
     heap.give(20);
-    let reported_as = over(&mut feeder, MODULE);
-    same(&rt, reported_as, Ok((ReportedAs::Shows(8), &MODULE[8..])));
+    let said = over(&mut feeder, MODULE);
+    same(&rt, said, Ok((Reported::Shows(8), &MODULE[8..])));
 }
 
 #[test]
@@ -141,10 +134,10 @@ fn the_end_stays(rt: HostRuntime) {
     feeder.finish();
     feeder.finish();
     assert!(rt; feeder.is_finished());
-    same(&rt, say(feeder.step()), ReportedAs::Shows(8));
-    stays(&rt, &mut feeder, ReportedAs::Ends(8));
+    same(&rt, say(feeder.step()), Reported::Shows(8));
+    stays(&rt, &mut feeder, Reported::Ends(8));
     feeder.finish();
-    stays(&rt, &mut feeder, ReportedAs::Ends(8));
+    stays(&rt, &mut feeder, Reported::Ends(8));
 }
 
 // After the end of input: a section that is cut short.
@@ -156,18 +149,18 @@ fn the_fault_of_a_cut_stays(rt: HostRuntime) {
     same(
         &rt,
         reported_over(&rt, &mut feeder, b""),
-        ReportedAs::Shows(8),
+        Reported::Shows(8),
     );
     let cut = Error::new(Fault::UnexpectedEof, 9);
-    stays(&rt, &mut feeder, ReportedAs::Refuses(cut));
+    stays(&rt, &mut feeder, Reported::Refuses(cut));
 }
 
 // A fault in borrowed bytes is held, so other bytes after it change nothing.
 #[test]
 fn a_fault_stays(rt: HostRuntime) {
     let mut feeder = Feeder::new(rt.alloc(), 0, WasmFeatures::all());
-    let malformed = ReportedAs::Refuses(Error::new(Fault::MalformedSectionId, 8));
-    let rows = [(ReportedAs::Shows(8), 0, 0), (malformed, 2, 2)];
+    let malformed = Reported::Refuses(Error::new(Fault::MalformedSectionId, 8));
+    let rows = [(Reported::Shows(8), 0, 0), (malformed, 2, 2)];
     says_which(&rt, &mut feeder, b"\0asm\x01\0\0\0\x80\0", &rows);
     stays(&rt, &mut feeder, malformed);
     feeder.finish();
@@ -179,8 +172,8 @@ fn a_fault_stays(rt: HostRuntime) {
 fn a_byte_past_the_top_of_the_offsets(rt: HostRuntime) {
     let mut feeder = Feeder::new(rt.alloc(), u64::MAX - 8, WasmFeatures::all());
     let header = reported_over(&rt, &mut feeder, b"\0asm\x01\0\0\0");
-    same(&rt, header, ReportedAs::Shows(8));
-    let past = ReportedAs::Refuses(Error::new(Fault::OffsetRange, u64::MAX));
+    same(&rt, header, Reported::Shows(8));
+    let past = Reported::Refuses(Error::new(Fault::OffsetRange, u64::MAX));
     for _ in 0..2 {
         same(&rt, reported_over(&rt, &mut feeder, b"\0"), past);
     }
@@ -191,9 +184,9 @@ fn a_byte_past_the_top_of_the_offsets(rt: HostRuntime) {
 fn a_piece_past_the_top_of_the_offsets(rt: HostRuntime) {
     let start = u64::MAX - 8;
     let mut feeder = Feeder::new(rt.alloc(), start, WasmFeatures::all());
-    let past = ReportedAs::Refuses(Error::new(Fault::OffsetRange, start));
-    let reported_as = reported_over(&rt, &mut feeder, b"\0asm\x01\0\0\0\0");
-    same(&rt, reported_as, past);
+    let past = Reported::Refuses(Error::new(Fault::OffsetRange, start));
+    let said = reported_over(&rt, &mut feeder, b"\0asm\x01\0\0\0\0");
+    same(&rt, said, past);
     feeder.finish();
     same(&rt, reported_over(&rt, &mut feeder, b""), past);
 }

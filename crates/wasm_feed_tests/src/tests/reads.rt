@@ -1,5 +1,5 @@
 // Loops over a source by a feeder.
-use super::feeding::{MODULE, ReportedAs, say};
+use super::feeding::{MODULE, Reported, say};
 use super::same;
 use bitflags::Flags;
 use std::alloc::Global;
@@ -32,10 +32,10 @@ fn read_by(rt: &impl Abort, alloc: Global, bytes: &[u8], size: usize) -> (u32, u
     let mut most = 0;
     for _turn in 0..200 {
         match say(feeder.open().step()) {
-            ReportedAs::Asks(_) => {}
-            ReportedAs::Shows(_) => steps = steps.wrapping_add(1),
-            ReportedAs::Ends(_) => return (reads, steps.wrapping_add(1), most),
-            ReportedAs::Refuses(error) => panic!(rt; "{error:?}"),
+            Reported::Asks(_) => {}
+            Reported::Shows(_) => steps = steps.wrapping_add(1),
+            Reported::Ends(_) => return (reads, steps.wrapping_add(1), most),
+            Reported::Refuses(error) => panic!(rt; "{error:?}"),
         }
         if read_more(rt, &mut feeder, &mut source, buffer.as_mut_slice()) {
             reads = reads.wrapping_add(1);
@@ -65,7 +65,7 @@ fn a_source_with_nothing_is_at_its_end(rt: HostRuntime) {
         (0, 0, false),
     );
     let missing = Error::new(Fault::UnexpectedEof, 0);
-    same(&rt, say(feeder.step()), ReportedAs::Refuses(missing));
+    same(&rt, say(feeder.step()), Reported::Refuses(missing));
     assert!(rt; !feeder.wants_more());
 }
 
@@ -75,7 +75,7 @@ fn next_said(
     ahead: &mut Ahead<Global>,
     cursor: &mut Cursor,
     stored: &mut Vec<u8>,
-) -> ReportedAs {
+) -> Reported {
     same(rt, ahead.make_ready(cursor, stored), Ok(()));
     say(parse_next(cursor, seen(stored, ahead.bytes())))
 }
@@ -86,7 +86,7 @@ fn stays(
     ahead: &mut Ahead<Global>,
     cursor: &mut Cursor,
     stored: &mut Vec<u8>,
-    said: ReportedAs,
+    said: Reported,
 ) {
     for _ in 0..3 {
         ahead.pass_borrowed(cursor, stored);
@@ -135,7 +135,7 @@ fn refill(
 ) {
     let failed = read_chunk(ahead, cursor, stored, &mut Broken);
     same(rt, failed, Err(ListError::Input));
-    let ReportedAs::Asks(_) = next_said(rt, ahead, cursor, stored) else {
+    let Reported::Asks(_) = next_said(rt, ahead, cursor, stored) else {
         panic!(rt; "no request");
     };
     let read = read_chunk(ahead, cursor, stored, source);
@@ -149,7 +149,7 @@ fn read_borrowed(
     alloc: Global,
     bytes: &[u8],
     size: usize,
-) -> (u32, u32, ReportedAs) {
+) -> (u32, u32, Reported) {
     let room = vec![in alloc; 0u8; size.max(1)].expect(rt, "out of memory");
     let mut source = SliceSource::new(bytes);
     let mut ahead = Ahead::new(room);
@@ -159,11 +159,11 @@ fn read_borrowed(
     let mut steps = 0u32;
     for _turn in 0..200 {
         match next_said(rt, &mut ahead, &mut cursor, &mut stored) {
-            ReportedAs::Asks(_) => {
+            Reported::Asks(_) => {
                 refill(rt, &mut ahead, &mut cursor, &mut stored, &mut source);
                 reads = reads.wrapping_add(1);
             }
-            ReportedAs::Shows(_) => {
+            Reported::Shows(_) => {
                 ahead.pass_borrowed(&mut cursor, &stored);
                 steps = steps.wrapping_add(1);
             }
@@ -179,7 +179,7 @@ fn read_borrowed(
 #[test]
 fn chunks_are_parsed_where_they_are(rt: HostRuntime) {
     let heap = rt.alloc();
-    let end = ReportedAs::Ends(18);
+    let end = Reported::Ends(18);
     same(&rt, read_borrowed(&rt, heap, MODULE, 18), (2, 4, end));
     same(&rt, read_borrowed(&rt, heap, MODULE, 3), (7, 4, end));
     same(&rt, read_borrowed(&rt, heap, MODULE, 1), (19, 4, end));
@@ -188,11 +188,11 @@ fn chunks_are_parsed_where_they_are(rt: HostRuntime) {
 #[test]
 fn a_fault_in_a_chunk_stays(rt: HostRuntime) {
     let heap = rt.alloc();
-    let fault = ReportedAs::Refuses(Error::new(Fault::MalformedSectionId, 8));
+    let fault = Reported::Refuses(Error::new(Fault::MalformedSectionId, 8));
     let stream = b"\0asm\x01\0\0\0\x80\x01\x01\0";
     same(&rt, read_borrowed(&rt, heap, stream, 100), (1, 1, fault));
     same(&rt, read_borrowed(&rt, heap, stream, 9), (1, 1, fault));
     same(&rt, read_borrowed(&rt, heap, stream, 1), (9, 1, fault));
-    let none = ReportedAs::Refuses(Error::new(Fault::UnexpectedEof, 0));
+    let none = Reported::Refuses(Error::new(Fault::UnexpectedEof, 0));
     same(&rt, read_borrowed(&rt, heap, b"", 4), (1, 0, none));
 }

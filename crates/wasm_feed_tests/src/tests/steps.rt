@@ -1,5 +1,5 @@
 // Steps of a feeder, by callers of another crate.
-use super::feeding::{ReportedAs, say};
+use super::feeding::{Reported, say};
 use super::same;
 use bitflags::Flags;
 use std::alloc::Global;
@@ -58,7 +58,7 @@ fn payloads_are_read(rt: HostRuntime) -> std::result::Result<(), Fail> {
     let mut feeder = fed(rt.alloc(), b"\0asm\x01\0\0\0\x03\x03\x02\x05\x07")?;
     same(&rt, version_of(&feeder.step()), Some((1, Encoding::Module)));
     same(&rt, total_of(&feeder.open().step()), Some(12));
-    let fault = ReportedAs::Refuses(Error::new(Fault::FunctionWithoutCode, 13));
+    let fault = Reported::Refuses(Error::new(Fault::FunctionWithoutCode, 13));
     for _ in 0..2 {
         same(&rt, say(feeder.step()), fault);
         same(&rt, say(feeder.open().step()), fault);

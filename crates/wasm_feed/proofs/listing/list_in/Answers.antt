@@ -6,7 +6,7 @@ use Rattle.wasm_feed.specs.Beside.{beside}
 use Rattle.wasm_feed.specs.Cursors.{feed_of}
 use Rattle.wasm_feed.specs.Feed.{empty_feed}
 use Rattle.wasm_lines.specs.Listing.{line_of}
-use Rattle.wasm_feed.proofs.Beside.{loan, begun_beside, same_lighter, filled_alike}
+use Rattle.wasm_feed.proofs.Beside.{both, begun_beside, same_lighter, filled_alike}
 use Rattle.wasm_lines.proofs.ForCallers.{cut_of}
 use Rattle.wasm_feed.proofs.Progress.{begun, no_memory, cut, to_be_written, advanced, asked, listed_all, end_cut, not_filled}
 use Rattle.wasm_feed.proofs.listing.list_in.Goals as goal
@@ -51,7 +51,7 @@ pub events-smaller-in-Advance : goal.events-smaller-in-Advance
 events-smaller-in-Advance g c =
     let a = c.parse_next-answer.ensures in
     let ready = c.in_ok-make_ready.ensures in
-    let s = loan _ _ _ _ _ _ _ _ _ ready.same ready.enough c.seen.ensures c.deref.ensures.value c.bytes.ensures a.parses a.shows a.finished
+    let s = both _ _ _ _ _ _ _ _ _ ready.same ready.enough c.seen.ensures c.deref.ensures.value c.bytes.ensures a.parses a.shows a.finished
     a.wants in
     let t = c.in_ok-turn.ensures.takes in
     (same_lighter line_of _ _ (beside (feed_of c.events.stored.items c.events.cursor) c.events.ahead) _ _ _
@@ -62,7 +62,7 @@ pub events-preserved-in-Advance : goal.events-preserved-in-Advance
 events-preserved-in-Advance g c =
     let a = c.parse_next-answer.ensures in
     let ready = c.in_ok-make_ready.ensures in
-    let s = loan _ _ _ _ _ _ _ _ _ ready.same ready.enough c.seen.ensures c.deref.ensures.value c.bytes.ensures a.parses a.shows a.finished
+    let s = both _ _ _ _ _ _ _ _ _ ready.same ready.enough c.seen.ensures c.deref.ensures.value c.bytes.ensures a.parses a.shows a.finished
     a.wants in
     let t = c.in_ok-turn.ensures.takes in
     record {
@@ -77,7 +77,7 @@ pub returns-in_err-write_out-in-Read : goal.returns-in_err-write_out-in-Read
 returns-in_err-write_out-in-Read g c =
     let a = c.parse_next-answer.ensures in
     let ready = c.in_ok-make_ready.ensures in
-    let s = loan _ _ _ _ _ _ _ _ _ ready.same ready.enough c.seen.ensures c.deref.ensures.value c.bytes.ensures a.parses a.shows a.finished
+    let s = both _ _ _ _ _ _ _ _ _ ready.same ready.enough c.seen.ensures c.deref.ensures.value c.bytes.ensures a.parses a.shows a.finished
     a.wants in
     let t = c.in_ok-turn.ensures.takes in
     let asks = (asked line_of _ _ _ _ _ _ c.events.invariant.progress _ _ s _ _ t.0 (sym c.in-Read.is ∙ t.1)).0 in
@@ -92,7 +92,7 @@ pub returns-in_err-refill-in-Read : goal.returns-in_err-refill-in-Read
 returns-in_err-refill-in-Read g c =
     let a = c.parse_next-answer.ensures in
     let ready = c.in_ok-make_ready.ensures in
-    let s = loan _ _ _ _ _ _ _ _ _ ready.same ready.enough c.seen.ensures c.deref.ensures.value c.bytes.ensures a.parses a.shows a.finished
+    let s = both _ _ _ _ _ _ _ _ _ ready.same ready.enough c.seen.ensures c.deref.ensures.value c.bytes.ensures a.parses a.shows a.finished
     a.wants in
     let t = c.in_ok-turn.ensures.takes in
     let asks = (asked line_of _ _ _ _ _ _ c.events.invariant.progress _ _ s _ _ t.0 (sym c.in-Read.is ∙ t.1)).0 in
@@ -110,7 +110,7 @@ pub events-smaller : goal.events-smaller
 events-smaller g c =
     let a = c.parse_next-answer.ensures in
     let ready = c.in_ok-make_ready.ensures in
-    let s = loan _ _ _ _ _ _ _ _ _ ready.same ready.enough c.seen.ensures c.deref.ensures.value c.bytes.ensures a.parses a.shows a.finished
+    let s = both _ _ _ _ _ _ _ _ _ ready.same ready.enough c.seen.ensures c.deref.ensures.value c.bytes.ensures a.parses a.shows a.finished
     a.wants in
     let t = c.in_ok-turn.ensures.takes in
     let (asks, same) = asked line_of _ _ _ _ _ _ c.events.invariant.progress _ _ s _ _ t.0 (sym c.in-Read.is ∙ t.1) in
@@ -122,7 +122,7 @@ pub events-preserved : goal.events-preserved
 events-preserved g c =
     let a = c.parse_next-answer.ensures in
     let ready = c.in_ok-make_ready.ensures in
-    let s = loan _ _ _ _ _ _ _ _ _ ready.same ready.enough c.seen.ensures c.deref.ensures.value c.bytes.ensures a.parses a.shows a.finished
+    let s = both _ _ _ _ _ _ _ _ _ ready.same ready.enough c.seen.ensures c.deref.ensures.value c.bytes.ensures a.parses a.shows a.finished
     a.wants in
     let t = c.in_ok-turn.ensures.takes in
     let asks = (asked line_of _ _ _ _ _ _ c.events.invariant.progress _ _ s _ _ t.0 (sym c.in-Read.is ∙ t.1)).0 in
@@ -139,7 +139,7 @@ pub returns-in_err-write_out-in-End : goal.returns-in_err-write_out-in-End
 returns-in_err-write_out-in-End g c =
     let a = c.parse_next-answer.ensures in
     let ready = c.in_ok-make_ready.ensures in
-    let s = loan _ _ _ _ _ _ _ _ _ ready.same ready.enough c.seen.ensures c.deref.ensures.value c.bytes.ensures a.parses a.shows a.finished
+    let s = both _ _ _ _ _ _ _ _ _ ready.same ready.enough c.seen.ensures c.deref.ensures.value c.bytes.ensures a.parses a.shows a.finished
     a.wants in
     let t = c.in_ok-turn.ensures.takes in
     let e = err_from_is_err_and c.from_residual-in_err-write_out-in-End.result c.from_residual-in_err-write_out-in-End.ensures.1 in
@@ -154,7 +154,7 @@ pub returns-in-End : goal.returns-in-End
 returns-in-End g c =
     let a = c.parse_next-answer.ensures in
     let ready = c.in_ok-make_ready.ensures in
-    let s = loan _ _ _ _ _ _ _ _ _ ready.same ready.enough c.seen.ensures c.deref.ensures.value c.bytes.ensures a.parses a.shows a.finished
+    let s = both _ _ _ _ _ _ _ _ _ ready.same ready.enough c.seen.ensures c.deref.ensures.value c.bytes.ensures a.parses a.shows a.finished
     a.wants in
     let t = c.in_ok-turn.ensures.takes in
     record {

@@ -11,7 +11,7 @@ enum Answer {
     Refuses(Error),
 }
 
-fn reported_as(parser: &mut Parser, bytes: &[u8], eof: bool) -> Answer {
+fn first_of(parser: &mut Parser, bytes: &[u8], eof: bool) -> Answer {
     match parser.parse(bytes, eof) {
         Ok(chunk) => answer_of(&chunk),
         Err(error) => Answer::Refuses(error),
@@ -31,7 +31,7 @@ fn a_header(rt: HostRuntime) {
     let missing = Error::new(Fault::UnexpectedEof, 0);
     same(&rt, refusal(&mut parser, b""), Some(missing));
     same(&rt, parser.offset(), 0);
-    same(&rt, reported_as(&mut parser, b"\0", false), Answer::Asks(3));
+    same(&rt, first_of(&mut parser, b"\0", false), Answer::Asks(3));
     let unknown = Error::new(Fault::UnknownVersion, 4).with_number(16843009);
     same(
         &rt,
@@ -40,7 +40,7 @@ fn a_header(rt: HostRuntime) {
     );
     same(
         &rt,
-        reported_as(&mut parser, b"\0asm\x01\0\0\0\0", true),
+        first_of(&mut parser, b"\0asm\x01\0\0\0\0", true),
         Answer::Consumes(8),
     );
     same(&rt, parser.offset(), 8);
@@ -50,11 +50,7 @@ fn a_header(rt: HostRuntime) {
 fn the_end_again_and_again(rt: HostRuntime) {
     let mut parser = after_header(&rt, 0);
     for _ in 0..3 {
-        same(
-            &rt,
-            reported_as(&mut parser, b"", true),
-            Answer::Consumes(0),
-        );
+        same(&rt, first_of(&mut parser, b"", true), Answer::Consumes(0));
         same(&rt, end(&mut parser), Some(8));
     }
 }
@@ -74,7 +70,7 @@ fn requests_change_nothing(rt: HostRuntime) {
     for (bytes, hint) in &BEGUN {
         same(
             &rt,
-            reported_as(&mut parser, bytes, false),
+            first_of(&mut parser, bytes, false),
             Answer::Asks(*hint),
         );
         same(&rt, parser.offset(), 8);
@@ -145,15 +141,11 @@ fn a_code_section_that_is_skipped(rt: HostRuntime) {
     same(&rt, parser.skippable(), None);
     same(
         &rt,
-        reported_as(&mut parser, b"\x0a\x04\x01", false),
+        first_of(&mut parser, b"\x0a\x04\x01", false),
         Answer::Consumes(3),
     );
     same(&rt, (parser.offset(), parser.skippable()), (15, Some(3)));
-    same(
-        &rt,
-        reported_as(&mut parser, b"\x02", false),
-        Answer::Asks(2),
-    );
+    same(&rt, first_of(&mut parser, b"\x02", false), Answer::Asks(2));
     if parser.skippable().is_some() {
         parser.skip_section();
     }
@@ -169,11 +161,11 @@ fn nothing_is_left_to_skip(rt: HostRuntime) {
     pass(&rt, &mut parser, b"\x0a\x04\x01\x02\0\x0b");
     pass(&rt, &mut parser, b"\x02\0\x0b");
     same(&rt, parser.skippable(), Some(0));
-    same(&rt, reported_as(&mut parser, b"", false), Answer::Asks(1));
+    same(&rt, first_of(&mut parser, b"", false), Answer::Asks(1));
     same(&rt, parser.skippable(), Some(0));
     same(
         &rt,
-        reported_as(&mut parser, b"\0\x01\0", false),
+        first_of(&mut parser, b"\0\x01\0", false),
         Answer::Consumes(3),
     );
     same(&rt, parser.skippable(), None);

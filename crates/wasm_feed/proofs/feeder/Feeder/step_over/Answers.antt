@@ -12,7 +12,7 @@ returns-clause-steps g c =
     let stored = c.take_left-taken.new.stored.items in
     let new = feed_of stored c.take_left-taken.new.cursor in (
       c.parse_next.result,
-      c.look-reported_as.ensures,
+      c.look-looked.ensures,
       rw c.self.view_is at (over _ piece _ _ _ _ _ _ _ c.parse_next.result c.in-Ok.ensures.ok (take_rest piece c.in-Ok.ready) c.seen.ensures
           c.deref.ensures.value a.parses a.shows a.finished a.wants a.mark c.take_left-taken.result stored c.take_left-taken.new.cursor
           t.takes t.within t.asks (omega (arith, t.bounded)) t.stays t.idle),
