@@ -24,10 +24,9 @@ struct Part<'b> {
     bytes: &'b [u8],
 }
 
-// A payload is walked twice: the first walk records where items begin, with the calls that show them, so that a row of
-// bytes can end before the next item. No clause says what one row shows, but all rows together are the bytes, whatever was
-// recorded.
-// Has bytes shown with what is read from them, if bytes are shown.
+// Has bytes shown with what is read from them, if bytes are shown. The payload is then walked twice: the first walk records
+// where items begin, with the calls that show them, so that a row of bytes can end before the next item. No clause says
+// what one row shows, but all rows together are the bytes, whatever was recorded.
 fn show_bytes<O: Tree>(
     alloc: Global,
     has_bytes: bool,
@@ -50,8 +49,6 @@ fn show_bytes<O: Tree>(
     }
 }
 
-// The steps are functions over the parts of the loop, and no single call lends a payload from the feeder: the prover then
-// derives no clause on the feeder, and what a closure changes of its captures can't be cited.
 // Writes the line of a payload and what it holds, if it is shown.
 fn show_chosen<O: Tree>(
     alloc: Global,
@@ -145,6 +142,8 @@ fn make_ready<O: Tree>(
 }
 
 // Like `dump`, by a tree over the output that has written nothing yet, and with a buffer to read into.
+// The loop has the feeder's parts, because no call could return a payload that borrows from a feeder: the prover then
+// derives no clause on the feeder.
 fn dump_into<R: Source, O: Tree>(
     alloc: Global,
     shown: Shown<'_>,
