@@ -97,11 +97,19 @@ def scan(client, paths):
     return [row for number in range(len(batches)) for row in rows[number]]
 
 
+def parquet():
+    """The module that writes Parquet, or None if it or its engine is missing."""
+    try:
+        import pandas
+        import pyarrow  # noqa: F401
+    except ImportError:
+        return None
+    return pandas
+
+
 def write(path, rows):
     if path.endswith(".parquet"):
-        import pandas
-
-        pandas.DataFrame(rows, columns=COLUMNS).to_parquet(path, index=False)
+        parquet().DataFrame(rows, columns=COLUMNS).to_parquet(path, index=False)
         return
     with open(path, "w", newline="", encoding="utf-8") as file:
         table = csv.DictWriter(file, COLUMNS)
@@ -117,6 +125,8 @@ def main():
     line.add_argument("--workers", metavar="N", type=int, default=os.cpu_count(), help="the processes on this machine")
     line.add_argument("--scheduler", metavar="ADDRESS", help="a Dask scheduler, in place of processes here")
     given = line.parse_args()
+    if given.out.endswith(".parquet") and not parquet():
+        line.error("Parquet needs pandas with pyarrow; write a .csv instead")
     paths = list(files(given.folders, given.list))
     if not paths:
         line.error("there are no modules")
