@@ -7,8 +7,10 @@ import importlib.util
 import json
 import os
 import platform
+import shutil
 import subprocess
 import sys
+import time
 
 sys.dont_write_bytecode = True
 TOP = os.path.dirname(os.path.dirname(os.path.abspath(__file__)))
@@ -113,6 +115,26 @@ def is_older(name):
     """Whether a built program is older than what it is made of."""
     built_at = os.path.getmtime(path_of(name))
     return any(os.path.getmtime(path) > built_at for crate in crates_of(name) for path in files_of(crate))
+
+
+def peak_memory(command, path):
+    """The most memory that the process held, in KiB, once it was given all of the input and before it saw its end."""
+    with open(path, "rb") as data:
+        process = subprocess.Popen(command, stdin=subprocess.PIPE, stdout=subprocess.DEVNULL)
+        try:
+            shutil.copyfileobj(data, process.stdin, 1 << 16)
+            process.stdin.flush()
+        except BrokenPipeError:
+            pass
+        time.sleep(0.1)
+        with open("/proc/%d/status" % process.pid) as status:
+            peak = [int(line.split()[1]) for line in status if line.startswith("VmHWM")]
+        try:
+            process.stdin.close()
+        except BrokenPipeError:
+            pass
+        process.wait()
+    return peak[0] if peak else None
 
 
 def path_of(name):
