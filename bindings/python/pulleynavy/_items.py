@@ -4,6 +4,7 @@ from __future__ import annotations
 
 import ctypes
 import functools
+import itertools
 import struct
 from typing import Any, Iterator
 
@@ -133,8 +134,8 @@ class Items:
         >>> list(Items(b"\\2\\5\\7", 100).counted().rows("numbers", fields("Number", "value")))
         [(5,), (7,)]
         """
-        for _, rows in self._stored(call, layout, self._cursor):
-            yield from rows
+        # A chain, because a generator would take its turn for each item.
+        return itertools.chain.from_iterable(rows for _, rows in self._stored(call, layout, self._cursor))
 
     def imports(self, layout: struct.Struct) -> Iterator[tuple[Any, Iterator[tuple[Any, ...]]]]:
         """Yields arrays of imports, including those of bundles one by one, with some fields of each. Raises faults as `all` does.
