@@ -17,11 +17,12 @@ fn main() {
     let of = |name: &str| env::var(name).unwrap_or_default();
     let (machine, system) = (of("CARGO_CFG_TARGET_ARCH"), of("CARGO_CFG_TARGET_OS"));
     let path = match env::var_os("PULLEYNAVY_LIB") {
-        Some(folder) => PathBuf::from(folder).join("libwasm_c.a"),
+        Some(given) if Path::new(&given).is_dir() => PathBuf::from(given).join("libwasm_c.a"),
+        Some(given) => PathBuf::from(given),
         None => {
             let found = library(Path::new(&of("CARGO_MANIFEST_DIR")), &machine);
             let Some(path) = found.filter(|_| matches!(system.as_str(), "linux" | "android" | "none")) else {
-                println!("cargo::error=pulleynavy has no library for {machine} and {system}: set PULLEYNAVY_LIB to a folder with libwasm_c.a");
+                println!("cargo::error=pulleynavy has no library for {machine} and {system}: set PULLEYNAVY_LIB to a libwasm_c.a or its folder");
                 return;
             };
             path

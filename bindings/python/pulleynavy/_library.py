@@ -21,13 +21,16 @@ NAME = "libpulleynavy.so.0"
 def load(path: str | None = None) -> Any:
     """Loads the shared library from `path`, from `$PULLEYNAVY_LIB`, from this package, or from where the system looks, in this order.
 
-    The library is loaded once for each path. Raises `OSError` if it is not found, and `AttributeError` if it lacks a call of this version.
+    The first two name the library or its folder. It is loaded once for each path. Raises `OSError` if it is not found, and `AttributeError` if it lacks a call of this version.
 
     >>> load().pulleynavy_version() > 0
     True
     """
     own = os.path.join(os.path.dirname(os.path.abspath(__file__)), NAME)
-    library = ctypes.CDLL(path or os.environ.get("PULLEYNAVY_LIB") or (own if os.path.exists(own) else NAME))
+    given = path or os.environ.get("PULLEYNAVY_LIB")
+    if given and os.path.isdir(given):
+        given = os.path.join(given, NAME)
+    library = ctypes.CDLL(given or (own if os.path.exists(own) else NAME))
     for name, (result, arguments) in declared.CALLS.items():
         call = getattr(library, name)
         call.restype, call.argtypes = result, arguments
