@@ -663,6 +663,7 @@ impl<'a> BinaryReader<'a> {
 
     // Reads `len` bytes of text, after their size.
     #[tactic(auto, unfolding(crate::specs::TextOf::text_of), using(crate::proofs::Texts::text_test))]
+    #[inline(always)]
     fn read_text(&mut self, len: usize) -> Result<&'a str>
         requires { 0 < (place self.old).offset }
         ensures gives { GivesBy (λ text. text.now) result self.old self.new (text_of len) }

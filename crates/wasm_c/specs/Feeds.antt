@@ -2,7 +2,7 @@
 use Rattle.std.specs.Prelude.{◌≡◌, ℕ, ◌+◌, ◌<◌, Bool, true, false, List, ◌++◌, length, take, drop}
 use Rattle.wasm_parser.specs.ParserState.{ParserState}
 use Rattle.wasm_c.specs.Events.{ParsesPlain}
-use Rattle.wasm_c.specs.Stored.{is_set, parser_of}
+use Rattle.wasm_parser.specs.Stored.{is_set, parser_of}
 use Rattle.wasm_c.specs.declared.events.PlainEvent.{PlainEvent}
 use Rattle.wasm_c.specs.declared.feeding.StoredFeed.{StoredFeed}
 

@@ -22,7 +22,6 @@ pub mod Readable
 pub mod Relocations
 pub mod Segments
 pub mod Spans
-pub mod Stored
 pub mod Strips
 pub mod Symbols
 pub mod Texts

@@ -1,41 +1,27 @@
 // Many events by one call.
 ghost use Rattle.wasm_c.specs.EventBatches.{StoresEvents};
 ghost use Rattle.wasm_c.specs.Events.{ParsesPlain};
-ghost use Rattle.wasm_c.specs.Stored.{parser_of};
+ghost use Rattle.wasm_parser.specs.Stored.{parser_of};
 
 use crate::events::{PlainEvent, put_answer};
 use crate::spans::after;
-use crate::stored::StoredParser;
-use wasm_parser::Parser;
+use wasm_parser::StoredParser;
 
 // Stores the next event of a parser.
 #[inline(always)]
-fn put_next(parser: &mut Parser, bytes: &[u8], is_all: bool, base: usize, out: &mut PlainEvent)
-    ensures { ParsesPlain base parser.old is_all bytes.now out.new parser.new }
+fn put_next(
+    parser: &mut StoredParser,
+    bytes: &[u8],
+    is_all: bool,
+    base: usize,
+    out: &mut PlainEvent,
+)
+    ensures { ParsesPlain base (parser_of parser.old) is_all bytes.now out.new
+        (parser_of parser.new) }
 {
-    let offset = parser.offset();
+    let offset = parser.offset;
     let answer = parser.parse(bytes, is_all);
     put_answer(out, offset, base, &answer);
-}
-
-// Stores the next events, up to one that consumes nothing, and returns how many.
-fn store_events(parser: &mut Parser, bytes: &[u8], is_all: bool, out: &mut [PlainEvent]) -> usize
-    ensures { StoresEvents is_all parser.old bytes.now out.old result parser.new out.new }
-{
-    let mut rest = bytes;
-    let mut at = 0;
-    let mut count = 0;
-    while count < out.len() {
-        put_next(parser, rest, is_all, at, &mut out[count]);
-        let consumed = out[count].consumed;
-        count += 1;
-        if consumed == 0 {
-            return count;
-        }
-        rest = after(rest, consumed);
-        at = usize::saturating_add(at, consumed);
-    }
-    count
 }
 
 /// Stores the next events of a stream in `out`, as calls of `pulleynavy_parse` return them one by one, and returns
@@ -66,8 +52,18 @@ pub extern "C" fn pulleynavy_next_events(
     ensures { StoresEvents is_all (parser_of parser.old) bytes.now out.old result
         (parser_of parser.new) out.new }
 {
-    let mut current = parser.parser();
-    let count = store_events(&mut current, bytes, is_all, out);
-    *parser = StoredParser::of(&current);
+    let mut rest = bytes;
+    let mut at = 0;
+    let mut count = 0;
+    while count < out.len() {
+        put_next(parser, rest, is_all, at, &mut out[count]);
+        let consumed = out[count].consumed;
+        count += 1;
+        if consumed == 0 {
+            return count;
+        }
+        rest = after(rest, consumed);
+        at = usize::saturating_add(at, consumed);
+    }
     count
 }

@@ -6,7 +6,7 @@ ghost use Rattle.wasm_c.specs.Feeds.{IsFinished, IsNewFeed, PushesPlain, StepsPl
 use crate::events::PlainEvent;
 use crate::parsing::{parse_stored, pulleynavy_parser_init};
 use crate::spans::{after, front};
-use crate::stored::StoredParser;
+use wasm_parser::StoredParser;
 
 /// A feeder: a parser for chunked input, which keeps the bytes that were pushed and not consumed in storage of the
 /// caller.

@@ -2,14 +2,13 @@
 ghost use Rattle.std.specs.Prelude.{◌≡◌, ◌+◌, Some, IfSome};
 ghost use Rattle.wasm_parser.specs.ParserState.{initial_state, skippable_of};
 ghost use Rattle.wasm_c.specs.Events.{ParsesPlain};
-ghost use Rattle.wasm_c.specs.Stored.{parser_of, skipped_of};
+ghost use Rattle.wasm_parser.specs.Stored.{parser_of, skipped_of};
 ghost use Rattle.wasm_c.specs.Texts.{Says, SaysFault};
 
 use crate::events::{PlainEvent, SILENT, fault_event, put_parsed, request_event};
-use crate::stored::StoredParser;
 use crate::text::write_text;
 use bitflags::Flags;
-use wasm_parser::{Chunk, Parser, Result, WasmFeatures};
+use wasm_parser::{Chunk, Parser, Result, StoredParser, WasmFeatures};
 
 /// Returns a parser for a stream that begins at this offset and is read with these features.
 #[unsafe(no_mangle)]
@@ -18,22 +17,21 @@ pub extern "C" fn pulleynavy_parser_init(offset: u64, features: u32) -> StoredPa
 {
     let mut parser = Parser::new(offset);
     parser.set_features(WasmFeatures::from_bits_retain(features));
-    StoredParser::of(&parser)
+    parser.stored()
 }
 
-// What the stored parser returns; its new state is stored again.
+// Returns what the parser returns, as an event. The parser is read in place: to copy it and back took 100 instructions.
 #[inline(always)]
 pub(crate) fn parse_stored(
-    stored: &mut StoredParser,
+    parser: &mut StoredParser,
     bytes: &[u8],
     is_all: bool,
     base: usize,
 ) -> PlainEvent
-    ensures { ParsesPlain base (parser_of stored.old) is_all bytes.now result
-        (parser_of stored.new) }
+    ensures { ParsesPlain base (parser_of parser.old) is_all bytes.now result
+        (parser_of parser.new) }
 {
-    let mut parser = stored.parser();
-    let offset = parser.offset();
+    let offset = parser.offset;
     match parser.parse(bytes, is_all) {
         Ok(
             Chunk::Parsed {
@@ -41,12 +39,10 @@ pub(crate) fn parse_stored(
                 ref payload,
             },
         ) => {
-            *stored = StoredParser::of(&parser);
             let mut event = SILENT;
             put_parsed(&mut event, offset, base, consumed, payload);
             event
         }
-        // The parser is what it was, so it needn't be stored again.
         Ok(Chunk::NeedMoreData(hint)) => request_event(hint, base),
         Err(error) => fault_event(error, base),
     }
@@ -114,15 +110,7 @@ pub extern "C" fn pulleynavy_parse(
 pub extern "C" fn pulleynavy_skip_section(parser: &mut StoredParser) -> u32
     ensures { skipped_of (parser_of parser.old) ≡ (result, parser_of parser.new) }
 {
-    let mut current = parser.parser();
-    match current.skippable() {
-        Some(left) => {
-            current.skip_section();
-            *parser = StoredParser::of(&current);
-            left
-        }
-        None => 0,
-    }
+    parser.skip_section()
 }
 
 /// Writes the text of the fault that `pulleynavy_parse` returns for the same arguments, and returns the length of the
@@ -143,7 +131,7 @@ pub extern "C" fn pulleynavy_format_fault(
 ) -> usize
     ensures { SaysFault (parser_of parser.now) is_all bytes.now out.old result out.new }
 {
-    let mut current = parser.parser();
+    let mut current = *parser;
     write_fault(current.parse(bytes, is_all), out)
 }
 

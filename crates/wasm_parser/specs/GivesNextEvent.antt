@@ -1,6 +1,5 @@
 -- What a call of a parser says of the reading of a stream.
 use Rattle.std.specs.Prelude.{◌≡◌, ℕ, ◌+◌, ◌<◌, ◌^◌, Bool, true, false, List, [], ◌++◌, length, take, Result, Ok, Err}
-use Rattle.std.specs.Prelude.{◌∷◌}
 use Rattle.wasm_base.specs.FaultAt.{fault_at}
 use Rattle.wasm_base.specs.declared.error.Error.{Error}
 use Rattle.wasm_parser.specs.ParseAnswer.{IsPayload}

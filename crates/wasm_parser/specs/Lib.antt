@@ -10,3 +10,4 @@ pub mod PayloadItems
 pub mod ReadsPart
 pub mod Skipped
 pub mod StateAfter
+pub mod Stored

@@ -1,5 +1,5 @@
 -- Laws of what a parser knows and returns.
-use Rattle.std.specs.Prelude.{◌≡◌, ℕ, ◌+◌, ◌^◌, ◌<◌, ◌≤◌, ◌↔◌, Bool, false, Result, List, [], ◌∷◌, ◌++◌, length}
+use Rattle.std.specs.Prelude.{◌≡◌, ℕ, ◌+◌, ◌^◌, ◌<◌, Bool, false, Result, List, [], ◌∷◌, ◌++◌, length}
 use Rattle.wasm_grammar.specs.Grammar.{Tile, tile, verdict}
 use Rattle.wasm_grammar.specs.Content.{ended}
 use Rattle.wasm_grammar.specs.EventRanges.{consumed_by}

@@ -1,6 +1,6 @@
 -- What a parser knows after what it reported.
 use Rattle.std.specs.Prelude.{ℕ, zero, suc, ◌+◌, ◌-◌, Bool, true, false, length, Option, Some, None, nat_eq}
-use Rattle.std.specs.Prelude.{slice_index, if◌then◌else◌}
+use Rattle.std.specs.Prelude.{if◌then◌else◌}
 use Rattle.wasm_grammar.specs.Grammar.{Tile}
 use Rattle.wasm_grammar.specs.Reading.{Report, version, counted, start_section, data_count_section, code_start}
 use Rattle.wasm_grammar.specs.Reading.{code_entry, tile_report}

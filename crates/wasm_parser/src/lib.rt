@@ -21,11 +21,13 @@ mod parse_all;
 mod parser;
 mod payload;
 mod state;
+mod stored;
 
 pub use checkpoint::Checkpoint;
 pub use parse_all::ParseAll;
 pub use parser::Parser;
 pub use payload::{Chunk, CountedSection, Payload, SectionParts};
+pub use stored::StoredParser;
 // Not re-exported: what only authors of item types need, such as `SkipItem`, `read_inner` and `read_list`.
 pub use wasm_base::_MAX_WASM_TABLE_SIZE;
 pub use wasm_base::Allocation;

@@ -13,6 +13,7 @@ ghost use Rattle.wasm_parser.specs.ParseAnswer.{Advances, AsksForSome, Consumes,
 ghost use Rattle.wasm_parser.specs.ParserState.{initial_state, is_at_section as at_section, skippable_of, skipped_state};
 ghost use Rattle.wasm_parser.specs.ReadsPart.{HasSection, IsBegun, ReadsAfterId, ReadsAfterLength, ReadsBody, ReadsContent, ReadsNext, ReadsNextSection, Refuses};
 ghost use Rattle.wasm_parser.specs.Skipped.{SkipsSection};
+ghost use Rattle.wasm_parser.specs.Stored.{numbers_of, parser_of};
 ghost use Rattle.wasm_parser.specs.StateAfter.{knowing, missing_bytes, state_after, state_after_section};
 ghost use Rattle.wasm_parser.specs.AsksWhereOpen.{AsksWhereOpen};
 ghost use Rattle.wasm_grammar.specs.declared.encoding.Encoding.TheVariants.{Module, Component};
@@ -26,6 +27,7 @@ use crate::state::{
     id_and_count, is_of_code, known_count, known_encoding, known_rank, missing_bodies,
     missing_bytes,
 };
+use crate::stored::{StoredParser, byte_of, count_of, count_parts, encoding_byte, encoding_of};
 use bitflags::Flags;
 use std::alloc::AllocError;
 use std::marker::Model;
@@ -57,22 +59,8 @@ use wasm_items::FunctionBody;
 /// ```
 #[derive(Debug, Drop)]
 pub struct Parser {
-    offset: u64,
-    features: WasmFeatures,
-    expects_header: bool,
-    encoding: Encoding,
-    // The greatest rank of a section, or 0.
-    rank: u8,
-    // The counts of the function, code, data and data count sections.
-    functions: Option<u32>,
-    codes: Option<u32>,
-    datas: Option<u32>,
-    data_counts: Option<u32>,
-    // The bodies and the bytes that a code section still lacks.
-    bodies: u32,
-    code_bytes: u32,
-    // Whether the last part was the start of a code section, or a body. `skippable` is then `Some`, even 0.
-    in_code: bool,
+    // Plain numbers, so that the parser of a program in C is read in place.
+    stored: StoredParser,
 }
 
 impl Parser {
@@ -81,18 +69,24 @@ impl Parser {
         ensures { result ≡ initial_state offset all_features }
     {
         Parser {
-            offset,
-            features: WasmFeatures::all(),
-            expects_header: true,
-            encoding: Encoding::Module,
-            rank: 0,
-            functions: None,
-            codes: None,
-            datas: None,
-            data_counts: None,
-            bodies: 0,
-            code_bytes: 0,
-            in_code: false,
+            stored: StoredParser {
+                offset,
+                features: WasmFeatures::all().bits(),
+                functions: 0,
+                codes: 0,
+                datas: 0,
+                data_counts: 0,
+                bodies: 0,
+                code_bytes: 0,
+                is_begun: 0,
+                is_component: 0,
+                rank: 0,
+                has_functions: 0,
+                has_codes: 0,
+                has_datas: 0,
+                has_data_counts: 0,
+                in_code: 0,
+            },
         }
     }
 
@@ -152,7 +146,7 @@ impl Parser {
         // On a request or an error.
         ensures unchanged { IsUnchanged self.old result self.new }
     {
-        self.answer(bytes, eof)
+        self.stored.answer(bytes, eof)
     }
 
     /// Returns an iterator over the payloads of a stream in memory, up to its end or its first error.
@@ -182,8 +176,8 @@ impl Parser {
     pub fn skippable(&self) -> Option<u32>
         ensures { result ≡ skippable_of self.now }
     {
-        if self.in_code {
-            Some(self.code_bytes)
+        if self.stored.in_code != 0 {
+            Some(self.stored.code_bytes)
         } else {
             None
         }
@@ -210,9 +204,9 @@ impl Parser {
         ensures skips { SkipsSection self.old self.new }
     {
         // The parser's invariant says that this does not overflow.
-        self.offset += u64::from(self.code_bytes);
-        self.bodies = 0;
-        self.code_bytes = 0;
+        self.stored.offset += u64::from(self.stored.code_bytes);
+        self.stored.bodies = 0;
+        self.stored.code_bytes = 0;
     }
 
     /// Returns the state of the parser as plain values. `resume` makes a parser from them that continues as this one
@@ -222,18 +216,18 @@ impl Parser {
         ensures fits { result.offset + result.code_bytes < 2 ^ 64 }
     {
         Checkpoint {
-            offset: self.offset,
-            features: self.features,
-            expects_header: self.expects_header,
-            encoding: self.encoding,
-            rank: self.rank,
-            functions: self.functions,
-            codes: self.codes,
-            datas: self.datas,
-            data_counts: self.data_counts,
-            bodies: self.bodies,
-            code_bytes: self.code_bytes,
-            in_code: self.in_code,
+            offset: self.stored.offset,
+            features: self.stored.features(),
+            expects_header: self.stored.expects_header(),
+            encoding: self.stored.encoding(),
+            rank: self.stored.rank,
+            functions: self.stored.functions(),
+            codes: self.stored.codes(),
+            datas: self.stored.datas(),
+            data_counts: self.stored.data_counts(),
+            bodies: self.stored.bodies,
+            code_bytes: self.stored.code_bytes,
+            in_code: self.stored.in_code != 0,
         }
     }
 
@@ -245,41 +239,59 @@ impl Parser {
         requires { checkpoint.offset + checkpoint.code_bytes < 2 ^ 64 }
         ensures { result ≡ state_of checkpoint }
     {
+        let (has_functions, functions) = count_parts(checkpoint.functions);
+        let (has_codes, codes) = count_parts(checkpoint.codes);
+        let (has_datas, datas) = count_parts(checkpoint.datas);
+        let (has_data_counts, data_counts) = count_parts(checkpoint.data_counts);
         Parser {
-            offset: checkpoint.offset,
-            features: checkpoint.features,
-            expects_header: checkpoint.expects_header,
-            encoding: checkpoint.encoding,
-            rank: checkpoint.rank,
-            functions: checkpoint.functions,
-            codes: checkpoint.codes,
-            datas: checkpoint.datas,
-            data_counts: checkpoint.data_counts,
-            bodies: checkpoint.bodies,
-            code_bytes: checkpoint.code_bytes,
-            in_code: checkpoint.in_code,
+            stored: StoredParser {
+                offset: checkpoint.offset,
+                features: checkpoint.features.bits(),
+                functions,
+                codes,
+                datas,
+                data_counts,
+                bodies: checkpoint.bodies,
+                code_bytes: checkpoint.code_bytes,
+                is_begun: byte_of(!checkpoint.expects_header),
+                is_component: encoding_byte(checkpoint.encoding),
+                rank: checkpoint.rank,
+                has_functions,
+                has_codes,
+                has_datas,
+                has_data_counts,
+                in_code: byte_of(checkpoint.in_code),
+            },
         }
+    }
+
+    /// Returns the parser as plain numbers, which a program in another language can keep.
+    #[tactic(auto, using(crate::proofs::Settled::settled))]
+    pub fn stored(&self) -> StoredParser
+        ensures { parser_of result ≡ self.now }
+    {
+        self.stored
     }
 
     /// Returns the offset of the next part, from the start of the stream.
     pub fn offset(&self) -> u64
         ensures { result ≡ self.now.offset }
     {
-        self.offset
+        self.stored.offset
     }
 
     /// Returns the features of the readers in every payload.
     pub fn features(&self) -> WasmFeatures
         ensures { feature_bits result ≡ self.now.features }
     {
-        self.features
+        self.stored.features()
     }
 
     /// Sets the features of the readers in later payloads. They change how items are read, not the frame of a stream.
     pub fn set_features(&mut self, features: WasmFeatures)
         ensures { self.new ≡ record self.old { features = feature_bits features } }
     {
-        self.features = features;
+        self.stored.features = features.bits();
     }
 
     /// Returns a reader of these bytes, which begin at this offset of the stream, with the parser's features.
@@ -289,7 +301,7 @@ impl Parser {
         requires { offset + length bytes.now < 2 ^ 64 }
         ensures { result ≡ window_over self.now.features offset bytes.now }
     {
-        BinaryReader::new_features(bytes, offset, self.features)
+        BinaryReader::new_features(bytes, offset, self.stored.features())
     }
 
     /// Returns whether these bytes begin with the eight bytes of a core module's header.
@@ -314,27 +326,14 @@ impl Parser {
 
 impl Model for Parser {
     ghost use Rattle.std.specs.Prelude.{◌+◌, ◌<◌, ◌^◌};
-    ghost use Rattle.wasm_base.specs.Features.{feature_bits};
     ghost use Rattle.wasm_parser.specs.ParserState.{ParserState};
+    ghost use Rattle.wasm_parser.specs.Stored.{numbers_of};
 
     ghost Value = { ParserState };
 
-    ghost view = { λ p. record {
-      offset = p.offset;
-      features = feature_bits p.features;
-      expects_header = p.expects_header;
-      encoding = p.encoding;
-      rank = p.rank;
-      functions = p.functions;
-      codes = p.codes;
-      datas = p.datas;
-      data_counts = p.data_counts;
-      bodies = p.bodies;
-      code_bytes = p.code_bytes;
-      in_code = p.in_code;
-    } };
+    ghost view = { λ p. numbers_of p.stored };
 
-    ghost invariant = { λ p. p.offset + p.code_bytes < 2 ^ 64 };
+    ghost invariant = { λ p. p.stored.offset + p.stored.code_bytes < 2 ^ 64 };
 }
 
 impl Clone for Parser {
@@ -343,7 +342,9 @@ impl Clone for Parser {
     ghost is_infallible = { λ _. ⊤ };
 
     fn clone(&self) -> std::result::Result<Self, AllocError> {
-        Ok(Parser::resume(self.checkpoint()))
+        Ok(Parser {
+            stored: self.stored,
+        })
     }
 }
 
@@ -356,17 +357,47 @@ impl Default for Parser {
     }
 }
 
-impl Parser {
-    fn encoding(&self) -> Encoding
-        ensures { result ≡ self.now.encoding }
+impl StoredParser {
+    pub(crate) fn features(&self) -> WasmFeatures
+        ensures { feature_bits result ≡ self.now.features }
     {
-        self.encoding
+        WasmFeatures::from_bits_retain(self.features)
     }
 
-    fn expects_header(&self) -> bool
-        ensures { result ≡ self.now.expects_header }
+    pub(crate) fn encoding(&self) -> Encoding
+        ensures { result ≡ (numbers_of self.now).encoding }
     {
-        self.expects_header
+        encoding_of(self.is_component)
+    }
+
+    pub(crate) fn expects_header(&self) -> bool
+        ensures { result ≡ (numbers_of self.now).expects_header }
+    {
+        self.is_begun == 0
+    }
+
+    pub(crate) fn functions(&self) -> Option<u32>
+        ensures { result ≡ (numbers_of self.now).functions }
+    {
+        count_of(self.has_functions, self.functions)
+    }
+
+    pub(crate) fn codes(&self) -> Option<u32>
+        ensures { result ≡ (numbers_of self.now).codes }
+    {
+        count_of(self.has_codes, self.codes)
+    }
+
+    pub(crate) fn datas(&self) -> Option<u32>
+        ensures { result ≡ (numbers_of self.now).datas }
+    {
+        count_of(self.has_datas, self.datas)
+    }
+
+    pub(crate) fn data_counts(&self) -> Option<u32>
+        ensures { result ≡ (numbers_of self.now).data_counts }
+    {
+        count_of(self.has_data_counts, self.data_counts)
     }
 
     // Whether a code section has remaining bytes or bodies.
@@ -378,9 +409,9 @@ impl Parser {
 
     // Whether a section may start here.
     fn is_at_section(&self) -> bool
-        ensures { result ≡ at_section self.now }
+        ensures { result ≡ at_section (numbers_of self.now) }
     {
-        !self.expects_header && !self.is_code_open()
+        !self.expects_header() && !self.is_code_open()
     }
 
     // Returns a reader of bytes that begin at the parser's offset.
@@ -388,7 +419,7 @@ impl Parser {
         requires { self.now.offset + length bytes.now < 2 ^ 64 }
         ensures { result ≡ window_over self.now.features self.now.offset bytes.now }
     {
-        BinaryReader::new_features(bytes, self.offset, self.features)
+        BinaryReader::new_features(bytes, self.offset, self.features())
     }
 
     // Whether a section of this rank is out of order here: it has a rank, and that of an earlier one is no lower.
@@ -401,7 +432,7 @@ impl Parser {
     // Reads what comes where a section may start, if bytes remain.
     fn section<'a>(&self, reader: &mut BinaryReader<'a>) -> Result<Payload<'a>>
         requires { 0 < length (place reader.old).rest }
-        ensures { ReadsNextSection self.now (place reader.old) result (place reader.new) }
+        ensures { ReadsNextSection (numbers_of self.now) (place reader.old) result (place reader.new) }
     {
         let start = reader.original_position();
         if magic_follows(reader) {
@@ -414,7 +445,7 @@ impl Parser {
     // Reads a section with this id, which is at this offset, just before the reader.
     fn after_id<'a>(&self, start: u64, id: u8, reader: &mut BinaryReader<'a>) -> Result<Payload<'a>>
         requires { start + 1 ≡ (place reader.old).offset }
-        ensures { ReadsAfterId self.now start id (place reader.old) result (place reader.new) }
+        ensures { ReadsAfterId (numbers_of self.now) start id (place reader.old) result (place reader.new) }
     {
         if id >= 128 {
             return Err(Error::new(Fault::MalformedSectionId, start));
@@ -432,7 +463,7 @@ impl Parser {
         size: u32,
         reader: &mut BinaryReader<'a>,
     ) -> Result<Payload<'a>>
-        ensures { ReadsAfterLength self.now id field size
+        ensures { ReadsAfterLength (numbers_of self.now) id field size
             (place reader.old) result (place reader.new) }
     {
         if u64::from(size) > u64::MAX - reader.original_position() {
@@ -453,17 +484,17 @@ impl Parser {
         size: u32,
         reader: &mut BinaryReader<'a>,
     ) -> Result<Payload<'a>>
-        requires known { kind_is kind ≡ kind_of self.now.encoding id }
+        requires known { kind_is kind ≡ kind_of (numbers_of self.now).encoding id }
         requires fits { (place reader.old).offset + size < 2 ^ 64 }
-        ensures { ReadsContent self.now (kind_is kind) id size
+        ensures { ReadsContent (numbers_of self.now) (kind_is kind) id size
             (place reader.old) result (place reader.new) }
     {
         match kind {
             SectionKind::Custom => custom(id, size, reader),
-            SectionKind::Items => items(self.data_counts, id, size, reader),
+            SectionKind::Items => items(self.data_counts(), id, size, reader),
             SectionKind::Index => start(id, size, reader),
             SectionKind::DataCount => data_count(id, size, reader),
-            SectionKind::Code => code(self.functions, size, reader),
+            SectionKind::Code => code(self.functions(), size, reader),
             SectionKind::Unknown => unknown(id, size, reader),
         }
     }
@@ -471,10 +502,10 @@ impl Parser {
     // Reads the next part, if bytes remain, or a header or a body is expected.
     fn read<'a>(&self, reader: &mut BinaryReader<'a>) -> Result<Payload<'a>>
         requires starts { (place reader.old).offset ≡ self.now.offset }
-        requires some { HasSection self.now (place reader.old) }
-        ensures { ReadsNext self.now (place reader.old) result (place reader.new) }
+        requires some { HasSection (numbers_of self.now) (place reader.old) }
+        ensures { ReadsNext (numbers_of self.now) (place reader.old) result (place reader.new) }
     {
-        if self.expects_header {
+        if self.expects_header() {
             read_header(reader)
         } else if self.is_code_open() {
             self.body(reader)
@@ -485,17 +516,18 @@ impl Parser {
 
     // Ends the stream at the parser. Each count above 0 needs its other section.
     fn end<'a>(&mut self) -> Result<Chunk<'a>>
-        requires { at_section self.old ≡ true }
-        ensures { ParseAnswer self.old true [] result self.new }
+        requires { at_section (numbers_of self.old) ≡ true }
+        ensures answers { ParseAnswer (numbers_of self.old) true [] result (numbers_of self.new) }
+        ensures room { self.new.offset + self.new.code_bytes ≡ self.old.offset + self.old.code_bytes }
     {
-        let end = self.offset();
-        if lacks(self.functions, self.codes) {
+        let end = self.offset;
+        if lacks(self.functions(), self.codes()) {
             return Err(Error::new(Fault::FunctionWithoutCode, end));
         }
-        if lacks(self.data_counts, self.datas) {
+        if lacks(self.data_counts(), self.datas()) {
             return Err(Error::new(Fault::DataCountWithoutData, end));
         }
-        self.in_code = false;
+        self.in_code = 0;
         Ok(Chunk::Parsed {
             consumed: 0,
             payload: Payload::End(end),
@@ -508,7 +540,8 @@ impl Parser {
         requires after { self.old.offset ≤ end }
         requires fits { end + missing_bytes (report_of payload.now)
             (end - self.old.offset) self.old.code_bytes < 2 ^ 64 }
-        ensures { Advances self.old payload.now end self.new }
+        ensures advances { Advances (numbers_of self.old) payload.now end (numbers_of self.new) }
+        ensures room { self.new.offset + self.new.code_bytes < 2 ^ 64 }
     {
         match payload {
             Payload::CustomSection(_) => self.pass_section(end),
@@ -519,13 +552,14 @@ impl Parser {
 
     // Moves to the end of a section that implies nothing for later parts.
     fn pass_section(&mut self, end: u64)
-        ensures { self.new ≡ state_after_section self.old end }
+        ensures state { numbers_of self.new ≡ state_after_section (numbers_of self.old) end }
+        ensures room { self.new.offset + self.new.code_bytes < 2 ^ 64 }
     {
         self.offset = end;
-        self.expects_header = false;
+        self.is_begun = 1;
         self.bodies = 0;
         self.code_bytes = 0;
-        self.in_code = false;
+        self.in_code = 0;
     }
 
     // Moves to the end of any part, and records what later parts must fit.
@@ -533,20 +567,22 @@ impl Parser {
         requires after { self.old.offset ≤ end }
         requires fits { end + missing_bytes (report_of payload.now)
             (end - self.old.offset) self.old.code_bytes < 2 ^ 64 }
-        ensures { self.new ≡ state_after self.old end (report_of payload.now) }
+        ensures state { numbers_of self.new ≡ state_after (numbers_of self.old) end
+            (report_of payload.now) }
+        ensures room { self.new.offset + self.new.code_bytes < 2 ^ 64 }
     {
         self.learn(payload);
         let taken = end - self.offset;
         self.offset = end;
-        self.expects_header = false;
+        self.is_begun = 1;
         self.bodies = missing_bodies(payload, self.bodies);
         self.code_bytes = missing_bytes(payload, taken, self.code_bytes);
-        self.in_code = is_of_code(payload);
+        self.in_code = byte_of(is_of_code(payload));
     }
 
     // Records what later parts must fit. Most parts of a stream imply nothing.
     fn learn(&mut self, payload: &Payload)
-        ensures { self.new ≡ knowing self.old (report_of payload.now) }
+        ensures { numbers_of self.new ≡ knowing (numbers_of self.old) (report_of payload.now) }
     {
         match payload {
             Payload::CodeSectionEntry(_) => {}
@@ -557,23 +593,58 @@ impl Parser {
     }
 
     fn learn_of_section(&mut self, payload: &Payload)
-        ensures { self.new ≡ knowing self.old (report_of payload.now) }
+        ensures { numbers_of self.new ≡ knowing (numbers_of self.old) (report_of payload.now) }
     {
         // Each field has a function like its definition: one `match` over all would need a proof for each of its arms.
         let counted = id_and_count(payload);
-        self.encoding = known_encoding(payload, self.encoding);
+        self.is_component = encoding_byte(known_encoding(payload, self.encoding()));
         self.rank = known_rank(payload, counted, self.rank);
-        self.functions = known_count(counted, FUNCTION_SECTION, self.functions);
-        self.codes = known_count(counted, CODE_SECTION, self.codes);
-        self.datas = known_count(counted, DATA_SECTION, self.datas);
-        self.data_counts = known_count(counted, DATA_COUNT_SECTION, self.data_counts);
+        self.set_functions(known_count(counted, FUNCTION_SECTION, self.functions()));
+        self.set_codes(known_count(counted, CODE_SECTION, self.codes()));
+        self.set_datas(known_count(counted, DATA_SECTION, self.datas()));
+        self.set_data_counts(known_count(counted, DATA_COUNT_SECTION, self.data_counts()));
+    }
+
+    fn set_functions(&mut self, count: Option<u32>)
+        ensures { numbers_of self.new ≡ record (numbers_of self.old) { functions = count } }
+    {
+        let (has, number) = count_parts(count);
+        self.has_functions = has;
+        self.functions = number;
+    }
+
+    fn set_codes(&mut self, count: Option<u32>)
+        ensures { numbers_of self.new ≡ record (numbers_of self.old) { codes = count } }
+    {
+        let (has, number) = count_parts(count);
+        self.has_codes = has;
+        self.codes = number;
+    }
+
+    fn set_datas(&mut self, count: Option<u32>)
+        ensures { numbers_of self.new ≡ record (numbers_of self.old) { datas = count } }
+    {
+        let (has, number) = count_parts(count);
+        self.has_datas = has;
+        self.datas = number;
+    }
+
+    fn set_data_counts(&mut self, count: Option<u32>)
+        ensures { numbers_of self.new ≡ record (numbers_of self.old) { data_counts = count } }
+    {
+        let (has, number) = count_parts(count);
+        self.has_data_counts = has;
+        self.data_counts = number;
     }
 
     // Reads and consumes the next part, from bytes that are the rest of the stream or a prefix of it.
-    fn answer<'a>(&mut self, bytes: &'a [u8], eof: bool) -> Result<Chunk<'a>>
-        ensures { ParseAnswer self.old eof bytes.now result self.new }
+    pub(crate) fn answer<'a>(&mut self, bytes: &'a [u8], eof: bool) -> Result<Chunk<'a>>
+        requires room { self.old.offset + self.old.code_bytes < 2 ^ 64 }
+        ensures answers { ParseAnswer (numbers_of self.old) eof bytes.now result
+            (numbers_of self.new) }
+        ensures room { self.new.offset + self.new.code_bytes < 2 ^ 64 }
     {
-        let start = self.offset();
+        let start = self.offset;
         if !fits(start, bytes.len()) {
             return Err(Error::new(Fault::OffsetRange, start));
         }
@@ -592,8 +663,11 @@ impl Parser {
     // Reads the next part. Where a section may start, some bytes remain, and more than a prefix of the magic.
     fn read_on<'a>(&mut self, bytes: &'a [u8], eof: bool) -> Result<Chunk<'a>>
         requires fits { self.old.offset + length bytes.now < 2 ^ 64 }
-        requires begun { IsBegun self.old eof bytes.now }
-        ensures { ParseAnswer self.old eof bytes.now result self.new }
+        requires room { self.old.offset + self.old.code_bytes < 2 ^ 64 }
+        requires begun { IsBegun (numbers_of self.old) eof bytes.now }
+        ensures answers { ParseAnswer (numbers_of self.old) eof bytes.now result
+            (numbers_of self.new) }
+        ensures room { self.new.offset + self.new.code_bytes < 2 ^ 64 }
     {
         let start = self.offset;
         let mut reader = self.reader(bytes);
@@ -612,7 +686,7 @@ impl Parser {
 
     // Reads the next body of a code section that has remaining bytes or bodies.
     fn body<'a>(&self, reader: &mut BinaryReader<'a>) -> Result<Payload<'a>>
-        ensures { ReadsBody self.now (place reader.old) result (place reader.new) }
+        ensures { ReadsBody (numbers_of self.now) (place reader.old) result (place reader.new) }
     {
         let start = reader.original_position();
         if self.bodies == 0 {

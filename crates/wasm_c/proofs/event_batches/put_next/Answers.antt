@@ -1,5 +1,3 @@
-use Rattle.std.proofs.Common.{◌≡◌, ℕ, subst}
-use Rattle.wasm_c.specs.Events.{answer_event}
 use Rattle.wasm_c.proofs.event_batches.put_next.Goals as goal
 
 pub returns : goal.returns
@@ -11,6 +9,5 @@ returns c = record {
   asks = c.parse-answer.ensures.asks;
   waits = c.parse-answer.ensures.waits;
   faults = c.parse-answer.ensures.faults;
-  is_event = subst (λ (o : ℕ). c.put_answer.new.out ≡ answer_event c.args.base o c.parse-answer.result) c.offset-offset.ensures
-      c.put_answer.ensures;
+  is_event = c.put_answer.ensures;
 }

@@ -1,11 +1,9 @@
-use Rattle.std.proofs.Common.{sym}
 use Rattle.wasm_c.proofs.parsing.pulleynavy_format_fault.Goals as goal
 
 pub returns : goal.returns
-returns c =
-    rw (sym c.parser-current.ensures) (record {
-      answer = c.parse.result;
-      after = _;
-      answers = c.parse.ensures.answers;
-      says = c.write_fault.ensures;
-    })
+returns c = record {
+  answer = c.parse.result;
+  after = _;
+  answers = c.parse.ensures.answers;
+  says = c.write_fault.ensures;
+}

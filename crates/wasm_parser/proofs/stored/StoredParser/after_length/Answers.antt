@@ -6,11 +6,14 @@ use Rattle.wasm_grammar.specs.Content.{kind_of}
 use Rattle.wasm_grammar.specs.KindInCode.{kind_is}
 use Rattle.wasm_parser.specs.ParserState.{known_context}
 use Rattle.wasm_parser.proofs.Framed.{sized_large, sized_as, sized_disordered, sized_ordered}
-use Rattle.wasm_parser.proofs.parser.Parser.after_length.Goals as goal
+use Rattle.wasm_parser.specs.Stored.{numbers_of}
+use Rattle.wasm_parser.proofs.stored.StoredParser.after_length.Goals as goal
 
 pub returns-then-from-original_position : goal.returns-then-from-original_position
 returns-then-from-original_position c =
-    sized_large (known_context c.args.self.now) (kind_of c.args.self.now.encoding c.args.id) c.args.id c.args.field c.args.size
+    let context = known_context (numbers_of c.args.self.now) in
+    let kind = kind_of (numbers_of c.args.self.now).encoding c.args.id in
+    sized_large context kind c.args.id c.args.field c.args.size
     (place c.args.reader.now) c.with_number.result _ (omega arith)
     (c.with_number.ensures.report ∙ (λ i. record {
       fault = (c.new.ensures.report i).fault;
@@ -20,10 +23,12 @@ returns-then-from-original_position c =
 
 pub returns-then-is_out_of_order : goal.returns-then-is_out_of_order
 returns-then-is_out_of_order c =
-    sized_as (known_context c.args.self.now) (kind_is c.section_kind-kind.result) (kind_of c.args.self.now.encoding c.args.id) c.args.id
+    let context = known_context (numbers_of c.args.self.now) in
+    let kind = kind_of (numbers_of c.args.self.now).encoding c.args.id in
+    sized_as context (kind_is c.section_kind-kind.result) kind c.args.id
     c.args.field c.args.size (place c.args.reader.now) _ _ (c.section_kind-kind.ensures
     ∙ ap (λ e. kind_of e c.args.id) c.encoding.ensures)
-    (sized_disordered (known_context c.args.self.now) (kind_is c.section_kind-kind.result) c.args.id c.args.field c.args.size
+    (sized_disordered context (kind_is c.section_kind-kind.result) c.args.id c.args.field c.args.size
     (place c.args.reader.now) c.new-then-is_out_of_order.result _ (omega arith)
     (rw c.section_rank.ensures at (sym c.if-is_out_of_order.ensures))
     (c.new-then-is_out_of_order.ensures.report ∙ ap (at_offset OutOfOrder) c.original_position-then-is_out_of_order.ensures.offset)
@@ -31,8 +36,10 @@ returns-then-is_out_of_order c =
 
 pub returns : goal.returns
 returns c =
-    sized_as (known_context c.args.self.now) (kind_is c.section_kind-kind.result) (kind_of c.args.self.now.encoding c.args.id) c.args.id
+    let context = known_context (numbers_of c.args.self.now) in
+    let kind = kind_of (numbers_of c.args.self.now).encoding c.args.id in
+    sized_as context (kind_is c.section_kind-kind.result) kind c.args.id
     c.args.field c.args.size (place c.args.reader.now) _ _ (c.section_kind-kind.ensures
     ∙ ap (λ e. kind_of e c.args.id) c.encoding.ensures)
-    (sized_ordered (known_context c.args.self.now) (kind_is c.section_kind-kind.result) c.args.id c.args.field c.args.size
+    (sized_ordered context (kind_is c.section_kind-kind.result) c.args.id c.args.field c.args.size
     (place c.args.reader.now) _ _ (omega arith) (rw c.section_rank.ensures at (sym c.if-is_out_of_order.ensures)) c.content.ensures)

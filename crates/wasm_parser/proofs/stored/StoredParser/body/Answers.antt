@@ -1,58 +1,50 @@
-use Rattle.std.proofs.Common.{sym, ap, ◌∙◌, arith, refl}
+use Rattle.std.proofs.Common.{ap, ◌∙◌, arith, refl}
 use Rattle.std.proofs.lemmas.Result.{err_from_is_err_and}
 use Rattle.wasm_base.specs.FaultAt.{at_offset}
 use Rattle.wasm_base.specs.Window.{place}
 use Rattle.wasm_base.specs.declared.fault.Fault.TheVariants.{UnexpectedEof, TrailingCode}
-use Rattle.wasm_parser.specs.ParserState.{ParserState}
 use Rattle.wasm_parser.proofs.Bodies.{no_body_left, body_no_size, past_same, body_past, body_missing, body_read}
-use Rattle.wasm_parser.proofs.parser.Parser.body.Goals as goal
+use Rattle.wasm_parser.proofs.stored.StoredParser.body.Goals as goal
 
 pub returns-then-self-eq0 : goal.returns-then-self-eq0
 returns-then-self-eq0 c =
-    let b = sym (ap (λ (s : ParserState). s.bodies) c.self.view_is) ∙ c.if-self-eq0.true in
+    let b = c.if-self-eq0.true in
     no_body_left c.args.self.now.bodies c.args.self.now.code_bytes (place c.args.reader.now) c.new.result _ b
     (c.new.ensures.report ∙ ap (at_offset TrailingCode) c.original_position-start.ensures.offset) c.new.ensures.hint
 
 pub returns-in_err-size : goal.returns-in_err-size
 returns-in_err-size c =
     let e = err_from_is_err_and c.from_residual.result c.from_residual.ensures.1 in
-    let v = ap (λ (s : ParserState). s.bodies) c.self.view_is in
     rw (e.1, e.2) (body_no_size c.args.self.now.bodies c.args.self.now.code_bytes (place c.args.reader.now) _ _
-    (omega (arith, v, c.if-self-eq0.false)) c.in_err-size.ensures.gives c.in_err-size.ensures.hints)
+    (omega (arith, c.if-self-eq0.false)) c.in_err-size.ensures.gives c.in_err-size.ensures.hints)
 
 pub returns-then-passes : goal.returns-then-passes
 returns-then-passes c =
-    let v = ap (λ (s : ParserState). s.bodies) c.self.view_is in
-    let w = ap (λ (s : ParserState). s.code_bytes) c.self.view_is in
     let at = c.original_position-start.ensures.offset in
     let after = c.original_position.ensures.offset in
     body_past c.args.self.now.bodies c.args.self.now.code_bytes (place c.args.reader.now) (place c.read_var_u32.new.self) c.in_ok-size.size
     c.new-then-passes.result _
-    (omega (arith, v, c.if-self-eq0.false)) c.in_ok-size.ensures.gives
-    (past_same c.in_ok-size.size w after at c.passes.ensures c.if-passes.true)
+    (omega (arith, c.if-self-eq0.false)) c.in_ok-size.ensures.gives
+    (past_same c.in_ok-size.size refl after at c.passes.ensures c.if-passes.true)
     (c.new-then-passes.ensures.report ∙ ap (at_offset UnexpectedEof) at) c.new-then-passes.ensures.hint
 
 pub returns-in_err-window : goal.returns-in_err-window
 returns-in_err-window c =
     let e = err_from_is_err_and c.from_residual-in_err-window.result c.from_residual-in_err-window.ensures.1 in
-    let v = ap (λ (s : ParserState). s.bodies) c.self.view_is in
-    let w = ap (λ (s : ParserState). s.code_bytes) c.self.view_is in
     let at = c.original_position-start.ensures.offset in
     let after = c.original_position.ensures.offset in
     rw (e.1, e.2) (body_missing c.args.self.now.bodies c.args.self.now.code_bytes (place c.args.reader.now) (place c.read_var_u32.new.self)
     c.in_ok-size.size _ _
-    (omega (arith, v, c.if-self-eq0.false)) c.in_ok-size.ensures.gives
-    (past_same c.in_ok-size.size w after at c.passes.ensures c.if-passes.false)
+    (omega (arith, c.if-self-eq0.false)) c.in_ok-size.ensures.gives
+    (past_same c.in_ok-size.size refl after at c.passes.ensures c.if-passes.false)
     c.in_err-window.ensures.gives c.in_err-window.ensures.hints)
 
 pub returns : goal.returns
 returns c =
-    let v = ap (λ (s : ParserState). s.bodies) c.self.view_is in
-    let w = ap (λ (s : ParserState). s.code_bytes) c.self.view_is in
     let at = c.original_position-start.ensures.offset in
     let after = c.original_position.ensures.offset in
     body_read c.args.self.now.bodies c.args.self.now.code_bytes (place c.args.reader.now) (place c.read_var_u32.new.self) c.in_ok-size.size
     c.in_ok-window.window (place c.window.new.reader) _
-    (omega (arith, v, c.if-self-eq0.false)) c.in_ok-size.ensures.gives
-    (past_same c.in_ok-size.size w after at c.passes.ensures c.if-passes.false)
+    (omega (arith, c.if-self-eq0.false)) c.in_ok-size.ensures.gives
+    (past_same c.in_ok-size.size refl after at c.passes.ensures c.if-passes.false)
     c.in_ok-window.ensures.gives (rw c.new-2.ensures refl, tt)

@@ -3,15 +3,16 @@ use Rattle.wasm_base.specs.FaultAt.{at_offset}
 use Rattle.wasm_base.specs.Window.{place}
 use Rattle.wasm_base.specs.declared.fault.Fault.TheVariants.{MagicAtSection}
 use Rattle.wasm_parser.proofs.Framed.{section_magic, section_framed}
-use Rattle.wasm_parser.proofs.parser.Parser.section.Goals as goal
+use Rattle.wasm_parser.specs.Stored.{numbers_of}
+use Rattle.wasm_parser.proofs.stored.StoredParser.section.Goals as goal
 
 pub returns-then-magic_follows : goal.returns-then-magic_follows
 returns-then-magic_follows c =
-    section_magic c.args.self.now (place c.args.reader.now) c.new.result _ c.if-magic_follows.ensures c.requires
+    section_magic (numbers_of c.args.self.now) (place c.args.reader.now) c.new.result _ c.if-magic_follows.ensures c.requires
     (c.new.ensures.report ∙ ap (at_offset MagicAtSection) c.original_position-start.ensures.offset) c.new.ensures.hint
 
 pub returns : goal.returns
 returns c =
-    section_framed c.args.self.now (place c.args.reader.now) (place c.read_u8.new.self) c.in_ok-id.id c.after_id.result _
+    section_framed (numbers_of c.args.self.now) (place c.args.reader.now) (place c.read_u8.new.self) c.in_ok-id.id c.after_id.result _
     c.if-magic_follows.ensures c.in_ok-id.ensures.gives
     (rw c.original_position-start.ensures.offset at c.after_id.ensures)

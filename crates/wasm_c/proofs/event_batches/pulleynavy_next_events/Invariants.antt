@@ -1,11 +1,13 @@
 use Rattle.std.proofs.Common.{◌-◌, ◌≤◌, length}
+use Rattle.wasm_parser.specs.Stored.{parser_of}
 use Rattle.wasm_c.proofs.EventBatches.{Stored}
-use Rattle.wasm_c.proofs.event_batches.store_events.Given as goal
+use Rattle.wasm_c.proofs.event_batches.pulleynavy_next_events.Given as goal
 
 abbrev pub invariant-loop-count : goal.invariant-loop-count
 invariant-loop-count l = record {
   within : l.count ≤ length l.out;
-  stored : Stored l.is_all l.initial.parser l.initial.bytes l.initial.out l.count (length l.out - l.count) l.at l.parser l.rest l.out;
+  stored : Stored l.is_all (parser_of l.initial.parser) l.initial.bytes l.initial.out l.count (length l.out - l.count) l.at
+      (parser_of l.parser) l.rest l.out;
 }
 
 abbrev pub decreases-loop-count : goal.decreases-loop-count

@@ -1,0 +1,10 @@
+-- Stored parsers whose code section ends within the offsets of a stream.
+use Rattle.std.proofs.Common.{◌≡◌, ◌+◌, ◌-◌, ◌<◌, ◌^◌, ℕ, min, ap, arith}
+use Rattle.wasm_parser.specs.Stored.{numbers_of, parser_of}
+use Rattle.wasm_parser.specs.declared.stored.StoredParser.{StoredParser}
+
+-- Their numbers are the parser.
+pub settled : (s : StoredParser) → s.offset + s.code_bytes < 2 ^ 64 → parser_of s ≡ numbers_of s
+settled s fits =
+    let all : min s.code_bytes (2 ^ 64 - 1 - s.offset) ≡ s.code_bytes = omega (arith, fits) in
+    ap (λ (n : ℕ). record (numbers_of s) { code_bytes = n }) all

@@ -1,0 +1,22 @@
+use Rattle.std.proofs.Common.{◌∙◌, arith, refl}
+use Rattle.wasm_parser.specs.ReadsPart.{is_lacking}
+use Rattle.wasm_parser.specs.Stored.{numbers_of}
+use Rattle.wasm_parser.proofs.Parsing.{functions_alone, data_count_alone, nothing_lacks}
+use Rattle.wasm_parser.proofs.stored.StoredParser.end.Goals as goal
+
+pub returns-then-lacks-clause-answers : goal.returns-then-lacks-clause-answers
+returns-then-lacks-clause-answers c =
+    functions_alone (numbers_of c.args.self.now) c.new.result (omega arith) c.requires
+    (c.if-lacks.ensures ∙ (λ i. is_lacking (c.functions.ensures i) (c.codes.ensures i))) c.new.ensures.report
+
+pub returns-then-lacks-2-clause-answers : goal.returns-then-lacks-2-clause-answers
+returns-then-lacks-2-clause-answers c =
+    data_count_alone (numbers_of c.args.self.now) c.new-then-lacks-2.result (omega arith) c.requires
+    (c.if-lacks.ensures ∙ (λ i. is_lacking (c.functions.ensures i) (c.codes.ensures i)))
+    (c.if-lacks-2.ensures ∙ (λ i. is_lacking (c.data_counts.ensures i) (c.datas.ensures i))) c.new-then-lacks-2.ensures.report
+
+pub returns-clause-answers : goal.returns-clause-answers
+returns-clause-answers c =
+    nothing_lacks (numbers_of c.args.self.now) _ c.args.self.now.offset refl (omega arith) c.requires
+    (c.if-lacks.ensures ∙ (λ i. is_lacking (c.functions.ensures i) (c.codes.ensures i)))
+    (c.if-lacks-2.ensures ∙ (λ i. is_lacking (c.data_counts.ensures i) (c.datas.ensures i))) refl
