@@ -3,16 +3,19 @@ ghost use Rattle.std.specs.Prelude.{◌≡◌};
 ghost use Rattle.wasm_base.specs.FaultAt.{fault_at};
 ghost use Rattle.wasm_parser.specs.ParseAnswer.{report_of};
 ghost use Rattle.wasm_c.specs.Events.{answer_event, code_event, counted_event, encoding_code, event_between, fault_event, parsed_event, placed_at, report_event, request_event, silent};
-ghost use Rattle.wasm_parser.specs.declared.payload.Payload.TheVariants.{CustomSection};
+ghost use Rattle.wasm_parser.specs.declared.payload.Payload.TheVariants.{CodeSectionEntry, CustomSection};
 
 use crate::faults::{NO_FAULT, PlainFault, plain_fault};
 use crate::spans::distance;
+use std::ops::Range;
 use wasm_grammar::{
     CODE_SECTION, CUSTOM_SECTION, DATA_COUNT_SECTION, DATA_SECTION, ELEMENT_SECTION,
     EXPORT_SECTION, FUNCTION_SECTION, GLOBAL_SECTION, IMPORT_SECTION, MEMORY_SECTION,
     START_SECTION, TABLE_SECTION, TAG_SECTION, TYPE_SECTION,
 };
-use wasm_parser::{Chunk, CustomSectionReader, Encoding, Error, Payload, Result, SectionLimited};
+use wasm_parser::{
+    Chunk, CustomSectionReader, Encoding, Error, FunctionBody, Payload, Result, SectionLimited,
+};
 
 /// An event of a stream, a fault or a request for more input. Fields that the kind does not use are 0.
 ///
@@ -71,12 +74,12 @@ pub(crate) const SILENT: PlainEvent = PlainEvent {
     fault: NO_FAULT,
 };
 
-// Where an event was read: the offset of the first byte, where that is in memory, and how many bytes were consumed.
+/// Where an event was read: the offset of the first byte, where that is in memory, and how many bytes were consumed.
 #[derive(Clone, Copy)]
-struct Origin {
-    offset: u64,
-    base: usize,
-    consumed: usize,
+pub(crate) struct Origin {
+    pub(crate) offset: u64,
+    pub(crate) base: usize,
+    pub(crate) consumed: usize,
 }
 
 // An event of this kind with these offsets.
@@ -130,9 +133,9 @@ fn code_event(origin: Origin, count: u32, from: u64, to: u64, size: u32) -> Plai
     }
 }
 
-// A custom section.
+/// A custom section.
 #[inline(always)]
-fn custom_event(origin: Origin, section: &CustomSectionReader) -> PlainEvent
+pub(crate) fn custom_event(origin: Origin, section: &CustomSectionReader) -> PlainEvent
     ensures { result ≡ placed_at origin
         (report_event (report_of (CustomSection section.now))) }
 {
@@ -142,6 +145,24 @@ fn custom_event(origin: Origin, section: &CustomSectionReader) -> PlainEvent
         name_size: section.name().len(),
         ..event_between(origin, 7, u32::from(CUSTOM_SECTION), range.start, range.end)
     }
+}
+
+/// A body.
+#[inline(always)]
+pub(crate) fn body_event(origin: Origin, body: &FunctionBody) -> PlainEvent
+    ensures { result ≡ placed_at origin
+        (report_event (report_of (CodeSectionEntry body.now))) }
+{
+    let range = body.range();
+    event_between(origin, 6, u32::from(CODE_SECTION), range.start, range.end)
+}
+
+/// A section with an unknown id.
+#[inline(always)]
+pub(crate) fn unknown_event(origin: Origin, id: u8, range: &Range<u64>) -> PlainEvent
+    ensures { result ≡ placed_at origin (event_between 8 id range.now.start range.now.end) }
+{
+    event_between(origin, 8, u32::from(id), range.start, range.end)
 }
 
 /// Stores a payload that was read at this offset, whose byte is at `base` in memory. Each kind is stored on its own, so that its
@@ -209,14 +230,9 @@ pub(crate) fn put_parsed(
             unchecked_range.end,
             *size,
         ),
-        Payload::CodeSectionEntry(body) => {
-            let range = body.range();
-            *out = event_between(origin, 6, u32::from(CODE_SECTION), range.start, range.end);
-        }
+        Payload::CodeSectionEntry(body) => *out = body_event(origin, body),
         Payload::CustomSection(section) => *out = custom_event(origin, section),
-        Payload::UnknownSection { id, range, .. } => {
-            *out = event_between(origin, 8, u32::from(*id), range.start, range.end);
-        }
+        Payload::UnknownSection { id, range, .. } => *out = unknown_event(origin, *id, range),
         Payload::End(offset) => *out = event_between(origin, 9, 0, *offset, *offset),
     }
 }

@@ -5,10 +5,13 @@ ghost use Rattle.wasm_c.specs.Events.{ParsesPlain};
 ghost use Rattle.wasm_parser.specs.Stored.{parser_of, skipped_of};
 ghost use Rattle.wasm_c.specs.Texts.{Says, SaysFault};
 
-use crate::events::{PlainEvent, SILENT, fault_event, put_parsed, request_event};
+use crate::events::{
+    Origin, PlainEvent, SILENT, body_event, custom_event, fault_event, put_parsed, request_event,
+    unknown_event,
+};
 use crate::text::write_text;
 use bitflags::Flags;
-use wasm_parser::{Chunk, Parser, Result, StoredParser, WasmFeatures};
+use wasm_parser::{Chunk, Parser, Payload, Result, StoredParser, WasmFeatures};
 
 /// Returns a parser for a stream that begins at this offset and is read with these features.
 #[unsafe(no_mangle)]
@@ -20,19 +23,19 @@ pub extern "C" fn pulleynavy_parser_init(offset: u64, features: u32) -> StoredPa
     parser.stored()
 }
 
-// Returns what the parser returns, as an event. The parser is read in place: to copy it and back took 100 instructions.
+// Returns what `pulleynavy_parse` returns, for bytes that begin at `base` of a storage.
 #[inline(always)]
-pub(crate) fn parse_stored(
-    parser: &mut StoredParser,
+pub(crate) fn parse_at(
+    stored: &mut StoredParser,
     bytes: &[u8],
     is_all: bool,
     base: usize,
 ) -> PlainEvent
-    ensures { ParsesPlain base (parser_of parser.old) is_all bytes.now result
-        (parser_of parser.new) }
+    ensures { ParsesPlain base (parser_of stored.old) is_all bytes.now result
+        (parser_of stored.new) }
 {
-    let offset = parser.offset;
-    match parser.parse(bytes, is_all) {
+    let offset = stored.offset;
+    match stored.parse(bytes, is_all) {
         Ok(
             Chunk::Parsed {
                 consumed,
@@ -90,7 +93,35 @@ pub extern "C" fn pulleynavy_parse(
 ) -> PlainEvent
     ensures { ParsesPlain 0 (parser_of parser.old) is_all bytes.now result (parser_of parser.new) }
 {
-    parse_stored(parser, bytes, is_all, 0)
+    let offset = parser.offset;
+    match parser.parse(bytes, is_all) {
+        Ok(
+            Chunk::Parsed {
+                consumed,
+                ref payload,
+            },
+        ) => {
+            let origin = Origin {
+                offset,
+                base: 0,
+                consumed,
+            };
+            // Each of the frequent kinds returns on its own, so that its fields go straight to the caller's memory.
+            match payload {
+                Payload::CodeSectionEntry(body) => return body_event(origin, body),
+                Payload::CustomSection(section) => return custom_event(origin, section),
+                Payload::UnknownSection { id, range, .. } => {
+                    return unknown_event(origin, *id, range);
+                }
+                _ => {}
+            }
+            let mut event = SILENT;
+            put_parsed(&mut event, offset, 0, consumed, payload);
+            event
+        }
+        Ok(Chunk::NeedMoreData(hint)) => request_event(hint, 0),
+        Err(error) => fault_event(error, 0),
+    }
 }
 
 /// Skips the remaining bytes of a code section, and returns their number. Pass the bytes after them to the next
@@ -131,8 +162,8 @@ pub extern "C" fn pulleynavy_format_fault(
 ) -> usize
     ensures { SaysFault (parser_of parser.now) is_all bytes.now out.old result out.new }
 {
-    let mut current = *parser;
-    write_fault(current.parse(bytes, is_all), out)
+    let mut copy = *parser;
+    write_fault(copy.parse(bytes, is_all), out)
 }
 
 fn write_fault(answer: Result<Chunk<'_>>, out: &mut [u8]) -> usize

@@ -59,7 +59,7 @@ use wasm_items::FunctionBody;
 /// ```
 #[derive(Debug, Drop)]
 pub struct Parser {
-    // Plain numbers, so that the parser of a program in C is read in place.
+    // Its methods parse. So the parser of a program in C, which is such numbers, is parsed in place.
     stored: StoredParser,
 }
 
@@ -265,7 +265,7 @@ impl Parser {
         }
     }
 
-    /// Returns the parser as plain numbers, which a program in another language can keep.
+    /// Returns the parser as numbers, which a program in another language can keep.
     #[tactic(auto, using(crate::proofs::Settled::settled))]
     pub fn stored(&self) -> StoredParser
         ensures { parser_of result ≡ self.now }

@@ -1,4 +1,4 @@
-// A parser in memory that isn't Rattle's.
+// A parser as numbers, in the memory of a program in another language.
 ghost use Rattle.std.specs.Prelude.{◌≡◌, ◌+◌, ◌<◌, ◌^◌};
 ghost use Rattle.wasm_parser.specs.AsksWhereOpen.{AsksWhereOpen};
 ghost use Rattle.wasm_parser.specs.GivesNextEvent.{GivesNextEvent};
@@ -110,9 +110,19 @@ impl StoredParser {
 
     /// Returns the next part of the stream, or requests more bytes, as `Parser::parse` does.
     ///
+    /// Any numbers are a parser. The remaining bytes of a code section are limited to the offsets of a stream.
+    ///
     /// # Errors
     ///
     /// Those of `Parser::parse`.
+    ///
+    /// ```rattle
+    /// let stream: &[u8] = b"\0asm\x01\0\0\0\0\x02\x01a";
+    /// let mut parser = Parser::new(0).stored();
+    /// assert!(rt; matches!(parser.parse(stream, true)?, Chunk::Parsed { consumed: 8, .. }));
+    /// assert!(rt; matches!(parser.parse(&stream[8..], true)?, Chunk::Parsed { consumed: 4, .. }));
+    /// assert_eq!(rt; parser.offset, 12);
+    /// ```
     #[inline(always)]
     pub fn parse<'a>(&mut self, bytes: &'a [u8], eof: bool) -> Result<Chunk<'a>>
         ensures answers { ParseAnswer (parser_of self.old) eof bytes.now result (parser_of self.new) }
@@ -131,6 +141,16 @@ impl StoredParser {
     /// Skips the remaining bytes of a code section, and returns their number.
     ///
     /// Outside a code section it returns 0, and leaves the parser unchanged.
+    ///
+    /// ```rattle
+    /// let stream: &[u8] = b"\0asm\x01\0\0\0\x03\x02\x01\0\x0a\x04\x01\x02\0\x0b";
+    /// let mut parser = Parser::new(0).stored();
+    /// assert_eq!(rt; parser.skip_section(), 0);
+    /// for part in [0..8, 8..12, 12..15] {
+    ///     parser.parse(&stream[part], false)?;
+    /// }
+    /// assert_eq!(rt; (parser.skip_section(), parser.offset), (3, 18));
+    /// ```
     pub fn skip_section(&mut self) -> u32
         ensures { skipped_of (parser_of self.old) ≡ (result, parser_of self.new) }
     {

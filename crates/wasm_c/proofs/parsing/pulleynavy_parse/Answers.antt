@@ -1,6 +1,6 @@
 use Rattle.std.proofs.Common.{Ok, sym, ap, ◌∙◌}
 use Rattle.wasm_c.specs.Events.{answer_event}
-use Rattle.wasm_c.proofs.parsing.parse_stored.Goals as goal
+use Rattle.wasm_c.proofs.parsing.pulleynavy_parse.Goals as goal
 
 pub returns-in-Ok-Parsed : goal.returns-in-Ok-Parsed
 returns-in-Ok-Parsed c = record {
