@@ -57,6 +57,23 @@ static void feeder(void) {
     CHECK(pulleynavy_feed_step(&f, storage, sizeof storage).kind == PULLEYNAVY_EVENT_VERSION);
 }
 
+/* A push without room after the held bytes moves them to the front, whether or not they overlap their new place. */
+static void moving(void) {
+    static const uint8_t header[] = {0x00, 0x61, 0x73, 0x6d, 0x01, 0x00, 0x00, 0x00};
+    static const uint8_t section[] = {0, 20, 1, 'a', 1, 2, 3, 4, 5, 6, 7, 8, 9, 10, 11, 12, 13, 14, 15, 16, 17, 18};
+    for (size_t held = 3; held <= 15; held += 12) {
+        uint8_t storage[23];
+        pulleynavy_feed f = pulleynavy_feed_init(0, PULLEYNAVY_ALL_FEATURES);
+        CHECK(pulleynavy_feed_push(&f, storage, sizeof storage, header, sizeof header));
+        CHECK(pulleynavy_feed_push(&f, storage, sizeof storage, section, held));
+        CHECK(pulleynavy_feed_step(&f, storage, sizeof storage).kind == PULLEYNAVY_EVENT_VERSION);
+        CHECK(pulleynavy_feed_push(&f, storage, sizeof storage, section + held, sizeof section - held));
+        CHECK(f.mark == 0 && f.end == sizeof section && !memcmp(storage, section, sizeof section));
+        pulleynavy_event e = pulleynavy_feed_step(&f, storage, sizeof storage);
+        CHECK(e.kind == PULLEYNAVY_EVENT_CUSTOM && e.start == 10 && e.at == 2 && e.consumed == sizeof section);
+    }
+}
+
 /* An event says where its bytes are, in those of the call or in the storage, and a section where its first item begins. */
 static void places(void) {
     static const uint8_t bytes[] = {0x00, 0x61, 0x73, 0x6d, 0x01, 0x00, 0x00, 0x00, 0x07, 0x05, 0x01, 0x01, 0x61, 0x00, 0x00};
@@ -175,6 +192,6 @@ static void enumerators(void) {
 
 int main(void) {
     CHECK(pulleynavy_version() == PULLEYNAVY_VERSION_NUMBER);
-    core_modules(), parser(), feeder(), places(), batches(), lists(), entries(), parts(), ends(), enumerators();
+    core_modules(), parser(), feeder(), moving(), places(), batches(), lists(), entries(), parts(), ends(), enumerators();
     return status;
 }
