@@ -8,5 +8,6 @@ pub mod ParserLaws
 pub mod ParserState
 pub mod PayloadItems
 pub mod ReadsPart
+pub mod SkipNext
 pub mod Skipped
 pub mod StateAfter

@@ -24,7 +24,7 @@ mod state;
 
 pub use checkpoint::Checkpoint;
 pub use parse_all::ParseAll;
-pub use parser::Parser;
+pub use parser::{Parser, PartHead, SkippedPart};
 pub use payload::{Chunk, CountedSection, Payload, SectionParts};
 // Not re-exported: what only authors of item types need, such as `SkipItem`, `read_inner` and `read_list`.
 pub use wasm_base::_MAX_WASM_TABLE_SIZE;

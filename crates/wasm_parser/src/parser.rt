@@ -17,6 +17,8 @@ ghost use Rattle.wasm_parser.specs.StateAfter.{knowing, missing_bytes, state_aft
 ghost use Rattle.wasm_parser.specs.AsksWhereOpen.{AsksWhereOpen};
 ghost use Rattle.wasm_grammar.specs.declared.encoding.Encoding.TheVariants.{Module, Component};
 
+mod skipping;
+
 use crate::checkpoint::Checkpoint;
 use crate::contents::{code, custom, data_count, items, lacks, start, unknown, window};
 use crate::header::{magic_follows, missing_at_section, read_header};
@@ -27,6 +29,7 @@ use crate::state::{
     missing_bytes,
 };
 use bitflags::Flags;
+pub use skipping::{PartHead, SkippedPart};
 use std::alloc::AllocError;
 use std::marker::Model;
 use wasm_base::{BinaryReader, Error, Fault, Result, WasmFeatures, fits};
