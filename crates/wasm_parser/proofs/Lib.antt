@@ -15,6 +15,7 @@ pub mod NextParts
 pub mod Parsing
 pub mod PayloadItems
 pub mod ReadingFields
+pub mod SkipAlong
 pub mod SkipNext
 pub mod SkippedLaws
 pub mod StateLaws

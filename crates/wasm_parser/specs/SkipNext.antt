@@ -1,5 +1,5 @@
 -- Skipping a section or body by its first fields. Core specification, Binary format, Modules, Sections and Code Section.
-use Rattle.std.specs.Prelude.{◌≡◌, ℕ, ◌+◌, ◌-◌, ◌<◌, ◌≤◌, ◌^◌, ◌||◌, ◌&&◌, not, Bool, List, [], ◌++◌, length, Option}
+use Rattle.std.specs.Prelude.{◌≡◌, ℕ, ◌+◌, ◌-◌, ◌<◌, ◌≤◌, ◌^◌, ◌||◌, ◌&&◌, not, Bool, List, [], ◌∷◌, ◌++◌, length, Option}
 use Rattle.std.specs.Prelude.{Some, None, Result, Ok, Err, is_some, nat_lt, nat_le, nat_eq, ◌==◌, if◌then◌else◌}
 use Rattle.wasm_base.specs.FaultAt.{FaultAt, at_offset}
 use Rattle.wasm_base.specs.Name.{byte_at, name_limit, text_at}
@@ -13,7 +13,9 @@ use Rattle.wasm_grammar.specs.Content.{Kind, whole, fault, kind_of, rank_of}
 use Rattle.wasm_grammar.specs.Grammar.{Tile, tile, final, verdict}
 use Rattle.wasm_grammar.specs.Ids.{data_id}
 use Rattle.wasm_grammar.specs.Reading.{Report, custom_section, counted, unknown_section, code_entry, tile_report}
+use Rattle.wasm_grammar.specs.Reading.{Event, last_event, Reading}
 use Rattle.wasm_grammar.specs.Waiting.{asked_at_section}
+use Rattle.wasm_parser.specs.Along.{Along}
 use Rattle.wasm_parser.specs.ParserState.{ParserState, grammar_of}
 use Rattle.wasm_parser.specs.ReadsPart.{is_magic_next, is_other}
 use Rattle.wasm_parser.specs.StateAfter.{state_after, state_after_tile}
@@ -154,3 +156,25 @@ pub record SkipsPart (old : ParserState) (bytes : List ℕ) (skip : Skip) (new :
 abbrev pub SkipsNext : ParserState → (bytes : List ℕ) → Option Skip → ParserState → Type 0
 SkipsNext old bytes (Some skip) new = SkipsPart old bytes skip new
 SkipsNext old bytes None new = new ≡ old
+
+-- The next event of a stream is the part that was skipped: with these bytes and first fields, and the parser is after it.
+pub record SkipCame (start features : ℕ) (given : List ℕ) (events : List Event) (bytes rest : List ℕ) (skip : Skip)
+    (new : ParserState) : Type 0 where
+  pub event : Event
+  pub head : head_in event.report ≡ Some skip.head
+  pub consumed : event.consumed ≡ bytes
+  pub is_along : Along start features given new rest (events ++ event ∷ [])
+
+-- What a caller relies on that receives a stream bit by bit, and lets the parser skip a part.
+pub record SkippingGoesAlong : Type 0 where
+  -- once all bytes of the part have come, the caller is after it
+  pub whole : (start features : ℕ) (given : List ℕ) (p : ParserState) (first others : List ℕ) (events : List Event)
+      (skip : Skip) (new : ParserState) (more bytes rest : List ℕ) → Along start features given p (first ++ others) events
+      → SkipsPart p first skip new → (first ++ others) ++ more ≡ bytes ++ rest → p.offset + length bytes ≡ skip.to
+      → SkipCame start features (given ++ more) events bytes rest skip new
+  -- a stream that ends before that has a fault where the content begins
+  pub short : (start features : ℕ) (given : List ℕ) (p : ParserState) (first others : List ℕ) (events : List Event)
+      (skip : Skip) (new : ParserState) (more : List ℕ) → Along start features given p (first ++ others) events
+      → SkipsPart p first skip new → p.offset + length ((first ++ others) ++ more) < skip.to
+      → Reading (given ++ more) start features
+      (events ++ last_event (fault (at_offset UnexpectedEof skip.from)) ∷ [])
