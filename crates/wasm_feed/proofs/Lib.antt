@@ -10,4 +10,5 @@ pub mod Progress
 pub mod Resting
 pub mod Stepping
 pub mod StripLaws
+pub mod StripStream
 pub mod Waits

@@ -40,6 +40,7 @@ mod feeder;
 pub mod laws;
 mod listing;
 mod pieces;
+mod strip_stream;
 mod stripping;
 
 pub use ahead::Ahead;
