@@ -13,7 +13,7 @@ use Rattle.wasm_base.specs.declared.error.Error.{Error}
 use Rattle.wasm_base.specs.declared.fault.Fault.TheVariants.{UnexpectedEof}
 use Rattle.wasm_feed.specs.Beside.{seen, unseen}
 use Rattle.wasm_feed.specs.declared.feeder.Cursor.{Cursor}
-use Rattle.wasm_feed.specs.declared.strip_stream.Passing.{Passing}
+use Rattle.wasm_feed.specs.declared.streaming.Passing.{Passing}
 
 -- ---- bytes that are put
 

@@ -1,5 +1,5 @@
 -- Stripping a stream while it is read.
-use Rattle.std.specs.Prelude.{◌≡◌, ℕ, ◌+◌, ◌-◌, ◌<◌, ◌≤◌, ◌^◌, Bool, true, false, List, [], ◌∷◌, ◌++◌, length, drop, Option}
+use Rattle.std.specs.Prelude.{◌≡◌, ◌⊎◌, ℕ, ◌+◌, ◌-◌, ◌<◌, ◌≤◌, ◌^◌, Bool, true, false, List, [], ◌∷◌, ◌++◌, length, drop, Option}
 use Rattle.std.specs.Prelude.{Some, None, Result, Ok, Err, if◌then◌else◌}
 use Rattle.std.specs.Io.KnownBytes.{Consumes, Appends, IsAtEnd, Keeps}
 use Rattle.wasm_base.specs.FaultAt.{fault_at, at_offset}
@@ -8,7 +8,7 @@ use Rattle.wasm_base.specs.declared.error.Error.{Error}
 use Rattle.wasm_base.specs.declared.fault.Fault.TheVariants.{UnexpectedEof}
 use Rattle.wasm_grammar.specs.Content.{Ending}
 use Rattle.wasm_grammar.specs.EventRanges.{consumed_by}
-use Rattle.wasm_grammar.specs.Reading.{Event, last_event}
+use Rattle.wasm_grammar.specs.Reading.{Event, last_event, Stream}
 use Rattle.wasm_lines.specs.Calls.{Change, Device, bytes_of, input_failed, output_failed}
 use Rattle.wasm_lines.specs.Page.{IsCut, PutsBytes}
 use Rattle.wasm_lines.specs.declared.devices.ListError.{ListError}
@@ -16,7 +16,7 @@ use Rattle.wasm_parser.specs.Along.{Along}
 use Rattle.wasm_parser.specs.ParseAnswer.{report_of, is_end}
 use Rattle.wasm_parser.specs.ParserState.{ParserState}
 use Rattle.wasm_parser.specs.SkipNext.{Head, Skip, SkipsPart, custom}
-use Rattle.wasm_feed.specs.Beside.{seen, unseen}
+use Rattle.wasm_feed.specs.Beside.{seen, unseen, lending, FillsAlike}
 use Rattle.wasm_feed.specs.Feed.{Feed}
 use Rattle.wasm_feed.specs.Lists.{IsEndedBy, IsWhole, PassesTop}
 use Rattle.wasm_feed.specs.Stripped.{IsStripped, kept_bytes, report_stays}
@@ -27,7 +27,7 @@ use Rattle.wasm_feed.specs.declared.feeder.Step.TheVariants.{NeedMoreData, Parse
 use Rattle.wasm_feed.specs.declared.listing.Ended.{Ended}
 use Rattle.wasm_feed.specs.declared.listing.Ended.TheVariants.{End}
 use Rattle.wasm_feed.specs.declared.listing.Turn.{Turn}
-use Rattle.wasm_feed.specs.declared.strip_stream.Passing.{Passing}
+use Rattle.wasm_feed.specs.declared.streaming.Passing.{Passing}
 
 -- ---- bytes that are forwarded
 
@@ -141,3 +141,54 @@ pub record WroteSome (input output : Change) : Type 0 where
   pub some : List ℕ
   pub gave : Consumes input.before input.after given
   pub wrote : Appends output.before output.after some
+
+-- ---- a whole stream
+
+-- What was done with a request: the next bytes were read, or a part was skipped, of which these were the first bytes.
+pub record PassesHere (keeps : List ℕ → Bool) (source rest taken written : Option (List ℕ)) (old : Cursor)
+    (stored chunk waiting : List ℕ) (fault : Option Error) (new : Feed) (page : List ℕ) : Type 0 where
+  pub passing : Passing
+  pub skipped : Cursor
+  pub skips : SkipsHere keeps old (seen stored chunk) passing skipped
+  pub left : List ℕ
+  pub passes : PassesPart source rest taken written passing skipped stored chunk waiting fault left page
+  pub state : new.state ≡ skipped.parser
+  pub held : new.held ≡ left
+  pub eof : new.eof ≡ skipped.is_finished
+
+abbrev pub ReadsMore : (source rest taken written : Option (List ℕ)) (old : Feed) (waiting : List ℕ) (fault : Option Error)
+    (new : Feed) (page : List ℕ) → Type 0
+ReadsMore source rest taken written old waiting fault new page =
+    FillsAlike source rest old new × (written ≡ taken) × (page ≡ waiting) × (fault ≡ None)
+
+abbrev pub ReadsOrPasses : (keeps : List ℕ → Bool) (source rest taken written : Option (List ℕ)) (old : Cursor)
+    (stored chunk waiting : List ℕ) (fault : Option Error) (new : Feed) (page : List ℕ) → Type 0
+ReadsOrPasses keeps source rest taken written old stored chunk waiting fault new page =
+    ReadsMore source rest taken written (lending stored chunk old) waiting fault new page
+    ⊎ PassesHere keeps source rest taken written old stored chunk waiting fault new page
+
+-- What was read and written of a stream that ended so. A fault may come after the first bytes of a part, which were
+-- written if it stays.
+pub record IsStreamed (keeps : List ℕ → Bool) (input output : Change) (how : Ended) : Type 0 where
+  pub given : List ℕ
+  pub first : List Event
+  pub end : Ending
+  pub partial : List ℕ
+  pub unread : List ℕ
+  pub gave : Consumes input.before input.after given
+  pub parts : given ≡ consumed_by first ++ (partial ++ unread)
+  pub wrote : Appends output.before output.after (kept_bytes keeps first ++ partial)
+  pub ends : IsEndedBy how end
+  pub within : length given < 2 ^ 64 → IsWhole input.before given (first ++ last_event end ∷ [])
+  pub past_the_top : 2 ^ 64 ≤ length given → PassesTop given first end
+  pub strips : how ≡ End → Stream given 0 → IsStripped keeps given (kept_bytes keeps first ++ partial)
+
+abbrev pub StripsBy : (keeps : List ℕ → Bool) (input output : Change) → Result Ended ListError → Type 0
+StripsBy keeps input output (Ok how) = IsStreamed keeps input output how
+StripsBy keeps input output (Err e) = WroteSome input output
+
+-- what a call that strips a source does, and whether each device has failed
+pub record StripsSource (keeps : List ℕ → Bool) (input output : Device) (how : Result Ended ListError) : Type 0 where
+  pub strips : StripsBy keeps (bytes_of input) (bytes_of output) how
+  pub source : input.has_failed ≡ input_failed how input.had_failed
+  pub sink : output.has_failed ≡ output_failed how output.had_failed

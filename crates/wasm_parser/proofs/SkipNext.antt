@@ -191,6 +191,7 @@ pub record SkipsAs (g : Grammar) (features : ℕ) (p : Place) (s : Skip) : Type 
   pub size : ℕ
   pub ends : p.offset + size ≡ s.to
   pub missing : length p.rest < size
+  pub fits : s.to < 2 ^ 64
   pub skips : Skips g p.rest size s.from (λ shape. (from : ℕ) → head_in (tile_report features from s.to shape) ≡ Some s.head)
 
 abbrev skip_or : Skip → Outcome Skip → Skip
@@ -249,6 +250,7 @@ body_skips_as q features p after s f = by_size (number VarU32 p.rest) refl f
               size = used + size;
               ends = omega arith;
               missing = let d = length-drop used p.rest in omega (arith, d, cut.0);
+              fits = cut.1;
               skips = body_skips q.bodies q.code_bytes features p size used e cut.0 (not_is _ b) (rw w at (not_is _ c));
             })
         by_test false t f = cc
@@ -324,6 +326,7 @@ section_skips_as q features p after s f = by_rest p.rest refl f
               size = suc (used + size);
               ends = omega arith;
               missing = omega (arith, d, cut.0);
+              fits = cut.1;
               skips = skips_id p.offset id _ _ r (used + size) (p.offset + 1 + used) Says a
                   (skips_check _ _ r (used + size) (p.offset + 1 + used) Says (rw t refl)
                   (skips_number (p.offset + 1)
@@ -405,4 +408,5 @@ skips_part p new xs s after h f n =
           };
       short = λ more l. k.skips.short more (omega (arith, l, k.ends));
       missing = omega (arith, k.missing, k.ends);
+      fits = k.fits;
     }

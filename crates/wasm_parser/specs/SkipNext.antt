@@ -152,6 +152,7 @@ pub record SkipsPart (old : ParserState) (bytes : List ℕ) (skip : Skip) (new :
   pub short : (more : List ℕ) → old.offset + length (bytes ++ more) < skip.to
       → verdict (grammar_of old) (bytes ++ more) ≡ final (fault (at_offset UnexpectedEof skip.from))
   pub missing : old.offset + length bytes < skip.to
+  pub fits : skip.to < 2 ^ 64
 
 abbrev pub SkipsNext : ParserState → (bytes : List ℕ) → Option Skip → ParserState → Type 0
 SkipsNext old bytes (Some skip) new = SkipsPart old bytes skip new

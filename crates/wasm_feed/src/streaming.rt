@@ -1,10 +1,11 @@
 // Stripping a stream that need not fit in memory.
-ghost use Rattle.std.specs.Prelude.{◌≡◌, ◌+◌, ◌≤◌, ◌<◌, [], drop, length, IfErr, IfOk, OnErr, OnOk};
+ghost use Rattle.std.specs.Prelude.{◌≡◌, ◌+◌, ◌≤◌, ◌<◌, [], drop, length, IfErr, IfOk, OnErr, OnOk, vec_len, vec_capacity};
 ghost use Rattle.wasm_lines.specs.Calls.{device_of, from_to, input_failed, output_failed};
-ghost use Rattle.wasm_feed.specs.Beside.{seen};
+ghost use Rattle.wasm_feed.specs.Beside.{beside, seen};
+ghost use Rattle.wasm_feed.specs.Cursors.{feed_of};
 ghost use Rattle.wasm_lines.specs.Page.{IsCut};
 ghost use Rattle.wasm_lines.specs.declared.devices.ListError.TheVariants.{Input};
-ghost use Rattle.wasm_feed.specs.StripStream.{FillsChunk, IsCutSomewhere, PassesMissing, PassesPart, PutsAll, Settles, SkipsIfAny, TakesPiece, TakesSome, WroteSome, head_stays, if_stays};
+ghost use Rattle.wasm_feed.specs.StripStream.{FillsChunk, IsCutSomewhere, PassesMissing, PassesPart, PutsAll, ReadsOrPasses, Settles, SkipsIfAny, StripsSource, TakesPiece, TakesSome, WroteSome, head_stays, if_stays};
 ghost use Rattle.wasm_feed.specs.Stripped.{stays_by};
 ghost use Rattle.wasm_parser.specs.SkipNext.{head_is};
 
@@ -246,5 +247,109 @@ fn pass_part<A: Allocator, R: Source, W: Sink>(
         Ok(None)
     } else {
         Ok(Some(Error::new(Fault::UnexpectedEof, passing.from)))
+    }
+}
+
+// Skips the part at the cursor, and forwards or drops it; or reads more, if its first fields are not here. Returns the
+// fault of a stream that ends within a part that was skipped.
+fn read_or_pass<A: Allocator, R: Source, W: Sink>(
+    keep: Keep<'_>,
+    cursor: &mut Cursor,
+    stored: &mut Vec<u8, A>,
+    ahead: &mut Ahead<A>,
+    page: &mut Page<A>,
+    input: &mut R,
+    output: &mut W,
+) -> Result<Option<Error>, ListError>
+    requires { vec_len stored.old + length ahead.old ≤ vec_capacity stored.old }
+    ensures reads { IfOk result (λ fault. ReadsOrPasses (stays_by keep.entry)
+        (R.remaining input.old) (R.remaining input.new) (W.taken output.old) (W.taken output.new)
+        cursor.old stored.old.items ahead.old page.old
+        fault (beside (feed_of stored.new.items cursor.new) ahead.new) page.new) }
+    ensures cut { OnErr result (WroteSome
+        (from_to (R.remaining input.old) (R.remaining input.new))
+        (from_to (W.taken output.old) (W.taken output.new))) }
+    ensures source { R.has_failed input.new ≡ input_failed result (R.has_failed input.old) }
+    ensures sink { W.has_failed output.new ≡ output_failed result (W.has_failed output.old) }
+{
+    match skip_part(cursor, seen(stored, ahead.bytes()), keep) {
+        Some(passing) => pass_part(passing, cursor, stored, ahead, page, input, output),
+        None => match ahead.refill(cursor, stored, input) {
+            Ok(()) => Ok(None),
+            Err(why) => Err(why),
+        },
+    }
+}
+
+/// Reads a stream from a source and writes it without its custom sections, except those that `keep` keeps.
+///
+/// It reads at most `piece` bytes at once, which must be at least 1. It buffers one chunk, at most 65,536 bytes to be
+/// written, and the first fields of a part. The parts of a well-formed stream are not buffered, however large they are.
+///
+/// Bytes are written before the end of the stream is known. To write nothing if the stream has a fault, read it twice:
+/// first with an output that drops its bytes. `strip_in` checks and copies a stream in memory.
+///
+/// A fault of the stream is no error: `Ended::Fault` is returned, and the parts before it have been written, perhaps
+/// with the first bytes of the part that it cuts.
+///
+/// # Errors
+///
+/// Some bytes may have been written.
+///
+/// * `Input` if the source failed.
+/// * `Output` if the sink failed.
+/// * `Memory` when an allocation fails.
+///
+/// ```rattle
+/// let mut input = SliceSource::new(b"\0asm\x01\0\0\0\0\x02\x01a\x01\x01\0");
+/// let mut output = BoundedSink::new(alloc, 1000)?;
+/// assert_eq!(rt; strip_stream(alloc, &mut input, &mut output, Keep::names(false), 4096)?, Ended::End);
+/// assert_eq!(rt; output.written(), b"\0asm\x01\0\0\0\x01\x01\0".as_slice());
+/// ```
+///
+/// (Core specification, Binary format, Modules, Custom Section.)
+pub fn strip_stream<A: Allocator + Copy, R: Source, W: Sink>(
+    alloc: A,
+    input: &mut R,
+    output: &mut W,
+    keep: Keep<'_>,
+    piece: usize,
+) -> Result<Ended, ListError>
+    requires { 1 ≤ piece }
+    ensures { StripsSource (stays_by keep.entry)
+        (device_of R.remaining R.has_failed input.old input.new)
+        (device_of W.taken W.has_failed output.old output.new) result }
+{
+    let mut ahead = Ahead::new(vec![in alloc; 0u8; piece]?);
+    let mut page = Page::new(alloc);
+    let mut stored = Vec::new(alloc);
+    let mut cursor = Cursor::new(Parser::new(0));
+    'parts: loop {
+        ahead.make_ready(&mut cursor, &mut stored)?;
+        let answer = parse_next(&mut cursor, seen(&stored, ahead.bytes()));
+        let turn = put_part(&mut page, output, &answer, keep);
+        drop(answer);
+        match turn? {
+            Turn::Advance => ahead.pass_borrowed(&mut cursor, &stored),
+            Turn::Read => {
+                let fault = read_or_pass(
+                    keep,
+                    &mut cursor,
+                    &mut stored,
+                    &mut ahead,
+                    &mut page,
+                    input,
+                    output,
+                )?;
+                if let Some(error) = fault {
+                    page.write_out(output)?;
+                    return Ok(Ended::Fault(error));
+                }
+            }
+            Turn::End(ended) => {
+                page.write_out(output)?;
+                return Ok(ended);
+            }
+        }
     }
 }

@@ -1,7 +1,7 @@
 use Rattle.std.proofs.Common.{refl, ◌∙◌}
 use Rattle.std.proofs.lemmas.Result.{err_from_is_err_and}
 use Rattle.wasm_feed.proofs.StripStream.{none_passed, passed_more, passed_end, passed_wrote}
-use Rattle.wasm_feed.proofs.strip_stream.pass_missing.Goals as goal
+use Rattle.wasm_feed.proofs.streaming.pass_missing.Goals as goal
 
 pub chunks-init : goal.chunks-init
 chunks-init g c = record { passed = none_passed _ _ _ _ _ _; input = refl; output = refl }

@@ -1,6 +1,6 @@
 use Rattle.std.proofs.lemmas.Result.{err_from_is_err_and}
 use Rattle.wasm_feed.proofs.StripStream.{part_passed, part_cut, settled_wrote}
-use Rattle.wasm_feed.proofs.strip_stream.pass_part.Goals as goal
+use Rattle.wasm_feed.proofs.streaming.pass_part.Goals as goal
 
 pub returns-in_err-pass_missing-clause-cut : goal.returns-in_err-pass_missing-clause-cut
 returns-in_err-pass_missing-clause-cut g c =

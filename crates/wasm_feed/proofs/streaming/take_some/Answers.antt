@@ -1,7 +1,7 @@
 use Rattle.std.proofs.lemmas.Result.{err_from_is_err_and}
 use Rattle.std.proofs.Common.{refl}
 use Rattle.wasm_feed.proofs.StripStream.{kept_some}
-use Rattle.wasm_feed.proofs.strip_stream.take_some.Goals as goal
+use Rattle.wasm_feed.proofs.streaming.take_some.Goals as goal
 
 pub returns-in_err-fill-clause-cut : goal.returns-in_err-fill-clause-cut
 returns-in_err-fill-clause-cut g c =
