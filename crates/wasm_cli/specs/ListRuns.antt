@@ -1,5 +1,5 @@
 -- What a run of the program does.
-use Rattle.std.specs.Prelude.{◌≡◌, ◌⊎◌, ℕ, Bool, List, ◌++◌, codes, Option, Some, None, Result, Ok, Err}
+use Rattle.std.specs.Prelude.{◌≡◌, ◌⊎◌, ℕ, Bool, List, ◌++◌, codes, map, string_bytes, Option, Some, None, Result, Ok, Err}
 use Rattle.wasm_lines.specs.Calls.{Device, bytes_of, input_failed, output_failed}
 use Rattle.wasm_feed.specs.Lists.{Lists, ListsSource}
 use Rattle.wasm_feed.specs.declared.listing.Ended.{Ended}
@@ -7,7 +7,9 @@ use Rattle.wasm_lines.specs.declared.devices.ListError.{ListError}
 use Rattle.wasm_cli.specs.Devices.{over, Follows, IsUntouched, Says, complaint_of}
 use Rattle.wasm_cli.specs.Endings.{status_of, Reports, RunsUsage, CannotBegin, WritesAll, WritesSome, Flushes}
 use Rattle.wasm_cli.specs.Endings.{FailsToFlush, Finishes}
-use Rattle.wasm_cli.specs.ListCommands.{Asked, listing, stripping, help, version, unknown}
+use Rattle.wasm_cli.specs.declared.list.command.Given.{Given}
+use Rattle.wasm_cli.specs.declared.list.command.Given.TheVariants.{Words, NoText, Nothing}
+use Rattle.wasm_cli.specs.ListCommands.{Asked, asked_by, listing, stripping, help, version, unknown}
 use Rattle.wasm_cli.specs.Strips.{RunsStripping}
 
 abbrev pub usage : List ℕ
@@ -124,6 +126,13 @@ pub record RunsWhole (asked : Asked) (forwarded : Bool) (input output errors : D
   pub helps : asked ≡ help → RunsThenFlushes (RunsText help_text input) forwarded output errors status
   pub prints_version : asked ≡ version → RunsThenFlushes (RunsText version_text input) forwarded output errors status
   pub refuses : asked ≡ unknown → RunsUsage usage input output errors status
+
+-- the whole program, by what was stored of its arguments
+abbrev pub RunsGiven : Given → (forwarded : Bool) (input output errors : Device) (status : ℕ) → Type 0
+RunsGiven (Words words) forwarded input output errors status =
+    RunsWhole (asked_by (map string_bytes words.items)) forwarded input output errors status
+RunsGiven NoText forwarded input output errors status = RunsWhole unknown forwarded input output errors status
+RunsGiven Nothing forwarded input output errors status = CannotBegin input output errors status
 
 -- The whole program, which was asked for this if the arguments could be fetched, or one was not UTF-8; or an allocation
 -- failed before that was known.
