@@ -21,7 +21,7 @@ version_text = codes "wasm_list 0.2.1 (follows wasmparser 0.263.0)\n"
 abbrev pub help_text : List ℕ
 help_text =
     codes "usage: wasm_list\n" ++ (
-    codes "       wasm_list strip [--keep-names] [--keep NAME] [--only NAME]\n" ++ (
+    codes "       wasm_list strip [--keep-names] [--keep NAME] [--only NAME] [FILE]\n" ++ (
     codes "       wasm_list --help | --version\n" ++ (
     codes "\n" ++ (
     codes "wasm_list reads a WebAssembly module, or the header of a component, from\n" ++ (
@@ -32,7 +32,9 @@ help_text =
     codes "\n" ++ (
     codes "With strip, it writes the module without its custom sections, such as names and\n" ++ (
     codes "debugging information. All other bytes stay as they are. If the module is\n" ++ (
-    codes "malformed, nothing is written.\n" ++ (
+    codes "malformed, nothing is written. A regular file as an argument is read twice\n" ++ (
+    codes "instead of being kept in memory: first to check it, then to write it. Standard\n" ++ (
+    codes "input is read into memory.\n" ++ (
     codes "\n" ++ (
     codes "These options come after strip, in any order, and may be repeated:\n" ++ (
     codes "\n" ++ (
@@ -56,7 +58,7 @@ help_text =
     codes "  2  The arguments are wrong.\n" ++ (
     codes "  3  The input or the output failed, or memory ran out. The reason is printed\n" ++ (
     codes "     to standard error, unless the output is a pipe that its reader has closed.\n"
-    )))))))))))))))))))))))))))))))))))
+    )))))))))))))))))))))))))))))))))))))
 
 -- a run whose listing ended so
 pub record RunsListingAs (how : Result Ended ListError) (input output errors : Device) (status : ℕ) : Type 0 where
