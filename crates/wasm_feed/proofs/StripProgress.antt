@@ -1,6 +1,8 @@
 -- How far a stream is stripped while it is read, and what each turn does to it.
-use Rattle.std.proofs.Common.{◌≡◌, ℕ, ◌+◌, ◌^◌, ◌<◌, ◌≤◌, Bool, true, false, if◌then◌else◌, List, [], ◌∷◌, ◌++◌, length, drop, Option, Some, None}
-use Rattle.std.proofs.Common.{Result, Ok, Err, refl, sym, ap, subst, subst₂, ◌∙◌, arith, append_assoc, append-nil, length-append, inl, inr}
+use Rattle.std.proofs.Common.{◌≡◌, ℕ, ◌+◌, ◌^◌, ◌<◌, ◌≤◌, Bool, true, false, if◌then◌else◌, List, [], ◌∷◌, ◌++◌, length, drop, Option}
+use Rattle.std.proofs.Common.{Some, None}
+use Rattle.std.proofs.Common.{Result, Ok, Err, refl, sym, ap, subst, subst₂, ◌∙◌, arith, append_assoc, append-nil, length-append, inl}
+use Rattle.std.proofs.Common.{inr}
 use Rattle.std.specs.Prelude.{IfSome}
 use Rattle.std.specs.Io.KnownBytes.{Consumes, Appends, IsAtEnd}
 use Rattle.std.proofs.KnownBytes.{Consumes-nil, Consumes-trans, Consumes-whole, Appends-nil, Appends-trans}
@@ -405,7 +407,8 @@ held_by : Cursor → (stored chunk : List ℕ) → List ℕ
 held_by c stored chunk = drop c.mark (seen stored chunk) ++ unseen stored chunk
 
 module _ (keeps : List ℕ → Bool) (source rest taken written : Option (List ℕ)) (c : Cursor) (stored chunk page : List ℕ)
-    (w : StripWants keeps source rest taken written (lending stored chunk c) page) (rest' written' : Option (List ℕ)) (how_cut : Option Error)
+    (w : StripWants keeps source rest taken written (lending stored chunk c) page) (rest' written' : Option (List ℕ))
+    (how_cut : Option Error)
     (new : Feed) (page' : List ℕ) (x : PassesHere keeps rest rest' written written' c stored chunk page how_cut new page') where
   q : StripProgress keeps source rest taken written (lending stored chunk c) page
   q = w.progress
@@ -432,8 +435,8 @@ module _ (keeps : List ℕ → Bool) (source rest taken written : Option (List �
   came : length x.passes.part ≡ x.passing.size
       → SkipCame 0 all_features (q.given ++ x.passes.fetched) q.events x.passes.part x.left x.skips.skip x.skipped.parser
   came n =
-      skipping_goes_along.whole 0 all_features q.given c.parser (drop c.mark (seen stored chunk)) (unseen stored chunk) q.events x.skips.skip
-      x.skipped.parser x.passes.fetched x.passes.part x.left q.is_along x.skips.skips whole_part
+      skipping_goes_along.whole 0 all_features q.given c.parser (drop c.mark (seen stored chunk)) (unseen stored chunk) q.events
+      x.skips.skip x.skipped.parser x.passes.fetched x.passes.part x.left q.is_along x.skips.skips whole_part
       (let z = x.skips.size in omega (arith, n, z))
 
   over : length x.passes.part ≡ x.passing.size → StripProgress keeps source rest' taken written' new page'
@@ -553,7 +556,8 @@ was_cut keeps source rest taken written c stored chunk page w rest' written' how
     written'' v = absurd (let no : None ≡ Some e = sym none ∙ is in cc)
 was_cut keeps source rest taken written c stored chunk page w rest' written' how_cut new page' (inr x) e is written'' v =
     let ends = rw is at x.passes.ends in
-    cut_off keeps source rest taken written c stored chunk page w rest' written' how_cut new page' x e ends.3 ends.0 ends.1 ends.2 written'' v
+    cut_off keeps source rest taken written c stored chunk page w rest' written' how_cut new page' x e ends.3 ends.0 ends.1 ends.2
+    written'' v
 
 -- what was read and written for a request
 pub went_wrote : (keeps : List ℕ → Bool) (rest written rest' written' : Option (List ℕ)) (c : Cursor) (stored chunk page : List ℕ)

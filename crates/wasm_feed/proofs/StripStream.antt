@@ -1,5 +1,6 @@
 -- Stripping a stream while it is read.
-use Rattle.std.proofs.Common.{◌≡◌, ℕ, ◌+◌, ◌-◌, ◌<◌, Bool, true, false, length, Some, None, List, [], ◌∷◌, ◌++◌, take, drop, Option, refl, sym, ap, subst, ◌∙◌, arith, append-nil, append_assoc, length-append}
+use Rattle.std.proofs.Common.{◌≡◌, ℕ, ◌+◌, ◌-◌, ◌<◌, Bool, true, false, length, Some, None, List, [], ◌∷◌, ◌++◌, take, drop, Option}
+use Rattle.std.proofs.Common.{refl, sym, ap, subst, ◌∙◌, arith, append-nil, append_assoc, length-append}
 use Rattle.std.proofs.lemmas.List.{take-append-drop}
 use Rattle.std.specs.Io.KnownBytes.{Appends, Consumes, IsAtEnd, Keeps}
 use Rattle.std.proofs.KnownBytes.{Appends-nil, Appends-trans, Consumes-kept, Consumes-nil, Consumes-trans}
@@ -159,7 +160,8 @@ passed_wrote source rest taken written rest' written' stays missing left chunk w
 
 -- ---- a part, whose first bytes are held
 
-module _ (source rest taken mid written : Option (List ℕ)) (passing : Passing) (c : Cursor) (stored chunk ahead left waiting page new : List ℕ)
+module _ (source rest taken mid written : Option (List ℕ)) (passing : Passing) (c : Cursor)
+    (stored chunk ahead left waiting page new : List ℕ)
     (count : ℕ) (s : Settles taken mid passing.stays c stored chunk waiting count ahead page)
     (whole : Bool) (m : PassesMissing source rest mid written passing.stays (passing.size - count) ahead page whole left new)
     (fewer : length (drop c.mark (seen stored chunk)) < passing.size) where

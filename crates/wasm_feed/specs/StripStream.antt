@@ -1,5 +1,6 @@
 -- Stripping a stream while it is read.
-use Rattle.std.specs.Prelude.{◌≡◌, ◌⊎◌, ℕ, ◌+◌, ◌-◌, ◌<◌, ◌≤◌, ◌^◌, Bool, true, false, List, [], ◌∷◌, ◌++◌, length, drop, Option}
+use Rattle.std.specs.Prelude.{◌≡◌, ◌⊎◌, ℕ, ◌+◌, ◌-◌, ◌<◌, ◌≤◌, ◌^◌, Bool, true, false, List, [], ◌∷◌, ◌++◌, length}
+use Rattle.std.specs.Prelude.{drop, Option}
 use Rattle.std.specs.Prelude.{Some, None, Result, Ok, Err, if◌then◌else◌}
 use Rattle.std.specs.Io.KnownBytes.{Consumes, Appends, IsAtEnd, Keeps}
 use Rattle.wasm_base.specs.FaultAt.{fault_at, at_offset}
@@ -156,8 +157,8 @@ pub record PassesHere (keeps : List ℕ → Bool) (source rest taken written : O
   pub held : new.held ≡ left
   pub eof : new.eof ≡ skipped.is_finished
 
-abbrev pub ReadsMore : (source rest taken written : Option (List ℕ)) (old : Feed) (waiting : List ℕ) (fault : Option Error)
-    (new : Feed) (page : List ℕ) → Type 0
+abbrev pub ReadsMore : (source rest taken written : Option (List ℕ)) (old : Feed) (waiting : List ℕ)
+    (fault : Option Error) (new : Feed) (page : List ℕ) → Type 0
 ReadsMore source rest taken written old waiting fault new page =
     FillsAlike source rest old new × (written ≡ taken) × (page ≡ waiting) × (fault ≡ None)
 

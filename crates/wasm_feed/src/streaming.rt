@@ -134,7 +134,7 @@ fn fill<A: Allocator, R: Source>(ahead: &mut Ahead<A>, input: &mut R) -> Result<
     }
 }
 
-// Takes bytes from the chunk, at most so many, and puts them on the page if they stay. An empty chunk is read first.
+// Takes at most `most` bytes from the chunk, and puts them on the page if they stay. An empty chunk is read first.
 // Returns how many bytes it took: none if the source is at its end.
 fn take_some<A: Allocator, R: Source, W: Sink>(
     most: u64,

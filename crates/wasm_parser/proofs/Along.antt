@@ -124,8 +124,8 @@ module _ (start features : ℕ) (given : List ℕ) (p : ParserState) (held : Lis
   event_here t = event_of features (start + length (bytes_of a.is_after.tiles)) t
 
   -- the parser after the tile that comes next
-  pub along_tile : (t : Tile) (bytes rest : List ℕ) (new : ParserState) → verdict (grammar_of p) held ≡ tile t → length bytes ≡ length t.bytes
-      → held ≡ bytes ++ rest → new ≡ state_after_tile p t
+  pub along_tile : (t : Tile) (bytes rest : List ℕ) (new : ParserState) → verdict (grammar_of p) held ≡ tile t
+      → length bytes ≡ length t.bytes → held ≡ bytes ++ rest → new ≡ state_after_tile p t
       → Along start features given new rest (events ++ event_here t ∷ []) × (t.bytes ≡ bytes) × (0 < length bytes)
   along_tile t bytes rest new v n w s =
       let v' : verdict (grammar start a.is_after.tiles) held ≡ tile t = sym (verdict_same start features given p held events a held) ∙ v in

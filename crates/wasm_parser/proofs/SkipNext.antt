@@ -1,6 +1,8 @@
 -- What is skipped by its first fields is the next tile of every stream that goes on with them.
-use Rattle.std.proofs.Common.{◌≡◌, ℕ, zero, suc, ◌+◌, ◌-◌, ◌<◌, ◌≤◌, ◌^◌, Bool, true, false, cond, not, ◌&&◌, ◌||◌, ◌==◌, List, [], ◌∷◌, ◌++◌, length, take, drop, Option}
-use Rattle.std.proofs.Common.{Some, None, Ok, Err, option_to_list, is_some, nat_lt, nat_le, nat_eq, refl, sym, ap, subst, ◌∙◌, arith, append-nil, length-append, leb-true, le-leb, ltb-true, le-ltb, append_assoc}
+use Rattle.std.proofs.Common.{◌≡◌, ℕ, zero, suc, ◌+◌, ◌-◌, ◌<◌, ◌≤◌, ◌^◌, Bool, true, false, cond, not, ◌&&◌, ◌||◌, ◌==◌, List, [], ◌∷◌}
+use Rattle.std.proofs.Common.{◌++◌, length, take, drop, Option}
+use Rattle.std.proofs.Common.{Some, None, Ok, Err, option_to_list, is_some, nat_lt, nat_le, nat_eq, refl, sym, ap, subst, ◌∙◌, arith}
+use Rattle.std.proofs.Common.{append-nil, length-append, leb-true, le-leb, ltb-true, le-ltb, append_assoc}
 use Rattle.std.proofs.Math.Seq.{take-append-add}
 use Rattle.std.proofs.lemmas.Bool.{and_parts}
 use Rattle.std.proofs.lemmas.List.{take-append-le, drop-append-le, length-take-le, length-drop}
@@ -13,16 +15,20 @@ use Rattle.wasm_base.specs.Window.{Place, place, advanced, window_over}
 use Rattle.wasm_base.specs.declared.fault.Fault.TheVariants.{UnexpectedEof}
 use Rattle.wasm_base.specs.declared.fault.NumberKind.TheVariants.{VarU32}
 use Rattle.wasm_base.proofs.NumberLaws.{number-more, number-used}
-use Rattle.wasm_grammar.specs.Content.{fault, when, kind_of, wrong_content, Form, Kind, whole, code, custom, items, index, data_count, unknown}
+use Rattle.wasm_grammar.specs.Content.{fault, when, kind_of, wrong_content, Form, Kind, whole, code, custom, items, index, data_count}
+use Rattle.wasm_grammar.specs.Content.{unknown}
 use Rattle.wasm_grammar.specs.Grammar.{Shape, Tile, tile, final, Grammar, verdict, check, u32_field, bytes, section_start}
-use Rattle.wasm_grammar.specs.Grammar.{SectionContext, wrong_data, accept, section, code_entry, body_grammar, section_grammar, whole_grammar, after_length}
+use Rattle.wasm_grammar.specs.Grammar.{SectionContext, wrong_data, accept, section, code_entry, body_grammar, section_grammar}
+use Rattle.wasm_grammar.specs.Grammar.{whole_grammar, after_length}
 use Rattle.wasm_grammar.specs.Ids.{data_id}
-use Rattle.wasm_grammar.specs.Reading.{Report, custom_section, counted, unknown_section, code_entry as body_report, section_report, tile_report}
+use Rattle.wasm_grammar.specs.Reading.{Report, custom_section, counted, unknown_section, code_entry as body_report, section_report}
+use Rattle.wasm_grammar.specs.Reading.{tile_report}
 use Rattle.wasm_parser.specs.ReadsPart.{is_other}
 use Rattle.wasm_parser.specs.SkipNext as skip
 use Rattle.wasm_parser.specs.ParserState.{ParserState, known_context, grammar_of}
 use Rattle.wasm_parser.specs.StateAfter.{state_after}
-use Rattle.wasm_parser.specs.SkipNext.{Head, Skip, SkipsPart, head_in, report_with, skip_at, fields_at, stays, is_cut, is_in_order, skip_of_head, sized_skip_at, content_skip_at, body_skip_at, section_skip_at}
+use Rattle.wasm_parser.specs.SkipNext.{Head, Skip, SkipsPart, head_in, report_with, skip_at, fields_at, stays, is_cut, is_in_order}
+use Rattle.wasm_parser.specs.SkipNext.{skip_of_head, sized_skip_at, content_skip_at, body_skip_at, section_skip_at}
 use Rattle.wasm_grammar.proofs.parts.Verdicts.{agree-more}
 
 -- Whatever bytes come after these, the grammar has a tile of this many bytes if there are enough, and otherwise a fault
@@ -119,7 +125,8 @@ skips_content size offset next xs Says l f = record {
 -- ---- the first fields of content
 
 -- a name is the same, whatever comes after its bytes
-same_name : (xs ys text : List ℕ) (used : ℕ) → name (Some name_limit) xs ≡ named text used → name (Some name_limit) (xs ++ ys) ≡ named text used
+same_name : (xs ys text : List ℕ) (used : ℕ) → name (Some name_limit) xs ≡ named text used
+    → name (Some name_limit) (xs ++ ys) ≡ named text used
 unfolding name
 same_name xs ys text used n = by_number (number VarU32 xs) refl n
   where
@@ -156,7 +163,8 @@ pub fields_say : (context : SectionContext) (announced : Option ℕ) (features :
 unfolding fields_at text_at unsigned_at wrong_content
 fields_say context announced features (whole custom) id p q head c f = λ zs. by_name (name (Some name_limit) p.rest) refl f zs
   where
-    by_name : (n : Name) → name (Some name_limit) p.rest ≡ n → (name_in_window p n >>= (λ name. let x : Outcome Head = Ok (skip.custom name.0 name.1.offset, name.1) in x)) ≡ Ok (head, q)
+    by_name : (n : Name) → name (Some name_limit) p.rest ≡ n
+        → (name_in_window p n >>= (λ name. let x : Outcome Head = Ok (skip.custom name.0 name.1.offset, name.1) in x)) ≡ Ok (head, q)
         → (zs : List ℕ) → Fields context features custom id p head zs
     by_name (named text used) e f zs =
         let m = same_name p.rest zs text used e in
@@ -165,7 +173,8 @@ fields_say context announced features (whole custom) id p q head c f = λ zs. by
 fields_say context announced features (whole items) id p q head c f = λ zs. by_count (number VarU32 p.rest) refl f zs
   where
     by_count : (n : Number) → number VarU32 p.rest ≡ n
-        → (in_window p n >>= (λ count. cond (id == data_id && is_other announced count.0) (stays count.1) (Ok (skip.items id count.0, count.1)))) ≡ Ok (head, q)
+        → (in_window p n >>= (λ count. cond (id == data_id && is_other announced count.0) (stays count.1)
+        (Ok (skip.items id count.0, count.1)))) ≡ Ok (head, q)
         → (zs : List ℕ) → Fields context features items id p head zs
     by_count (read count used) e f zs =
         by_other (id == data_id && is_other announced count) refl f
@@ -177,9 +186,17 @@ fields_say context announced features (whole items) id p q head c f = λ zs. by_
             → (let x : Outcome Head = cond b (stays (advanced used p)) (Ok (skip.items id count, advanced used p)) in x) ≡ Ok (head, q)
             → Fields context features items id p head zs
         by_other true o f = cc
-        by_other false o f = record { right = rw m refl; counts = rw (m, c, o) refl; says = λ to. rw m (ap (λ (x : Outcome Head). Some (head_or head x)) f) }
+        by_other false o f = record {
+          right = rw m refl;
+          counts = rw (m, c, o) refl;
+          says = λ to. rw m (ap (λ (x : Outcome Head). Some (head_or head x)) f);
+        }
     by_count _ e f zs = cc
-fields_say context announced features (whole unknown) id p q head c f = λ zs. record { right = refl; counts = refl; says = λ to. ap (λ (x : Outcome Head). Some (head_or head x)) f }
+fields_say context announced features (whole unknown) id p q head c f = λ zs. record {
+  right = refl;
+  counts = refl;
+  says = λ to. ap (λ (x : Outcome Head). Some (head_or head x)) f;
+}
 fields_say context announced features (whole index) id p q head c f = cc
 fields_say context announced features (whole data_count) id p q head c f = cc
 fields_say context announced features code id p q head c f = cc
@@ -218,8 +235,8 @@ body_skips (suc bodies) code_bytes features p size used n l b c =
     (λ value width. check (when (nat_lt code_bytes (width + value)) (at_offset UnexpectedEof p.offset))
     (bytes value (p.offset + width) (λ content. accept (code_entry content))))
     p.rest size used size (p.offset + used) Says n
-    (skips_check (when (nat_lt code_bytes (used + size)) (at_offset UnexpectedEof p.offset)) _ (drop used p.rest) size (p.offset + used) Says
-    (rw c refl)
+    (skips_check (when (nat_lt code_bytes (used + size)) (at_offset UnexpectedEof p.offset)) _ (drop used p.rest) size (p.offset + used)
+    Says (rw c refl)
     (skips_content size (p.offset + used) (λ content. accept (code_entry content)) (drop used p.rest) Says l
     (λ zs m. (code_entry (drop used p.rest ++ zs), λ rest. refl, λ from. refl))))
 
@@ -349,8 +366,8 @@ section_skips_as q features p after s f = by_rest p.rest refl f
     of_id id r a true t f = cc
     of_id id r a false t f = of_size id r a t (number VarU32 r) refl f
 
-    by_magic : (id : ℕ) (r : List ℕ) (a l m : Bool) → agree (id ∷ r) magic ≡ a → nat_lt (length (id ∷ r)) 4 ≡ l → nat_le 4 (length (id ∷ r)) ≡ m
-        → cond (is_some (cond (a && l) (Some (4 - length (id ∷ r))) None) || a && m) (stays (at (id ∷ r)))
+    by_magic : (id : ℕ) (r : List ℕ) (a l m : Bool) → agree (id ∷ r) magic ≡ a → nat_lt (length (id ∷ r)) 4 ≡ l
+        → nat_le 4 (length (id ∷ r)) ≡ m → cond (is_some (cond (a && l) (Some (4 - length (id ∷ r))) None) || a && m) (stays (at (id ∷ r)))
         (cond (nat_le 128 id) (stays (advanced 1 (at (id ∷ r)))) (sized_skip_at q id (advanced 1 (at (id ∷ r))))) ≡ Ok (s, after)
         → SkipsAs (section_grammar (known_context q) p.offset) features (at (id ∷ r)) s
     by_magic id r false l m e el em f = of_id id r e (nat_le 128 id) refl f

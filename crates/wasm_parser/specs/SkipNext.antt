@@ -1,5 +1,6 @@
--- Skipping a section or body by its first fields. Core specification, Binary format, Modules, Sections and Code Section.
-use Rattle.std.specs.Prelude.{◌≡◌, ℕ, ◌+◌, ◌-◌, ◌<◌, ◌≤◌, ◌^◌, ◌||◌, ◌&&◌, not, Bool, List, [], ◌∷◌, ◌++◌, length, Option}
+-- Skipping a section or body by its first fields. Core specification, Binary format, Modules.
+use Rattle.std.specs.Prelude.{◌≡◌, ℕ, ◌+◌, ◌-◌, ◌<◌, ◌≤◌, ◌^◌, ◌||◌, ◌&&◌, not, Bool, List, [], ◌∷◌, ◌++◌, length}
+use Rattle.std.specs.Prelude.{Option}
 use Rattle.std.specs.Prelude.{Some, None, Result, Ok, Err, is_some, nat_lt, nat_le, nat_eq, ◌==◌, if◌then◌else◌}
 use Rattle.wasm_base.specs.FaultAt.{FaultAt, at_offset}
 use Rattle.wasm_base.specs.Name.{byte_at, name_limit, text_at}
@@ -158,7 +159,7 @@ abbrev pub SkipsNext : ParserState → (bytes : List ℕ) → Option Skip → Pa
 SkipsNext old bytes (Some skip) new = SkipsPart old bytes skip new
 SkipsNext old bytes None new = new ≡ old
 
--- The next event of a stream is the part that was skipped: with these bytes and first fields, and the parser is after it.
+-- The next event of a stream is the part that was skipped, with these bytes and first fields; the parser is after it.
 pub record SkipCame (start features : ℕ) (given : List ℕ) (events : List Event) (bytes rest : List ℕ) (skip : Skip)
     (new : ParserState) : Type 0 where
   pub event : Event
@@ -170,7 +171,8 @@ pub record SkipCame (start features : ℕ) (given : List ℕ) (events : List Eve
 pub record SkippingGoesAlong : Type 0 where
   -- once all bytes of the part have come, the caller is after it
   pub whole : (start features : ℕ) (given : List ℕ) (p : ParserState) (first others : List ℕ) (events : List Event)
-      (skip : Skip) (new : ParserState) (more bytes rest : List ℕ) → Along start features given p (first ++ others) events
+      (skip : Skip) (new : ParserState) (more bytes rest : List ℕ)
+      → Along start features given p (first ++ others) events
       → SkipsPart p first skip new → (first ++ others) ++ more ≡ bytes ++ rest → p.offset + length bytes ≡ skip.to
       → SkipCame start features (given ++ more) events bytes rest skip new
   -- a stream that ends before that has a fault where the content begins
