@@ -5,7 +5,8 @@ if [[ $words[2] == strip ]] && (( CURRENT > 2 )); then
         '1:command:(strip)' \
         '*--keep-names[keep the sections called name]' \
         '*--keep[keep the custom sections with a name]:name:' \
-        '*--only[remove only the custom sections with a name]:name:'
+        '*--only[remove only the custom sections with a name]:name:' \
+        '2:file:_files'
 else
     _arguments \
         '(strip --version)--help[print a summary]' \

@@ -6,6 +6,7 @@ _wasm_list() {
         words=""
         if [[ ${COMP_WORDS[1]} == strip && ! ${COMP_WORDS[COMP_CWORD - 1]} =~ ^--(keep|only)$ ]]; then
             words="--keep-names --keep --only"
+            compopt -o default
         fi
     fi
     mapfile -t COMPREPLY < <(compgen -W "$words" -- "${COMP_WORDS[COMP_CWORD]}")

@@ -9,4 +9,5 @@ pub mod ListRuns
 pub mod Options
 pub mod StripOptions
 pub mod Strips
+pub mod StripsTwice
 pub mod Words

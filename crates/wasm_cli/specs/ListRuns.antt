@@ -1,5 +1,6 @@
 -- What a run of the program does.
-use Rattle.std.specs.Prelude.{◌≡◌, ◌⊎◌, ℕ, Bool, List, ◌++◌, codes, Option, Some, None, Result, Ok, Err}
+use Rattle.std.specs.Prelude.{◌≡◌, ◌⊎◌, ℕ, Bool, List, ◌++◌, codes, map, string_bytes, Option, Some, None, Result, Ok}
+use Rattle.std.specs.Prelude.{Err}
 use Rattle.wasm_lines.specs.Calls.{Device, bytes_of, input_failed, output_failed}
 use Rattle.wasm_feed.specs.Lists.{Lists, ListsSource}
 use Rattle.wasm_feed.specs.declared.listing.Ended.{Ended}
@@ -7,7 +8,9 @@ use Rattle.wasm_lines.specs.declared.devices.ListError.{ListError}
 use Rattle.wasm_cli.specs.Devices.{over, Follows, IsUntouched, Says, complaint_of}
 use Rattle.wasm_cli.specs.Endings.{status_of, Reports, RunsUsage, CannotBegin, WritesAll, WritesSome, Flushes}
 use Rattle.wasm_cli.specs.Endings.{FailsToFlush, Finishes}
-use Rattle.wasm_cli.specs.ListCommands.{Asked, listing, stripping, help, version, unknown}
+use Rattle.wasm_cli.specs.declared.list.command.Given.{Given}
+use Rattle.wasm_cli.specs.declared.list.command.Given.TheVariants.{Words, NoText, Nothing}
+use Rattle.wasm_cli.specs.ListCommands.{Asked, asked_by, listing, stripping, help, version, unknown}
 use Rattle.wasm_cli.specs.Strips.{RunsStripping}
 
 abbrev pub usage : List ℕ
@@ -19,7 +22,7 @@ version_text = codes "wasm_list 0.2.1 (follows wasmparser 0.263.0)\n"
 abbrev pub help_text : List ℕ
 help_text =
     codes "usage: wasm_list\n" ++ (
-    codes "       wasm_list strip [--keep-names] [--keep NAME] [--only NAME]\n" ++ (
+    codes "       wasm_list strip [--keep-names] [--keep NAME] [--only NAME] [FILE]\n" ++ (
     codes "       wasm_list --help | --version\n" ++ (
     codes "\n" ++ (
     codes "wasm_list reads a WebAssembly module, or the header of a component, from\n" ++ (
@@ -30,7 +33,9 @@ help_text =
     codes "\n" ++ (
     codes "With strip, it writes the module without its custom sections, such as names and\n" ++ (
     codes "debugging information. All other bytes stay as they are. If the module is\n" ++ (
-    codes "malformed, nothing is written.\n" ++ (
+    codes "malformed, nothing is written. A regular file as an argument is read twice\n" ++ (
+    codes "instead of being kept in memory: first to check it, then to write it. Standard\n" ++ (
+    codes "input is read into memory.\n" ++ (
     codes "\n" ++ (
     codes "These options come after strip, in any order, and may be repeated:\n" ++ (
     codes "\n" ++ (
@@ -54,7 +59,7 @@ help_text =
     codes "  2  The arguments are wrong.\n" ++ (
     codes "  3  The input or the output failed, or memory ran out. The reason is printed\n" ++ (
     codes "     to standard error, unless the output is a pipe that its reader has closed.\n"
-    )))))))))))))))))))))))))))))))))))
+    )))))))))))))))))))))))))))))))))))))
 
 -- a run whose listing ended so
 pub record RunsListingAs (how : Result Ended ListError) (input output errors : Device) (status : ℕ) : Type 0 where
@@ -124,6 +129,13 @@ pub record RunsWhole (asked : Asked) (forwarded : Bool) (input output errors : D
   pub helps : asked ≡ help → RunsThenFlushes (RunsText help_text input) forwarded output errors status
   pub prints_version : asked ≡ version → RunsThenFlushes (RunsText version_text input) forwarded output errors status
   pub refuses : asked ≡ unknown → RunsUsage usage input output errors status
+
+-- the whole program, by what was stored of its arguments
+abbrev pub RunsGiven : Given → (forwarded : Bool) (input output errors : Device) (status : ℕ) → Type 0
+RunsGiven (Words words) forwarded input output errors status =
+    RunsWhole (asked_by (map string_bytes words.items)) forwarded input output errors status
+RunsGiven NoText forwarded input output errors status = RunsWhole unknown forwarded input output errors status
+RunsGiven Nothing forwarded input output errors status = CannotBegin input output errors status
 
 -- The whole program, which was asked for this if the arguments could be fetched, or one was not UTF-8; or an allocation
 -- failed before that was known.

@@ -10,4 +10,6 @@ pub mod Progress
 pub mod Resting
 pub mod Stepping
 pub mod StripLaws
+pub mod StripProgress
+pub mod StripStream
 pub mod Waits

@@ -10,6 +10,7 @@ pub mod Pieces
 pub mod Progress
 pub mod Rows
 pub mod Step
+pub mod StripStream
 pub mod Stripped
 pub mod Strips
 pub mod Turns

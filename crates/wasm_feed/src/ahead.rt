@@ -76,16 +76,17 @@ impl<A: Allocator> Ahead<A> {
         &self.buffer[self.start..self.end]
     }
 
-    // Consumes this many of them.
-    fn pass(&mut self, count: usize)
+    /// Consumes this many of them.
+    pub(crate) fn pass(&mut self, count: usize)
         requires { count ≤ length self.old }
         ensures { self.new ≡ drop count self.old }
     {
         self.start += count;
     }
 
-    // Reads the next chunk in place of the remaining bytes. It is empty only at the end of the source, or where the read failed.
-    fn fetch<R: Source>(&mut self, input: &mut R) -> Result<(), Failed>
+    /// Reads the next chunk in place of the remaining bytes. It is empty only at the end of the source, or where the read
+    /// failed.
+    pub(crate) fn fetch<R: Source>(&mut self, input: &mut R) -> Result<(), Failed>
         ensures fetches { Fetches (R.remaining input.old) (R.remaining input.new)
             self.new result }
         ensures failed { R.has_failed input.new

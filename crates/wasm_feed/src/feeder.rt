@@ -1,9 +1,10 @@
 // A feeder: it takes the bytes of a stream in chunks, and its payloads borrow from it.
-ghost use Rattle.std.specs.Prelude.{◌≡◌, ◌+◌, ◌<◌, ◌≤◌, ◌++◌, true, [], drop, length, OnOk, OnErr, IfErr, IfOk};
+ghost use Rattle.std.specs.Prelude.{◌≡◌, ◌+◌, ◌<◌, ◌≤◌, ◌++◌, true, [], drop, length, option_map, OnOk, OnErr, IfErr, IfOk};
 ghost use Rattle.wasm_base.specs.FaultAt.{fault_at};
 ghost use Rattle.wasm_base.specs.Features.{feature_bits};
 ghost use Rattle.wasm_base.specs.Owned.{out_of_memory};
 ghost use Rattle.wasm_parser.specs.ParseAnswer.{ParseAnswer};
+ghost use Rattle.wasm_parser.specs.SkipNext.{SkipsNext, skip_is};
 ghost use Rattle.wasm_feed.specs.Beside.{MayCome, StepsOver};
 ghost use Rattle.wasm_feed.specs.Cursors.{feed_of, finished_cursor};
 ghost use Rattle.wasm_feed.specs.Feed.{empty_feed, new_feed, pushed, finished, RefusesPush};
@@ -20,7 +21,7 @@ pub(crate) use lending::{keep, make_ready, pass_borrowed};
 use std::alloc::{Allocator, Global};
 use std::marker::Model;
 use wasm_lines::{ListError, Source};
-use wasm_parser::{Chunk, Error, Fault, Parser, Payload, Result, WasmFeatures, fits};
+use wasm_parser::{Chunk, Error, Fault, Parser, Payload, Result, SkippedPart, WasmFeatures, fits};
 
 /// The result of one step of a feeder: a part of the stream, or a request for more input.
 ///
@@ -97,11 +98,34 @@ impl Cursor {
         }
     }
 
+    /// Returns the offset of the next part.
+    pub(crate) fn offset(&self) -> u64
+        ensures { result ≡ self.now.parser.offset }
+    {
+        self.parser.offset()
+    }
+
+    /// Skips the next section or body if its first fields are in these bytes, but not all of it.
+    pub(crate) fn skip_next<'a>(&mut self, bytes: &'a [u8]) -> Option<SkippedPart<'a>>
+        ensures skips { SkipsNext self.old.parser (drop self.old.mark bytes.now)
+            (option_map skip_is result) self.new.parser }
+        ensures same { self.new ≡ record self.old { parser = self.new.parser } }
+    {
+        self.parser.skip_next(after(bytes, self.mark))
+    }
+
     /// Returns the number of consumed bytes.
     pub(crate) fn mark(&self) -> usize
         ensures { result ≡ self.now.mark }
     {
         self.mark
+    }
+
+    /// Forgets the consumed bytes, once nothing is stored.
+    pub(crate) fn rewind(&mut self)
+        ensures { self.new ≡ record self.old { mark = 0 } }
+    {
+        self.mark = 0;
     }
 
     /// Marks the end of input after the stored bytes.

@@ -40,6 +40,7 @@ mod feeder;
 pub mod laws;
 mod listing;
 mod pieces;
+mod streaming;
 mod stripping;
 
 pub use ahead::Ahead;
@@ -47,6 +48,7 @@ pub use events::{Event, EventKind};
 pub use feeder::{Cursor, Feeder, Opened, Step, parse_next, seen};
 pub use listing::{Ended, Turn, list, list_in};
 pub use pieces::{fits_pieces, read_pieces, read_pieces_in};
+pub use streaming::strip_stream;
 pub use stripping::{Keep, strip, strip_in, strip_in_place, strip_to_front};
 pub use wasm_lines::{
     BoundedSink, Failed, ListError, ReadSource, Sink, SliceSource, Source, WriteSink, write_all,

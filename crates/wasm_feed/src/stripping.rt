@@ -87,8 +87,8 @@ fn is_other(name: &str, removed: &[&str]) -> bool
     !removed.is_empty() && !is_among(name, removed)
 }
 
-// Whether a custom section with this name stays.
-fn stays(name: &str, keep: Keep<'_>) -> bool
+/// Whether a custom section with this name stays.
+pub(crate) fn stays(name: &str, keep: Keep<'_>) -> bool
     ensures { result ≡ stays_by keep.entry name.now }
 {
     is_among(name, keep.kept) || is_other(name, keep.removed) || keep.names && name == "name"
@@ -105,8 +105,8 @@ fn fate_of_custom(name: &str, keep: Keep<'_>) -> Fate
     }
 }
 
-// What becomes of a part that is read as this.
-fn fate_of(payload: &Payload, keep: Keep<'_>) -> Fate
+/// What becomes of a part that is read as this.
+pub(crate) fn fate_of(payload: &Payload, keep: Keep<'_>) -> Fate
     ensures { IsFateOf (stays_by keep.entry) (report_of payload.now) result }
 {
     match payload {

@@ -67,7 +67,7 @@ module _ (start features : ℕ) (given : List ℕ) (p : ParserState) (held : Lis
   verdict_same rest = ap (λ (g : Grammar). verdict g rest) (grammar_same p start a.prefix a.is_after)
 
   -- its reading, where no tile comes next
-  reading_here : (stream more : List ℕ) (end : Ending) → stream ≡ given ++ more → verdict (grammar_of p) (held ++ more) ≡ final end
+  pub reading_here : (stream more : List ℕ) (end : Ending) → stream ≡ given ++ more → verdict (grammar_of p) (held ++ more) ≡ final end
       → Reading stream start features (events ++ last_event end ∷ [])
   reading_here stream more end e v = grind (arith, verdict_same, append_assoc)
 
@@ -117,15 +117,15 @@ split_same xs ys zs ws e n = (
 
 module _ (start features : ℕ) (given : List ℕ) (p : ParserState) (held : List ℕ) (events : List Event)
     (a : Along start features given p held events) where
-  offset_is : p.offset ≡ start + length (bytes_of a.is_after.tiles)
+  pub offset_is : p.offset ≡ start + length (bytes_of a.is_after.tiles)
   offset_is = a.is_after.offset ∙ ap (λ (x : List ℕ). start + length x) (sym a.is_after.is_prefix)
 
-  abbrev event_here : Tile → Event
+  abbrev pub event_here : Tile → Event
   event_here t = event_of features (start + length (bytes_of a.is_after.tiles)) t
 
   -- the parser after the tile that comes next
-  along_tile : (t : Tile) (bytes rest : List ℕ) (new : ParserState) → verdict (grammar_of p) held ≡ tile t → length bytes ≡ length t.bytes
-      → held ≡ bytes ++ rest → new ≡ state_after_tile p t
+  pub along_tile : (t : Tile) (bytes rest : List ℕ) (new : ParserState) → verdict (grammar_of p) held ≡ tile t
+      → length bytes ≡ length t.bytes → held ≡ bytes ++ rest → new ≡ state_after_tile p t
       → Along start features given new rest (events ++ event_here t ∷ []) × (t.bytes ≡ bytes) × (0 < length bytes)
   along_tile t bytes rest new v n w s =
       let v' : verdict (grammar start a.is_after.tiles) held ≡ tile t = sym (verdict_same start features given p held events a held) ∙ v in

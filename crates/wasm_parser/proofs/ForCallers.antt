@@ -9,3 +9,4 @@ pub use Rattle.wasm_parser.proofs.Consumed.{end_consumes_all}
 pub use Rattle.wasm_grammar.proofs.frames.Kept.{frames_read_the_same, rankless_may_go}
 pub use Rattle.wasm_grammar.proofs.accepted.KindIds.{custom_has_its_id}
 pub use Rattle.wasm_grammar.proofs.frames.ReportedAs.{frames_give_events, one_division}
+pub use Rattle.wasm_parser.proofs.SkipAlong.{skipping_goes_along}

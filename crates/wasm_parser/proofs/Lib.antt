@@ -16,6 +16,8 @@ pub mod Parsing
 pub mod PayloadItems
 pub mod ReadingFields
 pub mod Settled
+pub mod SkipAlong
+pub mod SkipNext
 pub mod SkippedLaws
 pub mod StateLaws
 pub mod Walking

@@ -8,6 +8,7 @@ pub mod ParserLaws
 pub mod ParserState
 pub mod PayloadItems
 pub mod ReadsPart
+pub mod SkipNext
 pub mod Skipped
 pub mod StateAfter
 pub mod Stored

@@ -172,8 +172,8 @@ fn only_u32(mut window: BinaryReader, trailing: Fault) -> Result<u32>
     Ok(number)
 }
 
-// Whether an earlier section announced another count than this.
-fn differs(known: Option<u32>, count: u32) -> bool
+/// Returns whether an earlier section announced another count than this.
+pub(crate) fn differs(known: Option<u32>, count: u32) -> bool
     ensures { result ≡ is_other known count }
 {
     match known {

@@ -4,6 +4,7 @@ ghost use Rattle.wasm_parser.specs.ParserLaws.{AnswersLast, EndConsumesAll, Pars
 ghost use Rattle.wasm_parser.specs.PayloadItems.{GivesTypes, GivesImports, GivesFunctions, GivesTables};
 ghost use Rattle.wasm_parser.specs.PayloadItems.{GivesMemories, GivesTags, GivesGlobals, GivesExports};
 ghost use Rattle.wasm_parser.specs.PayloadItems.{GivesElements, GivesData, NoOthersAreCounted};
+ghost use Rattle.wasm_parser.specs.SkipNext.{SkippingGoesAlong};
 ghost use Rattle.wasm_parser.specs.Skipped.{SkippingLeavesOutBodies};
 ghost use Rattle.wasm_grammar.specs.Undecided.{EnoughIsDecided, OneComesNext, ShortIsUndecided};
 
@@ -45,6 +46,14 @@ pub fn answers_go_along()
 /// This needs that some bytes of that length complete the section; the actual bytes are not looked at.
 pub fn skipping_leaves_out_bodies()
     ensures { SkippingLeavesOutBodies }
+{}
+
+/// A caller that receives a stream in chunks, and skips a part with `skip_next`, continues the reading after it.
+///
+/// The next event is that part, with its first fields and all its bytes, whatever these are. If the stream ends before
+/// the part does, the next event is the fault `UnexpectedEof` at the start of its content.
+pub fn skipping_goes_along()
+    ensures { SkippingGoesAlong }
 {}
 
 /// No parser could decide earlier than `parse` does.

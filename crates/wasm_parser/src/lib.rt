@@ -25,7 +25,7 @@ mod stored;
 
 pub use checkpoint::Checkpoint;
 pub use parse_all::ParseAll;
-pub use parser::Parser;
+pub use parser::{Parser, PartHead, SkippedPart};
 pub use payload::{Chunk, CountedSection, Payload, SectionParts};
 pub use stored::StoredParser;
 // Not re-exported: what only authors of item types need, such as `SkipItem`, `read_inner` and `read_list`.

@@ -18,6 +18,8 @@ ghost use Rattle.wasm_parser.specs.StateAfter.{knowing, missing_bytes, state_aft
 ghost use Rattle.wasm_parser.specs.AsksWhereOpen.{AsksWhereOpen};
 ghost use Rattle.wasm_grammar.specs.declared.encoding.Encoding.TheVariants.{Module, Component};
 
+mod skipping;
+
 use crate::checkpoint::Checkpoint;
 use crate::contents::{code, custom, data_count, items, lacks, start, unknown, window};
 use crate::header::{magic_follows, missing_at_section, read_header};
@@ -29,6 +31,7 @@ use crate::state::{
 };
 use crate::stored::{StoredParser, byte_of, count_of, count_parts, encoding_byte, encoding_of};
 use bitflags::Flags;
+pub use skipping::{PartHead, SkippedPart};
 use std::alloc::AllocError;
 use std::marker::Model;
 use wasm_base::{BinaryReader, Error, Fault, Result, WasmFeatures, fits};

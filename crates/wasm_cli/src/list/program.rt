@@ -4,10 +4,11 @@ ghost use Rattle.std.specs.Process.{exit_status};
 ghost use Rattle.std.specs.Vec.Iter.{into_iter_items};
 ghost use Rattle.wasm_lines.specs.Calls.{device_of, writer_device};
 ghost use Rattle.wasm_cli.specs.ListCommands.{WantsMemory, asked_by, asked_if_any, asked_of};
-ghost use Rattle.wasm_cli.specs.ListRuns.{Runs, RunsListing, RunsProgram, RunsWhole, WritesText};
+ghost use Rattle.wasm_cli.specs.ListRuns.{Runs, RunsGiven, RunsListing, RunsProgram, RunsWhole, WritesText};
 ghost use Rattle.wasm_cli.specs.ListRuns.{help_text, version_text};
 
 use super::command::{Command, Given, command_of, words_given};
+use super::files::{file_of, strip_file};
 use super::stripping::strip_input;
 use crate::common::{PIECE, complain, finish, give_up};
 use crate::streams::{Messages, Piped};
@@ -20,7 +21,7 @@ use wasm_feed::{Ended, ListError, ReadSource, Sink, Source, WriteSink, list, wri
 
 /// What `--help` prints.
 const HELP: &[u8] = b"usage: wasm_list
-       wasm_list strip [--keep-names] [--keep NAME] [--only NAME]
+       wasm_list strip [--keep-names] [--keep NAME] [--only NAME] [FILE]
        wasm_list --help | --version
 
 wasm_list reads a WebAssembly module, or the header of a component, from
@@ -31,7 +32,9 @@ from the start of the input. A fault is the last line, with its offset.
 
 With strip, it writes the module without its custom sections, such as names and
 debugging information. All other bytes stay as they are. If the module is
-malformed, nothing is written.
+malformed, nothing is written. A regular file as an argument is read twice
+instead of being kept in memory: first to check it, then to write it. Standard
+input is read into memory.
 
 These options come after strip, in any order, and may be repeated:
 
@@ -82,13 +85,14 @@ pub fn run_host(rt: HostRuntime) -> ExitCode {
     let mut input = ReadSource::new(rt.stdin());
     let mut output = WriteSink::new(Piped::new(rt.stdout(), &is_closed));
     let mut errors = Messages::new(WriteSink::new(rt.stderr()), &is_closed);
-    run_program(
-        rt.alloc(),
-        env::args(&rt),
-        &mut input,
-        &mut output,
-        &mut errors,
-    )
+    let given = words_given(rt.alloc(), env::args(&rt));
+    if let Given::Words(words) = &given {
+        if let Some(named) = file_of(words) {
+            let status = strip_file(&rt, named, &mut output, &mut errors);
+            return ExitCode::from(finish(status, &mut output, &mut errors));
+        }
+    }
+    run_given(rt.alloc(), given, &mut input, &mut output, &mut errors)
 }
 
 /// Runs `wasm_list` with arguments as the system has them, flushes the output, and returns the exit status.
@@ -113,7 +117,23 @@ pub fn run_program<R: Source, W: Write, E: Sink>(
         (writer_device W.contents output.old output.new)
         (device_of E.taken E.has_failed errors.old errors.new) (exit_status result) }
 {
-    match words_given(alloc, arguments) {
+    run_given(alloc, words_given(alloc, arguments), input, output, errors)
+}
+
+// Runs `wasm_list` with these arguments, flushes the output, and returns the exit status.
+fn run_given<R: Source, W: Write, E: Sink>(
+    alloc: Global,
+    given: Given,
+    input: &mut R,
+    output: &mut WriteSink<W>,
+    errors: &mut E,
+) -> ExitCode
+    ensures { RunsGiven given output.new.forwarded
+        (device_of R.remaining R.has_failed input.old input.new)
+        (writer_device W.contents output.old output.new)
+        (device_of E.taken E.has_failed errors.old errors.new) (exit_status result) }
+{
+    match given {
         Given::Words(words) => run_whole(alloc, command_of(&words), input, output, errors),
         Given::NoText => run_whole(alloc, Command::Unknown, input, output, errors),
         Given::Nothing => ExitCode::from(give_up(errors, ListError::Memory)),

@@ -44,8 +44,8 @@ fn read_all<R: Source>(alloc: Global, input: &mut R) -> Result<Vec<u8>, ListErro
     }
 }
 
-// Prints the fault of the stream, and returns the status.
-fn tell_fault<E: Sink>(alloc: Global, errors: &mut E, error: Error) -> u8
+/// Prints the fault of the stream, and returns the status.
+pub(super) fn tell_fault<E: Sink>(alloc: Global, errors: &mut E, error: Error) -> u8
     ensures { Refuses error (device_of E.taken E.has_failed errors.old errors.new) result }
 {
     match format!(in alloc; "{error}\n") {

@@ -2,7 +2,10 @@
 use super::same_at;
 use std::alloc::Global;
 use std::process::Abort;
-use wasm_feed::{Keep, strip, strip_in, strip_in_place, strip_to_front};
+use wasm_feed::{
+    BoundedSink, Ended, Keep, ListError, Sink, SliceSource, strip, strip_in, strip_in_place,
+    strip_stream, strip_to_front,
+};
 use wasm_parser::{Error, Fault, Result};
 use wasm_testing::Sparing;
 
@@ -308,4 +311,139 @@ fn keeps_what_is_chosen(rt: HostRuntime) {
         let left = strip_in(rt.alloc(), CUSTOM, keep).expect(&rt, "a fault");
         same_at(&rt, left.as_slice(), *wanted, wanted);
     }
+}
+
+// How a stream ends that is stripped while it is read by these pieces, with memory from this allocator.
+fn stream_in<W: Sink>(
+    heap: &Sparing<Global>,
+    stream: &[u8],
+    output: &mut W,
+    keep_names: bool,
+    piece: usize,
+) -> std::result::Result<Ended, ListError> {
+    let keep = Keep::names(keep_names);
+    strip_stream(
+        heap,
+        &mut SliceSource::new(stream),
+        output,
+        keep,
+        piece.max(1),
+    )
+}
+
+// How it ends, and what is written.
+fn streams(
+    rt: &impl Abort,
+    alloc: Global,
+    stream: &[u8],
+    keep_names: bool,
+    piece: usize,
+    wanted: (Ended, &[u8]),
+) {
+    let ample = Sparing::new(alloc, 100);
+    let mut output = BoundedSink::new(alloc, 200).expect(rt, "out of memory");
+    let how = stream_in(&ample, stream, &mut output, keep_names, piece);
+    let place = (stream, keep_names, piece);
+    same_at(
+        rt,
+        (how, output.written()),
+        (Ok(wanted.0), wanted.1),
+        &place,
+    );
+}
+
+#[test]
+fn strips_streams_in_pieces_of_any_size(rt: HostRuntime) {
+    for (stream, with_names, without) in rows() {
+        for piece in 1..30 {
+            streams(
+                &rt,
+                rt.alloc(),
+                stream,
+                true,
+                piece,
+                (Ended::End, with_names),
+            );
+            streams(&rt, rt.alloc(), stream, false, piece, (Ended::End, without));
+        }
+    }
+}
+
+// A stream with a fault, and what is written before the fault is known.
+type Cut = (&'static [u8], Error, &'static [u8]);
+
+// Each stream ends within a part that was skipped, but for the last, whose part is wrong.
+fn cut_streams() -> [Cut; 5] {
+    [
+        (
+            b"\0asm\x01\0\0\0\0\x64\x01abc",
+            Error::new(Fault::UnexpectedEof, 10),
+            b"\0asm\x01\0\0\0",
+        ),
+        (
+            b"\0asm\x01\0\0\0\0\x64\x04nameb",
+            Error::new(Fault::UnexpectedEof, 10),
+            b"\0asm\x01\0\0\0\0\x64\x04nameb",
+        ),
+        (
+            b"\0asm\x01\0\0\0\x01\x05\x01\x60",
+            Error::new(Fault::UnexpectedEof, 10),
+            b"\0asm\x01\0\0\0\x01\x05\x01\x60",
+        ),
+        (
+            b"\0asm\x01\0\0\0\x03\x02\x01\0\x0a\x08\x01\x06\0\x01",
+            Error::new(Fault::UnexpectedEof, 16),
+            b"\0asm\x01\0\0\0\x03\x02\x01\0\x0a\x08\x01\x06\0\x01",
+        ),
+        (
+            b"\0asm\x01\0\0\0\x08\x03\0\0\0",
+            Error::new(Fault::StartContent, 11),
+            b"\0asm\x01\0\0\0",
+        ),
+    ]
+}
+
+#[test]
+fn streams_that_end_within_a_part(rt: HostRuntime) {
+    for (stream, fault, written) in cut_streams() {
+        let wanted = (Ended::Fault(fault), written);
+        streams(&rt, rt.alloc(), stream, true, 1, wanted);
+        streams(&rt, rt.alloc(), stream, true, 100, wanted);
+    }
+}
+
+// Whether this many blocks suffice. If not, what was written are the first bytes.
+fn suffices(rt: &impl Abort, alloc: Global, blocks: u64, stream: &[u8], wanted: &[u8]) -> bool {
+    let heap = Sparing::new(alloc, blocks);
+    let mut output = BoundedSink::new(alloc, 200).expect(rt, "out of memory");
+    let how = stream_in(&heap, stream, &mut output, false, 3);
+    if how == Err(ListError::Memory) {
+        assert!(rt; wanted.starts_with(output.written()));
+        return false;
+    }
+    same_at(
+        rt,
+        (how, output.written()),
+        (Ok(Ended::End), wanted),
+        &blocks,
+    );
+    true
+}
+
+// Each growth is refused in turn, and the first run in which none is strips the stream.
+#[test]
+fn streams_whose_memory_runs_out(rt: HostRuntime) {
+    for (stream, _, without) in rows() {
+        let refused = (0..20).filter(|blocks| !suffices(&rt, rt.alloc(), *blocks, stream, without));
+        same_at(&rt, refused.count() >= 2, true, stream);
+    }
+}
+
+#[test]
+fn streams_whose_output_is_full(rt: HostRuntime) {
+    let ample = Sparing::new(rt.alloc(), 100);
+    let mut output = BoundedSink::new(rt.alloc(), 4).expect(&rt, "out of memory");
+    let how = stream_in(&ample, CUSTOM, &mut output, true, 5);
+    same_at(&rt, how, Err(ListError::Output), &CUSTOM);
+    same_at(&rt, output.written(), b"\0asm".as_slice(), &CUSTOM);
 }

@@ -66,7 +66,7 @@ type Row = (
 const USAGE: &[u8] = b"usage: wasm_list [strip]\n";
 
 const HELP: &[u8] = b"usage: wasm_list
-       wasm_list strip [--keep-names] [--keep NAME] [--only NAME]
+       wasm_list strip [--keep-names] [--keep NAME] [--only NAME] [FILE]
        wasm_list --help | --version
 
 wasm_list reads a WebAssembly module, or the header of a component, from
@@ -77,7 +77,9 @@ from the start of the input. A fault is the last line, with its offset.
 
 With strip, it writes the module without its custom sections, such as names and
 debugging information. All other bytes stay as they are. If the module is
-malformed, nothing is written.
+malformed, nothing is written. A regular file as an argument is read twice
+instead of being kept in memory: first to check it, then to write it. Standard
+input is read into memory.
 
 These options come after strip, in any order, and may be repeated:
 

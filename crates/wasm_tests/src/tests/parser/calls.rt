@@ -1,7 +1,7 @@
 // Calls of the parser one after the other: what they consume, ask for and leave unchanged.
 use super::{after_header, end, pass, refusal};
 use crate::tests::same;
-use wasm_parser::{Chunk, Error, Fault, Parser};
+use wasm_parser::{Chunk, Error, Fault, Parser, PartHead};
 
 // What is returned: how many bytes a payload consumed, or how many more are asked for.
 #[derive(Clone, Copy, Debug, PartialEq, Eq)]
@@ -169,4 +169,124 @@ fn nothing_is_left_to_skip(rt: HostRuntime) {
         Answer::Consumes(3),
     );
     same(&rt, parser.skippable(), None);
+}
+
+// The content and the first fields of a part that is skipped, and where the parser is then.
+fn skipped(parser: &mut Parser, bytes: &[u8]) -> Option<(u64, u64, Fields, u64)> {
+    let part = parser.skip_next(bytes)?;
+    let fields = fields_of(&part.head);
+    Some((part.range.start, part.range.end, fields, parser.offset()))
+}
+
+// The first fields, without a borrow.
+#[derive(Clone, Copy, Debug, PartialEq, Eq)]
+enum Fields {
+    Custom(bool, u64),
+    Items(u8, u32),
+    Unknown(u8),
+    Body,
+}
+
+fn fields_of(head: &PartHead<'_>) -> Fields {
+    match head {
+        PartHead::Custom { name, data_offset } => Fields::Custom(*name == "name", *data_offset),
+        PartHead::Items { id, count } => Fields::Items(*id, *count),
+        PartHead::Unknown { id } => Fields::Unknown(*id),
+        PartHead::Body => Fields::Body,
+    }
+}
+
+#[test]
+fn parts_that_are_skipped(rt: HostRuntime) {
+    let mut parser = after_header(&rt, 100);
+    let custom = Some((110, 119, Fields::Custom(true, 115), 119));
+    same(&rt, skipped(&mut parser, b"\0\x09\x04name\xff"), custom);
+    let unknown = Some((122, 322, Fields::Unknown(0x7f), 322));
+    same(&rt, skipped(&mut parser, b"\x7f\xc8\x01"), unknown);
+    let functions = Some((324, 326, Fields::Items(3, 1), 326));
+    same(&rt, skipped(&mut parser, b"\x03\x02\x01"), functions);
+    pass(&rt, &mut parser, b"\x0a\x04\x01");
+    let body = Some((330, 332, Fields::Body, 332));
+    same(&rt, skipped(&mut parser, b"\x02"), body);
+    same(
+        &rt,
+        (parser.skippable(), end(&mut parser)),
+        (Some(0), Some(332)),
+    );
+}
+
+// What is not skipped, after a header at the offset 0, and leaves the parser there.
+const KEPT: [&[u8]; 15] = [
+    b"",
+    // All of a section; its first fields aren't here; they are wrong.
+    b"\0\x02\x01a",
+    b"\0",
+    b"\0\x02",
+    b"\0\x05\x02a",
+    b"\0\x09\x02\xff\xff",
+    b"\x01\x09",
+    b"\x01\x09\x80",
+    b"\x01\x09\xff\xff\xff\xff\x7f",
+    b"\x80\x09\x01",
+    // A header that is begun; a start, a data count and a code section.
+    b"\0as",
+    b"\0asm",
+    b"\x08\x09\x01",
+    b"\x0c\x09\x01",
+    b"\x0a\x09\x01",
+];
+
+// The rows by a function, since a proof over them knows nothing of their bytes.
+fn kept() -> &'static [&'static [u8]] {
+    &KEPT
+}
+
+#[test]
+fn parts_that_are_not_skipped(rt: HostRuntime) {
+    for bytes in kept() {
+        let mut parser = after_header(&rt, 0);
+        same(
+            &rt,
+            (skipped(&mut parser, bytes), parser.offset()),
+            (None, 8),
+        );
+    }
+    same(&rt, skipped(&mut Parser::new(0), b"\0asm\x01\0"), None);
+}
+
+#[test]
+fn sections_out_of_order_are_not_skipped(rt: HostRuntime) {
+    let mut parser = after_header(&rt, 0);
+    let exports = Some((10, 20, Fields::Items(7, 1), 20));
+    same(&rt, skipped(&mut parser, b"\x07\x0a\x01"), exports);
+    same(&rt, skipped(&mut parser, b"\x06\x0a\x01"), None);
+    pass(&rt, &mut parser, b"\x0c\x01\x02");
+    same(&rt, skipped(&mut parser, b"\x0b\x0a\x01"), None);
+    let segments = Some((25, 35, Fields::Items(11, 2), 35));
+    same(&rt, skipped(&mut parser, b"\x0b\x0a\x02"), segments);
+}
+
+#[test]
+fn bodies_that_are_not_skipped(rt: HostRuntime) {
+    let mut parser = after_header(&rt, 0);
+    pass(&rt, &mut parser, b"\x03\x02\x01\0");
+    pass(&rt, &mut parser, b"\x0a\x04\x01");
+    same(&rt, skipped(&mut parser, b"\x03"), None);
+    same(&rt, skipped(&mut parser, b"\x02\0\x0b"), None);
+    same(&rt, skipped(&mut parser, b""), None);
+    same(&rt, (parser.offset(), parser.skippable()), (15, Some(3)));
+}
+
+#[test]
+fn skipping_near_the_top_of_the_offsets(rt: HostRuntime) {
+    let mut parser = after_header(&rt, 18446744073709551600);
+    same(&rt, skipped(&mut parser, b"\x7f\x06"), None);
+    let last = Some((
+        18446744073709551610,
+        18446744073709551615,
+        Fields::Unknown(0x7f),
+        18446744073709551615,
+    ));
+    same(&rt, skipped(&mut parser, b"\x7f\x05"), last);
+    same(&rt, skipped(&mut parser, b"\x7f"), None);
 }

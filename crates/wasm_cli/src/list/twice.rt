@@ -1,0 +1,61 @@
+// Stripping a file, which is read twice: memory then does not grow with the file.
+ghost use Rattle.std.specs.Prelude.{None, false};
+ghost use Rattle.wasm_cli.specs.StripsTwice.{AnswersAs, StripsTwice};
+ghost use Rattle.wasm_feed.specs.Stripped.{stays_by};
+ghost use Rattle.wasm_lines.specs.Calls.{device_of};
+
+use super::stripping::tell_fault;
+use crate::common::{PIECE, give_up};
+use std::alloc::Global;
+use wasm_feed::{Ended, Failed, Keep, ListError, Sink, Source, strip_stream};
+
+// A sink that drops its bytes.
+#[derive(Drop)]
+struct Dropped {}
+
+impl Sink for Dropped {
+    ghost has_failed = { λ _. false };
+
+    fn write(&mut self, buf: &[u8]) -> Result<usize, Failed> {
+        Ok(buf.len())
+    }
+
+    fn failed(&self) -> bool {
+        false
+    }
+}
+
+// Prints the fault of a stream, or why a run failed, and returns the status.
+fn answer<E: Sink>(alloc: Global, how: Result<Ended, ListError>, errors: &mut E) -> u8
+    ensures { AnswersAs how (device_of E.taken E.has_failed errors.old errors.new) result }
+{
+    match how {
+        Ok(Ended::End) => 0,
+        Ok(Ended::Fault(error)) => tell_fault(alloc, errors, error),
+        Err(why) => give_up(errors, why),
+    }
+}
+
+/// Reads a stream from `first` to its end, and if it has no fault, reads it again from `second` and writes it without
+/// the sections that do not stay. Returns the exit status, as `strip_input` does.
+pub(super) fn strip_twice<R: Source, W: Sink, E: Sink>(
+    alloc: Global,
+    keep: Keep<'_>,
+    first: &mut R,
+    second: &mut R,
+    output: &mut W,
+    errors: &mut E,
+) -> u8
+    ensures { StripsTwice (stays_by keep.entry)
+        (device_of R.remaining R.has_failed first.old first.new)
+        (device_of R.remaining R.has_failed second.old second.new)
+        (device_of W.taken W.has_failed output.old output.new)
+        (device_of E.taken E.has_failed errors.old errors.new) result }
+{
+    let checked = strip_stream(alloc, first, &mut Dropped {}, keep, PIECE);
+    if let Ok(Ended::End) = checked {
+        let how = strip_stream(alloc, second, output, keep, PIECE);
+        return answer(alloc, how, errors);
+    }
+    answer(alloc, checked, errors)
+}

@@ -1,0 +1,18 @@
+use Rattle.std.proofs.lemmas.Result.{err_from_is_err_and}
+use Rattle.wasm_feed.proofs.StripStream.{part_passed, part_cut, settled_wrote}
+use Rattle.wasm_feed.proofs.streaming.pass_part.Goals as goal
+
+pub returns-in_err-pass_missing-clause-cut : goal.returns-in_err-pass_missing-clause-cut
+returns-in_err-pass_missing-clause-cut g c =
+    let e = err_from_is_err_and c.from_residual-in_err-pass_missing.result c.from_residual-in_err-pass_missing.ensures.1 in
+    rw e.1 (settled_wrote _ _ _ _ _ _ c.in_ok-held.ensures.settles.puts.writes c.in_err-pass_missing.ensures.cut)
+
+pub returns-then-branch-clause-passes : goal.returns-then-branch-clause-passes
+returns-then-branch-clause-passes g c =
+    part_passed _ _ _ _ _ c.args.passing _ _ _ _ _ _ _ _ _ c.in_ok-held.ensures.settles _ c.in_ok-pass_missing.ensures.passes c.requires
+    c.if-branch.true
+
+pub returns-else-branch-clause-passes : goal.returns-else-branch-clause-passes
+returns-else-branch-clause-passes g c =
+    part_cut _ _ _ _ _ c.args.passing _ _ _ _ _ _ _ _ _ c.in_ok-held.ensures.settles _ c.in_ok-pass_missing.ensures.passes c.requires _
+    c.if-branch.false c.new.ensures.report

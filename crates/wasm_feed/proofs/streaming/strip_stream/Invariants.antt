@@ -1,0 +1,22 @@
+use Rattle.std.proofs.Common.{◌≡◌}
+use Rattle.wasm_feed.specs.Beside.{beside}
+use Rattle.wasm_feed.specs.Cursors.{feed_of}
+use Rattle.wasm_feed.specs.Progress.{weight}
+use Rattle.wasm_feed.specs.Stripped.{stays_by}
+use Rattle.wasm_feed.proofs.StripProgress.{StripProgress}
+use Rattle.wasm_feed.proofs.streaming.strip_stream.Given as goal
+
+-- how far the stream is stripped
+abbrev pub invariant-parts : goal.invariant-parts
+invariant-parts g l =
+    let source = g.R.Source in
+    let sink = g.W.Sink in
+    record {
+      progress : StripProgress (stays_by l.keep) (source.remaining l.initial.input) (source.remaining l.input)
+          (sink.taken l.initial.output) (sink.taken l.output) (beside (feed_of l.stored.items l.cursor) l.ahead) l.page;
+      input : source.has_failed l.input ≡ source.has_failed l.initial.input;
+      output : sink.has_failed l.output ≡ sink.has_failed l.initial.output;
+    }
+
+abbrev pub decreases-parts : goal.decreases-parts
+decreases-parts g l = weight (beside (feed_of l.stored.items l.cursor) l.ahead)

@@ -1,0 +1,355 @@
+// Stripping a stream that need not fit in memory.
+ghost use Rattle.std.specs.Prelude.{◌≡◌, ◌+◌, ◌≤◌, ◌<◌, [], drop, length, IfErr, IfOk, OnErr, OnOk, vec_len, vec_capacity};
+ghost use Rattle.wasm_lines.specs.Calls.{device_of, from_to, input_failed, output_failed};
+ghost use Rattle.wasm_feed.specs.Beside.{beside, seen};
+ghost use Rattle.wasm_feed.specs.Cursors.{feed_of};
+ghost use Rattle.wasm_lines.specs.Page.{IsCut};
+ghost use Rattle.wasm_lines.specs.declared.devices.ListError.TheVariants.{Input};
+ghost use Rattle.wasm_feed.specs.StripStream.{FillsChunk, IsCutSomewhere, PassesMissing, PassesPart, PutsAll, ReadsOrPasses, Settles, SkipsIfAny, StripsSource, TakesPiece, TakesSome, WroteSome, head_stays, if_stays};
+ghost use Rattle.wasm_feed.specs.Stripped.{stays_by};
+ghost use Rattle.wasm_parser.specs.SkipNext.{head_is};
+
+use crate::ahead::Ahead;
+use crate::buffer::after;
+use crate::feeder::{Cursor, Step, parse_next, seen};
+use crate::listing::{Ended, Turn};
+use crate::stripping::{Fate, Keep, fate_of, stays};
+use std::alloc::{Allocator, Global};
+use wasm_lines::{ListError, Page, Sink, Source, write_all};
+use wasm_parser::{Error, Fault, Parser, PartHead, Payload, Result as ParserResult};
+
+/// More bytes than this are written at once, and not put on the page.
+const LARGE: usize = 16_384;
+
+/// A part of a stream that is forwarded or dropped before all of it has come.
+#[derive(Clone, Copy)]
+pub(crate) struct Passing {
+    /// The offset of its content.
+    from: u64,
+    /// Its size in bytes.
+    size: u64,
+    /// Whether it stays.
+    stays: bool,
+}
+
+// Puts bytes on the page, or writes them after those of the page.
+fn put_all<A: Allocator, W: Sink>(
+    page: &mut Page<A>,
+    bytes: &[u8],
+    output: &mut W,
+) -> Result<(), ListError>
+    ensures puts { PutsAll (W.taken output.old) (W.taken output.new)
+        page.old bytes.now page.new result }
+    ensures failed { W.has_failed output.new ≡ output_failed result (W.has_failed output.old) }
+{
+    if bytes.len() <= LARGE {
+        return page.put(bytes, output);
+    }
+    page.write_out(output)?;
+    match write_all(output, bytes) {
+        Ok(()) => Ok(()),
+        Err(_) => Err(ListError::Output),
+    }
+}
+
+// Puts a part that stays on the page, and returns what to do next.
+fn put_part<A: Allocator, W: Sink>(
+    page: &mut Page<A>,
+    output: &mut W,
+    answer: &ParserResult<Step<'_>>,
+    keep: Keep<'_>,
+) -> Result<Turn, ListError>
+    ensures takes { TakesPiece (stays_by keep.entry) (W.taken output.old) (W.taken output.new)
+        page.old page.new answer.now result }
+    ensures failed { W.has_failed output.new ≡ output_failed result (W.has_failed output.old) }
+{
+    match answer {
+        Ok(Step::NeedMoreData(_)) => Ok(Turn::Read),
+        Ok(Step::Parsed { bytes, payload }) => match fate_of(payload, keep) {
+            Fate::Stays => {
+                put_all(page, bytes, output)?;
+                Ok(Turn::Advance)
+            }
+            Fate::Goes => Ok(Turn::Advance),
+            Fate::End => Ok(Turn::End(Ended::End)),
+        },
+        Err(error) => Ok(Turn::End(Ended::Fault(*error))),
+    }
+}
+
+// Whether a part with these first fields stays.
+fn head_stays(head: &PartHead<'_>, keep: Keep<'_>) -> bool
+    ensures { result ≡ head_stays (stays_by keep.entry) (head_is head.now) }
+{
+    match head {
+        PartHead::Custom { name, .. } => stays(name, keep),
+        _ => true,
+    }
+}
+
+// Skips the part at the cursor, if its first fields are in these bytes.
+fn skip_part(cursor: &mut Cursor, bytes: &[u8], keep: Keep<'_>) -> Option<Passing>
+    ensures { SkipsIfAny (stays_by keep.entry) cursor.old bytes.now result cursor.new }
+{
+    let start = cursor.offset();
+    let part = cursor.skip_next(bytes)?;
+    Some(Passing {
+        from: part.range.start,
+        size: part.range.end - start,
+        stays: head_stays(&part.head, keep),
+    })
+}
+
+// Puts bytes on the page if they stay.
+fn put_if<A: Allocator, W: Sink>(
+    stays: bool,
+    page: &mut Page<A>,
+    bytes: &[u8],
+    output: &mut W,
+) -> Result<(), ListError>
+    ensures puts { PutsAll (W.taken output.old) (W.taken output.new)
+        page.old (if_stays stays bytes.now) page.new result }
+    ensures failed { W.has_failed output.new ≡ output_failed result (W.has_failed output.old) }
+{
+    if stays {
+        put_all(page, bytes, output)
+    } else {
+        Ok(())
+    }
+}
+
+// Reads the next chunk if the chunk is empty.
+fn fill<A: Allocator, R: Source>(ahead: &mut Ahead<A>, input: &mut R) -> Result<(), ListError>
+    ensures fills { FillsChunk (R.remaining input.old) (R.remaining input.new) ahead.old ahead.new result }
+    ensures err { IfErr result (λ e. e ≡ Input) }
+    ensures failed { R.has_failed input.new ≡ input_failed result (R.has_failed input.old) }
+{
+    if ahead.bytes().is_empty() {
+        match ahead.fetch(input) {
+            Ok(()) => Ok(()),
+            Err(_) => Err(ListError::Input),
+        }
+    } else {
+        Ok(())
+    }
+}
+
+// Takes at most `most` bytes from the chunk, and puts them on the page if they stay. An empty chunk is read first.
+// Returns how many bytes it took: none if the source is at its end.
+fn take_some<A: Allocator, R: Source, W: Sink>(
+    most: u64,
+    stays: bool,
+    ahead: &mut Ahead<A>,
+    page: &mut Page<A>,
+    input: &mut R,
+    output: &mut W,
+) -> Result<u64, ListError>
+    requires { 0 < most }
+    ensures takes { IfOk result (λ count. TakesSome (R.remaining input.old) (R.remaining input.new)
+        (W.taken output.old) (W.taken output.new) stays most ahead.old page.old count ahead.new page.new) }
+    ensures cut { OnErr result (WroteSome
+        (from_to (R.remaining input.old) (R.remaining input.new))
+        (from_to (W.taken output.old) (W.taken output.new))) }
+    ensures source { R.has_failed input.new ≡ input_failed result (R.has_failed input.old) }
+    ensures sink { W.has_failed output.new ≡ output_failed result (W.has_failed output.old) }
+{
+    fill(ahead, input)?;
+    let count = most.min(ahead.bytes().len() as u64) as usize;
+    put_if(stays, page, &ahead.bytes()[..count], output)?;
+    ahead.pass(count);
+    Ok(count as u64)
+}
+
+// Forwards or drops the missing bytes of a part, and returns whether all of them came before the end of the source.
+fn pass_missing<A: Allocator, R: Source, W: Sink>(
+    missing: u64,
+    stays: bool,
+    ahead: &mut Ahead<A>,
+    page: &mut Page<A>,
+    input: &mut R,
+    output: &mut W,
+) -> Result<bool, ListError>
+    ensures passes { IfOk result (λ whole. PassesMissing (R.remaining input.old) (R.remaining input.new)
+        (W.taken output.old) (W.taken output.new) stays missing ahead.old page.old whole ahead.new page.new) }
+    ensures cut { OnErr result (WroteSome
+        (from_to (R.remaining input.old) (R.remaining input.new))
+        (from_to (W.taken output.old) (W.taken output.new))) }
+    ensures source { R.has_failed input.new ≡ input_failed result (R.has_failed input.old) }
+    ensures sink { W.has_failed output.new ≡ output_failed result (W.has_failed output.old) }
+{
+    let mut left = missing;
+    'chunks: while left > 0 {
+        let count = take_some(left, stays, ahead, page, input, output)?;
+        if count == 0 {
+            return Ok(false);
+        }
+        left -= count;
+    }
+    Ok(true)
+}
+
+// Puts the stored bytes of the part at the cursor on the page if it stays, so that its other bytes are in the chunk.
+// Returns how many bytes it put or dropped.
+fn settle<A: Allocator, W: Sink>(
+    stays: bool,
+    cursor: &mut Cursor,
+    stored: &mut Vec<u8, A>,
+    ahead: &mut Ahead<A>,
+    page: &mut Page<A>,
+    output: &mut W,
+) -> Result<usize, ListError>
+    ensures settles { IfOk result (λ count. Settles (W.taken output.old) (W.taken output.new) stays
+        cursor.old stored.old.items ahead.old page.old count ahead.new page.new) }
+    ensures none { OnOk result (stored.new.items ≡ []) }
+    ensures cursor { OnOk result (cursor.new ≡ record cursor.old { mark = 0 }) }
+    ensures cut { IfErr result (λ e. IsCutSomewhere (W.taken output.old) (W.taken output.new) e) }
+    ensures sink { W.has_failed output.new ≡ output_failed result (W.has_failed output.old) }
+{
+    if stored.is_empty() {
+        ahead.pass(cursor.mark().min(ahead.bytes().len()));
+        cursor.rewind();
+        return Ok(0);
+    }
+    let held = after(stored, cursor.mark());
+    let count = held.len();
+    put_if(stays, page, held, output)?;
+    stored.clear();
+    cursor.rewind();
+    Ok(count)
+}
+
+// Forwards or drops a part that the cursor has skipped, whose first bytes are held. Returns the fault of a stream that
+// ends before the part does.
+fn pass_part<A: Allocator, R: Source, W: Sink>(
+    passing: Passing,
+    cursor: &mut Cursor,
+    stored: &mut Vec<u8, A>,
+    ahead: &mut Ahead<A>,
+    page: &mut Page<A>,
+    input: &mut R,
+    output: &mut W,
+) -> Result<Option<Error>, ListError>
+    requires { length (drop cursor.old.mark (seen stored.old.items ahead.old)) < passing.size }
+    ensures passes { IfOk result (λ fault. PassesPart (R.remaining input.old) (R.remaining input.new)
+        (W.taken output.old) (W.taken output.new) passing cursor.old stored.old.items ahead.old page.old
+        fault ahead.new page.new) }
+    ensures none { OnOk result (stored.new.items ≡ []) }
+    ensures cursor { OnOk result (cursor.new ≡ record cursor.old { mark = 0 }) }
+    ensures cut { OnErr result (WroteSome
+        (from_to (R.remaining input.old) (R.remaining input.new))
+        (from_to (W.taken output.old) (W.taken output.new))) }
+    ensures source { R.has_failed input.new ≡ input_failed result (R.has_failed input.old) }
+    ensures sink { W.has_failed output.new ≡ output_failed result (W.has_failed output.old) }
+{
+    let held = settle(passing.stays, cursor, stored, ahead, page, output)?;
+    let missing = passing.size - held as u64;
+    if pass_missing(missing, passing.stays, ahead, page, input, output)? {
+        Ok(None)
+    } else {
+        Ok(Some(Error::new(Fault::UnexpectedEof, passing.from)))
+    }
+}
+
+// Skips the part at the cursor, and forwards or drops it; or reads more, if its first fields are not here. Returns the
+// fault of a stream that ends within a part that was skipped.
+fn read_or_pass<A: Allocator, R: Source, W: Sink>(
+    keep: Keep<'_>,
+    cursor: &mut Cursor,
+    stored: &mut Vec<u8, A>,
+    ahead: &mut Ahead<A>,
+    page: &mut Page<A>,
+    input: &mut R,
+    output: &mut W,
+) -> Result<Option<Error>, ListError>
+    requires { vec_len stored.old + length ahead.old ≤ vec_capacity stored.old }
+    ensures reads { IfOk result (λ fault. ReadsOrPasses (stays_by keep.entry)
+        (R.remaining input.old) (R.remaining input.new) (W.taken output.old) (W.taken output.new)
+        cursor.old stored.old.items ahead.old page.old
+        fault (beside (feed_of stored.new.items cursor.new) ahead.new) page.new) }
+    ensures cut { OnErr result (WroteSome
+        (from_to (R.remaining input.old) (R.remaining input.new))
+        (from_to (W.taken output.old) (W.taken output.new))) }
+    ensures source { R.has_failed input.new ≡ input_failed result (R.has_failed input.old) }
+    ensures sink { W.has_failed output.new ≡ output_failed result (W.has_failed output.old) }
+{
+    match skip_part(cursor, seen(stored, ahead.bytes()), keep) {
+        Some(passing) => pass_part(passing, cursor, stored, ahead, page, input, output),
+        None => match ahead.refill(cursor, stored, input) {
+            Ok(()) => Ok(None),
+            Err(why) => Err(why),
+        },
+    }
+}
+
+/// Reads a stream from a source and writes it without its custom sections, except those that `keep` keeps.
+///
+/// It reads at most `piece` bytes at once, which must be at least 1. It buffers one chunk, at most 65,536 bytes to be
+/// written, and the first fields of a part. The parts of a well-formed stream are not buffered, however large they are.
+///
+/// Bytes are written before the end of the stream is known. To write nothing if the stream has a fault, read it twice:
+/// first with an output that drops its bytes. `strip_in` checks and copies a stream in memory.
+///
+/// A fault of the stream is no error: `Ended::Fault` is returned, and the parts before it have been written, perhaps
+/// with the first bytes of the part that it cuts.
+///
+/// # Errors
+///
+/// Some bytes may have been written.
+///
+/// * `Input` if the source failed.
+/// * `Output` if the sink failed.
+/// * `Memory` when an allocation fails.
+///
+/// ```rattle
+/// let mut input = SliceSource::new(b"\0asm\x01\0\0\0\0\x02\x01a\x01\x01\0");
+/// let mut output = BoundedSink::new(alloc, 1000)?;
+/// assert_eq!(rt; strip_stream(alloc, &mut input, &mut output, Keep::names(false), 4096)?, Ended::End);
+/// assert_eq!(rt; output.written(), b"\0asm\x01\0\0\0\x01\x01\0".as_slice());
+/// ```
+///
+/// (Core specification, Binary format, Modules, Custom Section.)
+pub fn strip_stream<A: Allocator + Copy, R: Source, W: Sink>(
+    alloc: A,
+    input: &mut R,
+    output: &mut W,
+    keep: Keep<'_>,
+    piece: usize,
+) -> Result<Ended, ListError>
+    requires { 1 ≤ piece }
+    ensures { StripsSource (stays_by keep.entry)
+        (device_of R.remaining R.has_failed input.old input.new)
+        (device_of W.taken W.has_failed output.old output.new) result }
+{
+    let mut ahead = Ahead::new(vec![in alloc; 0u8; piece]?);
+    let mut page = Page::new(alloc);
+    let mut stored = Vec::new(alloc);
+    let mut cursor = Cursor::new(Parser::new(0));
+    'parts: loop {
+        ahead.make_ready(&mut cursor, &mut stored)?;
+        let answer = parse_next(&mut cursor, seen(&stored, ahead.bytes()));
+        let turn = put_part(&mut page, output, &answer, keep);
+        drop(answer);
+        match turn? {
+            Turn::Advance => ahead.pass_borrowed(&mut cursor, &stored),
+            Turn::Read => {
+                let fault = read_or_pass(
+                    keep,
+                    &mut cursor,
+                    &mut stored,
+                    &mut ahead,
+                    &mut page,
+                    input,
+                    output,
+                )?;
+                if let Some(error) = fault {
+                    page.write_out(output)?;
+                    return Ok(Ended::Fault(error));
+                }
+            }
+            Turn::End(ended) => {
+                page.write_out(output)?;
+                return Ok(ended);
+            }
+        }
+    }
+}

@@ -1,0 +1,47 @@
+-- Where a caller is after a part that was skipped.
+use Rattle.std.proofs.Common.{◌≡◌, ℕ, ◌+◌, ◌<◌, List, [], ◌∷◌, ◌++◌, length, Some, refl, sym, ap, subst, subst₂, ◌∙◌, arith, length-append}
+use Rattle.std.proofs.Common.{append_assoc}
+use Rattle.wasm_base.specs.FaultAt.{at_offset}
+use Rattle.wasm_base.specs.declared.fault.Fault.TheVariants.{UnexpectedEof}
+use Rattle.wasm_grammar.specs.Content.{fault}
+use Rattle.wasm_grammar.specs.Grammar.{Tile}
+use Rattle.wasm_grammar.specs.Reading.{Event, last_event, Reading, tile_report}
+use Rattle.wasm_parser.specs.Along.{Along}
+use Rattle.wasm_parser.specs.ParserState.{ParserState}
+use Rattle.wasm_parser.specs.SkipNext.{Skip, SkipsPart, PassesTile, SkipCame, SkippingGoesAlong, head_in}
+use Rattle.wasm_parser.proofs.Along.{pushed, event_here, offset_is, along_tile, reading_here}
+
+whole : (start features : ℕ) (given : List ℕ) (p : ParserState) (first others : List ℕ) (events : List Event) (skip : Skip)
+    (new : ParserState) (more bytes rest : List ℕ) → Along start features given p (first ++ others) events → SkipsPart p first skip new
+    → (first ++ others) ++ more ≡ bytes ++ rest → p.offset + length bytes ≡ skip.to
+    → SkipCame start features (given ++ more) events bytes rest skip new
+whole start features given p first others events skip new more bytes rest a s w n =
+    let b : Along start features (given ++ more) p (first ++ (others ++ more)) events =
+    subst (λ (x : List ℕ). Along start features (given ++ more) p x events) (append_assoc first others more)
+    (pushed start features given p (first ++ others) events more a) in
+    let v : first ++ (others ++ more) ≡ bytes ++ rest = sym (append_assoc first others more) ∙ w in
+    let k = ap (λ (x : List ℕ). length x) v ∙ length-append bytes rest in
+    let t : PassesTile p (first ++ (others ++ more)) skip new = s.whole (others ++ more) (omega (arith, n, k)) in
+    let l : length bytes ≡ length t.next.bytes = omega (arith, n, t.ends) in
+    let z = along_tile start features (given ++ more) p (first ++ (others ++ more)) events b t.next bytes rest new t.is_next l v t.state in
+    record {
+      event = event_here start features (given ++ more) p (first ++ (others ++ more)) events b t.next;
+      head = subst₂ (λ (f o : ℕ). head_in (tile_report f o (o + length t.next.bytes) t.next.shape) ≡ Some skip.head) b.has_features
+          (offset_is start features (given ++ more) p (first ++ (others ++ more)) events b)
+          (subst (λ (x : ℕ). head_in (tile_report p.features p.offset x t.next.shape) ≡ Some skip.head) (sym t.ends) t.head);
+      consumed = z.1;
+      is_along = z.0;
+    }
+
+short : (start features : ℕ) (given : List ℕ) (p : ParserState) (first others : List ℕ) (events : List Event) (skip : Skip)
+    (new : ParserState) (more : List ℕ) → Along start features given p (first ++ others) events → SkipsPart p first skip new
+    → p.offset + length ((first ++ others) ++ more) < skip.to
+    → Reading (given ++ more) start features (events ++ last_event (fault (at_offset UnexpectedEof skip.from)) ∷ [])
+short start features given p first others events skip new more a s l =
+    let e = append_assoc first others more in
+    let v = s.short (others ++ more) (rw e at l) in
+    reading_here start features given p (first ++ others) events a (given ++ more) more (fault (at_offset UnexpectedEof skip.from)) refl
+    (rw e v)
+
+pub skipping_goes_along : SkippingGoesAlong
+skipping_goes_along = record { whole = whole; short = short }
