@@ -27,8 +27,8 @@ use wasm_feed::{Ended, Failed, ListError, ReadSource, Sink, Source, WriteSink, w
 use wasm_tree::{ItemNames, Lines, Objects};
 
 /// What `--help` says.
-const HELP: &[u8] = b"usage: wasm_dump [--color] [--names] [--json] [--bytes] [--section ID|NAME]
-                 [FILE...]
+const HELP: &[u8] = b"usage: wasm_dump [--color] [--names] [--json] [--bytes] [--hex]
+                 [--section ID|NAME] [FILE...]
        wasm_dump --help | --version
 
 wasm_dump shows what each FILE contains: a line for each section and function
@@ -49,6 +49,8 @@ Options come before files, in any order:
              twice.
   --json     Each line is a JSON object, for programs.
   --bytes    Each line follows the bytes that it was read from, in hexadecimal.
+             It cannot be combined with --json.
+  --hex      Offsets are hexadecimal, as 0x1f. All other numbers stay decimal.
              It cannot be combined with --json.
   --section ID|NAME
              Only sections with this id, with this name in the standard, or
@@ -292,7 +294,7 @@ fn dump_lines<R: Source, S: Sink>(
     ensures { DumpsAs options only.now (device_of R.remaining R.has_failed input.old input.new)
         (device_of S.taken S.has_failed output result.1) result.0 }
 {
-    let mut tree = Lines::with_names(alloc, output, names);
+    let mut tree = Lines::with_names(alloc, output, options.base(), names);
     let how = dump(alloc, options.shown(only), input, &mut tree, PIECE);
     (how, tree.into_output())
 }
