@@ -4,17 +4,15 @@ import { Hex } from "./hex.js";
 import { hex, plural, shown } from "./text.js";
 import { Tree } from "./tree.js";
 
-const $ = id => document.getElementById(id), PAUSE = 150, OFFSET = /^0x[0-9a-f]+$/i;
+const $ = id => document.getElementById(id), PAUSE = 150, SCRIPT = "worker.js", OFFSET = /^0x[0-9a-f]+$/i;
 let worker = null, waiting = new Map(), requests = 0, file = null, opened = null, fault = -1, word = "", pause = 0, link = location.hash;
 const made = (tag, properties) => Object.assign(document.createElement(tag), properties);
 const say = (text, isFault = false) => Object.assign($("said"), { textContent: text, className: isFault ? "fault" : "" });
 
-// In the page that is one file, the worker and the parser are texts inside it, since such a page may load neither.
-function startWorker() {
-    const text = $("worker")?.textContent;
+function startWorker(address) {
     worker?.terminate();
     waiting = new Map();
-    worker = text ? new Worker(URL.createObjectURL(new Blob([text]))) : new Worker("worker.js", { type: "module" });
+    worker = new Worker(address, { type: address === SCRIPT ? "module" : "classic" });
     worker.onerror = event => say(`The worker failed: ${event.message}`, true);
     worker.onmessage = ({ data: { read, id, value, error } }) => {
         if (read !== undefined) $("progress").value = read;
@@ -29,16 +27,22 @@ const ask = (call, ...args) => new Promise((resolve, reject) => {
     worker.postMessage({ id: requests, call, args });
 });
 
-const inflated = bytes => new Response(new Blob([bytes]).stream().pipeThrough(new DecompressionStream("gzip"))).arrayBuffer();
-const bytesOf = async text => (text ? inflated(Uint8Array.from(atob(text), it => it.charCodeAt(0))) : (await fetch("pulleynavy.wasm")).arrayBuffer());
-const loading = bytesOf($("wasm")?.textContent).then(WebAssembly.compile);
+// In the page that is one file, the parser and the worker are compressed texts inside it, since such a page may load neither.
+function inflated(text) {
+    const bytes = new Blob([Uint8Array.from(atob(text), it => it.charCodeAt(0))]);
+    return new Response(bytes.stream().pipeThrough(new DecompressionStream("gzip")));
+}
+
+const moduleOf = async text => WebAssembly.compile(await (text ? inflated(text) : await fetch("pulleynavy.wasm")).arrayBuffer());
+const addressOf = async text => (text ? URL.createObjectURL(await inflated(text).blob()) : SCRIPT);
+const loading = Promise.all([moduleOf($("wasm")?.textContent), addressOf($("worker")?.textContent)]);
 loading.catch(error => say(`The parser cannot be loaded: ${error.message}`, true));
 
 // A file that is opened meanwhile ends the worker of this one, whose answer then never comes.
 async function open(given) {
-    const module = await loading;
+    const [module, address] = await loading;
     file = given;
-    startWorker();
+    startWorker(address);
     say(`Reading ${shown(file.name)}, ${plural(file.size, "byte")}`);
     Object.assign($("progress"), { max: Math.max(1, file.size), value: 0, hidden: false });
     opened = await ask("open", module, file);

@@ -1,7 +1,8 @@
 """Reads the lines of items, and returns each item's text as a model writes it.
 
 `case_text(row, lines, data, offset)` reads the result of a row of `crates/wasm_rows`, and `said_text` and `expected_text` give its text
-and the model's, to be compared; `listing_texts(lines, data)` reads the lines of a whole stream, as the program `wasm_dump` writes them; `shortened(text)` gives a model's text with no more of raw bytes than the lines have.
+and the model's, to be compared; `listing_texts(lines, data)` reads the lines of a whole stream, as the program `wasm_dump` writes them;
+`in_decimal(line)` reads a line that it writes with `--hex`; `shortened(text)` gives a model's text with no more of raw bytes than the lines have.
 The models say nothing of where subsections and names begin: these offsets are compared with the bytes themselves.
 """
 import re
@@ -144,6 +145,37 @@ def unnamed(line):
     event = line.rsplit(" ", 1)[0] if line.startswith("section ") else line
     assert named(event) == line, line
     return event
+
+
+# ---- offsets in hexadecimal
+
+# Which words of the line of an event are offsets.
+OFFSETS = {"version": (1, 2), "section": (2, 3), "start": (1, 2), "datacount": (1, 2), "code": (1, 2), "body": (1, 2), "custom": (1, 2, 3),
+           "unknown": (2, 3), "end": (1,), "fault": (1,)}
+# A text in quotes, or a range as a field.
+RANGE = re.compile(r'"[^"]*"|=([^" ()]+)\.\.([^" ()]+)(?= |$)')
+ROW_OF_BYTES = re.compile(r"\S+ \|(?: [0-9a-f]{2})+\Z")
+
+
+def decimal_offset(word):
+    """The number of an offset that must be hexadecimal."""
+    assert re.fullmatch(r"0x(?:0|[1-9a-f][0-9a-f]*)", word), "%s is no hexadecimal offset" % word
+    return str(int(word, 16))
+
+
+def in_decimal(line):
+    """A line of a dump with hexadecimal offsets, with decimal ones in their place. Each offset must be hexadecimal."""
+    text = line.lstrip(" ")
+    words = text.split(" ")
+    if text == line:
+        places = (0,) if ROW_OF_BYTES.match(line) else OFFSETS[words[0]]
+    else:
+        places = (1,) if words[0] == "fault" else (0,) if words[0][0].isdecimal() else ()
+    for place in places:
+        words[place] = decimal_offset(words[place])
+    ranged = lambda found: "=%s..%s" % tuple(map(decimal_offset, found.groups())) if found[1] else found[0]
+    plain = " ".join(words)
+    return line[: len(line) - len(text)] + (plain if words[0] == "fault" else RANGE.sub(ranged, plain))
 
 
 # ---- numbers in index spaces

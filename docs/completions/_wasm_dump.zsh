@@ -5,6 +5,7 @@ _arguments \
     '--version[print the version]' \
     '--bytes[show the bytes of each line]' \
     '--color[write colors for a terminal]' \
+    '--hex[write offsets in hexadecimal]' \
     '--json[write a JSON object per line]' \
     '--names[show the names of items]' \
     '*--section[show only this section]:section:(custom type import function table memory global export start element code data datacount tag name producers linking)' \

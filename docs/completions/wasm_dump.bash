@@ -6,7 +6,7 @@ _wasm_dump() {
     if [[ $before == --section ]]; then
         mapfile -t COMPREPLY < <(compgen -W "$sections name producers linking dylink.0 target_features" -- "$word")
     elif [[ $word == -* ]]; then
-        mapfile -t COMPREPLY < <(compgen -W "--bytes --color --help --json --names --section --version" -- "$word")
+        mapfile -t COMPREPLY < <(compgen -W "--bytes --color --help --hex --json --names --section --version" -- "$word")
     fi
 }
 complete -o default -F _wasm_dump wasm_dump

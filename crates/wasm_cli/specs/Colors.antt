@@ -60,16 +60,21 @@ pub record IsColored (first : ℕ) (later bytes : List ℕ) : Type 0 where
   pub count : ℕ
   pub gives : without_colors bytes ≡ first ∷ take count later
 
--- a device whose bytes are seen without colours
-abbrev pub plain_device : Device → Device
-plain_device device = record {
-  before = plain device.before;
-  after = plain device.after;
-  had_failed = device.had_failed;
-  has_failed = device.has_failed;
-}
+-- bytes without their colours, where there are some
+abbrev pub seen : (is_colored : Bool) → Option (List ℕ) → Option (List ℕ)
+seen true bytes = plain bytes
+seen false bytes = bytes
+
+-- the same after a number that says whether there are some
+abbrev pub marked : (is_colored : Bool) → Option (List ℕ) → Option (List ℕ)
+marked true bytes = option_map (λ text. 1 ∷ text) (plain bytes)
+marked false bytes = option_map (λ text. 0 ∷ text) bytes
 
 -- a device whose bytes are seen without colours, where there are some
 abbrev pub seen_as : (is_colored : Bool) → Device → Device
-seen_as true device = plain_device device
-seen_as false device = device
+seen_as is_colored device = record {
+  before = seen is_colored device.before;
+  after = seen is_colored device.after;
+  had_failed = device.had_failed;
+  has_failed = device.has_failed;
+}

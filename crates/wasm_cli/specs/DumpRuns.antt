@@ -51,8 +51,8 @@ version_text = codes "wasm_dump 0.2.1 (follows wasmparser 0.263.0)\n"
 
 abbrev pub help_text : List ℕ
 help_text =
-    codes "usage: wasm_dump [--color] [--names] [--json] [--bytes] [--section ID|NAME]\n" ++ (
-    codes "                 [FILE...]\n" ++ (
+    codes "usage: wasm_dump [--color] [--names] [--json] [--bytes] [--hex]\n" ++ (
+    codes "                 [--section ID|NAME] [FILE...]\n" ++ (
     codes "       wasm_dump --help | --version\n" ++ (
     codes "\n" ++ (
     codes "wasm_dump shows what each FILE contains: a line for each section and function\n" ++ (
@@ -74,6 +74,8 @@ help_text =
     codes "  --json     Each line is a JSON object, for programs.\n" ++ (
     codes "  --bytes    Each line follows the bytes that it was read from, in hexadecimal.\n" ++ (
     codes "             It cannot be combined with --json.\n" ++ (
+    codes "  --hex      Offsets are hexadecimal, as 0x1f. All other numbers stay decimal.\n" ++ (
+    codes "             It cannot be combined with --json.\n" ++ (
     codes "  --section ID|NAME\n" ++ (
     codes "             Only sections with this id, with this name in the standard, or\n" ++ (
     codes "             custom sections with this name are shown. The option may be\n" ++ (
@@ -90,7 +92,7 @@ help_text =
     codes "     standard error, unless the output is a pipe that its reader has closed.\n" ++ (
     codes "\n" ++ (
     codes "With several files the exit status is the greatest of theirs.\n"
-    ))))))))))))))))))))))))))))))))))))))
+    ))))))))))))))))))))))))))))))))))))))))
 
 -- These sections of the input were shown, with the status and message of how that ended.
 pub record Shows (options : Options) (only : List Only) (forwarded : Bool) (input output errors : Device) (status : ℕ) :

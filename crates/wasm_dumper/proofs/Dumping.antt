@@ -46,7 +46,8 @@ use Rattle.wasm_dumper.specs.Dump.{WritesWhole, WritesSome, AreOfAnswer, ShowsAn
 use Rattle.wasm_dumper.specs.Dump.{DumpsByTree, Writes, stopped_by}
 use Rattle.wasm_tree.specs.Tree as Tree
 use Rattle.wasm_tree.specs.Tree.{IsOutlined, Part, Writing, Origin, begun, begun_numbers, IsGoingIn, IsCutShort, IsWritten, Adds, IsOut}
-use Rattle.wasm_tree.specs.Tree.{IsShaped}
+use Rattle.wasm_tree.specs.Tree.{IsShaped, are_lines}
+use Rattle.wasm_lines.specs.declared.offsets.Base.{Base}
 use Rattle.wasm_tree.specs.Json.{IsAt}
 use Rattle.wasm_tree.specs.Json as json
 use Rattle.wasm_tree.specs.declared.objects.Spot.{Spot}
@@ -90,7 +91,7 @@ pub record Counting (full rest : Option (List ℕ)) (f : Feed) (c : Counts) : Ty
 pub record Dumping (only : List Only) (has_bytes : Bool) (full rest : Option (List ℕ)) (before : Writing) (f : Feed) (c : Counts)
     (now : Writing) : Type 0 where
   pub outline : List ℕ
-  pub listing : Progress (chosen_line only) (from_to full rest) (from_to (Some []) (Some outline)) f []
+  pub listing : Progress (chosen_line before.style only) (from_to full rest) (from_to (Some []) (Some outline)) f []
   pub counting : Counting full rest f c
   pub writing : (taken : Option (List ℕ)) (failed : Bool) → IsFresh before taken failed
       → WrittenWith None only has_bytes counting.events before.style taken failed outline now
@@ -99,7 +100,7 @@ pub record Dumping (only : List Only) (has_bytes : Bool) (full rest : Option (Li
 pub record Wanting (only : List Only) (has_bytes : Bool) (full rest : Option (List ℕ)) (before : Writing) (f : Feed) (c : Counts)
     (now : Writing) : Type 0 where
   pub outline : List ℕ
-  pub listing : Wants (chosen_line only) (from_to full rest) (from_to (Some []) (Some outline)) f []
+  pub listing : Wants (chosen_line before.style only) (from_to full rest) (from_to (Some []) (Some outline)) f []
   pub counting : Counting full rest f c
   pub writing : (taken : Option (List ℕ)) (failed : Bool) → IsFresh before taken failed
       → WrittenWith None only has_bytes counting.events before.style taken failed outline now
@@ -122,7 +123,7 @@ starts : (only : List Only) (has_bytes : Bool) (full : Option (List ℕ)) (w : W
     → Dumping only has_bytes full full w (new_feed 0 all_features) no_counts w
 starts only has_bytes full w = record {
   outline = [];
-  listing = progress.begun (chosen_line only) full (Some []);
+  listing = progress.begun (chosen_line w.style only) full (Some []);
   counting = counts_nothing full;
   writing = λ taken failed i. (
     [],
@@ -137,7 +138,7 @@ like : (only : List Only) (has_bytes : Bool) (full rest : Option (List ℕ)) (be
     → IsAlike f g → Dumping only has_bytes full rest before f c now → Dumping only has_bytes full rest before g c now
 like only has_bytes full rest before f g c now a d = record {
   outline = d.outline;
-  listing = progress.alike (chosen_line only) (from_to full rest) (from_to (Some []) (Some d.outline)) f g [] a d.listing;
+  listing = progress.alike (chosen_line before.style only) (from_to full rest) (from_to (Some []) (Some d.outline)) f g [] a d.listing;
   counting = record {
     given = d.counting.given;
     events = d.counting.events;
@@ -362,17 +363,17 @@ no_numbers_begun b line e = ap (λ (x : Bool). begun_numbers x line) e
 -- all of it
 whole_in : (style : Style) (o : Origin) (w : Writing) → w.style ≡ style → w.why ≡ None → IsOut w → IsGoingIn style o w
     → WritesWhole style o.taken w.taken o.outline o.numbers o.bytes
-whole_in Lines o w same going out g =
-    let ended : w.is_begun ≡ false = out.none_begun going same in
+whole_in (Lines base) o w same going out g =
+    let ended : w.is_begun ≡ false = out.none_begun going (ap are_lines same) in
     let all : g.written ≡ g.text = sym (append-nil g.written) ∙ (ap (λ (x : List ℕ). g.written ++ x) (sym (out.none_waits going))
     ∙ (g.parts ∙ (ap (λ (x : List ℕ). g.text ++ x) (none_begun w.is_begun g.line ended) ∙ append-nil g.text))) in
     let numbered : g.lined ≡ o.numbers = sym (g.numbered
     ∙ (ap (λ (x : List Number). g.lined ++ x) (no_numbers_begun w.is_begun g.line ended) ∙ append-nil g.lined)) in
     let rowed : g.rows ≡ o.bytes = sym (g.rowed
-    ∙ (ap (λ (x : List ℕ). g.rows ++ x) (out.all_shown going same) ∙ append-nil g.rows)) in
+    ∙ (ap (λ (x : List ℕ). g.rows ++ x) (out.all_shown going (ap are_lines same)) ∙ append-nil g.rows)) in
     record {
       text = g.text;
-      shaped = subst₂ (λ (x : List Number) (y : List ℕ). IsOutlined g.text o.outline x y) numbered rowed g.outlined;
+      shaped = subst₂ (λ (x : List Number) (y : List ℕ). IsOutlined base g.text o.outline x y) numbered rowed g.outlined;
       wrote = subst (Appends o.taken w.taken) all g.took;
     }
 whole_in Objects o w same going out g = record {
@@ -396,7 +397,7 @@ some_of o w s = record {
 }
 
 failed_in : (style : Style) (o : Origin) (w : Writing) → IsGoingIn style o w → w.has_failed ≡ o.has_failed
-failed_in Lines o w g = g.failed
+failed_in (Lines base) o w g = g.failed
 failed_in Objects o w g = g.failed
 
 -- the sink has failed only if it had
@@ -428,7 +429,7 @@ events_are (Some why) only c events numbers a = events_begin None why only c eve
 -- a dump, by what it lists, counts and writes
 dumped : {style : Style} {only : List Only} {has_bytes : Bool} {input : Device} {taken : Option (List ℕ)} {failed : Bool}
     {how : Result Ended ListError} {w : Writing} (outline : List ℕ) (numbers : List Number) (bytes : List ℕ)
-    → ListsBy (chosen_line only) (bytes_of input) (from_to (Some []) (Some outline)) how
+    → ListsBy (chosen_line style only) (bytes_of input) (from_to (Some []) (Some outline)) how
     → AreOfSource (stopped_by how) (is_whole how) only has_bytes (bytes_of input) numbers bytes
     → Writes style how taken w.taken outline numbers bytes → input.has_failed ≡ input_failed how input.had_failed
     → w.has_failed ≡ output_failed how failed → DumpsFrom style only has_bytes input taken failed how w
@@ -442,7 +443,7 @@ dumped outline numbers bytes lists counts writes source sink = record {
 cut_off : (style : Style) (only : List Only) (has_bytes : Bool) (full rest : Option (List ℕ)) (had has : Bool) → has ≡ had
     → (taken : Option (List ℕ)) (failed : Bool) (outline : List ℕ) (numbers : List Number) (bytes : List ℕ) (why : ListError)
     (w : Writing)
-    → IsHead (chosen_line only) (from_to full rest) (from_to (Some []) (Some outline))
+    → IsHead (chosen_line style only) (from_to full rest) (from_to (Some []) (Some outline))
     → AreOfSource (Some why) false only has_bytes (from_to full rest) numbers bytes
     → IsCutShort (origin style taken failed outline numbers bytes) why w → DumpsFrom style only has_bytes
     (source full rest had has) taken failed (Err why) w
@@ -464,7 +465,7 @@ stopped_before only has_bytes full rest before f c now d had has h last why a w 
     let (numbers, are, going) = d.writing taken failed i in
     let bytes = bytes_of_events has_bytes only d.counting.events in
     cut_off before.style only has_bytes full rest had has h taken failed d.outline numbers bytes why last
-    (progress.cut (chosen_line only) full rest (Some []) (Some d.outline) f [] d.listing (Some d.outline) Output
+    (progress.cut (chosen_line before.style only) full rest (Some []) (Some d.outline) f [] d.listing (Some d.outline) Output
     (nothing_cut (Some d.outline)))
     (source_begins None false why only has_bytes _ numbers bytes
     (numbers_at None false only has_bytes full rest f c d.counting numbers (not_whole f.held) are)) (as_short _ last why w (a _ going))
@@ -511,7 +512,7 @@ module _ (only : List Only) (has_bytes : Bool) (full rest : Option (List ℕ)) (
     (s : ShowsStep only has_bytes c c' f g now new next) where
   -- the outline with the lines of the result
   abbrev outline : List ℕ
-  outline = d.outline ++ text_after (chosen_line only) s.answer
+  outline = d.outline ++ text_after (chosen_line before.style only) s.answer
 
   -- what was written, with the numbers of events that go on as these by what is shown
   written : (events : List Event) → Continues only has_bytes c s.answer d.counting.events events
@@ -526,8 +527,8 @@ module _ (only : List Only) (has_bytes : Bool) (full rest : Option (List ℕ)) (
         subst (λ (x : List ℕ). IsWritten (origin before.style taken failed outline (numbers ++ shown) x) new) (sym more.1) after,
       )
 
-  put : PutsBytes (Some d.outline) (Some outline) [] (text_after (chosen_line only) s.answer) []
-  put = puts d.outline (text_after (chosen_line only) s.answer)
+  put : PutsBytes (Some d.outline) (Some outline) [] (text_after (chosen_line before.style only) s.answer) []
+  put = puts d.outline (text_after (chosen_line before.style only) s.answer)
 
   -- the same, where the tree goes on
   going_on : new.why ≡ None → (events : List Event) → Continues only has_bytes c s.answer d.counting.events events
@@ -540,7 +541,7 @@ module _ (only : List Only) (has_bytes : Bool) (full rest : Option (List ℕ)) (
   pub advanced : new.why ≡ None → next ≡ turn.Advance → Dumping only has_bytes full rest before g c' new × (weight g < weight f)
   advanced going t =
       let (listing, less) =
-      progress.advanced (chosen_line only) full rest (Some []) (Some d.outline) f [] d.listing g s.answer s.steps _ _
+      progress.advanced (chosen_line before.style only) full rest (Some []) (Some d.outline) f [] d.listing g s.answer s.steps _ _
       put (sym t ∙ s.turns) in
       let (k, more) = counted_on only has_bytes full rest f c d.counting g s.answer (sym t ∙ s.turns) s.steps in (
         record {
@@ -555,7 +556,7 @@ module _ (only : List Only) (has_bytes : Bool) (full rest : Option (List ℕ)) (
   pub asked : new.why ≡ None → next ≡ turn.Read → Wanting only has_bytes full rest before g c' new × (weight g ≡ weight f)
   asked going t =
       let (listing, same) =
-      progress.asked (chosen_line only) full rest (Some []) (Some d.outline) f [] d.listing g s.answer s.steps _ _ put
+      progress.asked (chosen_line before.style only) full rest (Some []) (Some d.outline) f [] d.listing g s.answer s.steps _ _ put
       (sym t ∙ s.turns) in
       let (k, more) = counted_still only has_bytes full rest f c d.counting g s.answer (sym t ∙ s.turns) s.steps in (
         record {
@@ -567,19 +568,22 @@ module _ (only : List Only) (has_bytes : Bool) (full rest : Option (List ℕ)) (
         same,
       )
 
-  begins : (t : Turn) → next ≡ t → IsHead (chosen_line only) (from_to full rest) (from_to (Some []) (Some outline))
+  begins : (t : Turn) → next ≡ t → IsHead (chosen_line before.style only) (from_to full rest) (from_to (Some []) (Some outline))
   begins turn.Advance t =
       let (listing, less) =
-      progress.advanced (chosen_line only) full rest (Some []) (Some d.outline) f [] d.listing g s.answer s.steps _ _
+      progress.advanced (chosen_line before.style only) full rest (Some []) (Some d.outline) f [] d.listing g s.answer s.steps _ _
       put (sym t ∙ s.turns) in
-      progress.cut (chosen_line only) full rest (Some []) (Some outline) g [] listing (Some outline) Output (nothing_cut (Some outline))
-  begins turn.Read t =
-      let (wants, same) = progress.asked (chosen_line only) full rest (Some []) (Some d.outline) f [] d.listing g s.answer s.steps _ _ put
-      (sym t ∙ s.turns) in
-      progress.cut (chosen_line only) full rest (Some []) (Some outline) g [] wants.progress (Some outline) Output
+      progress.cut (chosen_line before.style only) full rest (Some []) (Some outline) g [] listing (Some outline) Output
       (nothing_cut (Some outline))
-  begins (turn.End how) t = progress.end_cut (chosen_line only) full rest (Some []) (Some d.outline) f [] d.listing g s.answer s.steps _ _
-      put how (sym t ∙ s.turns) (Some outline) Output (nothing_cut (Some outline))
+  begins turn.Read t =
+      let (wants, same) =
+      progress.asked (chosen_line before.style only) full rest (Some []) (Some d.outline) f [] d.listing g s.answer s.steps _ _ put
+      (sym t ∙ s.turns) in
+      progress.cut (chosen_line before.style only) full rest (Some []) (Some outline) g [] wants.progress (Some outline) Output
+      (nothing_cut (Some outline))
+  begins (turn.End how) t =
+      progress.end_cut (chosen_line before.style only) full rest (Some []) (Some d.outline) f [] d.listing g s.answer s.steps _ _ put how
+      (sym t ∙ s.turns) (Some outline) Output (nothing_cut (Some outline))
 
   -- whether all of the stream was read, by what is done next
   abbrev ends_whole : Turn → Bool
@@ -647,8 +651,8 @@ module _ (only : List Only) (has_bytes : Bool) (full rest : Option (List ℕ)) (
       let o = origin before.style taken failed outline numbers bytes in
       let all = a o wrote in
       dumped outline numbers bytes
-      (progress.listed_all (chosen_line only) full rest (Some []) (Some d.outline) f [] d.listing g s.answer s.steps _ _ put how
-      (sym t ∙ s.turns) (Some outline) (Appends-nil (Some outline)))
+      (progress.listed_all (chosen_line before.style only) full rest (Some []) (Some d.outline) f [] d.listing g s.answer s.steps _ _ put
+      how (sym t ∙ s.turns) (Some outline) (Appends-nil (Some outline)))
       (subst (λ (why : Option ListError). AreOfSource why (is_whole (Ok how)) only has_bytes (from_to full rest) numbers bytes) went are)
       (whole o last going out all) h (has_failed o last going all)
 
@@ -701,7 +705,8 @@ module _ (only : List Only) (has_bytes : Bool) (full rest : Option (List ℕ)) (
   pub filled : (rest' : Option (List ℕ)) (g : Feed) → FillsAlike rest rest' f g → Dumping only has_bytes full rest' before g c last
       × (weight g < weight f)
   filled rest' g r =
-      let (listing, less) = progress.filled_alike (chosen_line only) full rest (Some []) (Some d.outline) rest' f g d.listing r in
+      let (listing, less) =
+      progress.filled_alike (chosen_line before.style only) full rest (Some []) (Some d.outline) rest' f g d.listing r in
       let (k, same) = counted_filled full rest f c d.counting rest' g r in
       (record { outline = d.outline; listing = listing; counting = k; writing = all k.events same }, less)
 
@@ -714,7 +719,7 @@ module _ (only : List Only) (has_bytes : Bool) (full rest : Option (List ℕ)) (
       let o = origin before.style taken failed d.outline numbers bytes in
       let k = d.counting in
       dumped d.outline numbers bytes
-      (progress.not_filled (chosen_line only) full rest (Some []) (Some d.outline) f d.listing rest' g Input r)
+      (progress.not_filled (chosen_line before.style only) full rest (Some []) (Some d.outline) f d.listing rest' g Input r)
       (numbers_at None false only has_bytes full rest' f c (record {
         given = k.given;
         events = k.events;
@@ -727,7 +732,7 @@ module _ (only : List Only) (has_bytes : Bool) (full rest : Option (List ℕ)) (
       let bytes = bytes_of_events has_bytes only d.counting.events in
       let o = origin before.style taken failed d.outline numbers bytes in
       dumped d.outline numbers bytes
-      (progress.not_filled (chosen_line only) full rest (Some []) (Some d.outline) f d.listing rest' g Memory r)
+      (progress.not_filled (chosen_line before.style only) full rest (Some []) (Some d.outline) f d.listing rest' g Memory r)
       (numbers_after (Some Memory) only has_bytes full rest rest' f c d.counting r.0 r.1 numbers
       (events_begin None Memory only no_counts d.counting.events numbers are))
       (some_of o last (whole o last going out wrote)) (h ∙ m) (has_failed o last going wrote)
@@ -735,19 +740,19 @@ module _ (only : List Only) (has_bytes : Bool) (full rest : Option (List ℕ)) (
 
 -- ---- the whole
 
-nothing_outlined : IsOutlined [] [] [] []
-nothing_outlined = record { lines = []; whole = refl; parts = refl; outlines = refl; numbered = refl; rowed = refl }
+nothing_outlined : (base : Base) → IsOutlined base [] [] [] []
+nothing_outlined base = record { lines = []; whole = refl; parts = refl; outlines = refl; numbered = refl; rowed = refl }
 
 -- a writer that has written nothing
 fresh_in : (style : Style) (taken : Option (List ℕ)) (failed : Bool)
     → IsGoingIn style (origin style taken failed [] [] []) (Tree.starts_in style taken failed)
-fresh_in Lines taken failed = record {
+fresh_in (Lines base) taken failed = record {
   written = [];
   text = [];
   lined = [];
   rows = [];
   line = [];
-  outlined = nothing_outlined;
+  outlined = nothing_outlined base;
   one_line = refl;
   parts = refl;
   numbered = refl;
@@ -769,7 +774,7 @@ by_tree only has_bytes input old new result d style taken failed s =
     (d taken failed (fresh style taken failed old s))
 
 nothing_shaped : (style : Style) → IsShaped style [] [] [] []
-nothing_shaped Lines = nothing_outlined
+nothing_shaped (Lines base) = nothing_outlined base
 nothing_shaped Objects = refl
 
 -- no memory to begin with
@@ -780,8 +785,8 @@ pub no_room : (style : Style) (only : List Only) (has_bytes : Bool) (full : Opti
     (Err Memory) w
 no_room style only has_bytes full had taken failed w e =
     subst (DumpsFrom style only has_bytes (source full full had had) taken failed (Err Memory)) (sym e) (dumped [] [] []
-    (progress.no_memory (chosen_line only) full full (Some []) (Some []) (new_feed 0 all_features) []
-    (progress.begun (chosen_line only) full (Some [])) full [] (Consumes-nil full))
+    (progress.no_memory (chosen_line style only) full full (Some []) (Some []) (new_feed 0 all_features) []
+    (progress.begun (chosen_line style only) full (Some [])) full [] (Consumes-nil full))
     (subst (AreOfSource (Some Memory) false only has_bytes (from_to full full) []) (sym (none_of_events has_bytes only))
     (numbers_at (Some Memory) false only has_bytes full full (new_feed 0 all_features) no_counts (counts_nothing full) []
     (not_whole []) refl))

@@ -4,6 +4,7 @@ use Rattle.std.proofs.Common.{Option, Some, None, refl, sym, ap, ◌∙◌, appe
 use Rattle.wasm_grammar.specs.Ids.{names, name_of}
 use Rattle.wasm_grammar.specs.Reading.{Report}
 use Rattle.wasm_lines.specs.Listing.{report_text}
+use Rattle.wasm_lines.specs.declared.offsets.Base.{Base}
 use Rattle.wasm_tree.specs.Numbers.{blank_numbers}
 use Rattle.wasm_dumper.specs.Chosen.{numbered_line, numbered_text, section_words, shown_line, BeginAlike}
 use Rattle.wasm_tree.specs.Numbers.{numbers_in_line}
@@ -14,23 +15,23 @@ use Rattle.wasm_tree.proofs.ForCallers.{blank_before}
 -- ---- the text of a line, and what comes after it
 
 pub begin_alike : (r : Report) → BeginAlike r
-begin_alike r = (refl, refl, λ c. refl)
+begin_alike r = (refl, λ b. refl, λ b c. refl)
 
 -- the line of an event is its text, and a line feed
-pub text_fed : (c : Counts) (r : Report) → numbered_text c r [] ++ codes "\n" ≡ numbered_line c r
-text_fed c r =
-    let front = report_text r in
+pub text_fed : (b : Base) (c : Counts) (r : Report) → numbered_text b c r [] ++ codes "\n" ≡ numbered_line b c r
+text_fed b c r =
+    let front = report_text b r in
     let numbers = numbers_in_line c r in
     append_assoc front (section_words r ++ blank_numbers numbers []) (codes "\n")
     ∙ (ap (λ (x : List ℕ). front ++ x) (append_assoc (section_words r) (blank_numbers numbers []) (codes "\n"))
     ∙ ap (λ (x : List ℕ). front ++ (section_words r ++ x)) (sym (blank_before numbers (codes "\n"))))
 
 -- the line of an event is one line of the first level, with its numbers after it
-pub line_is_first : (c : Counts) (r : Report) → IsFirst (numbered_line c r) (shown_line r) (numbers_in_line c r)
-line_is_first c r = record {
-  front = report_text r ++ section_words r;
-  parts = sym (append_assoc (report_text r) (section_words r) (blank_numbers (numbers_in_line c r) (codes "\n")));
-  outlines = sym (append_assoc (report_text r) (section_words r) (codes "\n"));
+pub line_is_first : (b : Base) (c : Counts) (r : Report) → IsFirst (numbered_line b c r) (shown_line b r) (numbers_in_line c r)
+line_is_first b c r = record {
+  front = report_text b r ++ section_words r;
+  parts = sym (append_assoc (report_text b r) (section_words r) (blank_numbers (numbers_in_line c r) (codes "\n")));
+  outlines = sym (append_assoc (report_text b r) (section_words r) (codes "\n"));
 }
 
 -- ---- the names of sections are short

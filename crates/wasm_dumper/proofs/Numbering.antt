@@ -8,19 +8,17 @@ use Rattle.wasm_lines.specs.declared.devices.ListError.{ListError}
 use Rattle.wasm_base.specs.Window.{Window, Place, place}
 use Rattle.wasm_base.specs.declared.error.Error.{Error}
 use Rattle.wasm_grammar.specs.Ids.{import_id}
-use Rattle.wasm_grammar.specs.Reading.{Report, version, counted, start_section, data_count_section, code_start, code_entry}
-use Rattle.wasm_grammar.specs.Reading.{custom_section}
-use Rattle.wasm_grammar.specs.Reading.{unknown_section, stream_end, Event}
+use Rattle.wasm_grammar.specs.Reading.{Report, counted}
+use Rattle.wasm_grammar.specs.Reading.{stream_end, Event}
 use Rattle.wasm_grammar.specs.Content.{Ending, fault, ended}
 use Rattle.wasm_base.specs.FaultAt.{fault_at}
 use Rattle.wasm_parser.specs.ParseAnswer.{BeginsAfterCount, counted_by, report_of, is_end, unread}
 use Rattle.wasm_parser.specs.declared.payload.Payload.{Payload}
-use Rattle.wasm_parser.specs.declared.payload.Payload.TheVariants.{Version, TypeSection, ImportSection, FunctionSection, TableSection}
-use Rattle.wasm_parser.specs.declared.payload.Payload.TheVariants.{MemorySection, TagSection, GlobalSection, ExportSection, StartSection}
-use Rattle.wasm_parser.specs.declared.payload.Payload.TheVariants.{ElementSection, DataCountSection, DataSection, CodeSectionStart}
-use Rattle.wasm_parser.specs.declared.payload.Payload.TheVariants.{CodeSectionEntry, CustomSection, UnknownSection}
-use Rattle.wasm_parser.specs.declared.payload.Payload.TheVariants as payloads
-use Rattle.wasm_lines.specs.Listing.{line_of}
+use Rattle.wasm_parser.specs.declared.payload.Payload.TheVariants.{TypeSection, ImportSection, FunctionSection, TableSection}
+use Rattle.wasm_parser.specs.declared.payload.Payload.TheVariants.{MemorySection, TagSection, GlobalSection}
+use Rattle.wasm_parser.specs.declared.payload.Payload.TheVariants.{ElementSection, DataSection}
+use Rattle.wasm_lines.specs.Listing.{line_in}
+use Rattle.wasm_lines.specs.declared.offsets.Base.{Base}
 use Rattle.wasm_feed.specs.declared.feeder.Step.{Step}
 use Rattle.wasm_feed.specs.declared.feeder.Step.TheVariants.{NeedMoreData, Parsed}
 use Rattle.wasm_feed.specs.Turns.{turn_after}
@@ -28,7 +26,7 @@ use Rattle.wasm_feed.specs.declared.listing.Ended.TheVariants.{End}
 use Rattle.wasm_feed.specs.declared.listing.Turn.TheVariants as turn
 use Rattle.wasm_items.specs.Flattened.{NextImport, found_at}
 use Rattle.wasm_items.specs.declared.imports.Import.{Import}
-use Rattle.wasm_tree.specs.Numbers.{Number, Found, more, space_of, with_one, with_import, with_imports, import_number}
+use Rattle.wasm_tree.specs.Numbers.{Number, Found, more, with_import, import_number}
 use Rattle.wasm_tree.specs.Numbers.{import_numbers}
 use Rattle.wasm_tree.specs.Numbers.{numbers_from, imports_in, space_defined, AreShown, AreNext, AreOfSection, AreOfItems}
 use Rattle.wasm_tree.specs.Numbers.{numbers_in_line, after, after_all}
@@ -37,9 +35,9 @@ use Rattle.wasm_dumper.specs.Dump.{AreOfShown, AreOf, AreOfEvents, ShowsItems, S
 use Rattle.wasm_dumper.specs.declared.events.Only.{Only}
 use Rattle.wasm_dumper.proofs.Lines.{line_is_first}
 use Rattle.wasm_tree.specs.Tree.{Writing, Origin, IsWritten, with_line, with_numbers, Adds, AddsFirst, AddsThese, AddsNumber, AddsNumbers}
-use Rattle.wasm_tree.specs.Tree.{AddsAll, AddsBytes, AddsNext, AddsUpTo, with_bytes}
+use Rattle.wasm_tree.specs.Tree.{AddsAll, AddsBytes, AddsUpTo, base_of, with_bytes}
 use Rattle.wasm_tree.specs.declared.numbers.Space.{Space}
-use Rattle.wasm_tree.specs.declared.numbers.Space.TheVariants.{Types, Functions, Tables, Memories, Tags, Globals, Elements, DataSegments}
+use Rattle.wasm_tree.specs.declared.numbers.Space.TheVariants.{Types}
 use Rattle.wasm_base.specs.Item.{ReadsAs, outcome_map}
 use Rattle.wasm_base.specs.Number.{unsigned_at}
 use Rattle.wasm_base.specs.Outcome.{Outcome}
@@ -291,17 +289,21 @@ bytes_unchosen false only r bytes chosen = refl
 -- a line of the first level, if it is shown, and its items
 module _ (only : List Only) (has_bytes : Bool) (c : Counts) (r : Report) (bytes : List ℕ) where
   pub shows_chosen : (old begun mid new : Writing) → is_chosen only r ≡ true → AddsBytes (if has_bytes then bytes else []) old begun
-      → AddsFirst (numbered_line c r) begun mid → ShowsItems c r mid new → ShowsReport only has_bytes c r bytes old new
+      → AddsFirst (numbered_line (base_of begun.style) c r) begun mid → ShowsItems c r mid new
+      → ShowsReport only has_bytes c r bytes old new
   shows_chosen old begun mid new chosen p a b o i =
       let shown = if has_bytes then bytes else [] in
       let before = with_bytes o shown in
-      let first = a (shown_line r) (numbers_in_line c r) (line_is_first c r) before (p o i) in
-      let (items, held, going) = b (with_numbers (with_line before (shown_line r)) (numbers_in_line c r)) first in (
+      let base = base_of o.style in
+      let line = shown_line base r in
+      let added = subst (λ (x : Base). AddsFirst (numbered_line x c r) begun mid) (ap base_of (p o i).0) a in
+      let first = added line (numbers_in_line c r) (line_is_first base c r) before (p o i) in
+      let (items, held, going) = b (with_numbers (with_line before line) (numbers_in_line c r)) first in (
         numbers_in_line c r ++ items,
         subst (λ (x : Bool). AreOfShown new.why x c r (numbers_in_line c r ++ items)) (sym chosen) (items, refl, held),
         subst₂ (λ (x y : List ℕ). IsWritten (with_bytes (with_numbers (with_line o x) (numbers_in_line c r ++ items)) y) new)
-            (sym (ap (λ (x : Bool). if x then shown_line r else []) chosen)) (sym (bytes_chosen has_bytes only r bytes chosen))
-            (joined (with_line before (shown_line r)) (numbers_in_line c r) items new going),
+            (sym (ap (λ (x : Bool). if x then line else []) chosen)) (sym (bytes_chosen has_bytes only r bytes chosen))
+            (joined (with_line before line) (numbers_in_line c r) items new going),
       )
 
   pub shows_unchosen : (w : Writing) → is_chosen only r ≡ false → ShowsReport only has_bytes c r bytes w w
@@ -309,27 +311,31 @@ module _ (only : List Only) (has_bytes : Bool) (c : Counts) (r : Report) (bytes 
     [],
     subst (λ (x : Bool). AreOfShown w.why x c r []) (sym chosen) refl,
     subst₂ (λ (x y : List ℕ). IsWritten (with_bytes (with_numbers (with_line o x) []) y) w)
-        (sym (ap (λ (x : Bool). if x then shown_line r else []) chosen)) (sym (bytes_unchosen has_bytes only r bytes chosen))
-        (nothing_more o w i),
+        (sym (ap (λ (x : Bool). if x then shown_line (base_of o.style) r else []) chosen))
+        (sym (bytes_unchosen has_bytes only r bytes chosen)) (nothing_more o w i),
   )
 
 last_chosen : (only : List Only) (end : Ending) → is_chosen only (stream_end end) ≡ true
 last_chosen only end = refl
 
 fault_shown : (only : List Only) (has_bytes : Bool) (c : Counts) (e : Error) (old new : Writing)
-    → AddsFirst (line_of (stream_end (fault (fault_at e)))) old new → ShowsAnswer only has_bytes c (Err e) old new
+    → AddsFirst (line_in (base_of old.style) (stream_end (fault (fault_at e)))) old new → ShowsAnswer only has_bytes c (Err e) old new
 fault_shown only has_bytes c e old new a o i =
-    let r = stream_end (fault (fault_at e)) in (
+    let r = stream_end (fault (fault_at e)) in
+    let base = base_of o.style in
+    let line = shown_line base r in
+    let added = subst (λ (x : Base). AddsFirst (line_in x r) old new) (ap base_of i.0) a in (
       [],
       refl,
       subst (λ (x : List ℕ). IsWritten (with_bytes (with_numbers (with_line o x) []) []) new)
-          (sym (ap (λ (x : Bool). if x then shown_line r else []) (last_chosen only (fault (fault_at e)))))
-          (no_bytes (with_numbers (with_line o (shown_line r)) []) new (a (shown_line r) [] (line_is_first c r) o i)),
+          (sym (ap (λ (x : Bool). if x then line else []) (last_chosen only (fault (fault_at e)))))
+          (no_bytes (with_numbers (with_line o line) []) new (added line [] (line_is_first base c r) o i)),
     )
 
 -- a fault of the stream
 module _ (only : List Only) (has_bytes : Bool) (c : Counts) (answer : Result Step Error) where
-  pub shows_fault : (e : Error) (old new : Writing) → answer ≡ Err e → AddsFirst (line_of (stream_end (fault (fault_at e)))) old new
+  pub shows_fault : (e : Error) (old new : Writing) → answer ≡ Err e
+      → AddsFirst (line_in (base_of old.style) (stream_end (fault (fault_at e)))) old new
       → ShowsAnswer only has_bytes c answer old new
   shows_fault e old new is a = subst (λ (x : Result Step Error). ShowsAnswer only has_bytes c x old new) (sym is)
       (fault_shown only has_bytes c e old new a)

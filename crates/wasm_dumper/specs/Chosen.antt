@@ -1,5 +1,5 @@
 -- Which events a dump shows, and the line of each.
-use Rattle.std.specs.Prelude.{◌≡◌, option_map, ℕ, Bool, true, false, List, [], ◌∷◌, ◌++◌, Option, Some, None, nat_eq}
+use Rattle.std.specs.Prelude.{◌≡◌, option_map, ℕ, Bool, true, false, List, [], ◌++◌, Option, Some, None, nat_eq}
 use Rattle.std.specs.Prelude.{bytes_eq, codes, if◌then◌else◌}
 use Rattle.std.specs.List.{list_any}
 use Rattle.wasm_grammar.specs.Reading.{Report, counted, code_entry, custom_section, stream_end}
@@ -7,8 +7,12 @@ use Rattle.wasm_grammar.specs.Ids.{code_id}
 use Rattle.wasm_grammar.specs.Ids.{name_of as section_name}
 use Rattle.wasm_grammar.specs.Sections.{section_of}
 use Rattle.wasm_lines.specs.Listing.{line_of, report_text}
+use Rattle.wasm_lines.specs.declared.offsets.Base.{Base}
+use Rattle.wasm_lines.specs.declared.offsets.Base.TheVariants.{Decimal}
 use Rattle.wasm_tree.specs.Numbers.{blank_numbers, numbers_in_line}
+use Rattle.wasm_tree.specs.Tree.{base_of}
 use Rattle.wasm_tree.specs.declared.numbers.Counts.{Counts}
+use Rattle.wasm_tree.specs.declared.tree.Style.{Style}
 use Rattle.wasm_dumper.specs.declared.events.Only.{Only}
 use Rattle.wasm_dumper.specs.declared.events.Only.TheVariants.{All, Id, Name}
 
@@ -57,31 +61,32 @@ after_blank None = []
 abbrev pub section_words : Report → List ℕ
 section_words report = after_blank (counted_name report)
 
--- the line of what is reported: its text in a listing, and then the name of the section
-abbrev pub shown_line : Report → List ℕ
-shown_line report = report_text report ++ (section_words report ++ codes "\n")
+-- the line of what is reported: its text in a listing with offsets in this base, and then the name of the section
+abbrev pub shown_line : Base → Report → List ℕ
+shown_line base report = report_text base report ++ (section_words report ++ codes "\n")
 
 -- what comes after the text of what is reported: the name of the section, and the numbers of items
 abbrev pub end_text : Counts → Report → List ℕ
 end_text counts report = section_words report ++ blank_numbers (numbers_in_line counts report) []
 
 -- the same line with the numbers of its items, after earlier ones, and with this after it
-abbrev pub numbered_text : Counts → Report → (rest : List ℕ) → List ℕ
-numbered_text counts report rest =
-    report_text report ++ (section_words report ++ blank_numbers (numbers_in_line counts report) rest)
+abbrev pub numbered_text : Base → Counts → Report → (rest : List ℕ) → List ℕ
+numbered_text base counts report rest =
+    report_text base report ++ (section_words report ++ blank_numbers (numbers_in_line counts report) rest)
 
 -- the line itself
-abbrev pub numbered_line : Counts → Report → List ℕ
-numbered_line counts report = numbered_text counts report (codes "\n")
+abbrev pub numbered_line : Base → Counts → Report → List ℕ
+numbered_line base counts report = numbered_text base counts report (codes "\n")
 
--- the line of what is reported, if it is shown
-abbrev pub chosen_line : List Only → Report → List ℕ
-chosen_line only report = if is_chosen only report then shown_line report else []
+-- the line of what is reported in this style, if it is shown
+abbrev pub chosen_line : Style → List Only → Report → List ℕ
+chosen_line style only report = if is_chosen only report then shown_line (base_of style) report else []
 
--- The lines of a listing and of a dump begin with the same text. A listing's has nothing after it; a dump's the name
--- of the section, and then the numbers of items that it shows.
+-- The lines of a listing and of a dump begin with the same text, but for the base of its offsets, which is decimal in a
+-- listing. A listing's has nothing after it; a dump's the name of the section, and then the numbers of items that it
+-- shows.
 abbrev pub BeginAlike : Report → Type 0
-BeginAlike report = (line_of report ≡ report_text report ++ codes "\n")
-    × (shown_line report ≡ report_text report ++ (section_words report ++ codes "\n"))
-    × ((counts : Counts) → numbered_line counts report ≡ report_text report
+BeginAlike report = (line_of report ≡ report_text Decimal report ++ codes "\n")
+    × ((base : Base) → shown_line base report ≡ report_text base report ++ (section_words report ++ codes "\n"))
+    × ((base : Base) (counts : Counts) → numbered_line base counts report ≡ report_text base report
     ++ (section_words report ++ blank_numbers (numbers_in_line counts report) (codes "\n")))

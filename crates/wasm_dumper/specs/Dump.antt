@@ -101,15 +101,16 @@ pub record AreOfSource (why : Option ListError) (whole : Bool) (only : List Only
   pub are_of : AreOfEvents why only no_counts events numbers
   pub are_bytes : bytes ≡ bytes_of_events has_bytes only events
 
--- The lines of the first level are those of the source's listing that are shown; all others begin with two blanks. The
--- numbers of items count preceding ones, and rows of bytes show those of the events that are shown, each once and in
--- order. In the style of objects each line is one object, and the dump ends as it does in lines.
+-- The lines of the first level are those of the source's listing that are shown, with offsets in the base of the style;
+-- all others begin with two blanks. The numbers of items count preceding ones, and rows of bytes show those of the
+-- events that are shown, each once and in order. In the style of objects each line is one object, and the dump ends as
+-- it does in lines.
 pub record Dumps (style : Style) (only : List Only) (has_bytes : Bool) (input output : Change)
     (result : Result Ended ListError) : Type 0 where
   pub outline : List ℕ
   pub numbers : List Number
   pub bytes : List ℕ
-  pub lists : ListsBy (chosen_line only) input (from_to (Some []) (Some outline)) result
+  pub lists : ListsBy (chosen_line style only) input (from_to (Some []) (Some outline)) result
   pub counts : AreOfSource (stopped_by result) (is_whole result) only has_bytes input numbers bytes
   pub writes : Writes style result output.before output.after outline numbers bytes
 
@@ -119,11 +120,12 @@ pub record Dumps (style : Style) (only : List Only) (has_bytes : Bool) (input ou
 abbrev pub ShowsItems : Counts → Report → (old new : Writing) → Type 0
 ShowsItems counts report old new = AddsNumbers (AreOfItems new.why counts report) old new
 
--- These lines of the first level were written, if any, and what is under them, with numbers of which this holds, and
--- these bytes are shown with them.
-abbrev pub ShowsLine : (line : List ℕ) (allowed : List Number → Type 0) (bytes : List ℕ) (old new : Writing) → Type 0
+-- These lines of the first level were written, if any, with offsets in the base of the style, and what is under them,
+-- with numbers of which this holds, and these bytes are shown with them.
+abbrev pub ShowsLine : (line : Style → List ℕ) (allowed : List Number → Type 0) (bytes : List ℕ) (old new : Writing)
+    → Type 0
 ShowsLine line allowed bytes old new = (o : Origin) → IsWritten o old → (shown : List Number) × allowed shown
-    × IsWritten (with_bytes (with_numbers (with_line o line) shown) bytes) new
+    × IsWritten (with_bytes (with_numbers (with_line o (line o.style)) shown) bytes) new
 
 -- the bytes that are shown with what is reported of them
 abbrev pub shown_bytes : (has_bytes : Bool) → List Only → Report → List ℕ → List ℕ
@@ -132,7 +134,7 @@ shown_bytes false only report bytes = []
 
 -- What is reported of these bytes was shown, if it was chosen.
 abbrev pub ShowsReport : List Only → (has_bytes : Bool) → Counts → Report → List ℕ → (old new : Writing) → Type 0
-ShowsReport only has_bytes counts report bytes old new = ShowsLine (chosen_line only report)
+ShowsReport only has_bytes counts report bytes old new = ShowsLine (λ style. chosen_line style only report)
     (AreOf new.why only counts report) (shown_bytes has_bytes only report bytes) old new
 
 -- the numbers that are shown of a result, and the counts after it
@@ -155,7 +157,7 @@ bytes_of_answer has_bytes only (Err e) = []
 
 -- A result was shown, if it was chosen.
 abbrev pub ShowsAnswer : List Only → (has_bytes : Bool) → Counts → Result Step Error → (old new : Writing) → Type 0
-ShowsAnswer only has_bytes counts answer old new = ShowsLine (text_after (chosen_line only) answer)
+ShowsAnswer only has_bytes counts answer old new = ShowsLine (λ style. text_after (chosen_line style only) answer)
     (AreOfAnswer new.why only counts answer) (bytes_of_answer has_bytes only answer) old new
 
 -- a dump's origin: what the sink had taken, and whether it had failed

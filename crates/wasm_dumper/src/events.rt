@@ -6,15 +6,15 @@ ghost use Rattle.wasm_dumper.specs.Chosen.{after_blank, counted_name as name_cou
 ghost use Rattle.wasm_grammar.specs.Content.{fault};
 ghost use Rattle.wasm_grammar.specs.Ids.{name_of};
 ghost use Rattle.wasm_grammar.specs.Reading.{stream_end};
-ghost use Rattle.wasm_lines.specs.Listing.{line_of};
+ghost use Rattle.wasm_lines.specs.Listing.{line_in};
 ghost use Rattle.wasm_parser.specs.ParseAnswer.{report_of};
-ghost use Rattle.wasm_tree.specs.Tree.{Adds, AddsFirst, has_line_feed};
+ghost use Rattle.wasm_tree.specs.Tree.{Adds, AddsFirst, base_of, has_line_feed};
 
 use std::ops::Range;
 use wasm_base::Error;
 use wasm_grammar::{CODE_SECTION, section_name};
 use wasm_items::FunctionBody;
-use wasm_lines::{ShortText, encoding_name, write_payload, write_word};
+use wasm_lines::{Base, ShortText, encoding_name, write_fault, write_payload, write_word};
 use wasm_parser::{Encoding, Payload};
 use wasm_tree::{Counts, Space, Style, Tree, write_item};
 
@@ -155,6 +155,7 @@ fn write_end(bytes: &mut [u8], at: usize, counts: &Counts, payload: &Payload<'_>
 // The text of a payload's line, without its line feed. A body's ends with the number of its function.
 #[derive(Drop)]
 struct Heading<'a, 'b> {
+    base: Base,
     counts: &'a Counts,
     payload: &'a Payload<'b>,
 }
@@ -164,12 +165,32 @@ impl ShortText for Heading<'_, '_> {
     ghost use Rattle.wasm_parser.specs.ParseAnswer.{report_of};
     ghost use Rattle.wasm_dumper.specs.Chosen.{numbered_text};
 
-    ghost text = { λ h. numbered_text h.counts.now (report_of h.payload.now) [] };
+    ghost text = { λ h. numbered_text h.base h.counts.now (report_of h.payload.now) [] };
 
     #[inline(always)]
     fn write_at(&self, bytes: &mut [u8], at: usize) -> usize {
-        let at = write_payload(bytes, at, self.payload);
+        let at = write_payload(bytes, at, self.base, self.payload);
         write_end(bytes, at, self.counts, self.payload)
+    }
+}
+
+// The text of the line of a fault at which the stream ends, without its line feed.
+#[derive(Drop)]
+struct LastFault<'a> {
+    base: Base,
+    error: &'a Error,
+}
+
+impl ShortText for LastFault<'_> {
+    ghost use Rattle.wasm_base.specs.FaultAt.{fault_at};
+    ghost use Rattle.wasm_grammar.specs.Content.{fault};
+    ghost use Rattle.wasm_grammar.specs.Reading.{stream_end};
+    ghost use Rattle.wasm_lines.specs.Listing.{report_text};
+
+    ghost text = { λ l. report_text l.base (stream_end (fault (fault_at l.error.now))) };
+
+    fn write_at(&self, bytes: &mut [u8], at: usize) -> usize {
+        write_fault(bytes, at, self.base, self.error)
     }
 }
 
@@ -284,12 +305,16 @@ fn function_of(counts: &Counts, payload: &Payload<'_>) -> Option<u64> {
 
 /// Writes the line of an event, with the number and the name of the function if it is a body; or its object.
 pub(crate) fn show_event<O: Tree>(counts: &Counts, payload: &Payload<'_>, out: &mut O)
-    ensures { AddsFirst (numbered_line counts.now (report_of payload.now))
+    ensures { AddsFirst (numbered_line (base_of (O.writing out.old).style) counts.now (report_of payload.now))
         (O.writing out.old) (O.writing out.new) }
 {
     match out.style() {
-        Style::Lines => {
-            let heading = Heading { counts, payload };
+        Style::Lines(base) => {
+            let heading = Heading {
+                base,
+                counts,
+                payload,
+            };
             out.first_of_function(&heading, function_of(counts, payload));
         }
         Style::Objects => event_object(counts, payload, out),
@@ -298,11 +323,11 @@ pub(crate) fn show_event<O: Tree>(counts: &Counts, payload: &Payload<'_>, out: &
 
 /// Writes the line of the fault at which the stream ends, or its object.
 pub(crate) fn show_last_fault<O: Tree>(error: &Error, out: &mut O)
-    ensures { AddsFirst (line_of (stream_end (fault (fault_at error.now))))
+    ensures { AddsFirst (line_in (base_of (O.writing out.old).style) (stream_end (fault (fault_at error.now))))
         (O.writing out.old) (O.writing out.new) }
 {
     match out.style() {
-        Style::Lines => out.first_of_function(error, None),
+        Style::Lines(base) => out.first_of_function(&LastFault { base, error }, None),
         Style::Objects => fault_object(error, out),
     }
 }

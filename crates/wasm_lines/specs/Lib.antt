@@ -2,4 +2,5 @@ pub mod Calls
 pub mod Devices
 pub mod Digits
 pub mod Listing
+pub mod Offsets
 pub mod Page

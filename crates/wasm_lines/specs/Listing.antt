@@ -8,14 +8,21 @@ use Rattle.wasm_grammar.specs.Reading.{Report, version, counted, start_section, 
 use Rattle.wasm_grammar.specs.Reading.{code_entry, custom_section, unknown_section, stream_end, Event}
 use Rattle.wasm_grammar.specs.declared.encoding.Encoding.{Encoding}
 use Rattle.wasm_grammar.specs.declared.encoding.Encoding.TheVariants.{Module, Component}
+use Rattle.wasm_lines.specs.Offsets.{offset_text}
+use Rattle.wasm_lines.specs.declared.offsets.Base.{Base}
+use Rattle.wasm_lines.specs.declared.offsets.Base.TheVariants.{Decimal}
 
 -- a blank and a number
 abbrev pub field : ℕ → List ℕ
 field n = codes " " ++ decimal n
 
+-- a blank and an offset
+abbrev pub offset_field : Base → ℕ → List ℕ
+offset_field base offset = codes " " ++ offset_text base offset
+
 -- the offsets of a window
-abbrev pub window_fields : Window → List ℕ
-window_fields window = field window.start ++ field (window.start + length window.bytes)
+abbrev pub window_fields : Base → Window → List ℕ
+window_fields base window = offset_field base window.start ++ offset_field base (window.start + length window.bytes)
 
 abbrev pub encoding_name : Encoding → List ℕ
 encoding_name Module = codes "module"
@@ -26,25 +33,34 @@ abbrev pub fault_number : Option ℕ → List ℕ
 fault_number None = []
 fault_number (Some n) = codes ": " ++ decimal n
 
--- the text of what is reported
-unfoldable pub report_text : Report → List ℕ
-report_text (version num encoding from to) = codes "version"
-    ++ (field from ++ (field to ++ (field num ++ (codes " " ++ encoding_name encoding))))
-report_text (counted id count window) = codes "section" ++ (field id ++ (window_fields window ++ field count))
-report_text (start_section func from to) = codes "start" ++ (field from ++ (field to ++ field func))
-report_text (data_count_section count from to) = codes "datacount" ++ (field from ++ (field to ++ field count))
-report_text (code_start count from to size) = codes "code"
-    ++ (field from ++ (field to ++ (field count ++ field size)))
-report_text (code_entry window) = codes "body" ++ window_fields window
-report_text (custom_section name data_offset window) = codes "custom" ++ (window_fields window ++ field data_offset)
-report_text (unknown_section id contents from to) = codes "unknown" ++ (field id ++ (field from ++ field to))
-report_text (stream_end (fault f)) = codes "fault"
-    ++ (field f.offset ++ (codes " " ++ (message_of f.fault ++ fault_number f.number)))
-report_text (stream_end (ended offset)) = codes "end" ++ field offset
+-- the text of what is reported, with offsets in this base
+unfoldable pub report_text : Base → Report → List ℕ
+report_text base (version num encoding from to) = codes "version"
+    ++ (offset_field base from ++ (offset_field base to ++ (field num ++ (codes " " ++ encoding_name encoding))))
+report_text base (counted id count window) = codes "section"
+    ++ (field id ++ (window_fields base window ++ field count))
+report_text base (start_section func from to) = codes "start"
+    ++ (offset_field base from ++ (offset_field base to ++ field func))
+report_text base (data_count_section count from to) = codes "datacount"
+    ++ (offset_field base from ++ (offset_field base to ++ field count))
+report_text base (code_start count from to size) = codes "code"
+    ++ (offset_field base from ++ (offset_field base to ++ (field count ++ field size)))
+report_text base (code_entry window) = codes "body" ++ window_fields base window
+report_text base (custom_section name data_offset window) = codes "custom"
+    ++ (window_fields base window ++ offset_field base data_offset)
+report_text base (unknown_section id contents from to) = codes "unknown"
+    ++ (field id ++ (offset_field base from ++ offset_field base to))
+report_text base (stream_end (fault f)) = codes "fault"
+    ++ (offset_field base f.offset ++ (codes " " ++ (message_of f.fault ++ fault_number f.number)))
+report_text base (stream_end (ended offset)) = codes "end" ++ offset_field base offset
 
 -- the line of what is reported: its text, and a line feed
+abbrev pub line_in : Base → Report → List ℕ
+line_in base report = report_text base report ++ codes "\n"
+
+-- its line in a listing, with decimal offsets
 abbrev pub line_of : Report → List ℕ
-line_of report = report_text report ++ codes "\n"
+line_of report = line_in Decimal report
 
 -- events by such lines: the text of each, by what it reports
 abbrev pub listing_by : (Report → List ℕ) → List Event → List ℕ

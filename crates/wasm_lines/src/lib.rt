@@ -8,6 +8,7 @@
 mod devices;
 mod digits;
 mod lines;
+mod offsets;
 mod page;
 mod short_text;
 
@@ -16,6 +17,7 @@ pub use devices::{
     list_of_capacity, write_all,
 };
 pub use digits::write_number;
-pub use lines::{encoding_name, write_payload};
+pub use lines::{encoding_name, write_fault, write_payload};
+pub use offsets::{Base, write_offset};
 pub use page::Page;
 pub use short_text::{ShortText, TEXT_BYTES, write_word};

@@ -2,10 +2,13 @@
 ghost use Rattle.std.specs.List.{list_any};
 ghost use Rattle.std.specs.Prelude.{◌≡◌, ◌≤◌, ◌+◌, ◌++◌, codes, false, length, nat_eq, take};
 ghost use Rattle.wasm_parser.specs.ParseAnswer.{report_of};
-ghost use Rattle.wasm_lines.specs.Listing.{encoding_name as name_of, field, fault_number, report_text};
-ghost use Rattle.wasm_grammar.specs.Reading.{code_start};
+ghost use Rattle.wasm_base.specs.FaultAt.{fault_at};
+ghost use Rattle.wasm_grammar.specs.Content.{fault};
+ghost use Rattle.wasm_grammar.specs.Reading.{code_start, stream_end};
+ghost use Rattle.wasm_lines.specs.Listing.{encoding_name as name_of, field, fault_number, offset_field, report_text};
 
 use crate::digits::write_number;
+use crate::offsets::{Base, write_offset};
 use crate::short_text::{ShortText, write_word};
 use std::ops::Range;
 use wasm_parser::{CountedSection, Encoding, Error, Payload};
@@ -33,47 +36,72 @@ fn write_field(bytes: &mut [u8], at: usize, number: u64) -> usize
     write_number(bytes, after, number)
 }
 
+// Writes a blank and an offset.
+#[inline(always)]
+fn write_place(bytes: &mut [u8], at: usize, base: Base, offset: u64) -> usize
+    requires { at + 21 ≤ length bytes.old }
+    ensures short { result ≤ at + 21 }
+    ensures written { take result bytes.new ≡ take at bytes.old ++ offset_field base offset }
+{
+    let after = write_word(bytes, at, " ");
+    write_offset(bytes, after, base, offset)
+}
+
 // Writes a word, a range and a number.
 #[inline(always)]
-fn write_range(bytes: &mut [u8], at: usize, word: &str, range: &Range<u64>, number: u64) -> usize
+fn write_range(
+    bytes: &mut [u8],
+    at: usize,
+    base: Base,
+    word: &str,
+    range: &Range<u64>,
+    number: u64,
+) -> usize
     requires word { length word.now ≤ 9 }
     requires room { at + 72 ≤ length bytes.old }
     ensures short { result ≤ at + 72 }
     ensures written { take result bytes.new ≡ take at bytes.old ++ (word.now
-        ++ (field range.now.start ++ (field range.now.end ++ field number))) }
+        ++ (offset_field base range.now.start ++ (offset_field base range.now.end ++ field number))) }
 {
     let at = write_word(bytes, at, word);
-    let at = write_field(bytes, at, range.start);
-    let at = write_field(bytes, at, range.end);
+    let at = write_place(bytes, at, base, range.start);
+    let at = write_place(bytes, at, base, range.end);
     write_field(bytes, at, number)
 }
 
 // Writes a section that begins with a count.
-fn write_counted(bytes: &mut [u8], at: usize, section: &CountedSection) -> usize
+fn write_counted(bytes: &mut [u8], at: usize, base: Base, section: &CountedSection) -> usize
     requires { at + 100 ≤ length bytes.old }
     ensures short { result ≤ at + 100 }
     ensures written { take result bytes.new ≡ take at bytes.old
-        ++ (codes "section" ++ (field section.now.id ++ ((field section.now.range.start
-        ++ field section.now.range.end) ++ field section.now.count))) }
+        ++ (codes "section" ++ (field section.now.id ++ ((offset_field base section.now.range.start
+        ++ offset_field base section.now.range.end) ++ field section.now.count))) }
 {
     let at = write_word(bytes, at, "section");
     let at = write_field(bytes, at, u64::from(section.id));
-    let at = write_field(bytes, at, section.range.start);
-    let at = write_field(bytes, at, section.range.end);
+    let at = write_place(bytes, at, base, section.range.start);
+    let at = write_place(bytes, at, base, section.range.end);
     write_field(bytes, at, u64::from(section.count))
 }
 
 // Writes the start of a code section.
 #[tactic(auto, unfolding(crate::specs::Listing::report_text))]
-fn write_code(bytes: &mut [u8], at: usize, range: &Range<u64>, count: u32, size: u32) -> usize
+fn write_code(
+    bytes: &mut [u8],
+    at: usize,
+    base: Base,
+    range: &Range<u64>,
+    count: u32,
+    size: u32,
+) -> usize
     requires { at + 100 ≤ length bytes.old }
     ensures short { result ≤ at + 100 }
     ensures written { take result bytes.new ≡ take at bytes.old
-        ++ report_text (code_start count range.now.start range.now.end size) }
+        ++ report_text base (code_start count range.now.start range.now.end size) }
 {
     let at = write_word(bytes, at, "code");
-    let at = write_field(bytes, at, range.start);
-    let at = write_field(bytes, at, range.end);
+    let at = write_place(bytes, at, base, range.start);
+    let at = write_place(bytes, at, base, range.end);
     let at = write_field(bytes, at, u64::from(count));
     write_field(bytes, at, u64::from(size))
 }
@@ -82,6 +110,7 @@ fn write_code(bytes: &mut [u8], at: usize, range: &Range<u64>, count: u32, size:
 fn write_version(
     bytes: &mut [u8],
     at: usize,
+    base: Base,
     version: u16,
     encoding: Encoding,
     range: &Range<u64>,
@@ -89,72 +118,98 @@ fn write_version(
     requires { at + 100 ≤ length bytes.old }
     ensures short { result ≤ at + 100 }
     ensures written { take result bytes.new ≡ take at bytes.old ++ (codes "version"
-        ++ (field range.now.start ++ (field range.now.end
+        ++ (offset_field base range.now.start ++ (offset_field base range.now.end
         ++ (field version ++ (codes " " ++ name_of encoding))))) }
 {
-    let at = write_range(bytes, at, "version", range, u64::from(version));
+    let at = write_range(bytes, at, base, "version", range, u64::from(version));
     let at = write_word(bytes, at, " ");
     write_word(bytes, at, encoding_name(encoding))
 }
 
 // Writes a start section.
-fn write_start(bytes: &mut [u8], at: usize, range: &Range<u64>, func: u32) -> usize
+fn write_start(bytes: &mut [u8], at: usize, base: Base, range: &Range<u64>, func: u32) -> usize
     requires { at + 100 ≤ length bytes.old }
     ensures short { result ≤ at + 100 }
-    ensures written { take result bytes.new ≡ take at bytes.old
-        ++ (codes "start" ++ (field range.now.start ++ (field range.now.end ++ field func))) }
+    ensures written { take result bytes.new ≡ take at bytes.old ++ (codes "start"
+        ++ (offset_field base range.now.start ++ (offset_field base range.now.end ++ field func))) }
 {
-    write_range(bytes, at, "start", range, u64::from(func))
+    write_range(bytes, at, base, "start", range, u64::from(func))
 }
 
 // Writes a data count section.
-fn write_data_count(bytes: &mut [u8], at: usize, range: &Range<u64>, count: u32) -> usize
+fn write_data_count(
+    bytes: &mut [u8],
+    at: usize,
+    base: Base,
+    range: &Range<u64>,
+    count: u32,
+) -> usize
     requires { at + 100 ≤ length bytes.old }
     ensures short { result ≤ at + 100 }
     ensures written { take result bytes.new ≡ take at bytes.old ++ (codes "datacount"
-        ++ (field range.now.start ++ (field range.now.end ++ field count))) }
+        ++ (offset_field base range.now.start ++ (offset_field base range.now.end ++ field count))) }
 {
-    write_range(bytes, at, "datacount", range, u64::from(count))
+    write_range(bytes, at, base, "datacount", range, u64::from(count))
 }
 
 // Writes a body.
-fn write_body(bytes: &mut [u8], at: usize, range: &Range<u64>) -> usize
+fn write_body(bytes: &mut [u8], at: usize, base: Base, range: &Range<u64>) -> usize
     requires { at + 100 ≤ length bytes.old }
     ensures short { result ≤ at + 100 }
     ensures written { take result bytes.new ≡ take at bytes.old
-        ++ (codes "body" ++ (field range.now.start ++ field range.now.end)) }
+        ++ (codes "body" ++ (offset_field base range.now.start ++ offset_field base range.now.end)) }
 {
     let at = write_word(bytes, at, "body");
-    let at = write_field(bytes, at, range.start);
-    write_field(bytes, at, range.end)
+    let at = write_place(bytes, at, base, range.start);
+    write_place(bytes, at, base, range.end)
+}
+
+// Writes a custom section.
+fn write_custom(
+    bytes: &mut [u8],
+    at: usize,
+    base: Base,
+    range: &Range<u64>,
+    data_offset: u64,
+) -> usize
+    requires { at + 100 ≤ length bytes.old }
+    ensures short { result ≤ at + 100 }
+    ensures written { take result bytes.new ≡ take at bytes.old ++ (codes "custom"
+        ++ ((offset_field base range.now.start ++ offset_field base range.now.end)
+        ++ offset_field base data_offset)) }
+{
+    let at = write_word(bytes, at, "custom");
+    let at = write_place(bytes, at, base, range.start);
+    let at = write_place(bytes, at, base, range.end);
+    write_place(bytes, at, base, data_offset)
 }
 
 // Writes an unknown section.
-fn write_unknown(bytes: &mut [u8], at: usize, id: u8, range: &Range<u64>) -> usize
+fn write_unknown(bytes: &mut [u8], at: usize, base: Base, id: u8, range: &Range<u64>) -> usize
     requires { at + 100 ≤ length bytes.old }
     ensures short { result ≤ at + 100 }
     ensures written { take result bytes.new ≡ take at bytes.old ++ (codes "unknown"
-        ++ (field id ++ (field range.now.start ++ field range.now.end))) }
+        ++ (field id ++ (offset_field base range.now.start ++ offset_field base range.now.end))) }
 {
     let at = write_word(bytes, at, "unknown");
     let at = write_field(bytes, at, u64::from(id));
-    let at = write_field(bytes, at, range.start);
-    write_field(bytes, at, range.end)
+    let at = write_place(bytes, at, base, range.start);
+    write_place(bytes, at, base, range.end)
 }
 
 // Writes the end.
-fn write_end(bytes: &mut [u8], at: usize, offset: u64) -> usize
+fn write_end(bytes: &mut [u8], at: usize, base: Base, offset: u64) -> usize
     requires { at + 100 ≤ length bytes.old }
     ensures short { result ≤ at + 100 }
     ensures written { take result bytes.new ≡ take at bytes.old
-        ++ (codes "end" ++ field offset) }
+        ++ (codes "end" ++ offset_field base offset) }
 {
     let at = write_word(bytes, at, "end");
-    write_field(bytes, at, offset)
+    write_place(bytes, at, base, offset)
 }
 
-/// Writes the line of a payload in a listing at the index `at` of `bytes`, without a line feed, and returns the index
-/// after it.
+/// Writes the line of a payload at the index `at` of `bytes`, with offsets in this base and without a line feed, and
+/// returns the index after it.
 ///
 /// From `at` on there must be 100 bytes. Later bytes may be overwritten.
 ///
@@ -162,38 +217,40 @@ fn write_end(bytes: &mut [u8], at: usize, offset: u64) -> usize
 /// let mut bytes = [0; 100];
 /// let mut payloads = Parser::new(0).parse_all(b"\0asm\x01\0\0\0");
 /// let version = payloads.next().ok_or("no header")??;
-/// let end = write_payload(&mut bytes, 0, &version);
+/// let end = write_payload(&mut bytes, 0, Base::Decimal, &version);
 /// assert_eq!(rt; &bytes[..end], b"version 0 8 1 module".as_slice());
 /// ```
 #[inline(always)]
 #[tactic(auto, unfolding(crate::specs::Listing::report_text))]
-pub fn write_payload(bytes: &mut [u8], at: usize, payload: &Payload) -> usize
+pub fn write_payload(bytes: &mut [u8], at: usize, base: Base, payload: &Payload) -> usize
     requires { at + 100 ≤ length bytes.old }
     ensures short { result ≤ at + 100 }
     ensures written { take result bytes.new ≡ take at bytes.old
-        ++ report_text (report_of payload.now) }
+        ++ report_text base (report_of payload.now) }
 {
     match payload {
         Payload::Version {
             num,
             encoding,
             range,
-        } => write_version(bytes, at, *num, *encoding, range),
-        Payload::StartSection { func, range } => { write_start(bytes, at, range, *func) }
-        Payload::DataCountSection { count, range } => { write_data_count(bytes, at, range, *count) }
+        } => write_version(bytes, at, base, *num, *encoding, range),
+        Payload::StartSection { func, range } => { write_start(bytes, at, base, range, *func) }
+        Payload::DataCountSection { count, range } => {
+            write_data_count(bytes, at, base, range, *count)
+        }
         Payload::CodeSectionStart {
             count,
             unchecked_range,
             size,
-        } => write_code(bytes, at, unchecked_range, *count, *size),
-        Payload::CodeSectionEntry(body) => write_body(bytes, at, &body.range()),
+        } => write_code(bytes, at, base, unchecked_range, *count, *size),
+        Payload::CodeSectionEntry(body) => write_body(bytes, at, base, &body.range()),
         Payload::CustomSection(section) => {
-            write_range(bytes, at, "custom", &section.range(), section.data_offset())
+            write_custom(bytes, at, base, &section.range(), section.data_offset())
         }
-        Payload::UnknownSection { id, range, .. } => write_unknown(bytes, at, *id, range),
-        Payload::End(offset) => write_end(bytes, at, *offset),
+        Payload::UnknownSection { id, range, .. } => write_unknown(bytes, at, base, *id, range),
+        Payload::End(offset) => write_end(bytes, at, base, *offset),
         _ => match payload.as_counted() {
-            Some(section) => write_counted(bytes, at, &section),
+            Some(section) => write_counted(bytes, at, base, &section),
             None => unreachable!(),
         },
     }
@@ -214,35 +271,56 @@ fn write_fault_number(bytes: &mut [u8], at: usize, number: Option<u64>) -> usize
     }
 }
 
+/// Writes the line of a fault at the index `at` of `bytes`, with its offset in this base and without a line feed, and
+/// returns the index after it: `fault`, the offset, the message, and the number if there is one.
+///
+/// From `at` on there must be 159 bytes. Later bytes may be overwritten.
+///
+/// ```rattle
+/// let mut bytes = [0; TEXT_BYTES];
+/// let error = Error::new(Fault::BadMagic, 16);
+/// let end = write_fault(&mut bytes, 0, Base::Hexadecimal, &error);
+/// assert!(rt; bytes[..end].starts_with(b"fault 0x10 magic header not detected"));
+/// ```
+#[tactic(auto, unfolding(crate::specs::Listing::report_text))]
+pub fn write_fault(bytes: &mut [u8], at: usize, base: Base, error: &Error) -> usize
+    requires { at + 159 ≤ length bytes.old }
+    ensures short { result ≤ at + 159 }
+    ensures written { take result bytes.new ≡ take at bytes.old
+        ++ report_text base (stream_end (fault (fault_at error.now))) }
+{
+    let at = write_word(bytes, at, "fault");
+    let at = write_place(bytes, at, base, error.offset());
+    let at = write_word(bytes, at, " ");
+    let at = write_word(bytes, at, error.message());
+    write_fault_number(bytes, at, error.number())
+}
+
 /// The line of a payload in a listing, without a line feed.
 impl ShortText for Payload<'_> {
     ghost use Rattle.wasm_parser.specs.ParseAnswer.{report_of};
     ghost use Rattle.wasm_lines.specs.Listing.{report_text};
+    ghost use Rattle.wasm_lines.specs.declared.offsets.Base.TheVariants.{Decimal};
 
-    ghost text = { λ payload. report_text (report_of payload) };
+    ghost text = { λ payload. report_text Decimal (report_of payload) };
 
     #[inline(always)]
     fn write_at(&self, bytes: &mut [u8], at: usize) -> usize {
-        write_payload(bytes, at, self)
+        write_payload(bytes, at, Base::Decimal, self)
     }
 }
 
-/// The line of a fault in a listing, without a line feed: `fault`, the offset, the message, and the number if there is
-/// one.
+/// The line of a fault in a listing, without a line feed.
 impl ShortText for Error {
     ghost use Rattle.wasm_base.specs.FaultAt.{fault_at};
     ghost use Rattle.wasm_grammar.specs.Content.{fault};
     ghost use Rattle.wasm_grammar.specs.Reading.{stream_end};
     ghost use Rattle.wasm_lines.specs.Listing.{report_text};
+    ghost use Rattle.wasm_lines.specs.declared.offsets.Base.TheVariants.{Decimal};
 
-    ghost text = { λ error. report_text (stream_end (fault (fault_at error))) };
+    ghost text = { λ error. report_text Decimal (stream_end (fault (fault_at error))) };
 
-    #[tactic(auto, unfolding(crate::specs::Listing::report_text))]
     fn write_at(&self, bytes: &mut [u8], at: usize) -> usize {
-        let at = write_word(bytes, at, "fault");
-        let at = write_field(bytes, at, self.offset());
-        let at = write_word(bytes, at, " ");
-        let at = write_word(bytes, at, self.message());
-        write_fault_number(bytes, at, self.number())
+        write_fault(bytes, at, Base::Decimal, self)
     }
 }

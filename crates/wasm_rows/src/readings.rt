@@ -3,7 +3,7 @@ use crate::rows::Failed;
 use std::alloc::{AllocError, Global};
 use wasm_base::{Error, Fault, WasmFeatures};
 use wasm_feed::{BoundedSink, Ended, Feeder, ListError, SliceSource, Step, list};
-use wasm_lines::{ShortText, write_number, write_payload};
+use wasm_lines::{Base, ShortText, write_number, write_payload};
 use wasm_parser::{Chunk, Parser, Payload};
 
 /// A stream.
@@ -244,7 +244,7 @@ fn add_indented(text: &[u8], lines: &mut Vec<u8>) -> Result<(), AllocError> {
 // Adds the text of an event in a listing.
 fn add_event(payload: &Payload<'_>, lines: &mut Vec<u8>) -> Result<(), AllocError> {
     let mut text = [b' '; 102];
-    let end = write_payload(&mut text, 2, payload);
+    let end = write_payload(&mut text, 2, Base::Decimal, payload);
     lines.extend_from_slice(&text[..end])
 }
 

@@ -6,7 +6,7 @@ ghost use Rattle.wasm_show.specs.ItemText.{data_fields, data_kind_fields, global
 ghost use Rattle.wasm_items.specs.Imports.{import_parts};
 ghost use Rattle.wasm_tree.specs.Fields.{field_text};
 ghost use Rattle.wasm_show.specs.ItemText.{export_fields, import_fields, kind_field, kind_word as word_of_kind, type_ref_fields};
-ghost use Rattle.wasm_tree.specs.Said.{Says, SaysFields, SaysWith};
+ghost use Rattle.wasm_tree.specs.Said.{SaysFields, SaysInBase, SaysWith};
 ghost use Rattle.wasm_tree.specs.Tree.{Adds, has_line_feed};
 
 use crate::expressions::show_expr;
@@ -37,7 +37,7 @@ fn kind_word(kind: &ExternalKind) -> &'static str
 // Writes what kind is imported or exported.
 fn show_kind<O: Tree>(kind: &ExternalKind, out: &mut O)
     ensures adds { Adds (O.writing out.old) (O.writing out.new) }
-    ensures says { Says (field_text (kind_field kind.now)) (O.writing out.old) (O.writing out.new) }
+    ensures says { SaysInBase (field_text (kind_field kind.now)) (O.writing out.old) (O.writing out.new) }
 {
     out.word_field("kind", kind_word(kind));
 }

@@ -2,7 +2,7 @@
 ghost use Rattle.std.specs.Prelude.{◌≡◌, false};
 ghost use Rattle.wasm_tree.specs.Fields.{field_text, named, word};
 ghost use Rattle.wasm_show.specs.ItemText.{global_type_fields, memory_fields, table_fields, tag_fields};
-ghost use Rattle.wasm_tree.specs.Said.{Says, SaysFields};
+ghost use Rattle.wasm_tree.specs.Said.{Says, SaysFields, SaysInBase};
 ghost use Rattle.wasm_tree.specs.Tree.{Adds, has_line_feed};
 ghost use Rattle.wasm_show.specs.TypeText.{array_text, heap_word as word_of_heap, mutable_text, ref_start as start_of_ref, struct_text};
 ghost use Rattle.wasm_show.specs.TypeText.{is_plain as is_plain_type, sub_start as start_of_sub, supertype_text, types_text, val_text};
@@ -238,7 +238,7 @@ impl Text for SubType {
 fn show_type<T: Text, O: Tree>(name: &str, ty: &T, out: &mut O)
     requires one_line { has_line_feed name.now ≡ false }
     ensures adds { Adds (O.writing out.old) (O.writing out.new) }
-    ensures says { Says (field_text (named name.now (word (T.words ty.now))))
+    ensures says { SaysInBase (field_text (named name.now (word (T.words ty.now))))
         (O.writing out.old) (O.writing out.new) }
 {
     out.begin_field(name);
@@ -249,7 +249,7 @@ fn show_type<T: Text, O: Tree>(name: &str, ty: &T, out: &mut O)
 fn show_mutable<O: Tree>(name: &str, mutable: bool, ty: &ValType, out: &mut O)
     requires one_line { has_line_feed name.now ≡ false }
     ensures adds { Adds (O.writing out.old) (O.writing out.new) }
-    ensures says { Says (field_text (named name.now (word (mutable_text mutable (val_text ty.now)))))
+    ensures says { SaysInBase (field_text (named name.now (word (mutable_text mutable (val_text ty.now)))))
         (O.writing out.old) (O.writing out.new) }
 {
     out.begin_field(name);

@@ -15,10 +15,14 @@ use Rattle.std.proofs.lemmas.List.{take_more}
 use Rattle.std.proofs.lemmas.List.Folds.{list_any-append}
 use Rattle.wasm_lines.specs.Page.{IsCut}
 use Rattle.wasm_lines.specs.declared.devices.ListError.{ListError}
-use Rattle.wasm_tree.specs.Said.{PutsText, HasLine, Says, SaysSome, SaysWith}
-use Rattle.wasm_tree.specs.Tree.{Writing, PutsAs, Puts, has_line_feed}
+use Rattle.wasm_lines.specs.Offsets.{offset_text}
+use Rattle.wasm_lines.specs.declared.offsets.Base.{Base}
+use Rattle.wasm_lines.specs.declared.offsets.Base.TheVariants.{Decimal, Hexadecimal}
+use Rattle.wasm_lines.proofs.ForCallers.{no_line_feed}
+use Rattle.wasm_tree.specs.Said.{PutsText, HasLine, Says, SaysInBase, SaysSome, SaysWith}
+use Rattle.wasm_tree.specs.Tree.{Writing, PutsAs, Puts, are_lines, base_of, has_line_feed}
 use Rattle.wasm_tree.specs.declared.tree.Style.{Style}
-use Rattle.wasm_tree.specs.declared.tree.Style.TheVariants.{Lines, Objects}
+use Rattle.wasm_tree.specs.declared.tree.Style.TheVariants.{Objects}
 
 -- ---- bytes after bytes
 
@@ -75,28 +79,36 @@ nothing_by : (w : Writing) (why : Option ListError) → w.why ≡ why → PutsTe
 nothing_by w why e = grind (arith, Appends-nil, append-nil)
 
 -- nothing was put on a line that is begun
-pub has_nothing : (w : Writing) → w.is_begun ≡ true → w.style ≡ Lines → HasLine w [] w
+pub has_nothing : (w : Writing) → w.is_begun ≡ true → are_lines w.style ≡ true → HasLine w [] w
 has_nothing w e lines = record { begun = e; lines = lines; puts = nothing_by w w.why refl }
 
-lines_by : (since now : Writing) (text : List ℕ) (a b : Option ListError) → since.style ≡ Lines → PutsText a b text since now
-    → now.style ≡ Lines
-lines_by since now text a b e p = grind arith
+style_by : (since now : Writing) (text : List ℕ) (a b : Option ListError) → PutsText a b text since now → now.style ≡ since.style
+style_by since now text a b p = grind arith
 
--- lines are still written
-pub still_lines : (since now : Writing) (text : List ℕ) → HasLine since text now → now.style ≡ Lines
-still_lines since now text h = lines_by since now text since.why now.why h.lines h.puts
+-- the style is still the same
+pub still_same : (since now : Writing) (text : List ℕ) → HasLine since text now → now.style ≡ since.style
+still_same since now text h = style_by since now text since.why now.why h.puts
 
-no_lines : (style : Style) → style ≡ Lines → style ≡ Objects → ⊥
+pub still_lines : (since now : Writing) (text : List ℕ) → HasLine since text now → are_lines now.style ≡ true
+still_lines since now text h = ap are_lines (still_same since now text h) ∙ h.lines
+
+no_lines : (style : Style) → are_lines style ≡ true → style ≡ Objects → ⊥
 no_lines style e f = grind arith
 
 -- in objects there are no lines
-pub says_never : (text : List ℕ) (old new : Writing) → old.style ≡ Objects → Says text old new
+pub says_never : (text : Base → List ℕ) (old new : Writing) → old.style ≡ Objects → SaysInBase text old new
 says_never text old new objects since before h = absurd (no_lines old.style (still_lines since old before h) objects)
 
 pub says_none_ever : (old new : Writing) → old.style ≡ Objects → SaysSome old new
 says_none_ever old new objects since m = absurd (no_lines old.style (still_lines since old m.text m.has) objects)
 
 -- ---- texts
+
+-- a text with the offsets of these lines
+pub says_in_base : (text : Base → List ℕ) (base : Base) (old new : Writing) → base_of old.style ≡ base → Says (text base) old new
+    → SaysInBase text old new
+says_in_base text base old new e p since before h = subst (λ (b : Base). HasLine since (before ++ text b) new)
+    (sym e ∙ ap base_of (still_same since old before h)) (p since before h)
 
 -- a part of a line that is begun already
 pub says_piece : (old mid new : Writing) (bytes : List ℕ) → (old.is_begun ≡ true → mid ≡ old) → Puts bytes mid new → Says bytes old new
@@ -106,16 +118,20 @@ pub says_nothing : (w : Writing) → Says [] w w
 says_nothing w since before h = subst (λ (t : List ℕ). HasLine since t w) (sym (append-nil before)) h
 
 -- one text after the other
+pub says_both : (a b : Base → List ℕ) (x y z : Writing) → SaysInBase a x y → SaysInBase b y z
+    → SaysInBase (λ base. a base ++ b base) x z
+says_both a b x y z p q since before h = grind (arith, append_assoc)
+
 pub says_then : (a b : List ℕ) (x y z : Writing) → Says a x y → Says b y z → Says (a ++ b) x z
-says_then a b x y z p q since before h = grind (arith, append_assoc)
+says_then a b x y z p q = says_both (λ base. a) (λ base. b) x y z p q
 
 pub says_same : (a b : List ℕ) (x y : Writing) → a ≡ b → Says a x y → Says b x y
 says_same a b x y e p = subst (λ (t : List ℕ). Says t x y) e p
 
 -- the value of a field
-pub says_value : (name value : List ℕ) (x y z : Writing) → Says (codes " " ++ (name ++ codes "=")) x y → Says value y z
-    → Says (codes " " ++ (name ++ (codes "=" ++ value))) x z
-says_value name value x y z p q = grind (arith, says_same, append_assoc, says_then)
+pub says_value : (name : List ℕ) (value : Base → List ℕ) (x y z : Writing) → Says (codes " " ++ (name ++ codes "=")) x y
+    → SaysInBase value y z → SaysInBase (λ base. codes " " ++ (name ++ (codes "=" ++ value base))) x z
+says_value name value x y z p q since before h = grind (arith, append_assoc)
 
 -- ---- some text
 
@@ -140,9 +156,10 @@ says_named name x y z p q since before h =
     )
 
 -- fields after fields
-pub more_fields : (before : List ℕ) (xs ys : List Field) → with_fields (with_fields before xs) ys ≡ with_fields before (xs ++ ys)
-more_fields before [] ys = refl
-more_fields before (x ∷ xs) ys = more_fields (before ++ field_text x) xs ys
+pub more_fields : (base : Base) (before : List ℕ) (xs ys : List Field)
+    → with_fields base (with_fields base before xs) ys ≡ with_fields base before (xs ++ ys)
+more_fields base before [] ys = refl
+more_fields base before (x ∷ xs) ys = more_fields base (before ++ field_text x base) xs ys
 
 -- ---- parts of a text
 
@@ -174,6 +191,11 @@ none_in_decimal = decimal_by_steps (λ n ds. has_line_feed ds ≡ false) (λ n h
 pub none_in_signed : (negative : Bool) (n : ℕ) → n < 2 ^ 64
     → has_line_feed ((if negative then codes "-" else []) ++ decimal n) ≡ false
 none_in_signed negative n h = grind (arith, none_in_decimal)
+
+-- nor are those of an offset
+pub none_in_offset : (base : Base) (n : ℕ) → n < 2 ^ 64 → has_line_feed (offset_text base n) ≡ false
+none_in_offset Decimal n h = none_in_decimal n h
+none_in_offset Hexadecimal n h = no_line_feed n
 
 -- nor is one escaped in quotes
 plain_digit : (n : ℕ) → n < 10 → list_any is_escaped ((48 + n) ∷ []) ≡ false

@@ -13,6 +13,7 @@ use Rattle.std.proofs.lemmas.List.Folds.{list_all-append}
 use Rattle.wasm_lines.specs.Calls.{output_failed}
 use Rattle.wasm_lines.specs.declared.devices.ListError.{ListError}
 use Rattle.wasm_lines.specs.Page.{WritesHead, IsCut}
+use Rattle.wasm_lines.specs.declared.offsets.Base.{Base}
 use Rattle.wasm_lines.specs.declared.devices.ListError.TheVariants.{Input, Output, Memory}
 use Rattle.wasm_tree.specs.Numbers.{Number, blank_numbers, number_text}
 use Rattle.wasm_tree.specs.Said.{PutsText, StopsIn}
@@ -35,52 +36,6 @@ more_lines : {A : Type 0} (f : Line → List A) (lines : List Line) (l : Line) (
 more_lines f lines l all e = ap (λ x. x ++ f l) e ∙ (ap (λ x. flat_map f lines ++ x) (sym (append-nil (f l)))
     ∙ sym (flat_map-append f lines (l ∷ [])))
 
-outlined_more : (text outline : List ℕ) (numbers : List Number) (bytes : List ℕ) (l : Line) → is_line l ≡ true
-    → IsOutlined text outline numbers bytes
-    → IsOutlined (text ++ text_of l) (outline ++ first_of l) (numbers ++ numbers_of l) (bytes ++ bytes_of l)
-outlined_more text outline numbers bytes l one i = record {
-  lines = i.lines ++ l ∷ [];
-  whole = list_all-append is_line i.lines (l ∷ []) ∙ rw (i.whole, one) refl;
-  parts = more_lines text_of i.lines l text i.parts;
-  outlines = more_lines first_of i.lines l outline i.outlines;
-  numbered = more_lines numbers_of i.lines l numbers i.numbered;
-  rowed = more_lines bytes_of i.lines l bytes i.rowed;
-}
-
--- the same line, by what it adds
-outlined_with : (text outline : List ℕ) (numbers : List Number) (bytes : List ℕ) (l : Line) (text' outline' : List ℕ)
-    (numbers' : List Number) (bytes' : List ℕ) → is_line l ≡ true → text ++ text_of l ≡ text' → outline ++ first_of l ≡ outline'
-    → numbers ++ numbers_of l ≡ numbers' → bytes ++ bytes_of l ≡ bytes' → IsOutlined text outline numbers bytes
-    → IsOutlined text' outline' numbers' bytes'
-outlined_with text outline numbers bytes l text' outline' numbers' bytes' one e f g h i =
-    rw (← e, ← f, ← g, ← h) (outlined_more text outline numbers bytes l one i)
-
--- a line under another
-under_more : (text outline : List ℕ) (numbers : List Number) (bytes : List ℕ) (line : List Part) → list_all is_part line ≡ true
-    → IsOutlined text outline numbers bytes
-    → IsOutlined (text ++ (codes "  " ++ (flat_map part_text line ++ codes "\n"))) outline (numbers ++ flat_map part_numbers line) bytes
-under_more text outline numbers bytes line one i =
-    outlined_with text outline numbers bytes (under line) (text ++ text_of (under line)) outline (numbers ++ flat_map part_numbers line)
-    bytes one refl (append-nil outline) refl (append-nil bytes) i
-
--- a row of bytes
-row_more : (text outline : List ℕ) (numbers : List Number) (bytes : List ℕ) (offset : ℕ) (more : List ℕ)
-    → IsOutlined text outline numbers bytes → IsOutlined (text ++ row_text offset more) outline numbers (bytes ++ more)
-row_more text outline numbers bytes offset more i =
-    outlined_with text outline numbers bytes (row offset more) (text ++ row_text offset more) outline numbers (bytes ++ more) refl refl
-    (append-nil outline) (append-nil numbers) refl i
-
--- a line that adds this to the outline, and has these numbers
-abbrev pub Outlines : (line outline : List ℕ) → List Number → Type 0
-Outlines line more after = (text outline : List ℕ) (numbers : List Number) (bytes : List ℕ) → IsOutlined text outline numbers bytes
-    → IsOutlined (text ++ line) (outline ++ more) (numbers ++ after) bytes
-
--- one of the first level
-pub first_more : (line more : List ℕ) (after : List Number) → IsFirst line more after → Outlines line more after
-first_more line more after e text outline numbers bytes i =
-    outlined_with text outline numbers bytes (first e.front after None) (text ++ line) (outline ++ more) (numbers ++ after) bytes refl
-    (ap (λ (x : List ℕ). text ++ x) (sym e.parts)) (ap (λ (x : List ℕ). outline ++ x) (sym e.outlines)) refl (append-nil bytes) i
-
 -- numbers before the rest of a line
 number_before : (n : Number) (rest : List ℕ) → number_text n rest ≡ number_text n [] ++ rest
 number_before n rest = simp append_assoc
@@ -94,18 +49,68 @@ blank_before (n ∷ later) rest =
     ∙ ap (λ (x : List ℕ). x ++ rest) (sym (number_before n (blank_numbers later []))))) in
     all ∙ moved
 
--- one that has a name after its text, if there is one
-pub named_more : (text more : List ℕ) (after : List Number) (name : Option (List ℕ)) → IsFirst (text ++ codes "\n") more after
-    → Outlines (text ++ (name_text name ++ codes "\n")) more after
-named_more line more after name e text outline numbers bytes i =
-    let numbered = blank_numbers after [] in
-    let rest = name_text name ++ codes "\n" in
-    let front : line ≡ e.front ++ numbered = append_cancel_right line (e.front ++ numbered) (codes "\n")
-    (e.parts ∙ (ap (λ (x : List ℕ). e.front ++ x) (blank_before after (codes "\n")) ∙ sym (append_assoc e.front numbered (codes "\n")))) in
-    let parts : line ++ rest ≡ e.front ++ blank_numbers after rest = ap (λ (x : List ℕ). x ++ rest) front
-    ∙ (append_assoc e.front numbered rest ∙ ap (λ (x : List ℕ). e.front ++ x) (sym (blank_before after rest))) in
-    outlined_with text outline numbers bytes (first e.front after name) (text ++ (line ++ rest)) (outline ++ more) (numbers ++ after) bytes
-    refl (ap (λ (x : List ℕ). text ++ x) (sym parts)) (ap (λ (x : List ℕ). outline ++ x) (sym e.outlines)) refl (append-nil bytes) i
+module _ (base : Base) where
+  outlined_more : (text outline : List ℕ) (numbers : List Number) (bytes : List ℕ) (l : Line) → is_line l ≡ true
+      → IsOutlined base text outline numbers bytes
+      → IsOutlined base (text ++ text_of base l) (outline ++ first_of l) (numbers ++ numbers_of l) (bytes ++ bytes_of l)
+  outlined_more text outline numbers bytes l one i = record {
+    lines = i.lines ++ l ∷ [];
+    whole = list_all-append is_line i.lines (l ∷ []) ∙ rw (i.whole, one) refl;
+    parts = more_lines (text_of base) i.lines l text i.parts;
+    outlines = more_lines first_of i.lines l outline i.outlines;
+    numbered = more_lines numbers_of i.lines l numbers i.numbered;
+    rowed = more_lines bytes_of i.lines l bytes i.rowed;
+  }
+
+  -- the same line, by what it adds
+  outlined_with : (text outline : List ℕ) (numbers : List Number) (bytes : List ℕ) (l : Line) (text' outline' : List ℕ)
+      (numbers' : List Number) (bytes' : List ℕ) → is_line l ≡ true → text ++ text_of base l ≡ text' → outline ++ first_of l ≡ outline'
+      → numbers ++ numbers_of l ≡ numbers' → bytes ++ bytes_of l ≡ bytes' → IsOutlined base text outline numbers bytes
+      → IsOutlined base text' outline' numbers' bytes'
+  outlined_with text outline numbers bytes l text' outline' numbers' bytes' one e f g h i =
+      rw (← e, ← f, ← g, ← h) (outlined_more text outline numbers bytes l one i)
+
+  -- a line under another
+  under_more : (text outline : List ℕ) (numbers : List Number) (bytes : List ℕ) (line : List Part) → list_all is_part line ≡ true
+      → IsOutlined base text outline numbers bytes
+      → IsOutlined base (text ++ (codes "  " ++ (flat_map part_text line ++ codes "\n"))) outline
+      (numbers ++ flat_map part_numbers line) bytes
+  under_more text outline numbers bytes line one i =
+      outlined_with text outline numbers bytes (under line) (text ++ text_of base (under line)) outline
+      (numbers ++ flat_map part_numbers line) bytes one refl (append-nil outline) refl (append-nil bytes) i
+
+  -- a row of bytes
+  row_more : (text outline : List ℕ) (numbers : List Number) (bytes : List ℕ) (offset : ℕ) (more : List ℕ)
+      → IsOutlined base text outline numbers bytes → IsOutlined base (text ++ row_text base offset more) outline numbers (bytes ++ more)
+  row_more text outline numbers bytes offset more i =
+      outlined_with text outline numbers bytes (row offset more) (text ++ row_text base offset more) outline numbers (bytes ++ more)
+      refl refl
+      (append-nil outline) (append-nil numbers) refl i
+
+  -- a line that adds this to the outline, and has these numbers
+  abbrev pub Outlines : (line outline : List ℕ) → List Number → Type 0
+  Outlines line more after = (text outline : List ℕ) (numbers : List Number) (bytes : List ℕ) → IsOutlined base text outline numbers bytes
+      → IsOutlined base (text ++ line) (outline ++ more) (numbers ++ after) bytes
+
+  -- one of the first level
+  pub first_more : (line more : List ℕ) (after : List Number) → IsFirst line more after → Outlines line more after
+  first_more line more after e text outline numbers bytes i =
+      outlined_with text outline numbers bytes (first e.front after None) (text ++ line) (outline ++ more) (numbers ++ after) bytes refl
+      (ap (λ (x : List ℕ). text ++ x) (sym e.parts)) (ap (λ (x : List ℕ). outline ++ x) (sym e.outlines)) refl (append-nil bytes) i
+
+  -- one that has a name after its text, if there is one
+  pub named_more : (text more : List ℕ) (after : List Number) (name : Option (List ℕ)) → IsFirst (text ++ codes "\n") more after
+      → Outlines (text ++ (name_text name ++ codes "\n")) more after
+  named_more line more after name e text outline numbers bytes i =
+      let numbered = blank_numbers after [] in
+      let rest = name_text name ++ codes "\n" in
+      let front : line ≡ e.front ++ numbered = append_cancel_right line (e.front ++ numbered) (codes "\n")
+      (e.parts ∙ (ap (λ (x : List ℕ). e.front ++ x) (blank_before after (codes "\n"))
+      ∙ sym (append_assoc e.front numbered (codes "\n")))) in
+      let parts : line ++ rest ≡ e.front ++ blank_numbers after rest = ap (λ (x : List ℕ). x ++ rest) front
+      ∙ (append_assoc e.front numbered rest ∙ ap (λ (x : List ℕ). e.front ++ x) (sym (blank_before after rest))) in
+      outlined_with text outline numbers bytes (first e.front after name) (text ++ (line ++ rest)) (outline ++ more) (numbers ++ after)
+      bytes refl (ap (λ (x : List ℕ). text ++ x) (sym parts)) (ap (λ (x : List ℕ). outline ++ x) (sym e.outlines)) refl (append-nil bytes) i
 
 -- ---- bytes put after those that wait
 
@@ -145,13 +150,14 @@ shaped_objects style text outline outline' numbers numbers' bytes bytes' e i =
 pub as_going : (o : Origin) (w : Writing) → w.why ≡ None → IsWritten o w → IsGoingIn o.style o w
 as_going o w e i = subst (λ (y : Option ListError). IsWrittenAs y o w) e i.1
 
-pub in_lines : (o : Origin) (w : Writing) → o.style ≡ Lines → IsGoingIn o.style o w → IsGoing o w
+pub in_lines : {base : Base} (o : Origin) (w : Writing) → o.style ≡ Lines base → IsGoingIn o.style o w → IsGoing base o w
 in_lines o w e i = subst (λ (s : Style). IsGoingIn s o w) e i
 
 pub in_objects : (o : Origin) (w : Writing) → o.style ≡ Objects → IsGoingIn o.style o w → IsGoingInObjects o w
 in_objects o w e i = subst (λ (s : Style). IsGoingIn s o w) e i
 
-from_lines : (o to : Origin) (w : Writing) → to.style ≡ o.style → o.style ≡ Lines → IsGoing to w → IsGoingIn to.style to w
+from_lines : {base : Base} (o to : Origin) (w : Writing) → to.style ≡ o.style → o.style ≡ Lines base → IsGoing base to w
+    → IsGoingIn to.style to w
 from_lines o to w s e i = subst (λ (x : Style). IsGoingIn x to w) (sym (s ∙ e)) i
 
 from_objects : (o : Origin) (w : Writing) → o.style ≡ Objects → IsGoingInObjects o w → IsGoingIn o.style o w
@@ -174,9 +180,9 @@ short_still o w why b spot unshown c = record {
 }
 
 -- nor does it matter what is unwritten, if the whole is such a text
-short_more : (o to : Origin) (w : Writing) (why : ListError) (c : IsCutShort o why w) (more : List ℕ) → to.taken ≡ o.taken
-    → to.has_failed ≡ o.has_failed → to.style ≡ Lines
-    → IsOutlined ((c.written ++ c.unwritten) ++ more) to.outline to.numbers to.bytes → IsCutShort to why w
+short_more : {base : Base} (o to : Origin) (w : Writing) (why : ListError) (c : IsCutShort o why w) (more : List ℕ)
+    → to.taken ≡ o.taken → to.has_failed ≡ o.has_failed → to.style ≡ Lines base
+    → IsOutlined base ((c.written ++ c.unwritten) ++ more) to.outline to.numbers to.bytes → IsCutShort to why w
 short_more o to w why c more taken failed lines outlined = record {
   written = c.written;
   unwritten = c.unwritten ++ more;
@@ -186,34 +192,35 @@ short_more o to w why c more taken failed lines outlined = record {
   no_input = c.no_input;
 }
 
-module _ (o : Origin) (w : Writing) (why : ListError) (lines : o.style ≡ Lines) (c : IsCutShort o why w) where
-  before : IsOutlined (c.written ++ c.unwritten) o.outline o.numbers o.bytes
+module _ (base : Base) (o : Origin) (w : Writing) (why : ListError) (lines : o.style ≡ Lines base) (c : IsCutShort o why w) where
+  before : IsOutlined base (c.written ++ c.unwritten) o.outline o.numbers o.bytes
   before = rw lines at c.shaped
 
   -- a line of the first level, of which nothing could be written
-  first_short : (line outline : List ℕ) (numbers : List Number) → Outlines line outline numbers
+  first_short : (line outline : List ℕ) (numbers : List Number) → Outlines base line outline numbers
       → IsCutShort (with_numbers (with_line o outline) numbers) why w
   first_short line outline numbers e = short_more o (with_numbers (with_line o outline) numbers) w why c line refl refl lines
       (e (c.written ++ c.unwritten) o.outline o.numbers o.bytes before)
 
   -- bytes that are to be shown
   bytes_short : (bytes : List ℕ) → IsCutShort (with_bytes o bytes) why w
-  bytes_short bytes = short_more o (with_bytes o bytes) w why c (row_text 0 bytes) refl refl lines
-      (row_more (c.written ++ c.unwritten) o.outline o.numbers o.bytes 0 bytes before)
+  bytes_short bytes = short_more o (with_bytes o bytes) w why c (row_text base 0 bytes) refl refl lines
+      (row_more base (c.written ++ c.unwritten) o.outline o.numbers o.bytes 0 bytes before)
 
   -- a part of a line under another
   part_short : (p : Part) → is_part p ≡ true → IsCutShort (with_numbers o (part_numbers p)) why w
-  part_short p one = short_more o (with_numbers o (part_numbers p)) w why c (text_of (under (p ∷ []))) refl refl lines
-      (subst (λ (y : List Number). IsOutlined ((c.written ++ c.unwritten) ++ text_of (under (p ∷ []))) o.outline (o.numbers ++ y) o.bytes)
+  part_short p one = short_more o (with_numbers o (part_numbers p)) w why c (text_of base (under (p ∷ []))) refl refl lines
+      (subst (λ (y : List Number). IsOutlined base ((c.written ++ c.unwritten) ++ text_of base (under (p ∷ []))) o.outline
+      (o.numbers ++ y) o.bytes)
       (append-nil (part_numbers p))
-      (under_more (c.written ++ c.unwritten) o.outline o.numbers o.bytes (p ∷ []) (rw one refl) before))
+      (under_more base (c.written ++ c.unwritten) o.outline o.numbers o.bytes (p ∷ []) (rw one refl) before))
 
-module _ (o : Origin) (old new : Writing) (i : IsGoing o old) where
+module _ (base : Base) (o : Origin) (old new : Writing) (i : IsGoing base o old) where
   -- to whole lines with this outline, and a line that is begun, which has these parts
   goes : (outline : List ℕ) (numbers : List Number) (bytes put text : List ℕ) (lined : List Number) (rows : List ℕ) (b : Bool)
-      (line : List Part) (unshown : List ℕ) → IsPushed put old new → IsOutlined text outline lined rows → list_all is_part line ≡ true
+      (line : List Part) (unshown : List ℕ) → IsPushed put old new → IsOutlined base text outline lined rows → list_all is_part line ≡ true
       → (i.written ++ old.waiting) ++ put ≡ text ++ begun b line → numbers ≡ lined ++ begun_numbers b line → bytes ≡ rows ++ unshown
-      → IsGoing (record o { outline = outline; numbers = numbers; bytes = bytes }) (record new { is_begun = b; unshown = unshown })
+      → IsGoing base (record o { outline = outline; numbers = numbers; bytes = bytes }) (record new { is_begun = b; unshown = unshown })
   goes outline numbers bytes put text lined rows b line unshown p outlined one parts numbered rowed = record {
     written = i.written ++ p.puts.moved;
     text = text;
@@ -240,7 +247,7 @@ module _ (o : Origin) (old new : Writing) (i : IsGoing o old) where
 
   -- to a line that is begun
   part_grows : (p : Part) → old.is_begun ≡ true → is_part p ≡ true → IsPushed (part_text p) old new
-      → IsGoing (with_numbers o (part_numbers p)) new
+      → IsGoing base (with_numbers o (part_numbers p)) new
   part_grows p b one h = goes o.outline (o.numbers ++ part_numbers p) o.bytes (part_text p) i.text i.lined i.rows new.is_begun
       (i.line ++ p ∷ []) new.unshown h i.outlined (list_all-append is_part i.line (p ∷ []) ∙ rw (i.one_line, one) refl)
       (rw (h.begun, b) (in_begun true (part_text p) b
@@ -252,25 +259,25 @@ module _ (o : Origin) (old new : Writing) (i : IsGoing o old) where
       (same_unshown h.unshown)
 
   -- a line is begun
-  part_begins : old.is_begun ≡ false → IsPushed (codes "  ") old new → IsGoing o (record new { is_begun = true })
+  part_begins : old.is_begun ≡ false → IsPushed (codes "  ") old new → IsGoing base o (record new { is_begun = true })
   part_begins b p = goes o.outline o.numbers o.bytes (codes "  ") i.text i.lined i.rows true [] new.unshown p i.outlined refl
       (in_begun false (codes "  ") b ∙ ap (λ (x : List ℕ). x ++ codes "  ") (append-nil i.text)) (i.numbered ∙ rw b refl)
       (same_unshown p.unshown)
 
   -- it is ended
-  part_ends : old.is_begun ≡ true → IsPushed (codes "\n") old new → IsGoing o (record new { is_begun = false })
+  part_ends : old.is_begun ≡ true → IsPushed (codes "\n") old new → IsGoing base o (record new { is_begun = false })
   part_ends b p =
-      let text = i.text ++ text_of (under i.line) in
+      let text = i.text ++ text_of base (under i.line) in
       let lined = i.lined ++ flat_map part_numbers i.line in
       goes o.outline o.numbers o.bytes (codes "\n") text lined i.rows false [] new.unshown p
-      (under_more i.text o.outline i.lined i.rows i.line i.one_line i.outlined) refl
+      (under_more base i.text o.outline i.lined i.rows i.line i.one_line i.outlined) refl
       (in_begun true (codes "\n") b ∙ (append_assoc i.text (codes "  " ++ flat_map part_text i.line) (codes "\n") ∙ sym (append-nil text)))
       (i.numbered ∙ (rw b refl ∙ sym (append-nil lined))) (same_unshown p.unshown)
 
   -- where none is begun, whole lines come after those that there were
   whole_grows : (line outline : List ℕ) (numbers : List Number) (bytes rows unshown : List ℕ) → old.is_begun ≡ false
-      → IsOutlined (i.text ++ line) outline (i.lined ++ numbers) rows → bytes ≡ rows ++ unshown → IsPushed line old new
-      → IsGoing (record o { outline = outline; numbers = o.numbers ++ numbers; bytes = bytes }) (record new { unshown = unshown })
+      → IsOutlined base (i.text ++ line) outline (i.lined ++ numbers) rows → bytes ≡ rows ++ unshown → IsPushed line old new
+      → IsGoing base (record o { outline = outline; numbers = o.numbers ++ numbers; bytes = bytes }) (record new { unshown = unshown })
   whole_grows line outline numbers bytes rows unshown b outlined rowed p = goes outline (o.numbers ++ numbers) bytes line (i.text ++ line)
       (i.lined ++ numbers) rows new.is_begun [] unshown p outlined refl
       (rw (p.begun, b) (in_begun false line b ∙ (ap (λ (x : List ℕ). x ++ line) (append-nil i.text) ∙ sym (append-nil (i.text ++ line)))))
@@ -278,44 +285,45 @@ module _ (o : Origin) (old new : Writing) (i : IsGoing o old) where
       ∙ sym (append-nil (i.lined ++ numbers)))) rowed
 
   -- a line of the first level
-  first_grows : (line outline : List ℕ) (numbers : List Number) → Outlines line outline numbers → old.is_begun ≡ false
-      → IsPushed line old new → IsGoing (with_numbers (with_line o outline) numbers) new
+  first_grows : (line outline : List ℕ) (numbers : List Number) → Outlines base line outline numbers → old.is_begun ≡ false
+      → IsPushed line old new → IsGoing base (with_numbers (with_line o outline) numbers) new
   first_grows line outline numbers e b p = whole_grows line (o.outline ++ outline) numbers o.bytes i.rows new.unshown b
       (e i.text o.outline i.lined i.rows i.outlined) (same_unshown p.unshown) p
 
   -- all that waited is written
-  all_moves : IsPushed [] old new → IsGoing o new
+  all_moves : IsPushed [] old new → IsGoing base o new
   all_moves p = goes o.outline o.numbers o.bytes [] i.text i.lined i.rows new.is_begun i.line new.unshown p i.outlined i.one_line
       (append-nil (i.written ++ old.waiting) ∙ rw p.begun i.parts) (rw p.begun i.numbered) (same_unshown p.unshown)
 
   -- a row of bytes
-  row_grows : (offset : ℕ) (bytes left : List ℕ) → old.is_begun ≡ false → IsPushed (row_text offset bytes) old new
-      → old.unshown ≡ bytes ++ left → IsGoing o (record new { unshown = left })
+  row_grows : (offset : ℕ) (bytes left : List ℕ) → old.is_begun ≡ false → IsPushed (row_text base offset bytes) old new
+      → old.unshown ≡ bytes ++ left → IsGoing base o (record new { unshown = left })
   row_grows offset bytes left b p e =
-      subst (λ (x : List Number). IsGoing (record o { numbers = x }) (record new { unshown = left })) (append-nil o.numbers)
-      (whole_grows (row_text offset bytes) o.outline [] o.bytes (i.rows ++ bytes) left b
-      (rw (append-nil i.lined) (row_more i.text o.outline i.lined i.rows offset bytes i.outlined))
+      subst (λ (x : List Number). IsGoing base (record o { numbers = x }) (record new { unshown = left })) (append-nil o.numbers)
+      (whole_grows (row_text base offset bytes) o.outline [] o.bytes (i.rows ++ bytes) left b
+      (rw (append-nil i.lined) (row_more base i.text o.outline i.lined i.rows offset bytes i.outlined))
       (i.rowed ∙ (ap (λ (x : List ℕ). i.rows ++ x) e ∙ sym (append_assoc i.rows bytes left))) p)
 
   -- the text that was cut, with what completes the line that was begun, and the bytes that weren't shown
   abbrev after_cut : Bool → List ℕ
-  after_cut b = (if b then codes "\n" else []) ++ row_text 0 old.unshown
+  after_cut b = (if b then codes "\n" else []) ++ row_text base 0 old.unshown
 
-  rest_of_line : (b : Bool) → old.is_begun ≡ b → IsOutlined ((i.written ++ old.waiting) ++
+  rest_of_line : (b : Bool) → old.is_begun ≡ b → IsOutlined base ((i.written ++ old.waiting) ++
       (if b then codes "\n" else [])) o.outline o.numbers
       i.rows
-  rest_of_line true b = subst₂ (λ (x : List ℕ) (y : List Number). IsOutlined x o.outline y i.rows)
+  rest_of_line true b = subst₂ (λ (x : List ℕ) (y : List Number). IsOutlined base x o.outline y i.rows)
       (sym (ap (λ (x : List ℕ). x ++ codes "\n") (i.parts ∙ rw b refl)
       ∙ append_assoc i.text (codes "  " ++ flat_map part_text i.line) (codes "\n")))
-      (sym (i.numbered ∙ rw b refl)) (under_more i.text o.outline i.lined i.rows i.line i.one_line i.outlined)
-  rest_of_line false b = subst₂ (λ (x : List ℕ) (y : List Number). IsOutlined x o.outline y i.rows)
+      (sym (i.numbered ∙ rw b refl)) (under_more base i.text o.outline i.lined i.rows i.line i.one_line i.outlined)
+  rest_of_line false b = subst₂ (λ (x : List ℕ) (y : List Number). IsOutlined base x o.outline y i.rows)
       (sym (append-nil (i.written ++ old.waiting) ∙ (i.parts ∙ rw b (append-nil i.text))))
       (sym (i.numbered ∙ rw b (append-nil i.lined))) i.outlined
 
-  completed : (b : Bool) → old.is_begun ≡ b → IsOutlined ((i.written ++ old.waiting) ++ after_cut b) o.outline o.numbers o.bytes
-  completed b e = subst₂ (λ (x bytes : List ℕ). IsOutlined x o.outline o.numbers bytes)
-      (append_assoc (i.written ++ old.waiting) (if b then codes "\n" else []) (row_text 0 old.unshown)) (sym i.rowed)
-      (row_more ((i.written ++ old.waiting) ++ (if b then codes "\n" else [])) o.outline o.numbers i.rows 0 old.unshown (rest_of_line b e))
+  completed : (b : Bool) → old.is_begun ≡ b → IsOutlined base ((i.written ++ old.waiting) ++ after_cut b) o.outline o.numbers o.bytes
+  completed b e = subst₂ (λ (x bytes : List ℕ). IsOutlined base x o.outline o.numbers bytes)
+      (append_assoc (i.written ++ old.waiting) (if b then codes "\n" else []) (row_text base 0 old.unshown)) (sym i.rowed)
+      (row_more base ((i.written ++ old.waiting) ++ (if b then codes "\n" else [])) o.outline o.numbers i.rows 0 old.unshown
+      (rest_of_line b e))
 
 -- of all that was written or waited, a prefix is written
 cut_at : (written waiting moved unwritten more : List ℕ) → waiting ≡ moved ++ unwritten → (written ++ moved) ++ (unwritten ++ more)
@@ -326,13 +334,13 @@ cut_at written waiting moved unwritten more e = append_assoc written moved (unwr
 
 module _ (o : Origin) (old new : Writing) (why : ListError) (s : IsStuck why old new) where
   stuck_in : (style : Style) → o.style ≡ style → IsGoingIn style o old → IsCutShort o why new
-  stuck_in Lines e i =
+  stuck_in (Lines base) e i =
       let w = beginning old.taken new.taken old.waiting why s.cut in
-      let more = after_cut o old new i old.is_begun in
+      let more = after_cut base o old new i old.is_begun in
       record {
         written = i.written ++ w.moved;
         unwritten = w.unwritten ++ more;
-        shaped = rw (e, cut_at i.written old.waiting w.moved w.unwritten more w.parts) (completed o old new i old.is_begun refl);
+        shaped = rw (e, cut_at i.written old.waiting w.moved w.unwritten more w.parts) (completed base o old new i old.is_begun refl);
         took = Appends-trans o.taken old.taken new.taken i.written w.moved i.took w.wrote;
         failed = s.failed ∙ ap (λ (b : Bool). output_failed {A = Unit {0}} (Err why) b) i.failed;
         no_input = no_input old.taken new.taken old.waiting why s.cut;
@@ -414,14 +422,14 @@ module _ (o : Origin) (old new : Writing) (b : Bool) (spot : Spot) (unshown : Li
   changes to bytes same p i going short =
       (same_style old.why new.why bytes old new p ∙ (i.0 ∙ sym same), by_why to bytes old.why new.why refl refl p i going short)
 
-module _ (o : Origin) (old new : Writing) (lines : old.style ≡ Lines) where
+module _ (base : Base) (o : Origin) (old new : Writing) (lines : old.style ≡ Lines base) where
   puts_of : (p : Part) → old.is_begun ≡ true → is_part p ≡ true → Puts (part_text p) old new → IsWritten o old
       → IsWritten (with_numbers o (part_numbers p)) new
   puts_of p b one h i =
-      let e : o.style ≡ Lines = sym i.0 ∙ lines in
+      let e : o.style ≡ Lines base = sym i.0 ∙ lines in
       changes o old new new.is_begun new.spot new.unshown (with_numbers o (part_numbers p)) (part_text p) refl h i
-      (λ g s. from_lines o (with_numbers o (part_numbers p)) new refl e (part_grows o old new (in_lines o old e g) p b one s))
-      (λ why w c. part_short o w why e c p one)
+      (λ g s. from_lines o (with_numbers o (part_numbers p)) new refl e (part_grows base o old new (in_lines o old e g) p b one s))
+      (λ why w c. part_short base o w why e c p one)
 
   pub puts_part : (bytes : List ℕ) → old.is_begun ≡ true → has_line_feed bytes ≡ false → Puts bytes old new → IsWritten o old
       → IsWritten o new
@@ -435,34 +443,35 @@ module _ (o : Origin) (old new : Writing) (lines : old.style ≡ Lines) where
   pub puts_first : (line outline : List ℕ) (numbers : List Number) → IsFirst line outline numbers → old.is_begun ≡ false
       → Puts line old new → IsWritten o old → IsWritten (with_numbers (with_line o outline) numbers) new
   puts_first line outline numbers e b p i =
-      let s : o.style ≡ Lines = sym i.0 ∙ lines in
-      let more = first_more line outline numbers e in
+      let s : o.style ≡ Lines base = sym i.0 ∙ lines in
+      let more = first_more base line outline numbers e in
       changes o old new new.is_begun new.spot new.unshown (with_numbers (with_line o outline) numbers) line refl p i
       (λ g h. from_lines o (with_numbers (with_line o outline) numbers) new refl s
-      (first_grows o old new (in_lines o old s g) line outline numbers more b h))
-      (λ why w c. first_short o w why s c line outline numbers more)
+      (first_grows base o old new (in_lines o old s g) line outline numbers more b h))
+      (λ why w c. first_short base o w why s c line outline numbers more)
 
   -- a line is then begun or ended
   pub begins : old.is_begun ≡ false → Puts (codes "  ") old new → IsWritten o old → IsWritten o (record new { is_begun = true })
   begins b p i =
-      let e : o.style ≡ Lines = sym i.0 ∙ lines in
+      let e : o.style ≡ Lines base = sym i.0 ∙ lines in
       search (changes, from_lines, part_begins, in_lines)
 
   pub ends : old.is_begun ≡ true → Puts (codes "\n") old new → IsWritten o old → IsWritten o (record new { is_begun = false })
   ends b p i =
-      let e : o.style ≡ Lines = sym i.0 ∙ lines in
+      let e : o.style ≡ Lines base = sym i.0 ∙ lines in
       search (changes, from_lines, part_ends, in_lines)
 
   -- a row of bytes that were to be shown
-  pub puts_row : (offset : ℕ) (bytes left : List ℕ) → old.is_begun ≡ false → Puts (row_text offset bytes) old new
+  pub puts_row : (offset : ℕ) (bytes left : List ℕ) → old.is_begun ≡ false → Puts (row_text base offset bytes) old new
       → old.unshown ≡ bytes ++ left → IsWritten o old → IsWritten o (record new { unshown = left })
   puts_row offset bytes left b p u i =
-      let e : o.style ≡ Lines = sym i.0 ∙ lines in
+      let e : o.style ≡ Lines base = sym i.0 ∙ lines in
       search (changes, from_lines, row_grows, in_lines)
 
 -- ---- a line of the first level that was put as several texts
 
-module _ (o : Origin) (old new : Writing) (line outline : List ℕ) (numbers : List Number) (more : Outlines line outline numbers) where
+module _ (base : Base) (o : Origin) (old new : Writing) (line outline : List ℕ) (numbers : List Number)
+    (more : Outlines base line outline numbers) where
   abbrev with_this : Origin
   with_this = with_numbers (with_line o outline) numbers
 
@@ -474,11 +483,11 @@ module _ (o : Origin) (old new : Writing) (line outline : List ℕ) (numbers : L
   after_line = record new { is_begun = false }
 
   -- of which a prefix could be written
-  stops_in : (why : ListError) → o.style ≡ Lines → old.is_begun ≡ false → IsGoing o old → StopsIn line why in_line new
+  stops_in : (why : ListError) → o.style ≡ Lines base → old.is_begun ≡ false → IsGoing base o old → StopsIn line why in_line new
       → IsCutShort with_this why after_line
   stops_in why e b i p =
       let w = beginning old.taken new.taken (old.waiting ++ line) why p.cut in
-      let rest = row_text 0 old.unshown in
+      let rest = row_text base 0 old.unshown in
       let all : i.written ++ (old.waiting ++ line) ≡ i.text ++ line = sym (append_assoc i.written old.waiting line)
       ∙ ap (λ (x : List ℕ). x ++ line) (i.parts ∙ rw b (append-nil i.text)) in
       let whole : (i.written ++ w.moved) ++ (w.unwritten ++ rest) ≡ (i.text ++ line) ++ rest =
@@ -487,9 +496,9 @@ module _ (o : Origin) (old new : Writing) (line outline : List ℕ) (numbers : L
       record {
         written = i.written ++ w.moved;
         unwritten = w.unwritten ++ rest;
-        shaped = rw e (subst₃ (λ (x : List ℕ) (y : List Number) (z : List ℕ). IsOutlined x (o.outline ++ outline) (y ++ numbers) z)
+        shaped = rw e (subst₃ (λ (x : List ℕ) (y : List Number) (z : List ℕ). IsOutlined base x (o.outline ++ outline) (y ++ numbers) z)
             (sym whole) numbered (sym i.rowed)
-            (row_more (i.text ++ line) (o.outline ++ outline) (i.lined ++ numbers) i.rows 0 old.unshown
+            (row_more base (i.text ++ line) (o.outline ++ outline) (i.lined ++ numbers) i.rows 0 old.unshown
             (more i.text o.outline i.lined i.rows i.outlined)));
         took = Appends-trans o.taken old.taken new.taken i.written w.moved i.took w.wrote;
         failed = p.failed ∙ ap (λ (b : Bool). output_failed {A = Unit {0}} (Err why) b) i.failed;
@@ -500,29 +509,30 @@ module _ (o : Origin) (old new : Writing) (line outline : List ℕ) (numbers : L
   line_pushed : old.is_begun ≡ false → IsPushed line in_line new → IsPushed line old after_line
   line_pushed b p = search
 
-  by_text : (before after : Option ListError) → old.why ≡ before → new.why ≡ after → o.style ≡ Lines → old.is_begun ≡ false
+  by_text : (before after : Option ListError) → old.why ≡ before → new.why ≡ after → o.style ≡ Lines base → old.is_begun ≡ false
       → PutsText before after line in_line new → IsWritten o old → IsWrittenAs new.why with_this after_line
   by_text (Some why) after e a s b p i =
       subst (λ (w : Writing). IsWrittenAs w.why with_this (record w { is_begun = false })) (sym p)
       (subst (λ (y : Option ListError). IsWrittenAs y with_this (record old { is_begun = false })) (sym e)
       (short_still with_this old why false old.spot old.unshown
-      (first_short o old why s (as_short o old why e i) line outline numbers more)))
+      (first_short base o old why s (as_short o old why e i) line outline numbers more)))
   by_text None None e a s b p i = subst (λ (y : Option ListError). IsWrittenAs y with_this after_line) (sym a)
       (from_lines o with_this after_line refl s
-      (first_grows o old after_line (in_lines o old s (as_going o old e i)) line outline numbers more b (line_pushed b p)))
+      (first_grows base o old after_line (in_lines o old s (as_going o old e i)) line outline numbers more b (line_pushed b p)))
   by_text None (Some why) e a s b p i = subst (λ (y : Option ListError). IsWrittenAs y with_this after_line) (sym a)
       (stops_in why s b (in_lines o old s (as_going o old e i)) p)
 
-  pub puts_line : old.style ≡ Lines → old.is_begun ≡ false → new.style ≡ Lines → PutsText old.why new.why line in_line new → IsWritten o old
-      → IsWritten with_this after_line
+  pub puts_line : old.style ≡ Lines base → old.is_begun ≡ false → new.style ≡ Lines base
+      → PutsText old.why new.why line in_line new → IsWritten o old → IsWritten with_this after_line
   puts_line lines b after p i =
-      let s : o.style ≡ Lines = sym i.0 ∙ lines in
+      let s : o.style ≡ Lines base = sym i.0 ∙ lines in
       (after ∙ sym s, by_text old.why new.why refl refl s b p i)
 
-module _ (o : Origin) (w : Writing) (bytes : List ℕ) (lines : w.style ≡ Lines) where
-  short_by : (why : Option ListError) → is_some why ≡ true → o.style ≡ Lines → IsWrittenAs why o w → IsWrittenAs why (with_bytes o bytes) w
+module _ (base : Base) (o : Origin) (w : Writing) (bytes : List ℕ) (lines : w.style ≡ Lines base) where
+  short_by : (why : Option ListError) → is_some why ≡ true → o.style ≡ Lines base → IsWrittenAs why o w
+      → IsWrittenAs why (with_bytes o bytes) w
   short_by None s e i = cc
-  short_by (Some why) s e i = bytes_short o w why e i bytes
+  short_by (Some why) s e i = bytes_short base o w why e i bytes
 
   -- by one that has stopped
   pub never_shown : is_some w.why ≡ true → IsWritten o w → IsWritten (with_bytes o bytes) w
@@ -549,7 +559,7 @@ module _ (o : Origin) (old new : Writing) where
       search (changes, from_objects, object_grows, in_objects)
 
   all_in : (style : Style) → o.style ≡ style → IsGoingIn style o old → IsPushed [] old new → IsGoingIn style o new
-  all_in Lines e i p = all_moves o old new i p
+  all_in (Lines base) e i p = all_moves base o old new i p
   all_in Objects e i p = record {
     written = i.written ++ p.puts.moved;
     is_at = subst₂ (λ (x : List ℕ) (spot : Spot). IsAt spot (after_all start x))

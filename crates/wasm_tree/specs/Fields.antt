@@ -3,6 +3,8 @@ use Rattle.std.specs.Prelude.{ℕ, ◌/◌, ◌%◌, Bool, true, false, not, Lis
 use Rattle.std.specs.Prelude.{slice_index, ◌||◌, nat_lt, nat_eq, if◌then◌else◌, Option, Some, None, ℤ}
 use Rattle.std.specs.Fmt.{signed_decimal}
 use Rattle.std.specs.List.{flat_map}
+use Rattle.wasm_lines.specs.Offsets.{offset_text}
+use Rattle.wasm_lines.specs.declared.offsets.Base.{Base}
 
 -- what a field may say
 pub data Value : Type 0 where
@@ -38,17 +40,23 @@ is_escaped byte = nat_lt byte 32 || nat_lt 126 byte || nat_eq byte 34 || nat_eq 
 abbrev pub quoted_byte : ℕ → List ℕ
 quoted_byte byte = if is_escaped byte then 92 ∷ hexadecimal byte else byte ∷ []
 
--- Raw bytes are their count and the first 16.
-abbrev pub value_text : Value → List ℕ
-value_text (number n) = decimal n
-value_text (signed z) = signed_decimal z
-value_text (quoted text) = codes "\"" ++ (flat_map quoted_byte text ++ codes "\"")
-value_text (word text) = text
-value_text (flag true) = codes "true"
-value_text (flag false) = codes "false"
-value_text nothing = codes "none"
-value_text (range start end) = decimal start ++ (codes ".." ++ decimal end)
-value_text (raw bytes) = decimal (length bytes) ++ (codes ":" ++ flat_map hexadecimal (take 16 bytes))
+abbrev pub quoted_text : List ℕ → List ℕ
+quoted_text text = codes "\"" ++ (flat_map quoted_byte text ++ codes "\"")
+
+abbrev pub flag_text : Bool → List ℕ
+flag_text true = codes "true"
+flag_text false = codes "false"
+
+-- a value, in a text with offsets in this base; raw bytes are their count and the first 16
+abbrev pub value_text : Value → Base → List ℕ
+value_text (number n) base = decimal n
+value_text (signed z) base = signed_decimal z
+value_text (quoted text) base = quoted_text text
+value_text (word text) base = text
+value_text (flag b) base = flag_text b
+value_text nothing base = codes "none"
+value_text (range start end) base = offset_text base start ++ (codes ".." ++ offset_text base end)
+value_text (raw bytes) base = decimal (length bytes) ++ (codes ":" ++ flat_map hexadecimal (take 16 bytes))
 
 -- what comes before the value of a field
 abbrev pub field_start : (name : List ℕ) → List ℕ
@@ -61,17 +69,17 @@ is_default nothing = true
 is_default other = false
 
 -- a field whatever its value is
-abbrev pub whole_field_text : (name : List ℕ) → Value → List ℕ
-whole_field_text name value = codes " " ++ (name ++ (codes "=" ++ value_text value))
+abbrev pub whole_field_text : (name : List ℕ) → Value → Base → List ℕ
+whole_field_text name value base = codes " " ++ (name ++ (codes "=" ++ value_text value base))
 
-abbrev pub field_text : Field → List ℕ
-field_text (named name value) = if is_default value then [] else whole_field_text name value
-field_text (alone text) = codes " " ++ text
+abbrev pub field_text : Field → Base → List ℕ
+field_text (named name value) base = if is_default value then [] else whole_field_text name value base
+field_text (alone text) base = codes " " ++ text
 
--- a text with these fields after it
-abbrev pub with_fields : (before : List ℕ) → List Field → List ℕ
-with_fields before [] = before
-with_fields before (f ∷ later) = with_fields (before ++ field_text f) later
+-- a text with these fields after it, and with offsets in this base
+abbrev pub with_fields : Base → (before : List ℕ) → List Field → List ℕ
+with_fields base before [] = before
+with_fields base before (f ∷ later) = with_fields base (before ++ field_text f base) later
 
 -- ---- values
 

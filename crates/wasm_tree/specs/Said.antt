@@ -3,9 +3,9 @@ use Rattle.std.specs.Prelude.{◌≡◌, ℕ, true, List, ◌++◌, Option, Some
 use Rattle.wasm_lines.specs.Calls.{output_failed}
 use Rattle.wasm_lines.specs.Page.{IsCut}
 use Rattle.wasm_lines.specs.declared.devices.ListError.{ListError}
+use Rattle.wasm_lines.specs.declared.offsets.Base.{Base}
 use Rattle.wasm_tree.specs.Fields.{Field, with_fields}
-use Rattle.wasm_tree.specs.Tree.{Writing, IsPushed}
-use Rattle.wasm_tree.specs.declared.tree.Style.TheVariants.{Lines}
+use Rattle.wasm_tree.specs.Tree.{Writing, IsPushed, are_lines, base_of}
 
 -- The writer stopped on the way: a prefix of what waited and of this text was written, and no more could be.
 pub record StopsIn (text : List ℕ) (why : ListError) (since now : Writing) : Type 0 where
@@ -24,17 +24,22 @@ PutsText None (Some why) text since now = StopsIn text why since now
 -- A line was begun, and this is what was put on it since. In the style of objects there are none.
 pub record HasLine (since : Writing) (text : List ℕ) (now : Writing) : Type 0 where
   pub begun : since.is_begun ≡ true
-  pub lines : since.style ≡ Lines
+  pub lines : are_lines since.style ≡ true
   pub puts : PutsText since.why now.why text since now
 
--- This text was put on the line that is begun, after what it had.
-abbrev pub Says : (text : List ℕ) (old new : Writing) → Type 0
-Says text old new = (since : Writing) (before : List ℕ) → HasLine since before old → HasLine since (before ++ text) new
+-- This text, with offsets in the base of the lines, was put on the line that is begun, after what it had.
+abbrev pub SaysInBase : (text : Base → List ℕ) (old new : Writing) → Type 0
+SaysInBase text old new = (since : Writing) (before : List ℕ) → HasLine since before old
+    → HasLine since (before ++ text (base_of since.style)) new
 
--- Like `Says`, for the texts of these fields.
+-- Like `SaysInBase`, for a text without offsets.
+abbrev pub Says : (text : List ℕ) (old new : Writing) → Type 0
+Says text old new = SaysInBase (λ base. text) old new
+
+-- Like `SaysInBase`, for the texts of these fields.
 abbrev pub SaysFields : List Field → (old new : Writing) → Type 0
 SaysFields fields old new = (since : Writing) (before : List ℕ) → HasLine since before old
-    → HasLine since (with_fields before fields) new
+    → HasLine since (with_fields (base_of since.style) before fields) new
 
 -- A line was begun, and some text was put on it since.
 pub record HasMore (since now : Writing) : Type 0 where
@@ -48,4 +53,4 @@ SaysSome old new = (since : Writing) → HasMore since old → HasMore since new
 -- These fields were put on the line that is begun, for some text that is a value in them.
 abbrev pub SaysWith : (fields : List ℕ → List Field) → (old new : Writing) → Type 0
 SaysWith fields old new = (since : Writing) (before : List ℕ) → HasLine since before old
-    → (value : List ℕ) × HasLine since (with_fields before (fields value)) new
+    → (value : List ℕ) × HasLine since (with_fields (base_of since.style) before (fields value)) new

@@ -1,6 +1,6 @@
 -- Lines of text, some of them under others, and what a writer has written of them.
 use Rattle.std.specs.Prelude.{◌≡◌, ◌≢◌, ℕ, Bool, true, false, List, [], ◌∷◌, ◌++◌, codes, Option, Some, None}
-use Rattle.std.specs.Prelude.{Err, nat_eq, decimal, if◌then◌else◌}
+use Rattle.std.specs.Prelude.{Err, nat_eq, if◌then◌else◌}
 use Rattle.std.specs.Option.{unwrap_or}
 use Rattle.std.specs.List.{flat_map, list_all, list_any}
 use Rattle.std.specs.Io.KnownBytes.{Appends}
@@ -9,9 +9,12 @@ use Rattle.wasm_base.specs.Outcome.{Outcome}
 use Rattle.wasm_base.specs.Section.{Section}
 use Rattle.wasm_base.specs.Window.{Place, place}
 use Rattle.wasm_lines.specs.Calls.{output_failed}
+use Rattle.wasm_lines.specs.Offsets.{offset_text}
 use Rattle.wasm_lines.specs.Page.{IsCut, PutsBytes}
 use Rattle.wasm_lines.specs.declared.devices.ListError.{ListError}
-use Rattle.wasm_tree.specs.Fields.{hexadecimal, quoted, value_text}
+use Rattle.wasm_lines.specs.declared.offsets.Base.{Base}
+use Rattle.wasm_lines.specs.declared.offsets.Base.TheVariants.{Decimal}
+use Rattle.wasm_tree.specs.Fields.{hexadecimal, quoted_text}
 use Rattle.wasm_tree.specs.Numbers.{Number, blank_numbers, number_text, numbers_from, numbers_read}
 use Rattle.wasm_tree.specs.Numbers.{AreShown, AreFrom, AreUpTo}
 use Rattle.wasm_tree.specs.declared.numbers.Space.{Space}
@@ -58,17 +61,17 @@ after_blank byte = codes " " ++ hexadecimal byte
 
 -- the name of an item, in quotes after a blank, if there is one
 abbrev pub name_text : Option (List ℕ) → List ℕ
-name_text (Some name) = codes " " ++ value_text (quoted name)
+name_text (Some name) = codes " " ++ quoted_text name
 name_text None = []
 
--- the text of a row
-abbrev pub row_text : (offset : ℕ) (bytes : List ℕ) → List ℕ
-row_text offset bytes = (decimal offset ++ codes " |") ++ (flat_map after_blank bytes ++ codes "\n")
+-- the text of a row, with its offset in this base
+abbrev pub row_text : Base → (offset : ℕ) (bytes : List ℕ) → List ℕ
+row_text base offset bytes = (offset_text base offset ++ codes " |") ++ (flat_map after_blank bytes ++ codes "\n")
 
-abbrev pub text_of : Line → List ℕ
-text_of (first text numbers name) = text ++ blank_numbers numbers (name_text name ++ codes "\n")
-text_of (under parts) = codes "  " ++ (flat_map part_text parts ++ codes "\n")
-text_of (row offset bytes) = row_text offset bytes
+abbrev pub text_of : Base → Line → List ℕ
+text_of base (first text numbers name) = text ++ blank_numbers numbers (name_text name ++ codes "\n")
+text_of base (under parts) = codes "  " ++ (flat_map part_text parts ++ codes "\n")
+text_of base (row offset bytes) = row_text base offset bytes
 
 -- what it adds to the outline
 abbrev pub first_of : Line → List ℕ
@@ -100,11 +103,11 @@ pub record IsFirst (text outline : List ℕ) (numbers : List Number) : Type 0 wh
 
 -- The text is made of lines, and its outline is those of the first level, without numbers and names: the others begin
 -- with two blanks, but for rows of bytes. The numbers are those that its lines show, in order, and the bytes those of
--- its rows.
-pub record IsOutlined (text outline : List ℕ) (numbers : List Number) (bytes : List ℕ) : Type 0 where
+-- its rows, which have their offsets in this base.
+pub record IsOutlined (base : Base) (text outline : List ℕ) (numbers : List Number) (bytes : List ℕ) : Type 0 where
   pub lines : List Line
   pub whole : list_all is_line lines ≡ true
-  pub parts : text ≡ flat_map text_of lines
+  pub parts : text ≡ flat_map (text_of base) lines
   pub outlines : outline ≡ flat_map first_of lines
   pub numbered : numbers ≡ flat_map numbers_of lines
   pub rowed : bytes ≡ flat_map bytes_of lines
@@ -112,8 +115,18 @@ pub record IsOutlined (text outline : List ℕ) (numbers : List Number) (bytes :
 -- A text is what it is to be: lines with this outline that show these numbers and bytes; or lines of JSON, each one
 -- object.
 abbrev pub IsShaped : Style → (text outline : List ℕ) → List Number → (bytes : List ℕ) → Type 0
-IsShaped Lines text outline numbers bytes = IsOutlined text outline numbers bytes
+IsShaped (Lines base) text outline numbers bytes = IsOutlined base text outline numbers bytes
 IsShaped Objects text outline numbers bytes = AreObjects text
+
+-- whether lines are written
+abbrev pub are_lines : Style → Bool
+are_lines (Lines base) = true
+are_lines Objects = false
+
+-- the base of the offsets in lines; objects have decimal ones
+abbrev pub base_of : Style → Base
+base_of (Lines base) = base
+base_of Objects = Decimal
 
 -- what a writer is: the bytes that its sink has taken, where these are known, those that wait, whether a line was begun
 -- and not ended, whether the sink has failed, and why the writer has stopped, if it has; in which style it writes, and
@@ -171,9 +184,9 @@ starts_in style taken failed = record {
   unshown = [];
 }
 
--- one that writes lines
-abbrev pub starts : (taken : Option (List ℕ)) (failed : Bool) → Writing
-starts taken failed = starts_in Lines taken failed
+-- one that writes lines with offsets in this base
+abbrev pub starts : Base → (taken : Option (List ℕ)) (failed : Bool) → Writing
+starts base taken failed = starts_in (Lines base) taken failed
 
 -- one that writes objects
 abbrev pub starts_objects : (taken : Option (List ℕ)) (failed : Bool) → Writing
@@ -200,13 +213,13 @@ begun_numbers false parts = []
 
 -- All that was written or waits is whole lines with this outline, and perhaps a line that was begun, and shows these
 -- numbers, and these bytes but those that weren't shown yet.
-pub record IsGoing (o : Origin) (w : Writing) : Type 0 where
+pub record IsGoing (base : Base) (o : Origin) (w : Writing) : Type 0 where
   pub written : List ℕ
   pub text : List ℕ
   pub lined : List Number
   pub rows : List ℕ
   pub line : List Part
-  pub outlined : IsOutlined text o.outline lined rows
+  pub outlined : IsOutlined base text o.outline lined rows
   pub one_line : list_all is_part line ≡ true
   pub parts : written ++ w.waiting ≡ text ++ begun w.is_begun line
   pub numbered : o.numbers ≡ lined ++ begun_numbers w.is_begun line
@@ -222,7 +235,7 @@ pub record IsGoingInObjects (o : Origin) (w : Writing) : Type 0 where
   pub failed : w.has_failed ≡ o.has_failed
 
 abbrev pub IsGoingIn : Style → Origin → Writing → Type 0
-IsGoingIn Lines o w = IsGoing o w
+IsGoingIn (Lines base) o w = IsGoing base o w
 IsGoingIn Objects o w = IsGoingInObjects o w
 
 -- A prefix of such a text was written, and no more could be.
@@ -332,6 +345,6 @@ Puts bytes old new = PutsAs old.why new.why bytes old new
 -- nothing waits, no line or object is begun, and all bytes were shown, unless the writer has stopped
 pub record IsOut (w : Writing) : Type 0 where
   pub none_waits : w.why ≡ None → w.waiting ≡ []
-  pub none_begun : w.why ≡ None → w.style ≡ Lines → w.is_begun ≡ false
+  pub none_begun : w.why ≡ None → are_lines w.style ≡ true → w.is_begun ≡ false
   pub outside : w.why ≡ None → w.style ≡ Objects → w.spot ≡ Outside
-  pub all_shown : w.why ≡ None → w.style ≡ Lines → w.unshown ≡ []
+  pub all_shown : w.why ≡ None → are_lines w.style ≡ true → w.unshown ≡ []

@@ -1,5 +1,5 @@
 -- The arguments of a tree's calls.
-use Rattle.std.specs.Prelude.{Bool, false, codes, List, ℕ}
+use Rattle.std.specs.Prelude.{Bool, false}
 use Rattle.wasm_tree.specs.Fields.{Value, flag, nothing, number, quoted, range, signed, word}
 use Rattle.wasm_tree.specs.Tree.{has_line_feed}
 use Rattle.wasm_tree.specs.declared.tree.Value.{Value as Given}

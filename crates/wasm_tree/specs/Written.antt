@@ -1,6 +1,7 @@
 -- What each tree has written.
-use Rattle.std.specs.Prelude.{◌≡◌, ℕ, Bool, true, false, List, [], ◌∷◌, ◌++◌, Option, Some, None, if◌then◌else◌}
+use Rattle.std.specs.Prelude.{◌≡◌, ℕ, Bool, false, List, [], ◌∷◌, ◌++◌, Option, Some, None, if◌then◌else◌}
 use Rattle.wasm_lines.specs.declared.devices.ListError.TheVariants.{Memory}
+use Rattle.wasm_lines.specs.declared.offsets.Base.{Base}
 use Rattle.wasm_tree.specs.Tree.{Rest, Writing, with_rest}
 use Rattle.wasm_tree.specs.declared.lines.Lines.{Lines}
 use Rattle.wasm_tree.specs.declared.objects.Objects.{Objects}
@@ -11,12 +12,13 @@ use Rattle.wasm_tree.specs.declared.tree.Start.{Start}
 use Rattle.wasm_tree.specs.declared.tree.Start.TheVariants.{Item}
 use Rattle.wasm_tree.specs.declared.tree.Style.TheVariants as style
 
--- in lines
-abbrev pub of_lines : (is_begun : Bool) → (unshown : List ℕ) → Rest
-of_lines is_begun unshown = record { is_begun = is_begun; style = style.Lines; spot = Outside; unshown = unshown }
+-- in lines with offsets in this base
+abbrev pub of_lines : Base → (is_begun : Bool) → (unshown : List ℕ) → Rest
+of_lines base is_begun unshown =
+    record { is_begun = is_begun; style = style.Lines base; spot = Outside; unshown = unshown }
 
 abbrev pub lines_rest : {W : Type 0} → Lines W → Rest
-lines_rest t = of_lines t.is_begun t.rows
+lines_rest t = of_lines t.base t.is_begun t.rows
 
 abbrev pub lines : {W : Type 0} → Lines W → Writing
 lines t = with_rest (lines_rest t) t.output

@@ -1,9 +1,11 @@
 // Lines of text, some of them under others.
-ghost use Rattle.std.specs.Prelude.{◌≡◌, ◌≤◌, ◌++◌, [], None, true, false, codes, length, option_map, decimal};
+ghost use Rattle.std.specs.Prelude.{◌≡◌, ◌≤◌, ◌++◌, [], None, true, false, codes, length, option_map};
 ghost use Rattle.std.specs.List.{flat_map};
 ghost use Rattle.std.specs.Option.{is_some};
-ghost use Rattle.wasm_tree.specs.Fields.{alone, field_start, field_text, named, quoted_byte, value_text, whole_field_text};
-ghost use Rattle.wasm_tree.specs.Said.{Says, SaysSome};
+ghost use Rattle.wasm_lines.specs.Offsets.{offset_text};
+ghost use Rattle.wasm_lines.specs.declared.offsets.Base.TheVariants.{Decimal};
+ghost use Rattle.wasm_tree.specs.Fields.{alone, field_start, field_text, named, quoted_byte, quoted_text, value_text, whole_field_text};
+ghost use Rattle.wasm_tree.specs.Said.{Says, SaysInBase, SaysSome};
 ghost use Rattle.wasm_tree.specs.Tree.{Adds, AddsBytes, AddsFirst, IsOut, has_line_feed, name_text, starts};
 ghost use Rattle.wasm_tree.specs.Values.{breaks_line, value_of};
 ghost use Rattle.wasm_tree.specs.Written.{lines};
@@ -13,10 +15,10 @@ use crate::known_names::{ItemNames, function_name, name_in};
 use crate::numbers::{ItemNumber, Space};
 use crate::output::Output;
 use crate::rows::Rows;
-use crate::short::{flag_word, signed_of};
+use crate::short::{Offset, flag_word, signed_of};
 use crate::tree::{Start, Style, Tree, Value, is_default};
 use std::alloc::Global;
-use wasm_lines::{ListError, ShortText, Sink};
+use wasm_lines::{Base, ListError, ShortText, Sink};
 
 /// A tree that writes lines of text to a sink, indented by two blanks a level. It buffers at most 65,536 bytes.
 ///
@@ -35,25 +37,27 @@ use wasm_lines::{ListError, ShortText, Sink};
 /// ```
 pub struct Lines<W: Sink> {
     output: Output<W>,
+    base: Base,
     is_begun: bool,
     names: Option<ItemNames>,
     rows: Rows,
 }
 
 impl<W: Sink> Lines<W> {
-    /// Creates a tree of lines without names of items. Nothing is written yet.
+    /// Creates a tree of lines with decimal offsets and without names of items. Nothing is written yet.
     pub fn new(alloc: Global, output: W) -> Lines<W>
-        ensures { lines result ≡ starts (W.taken output) (W.has_failed output) }
+        ensures { lines result ≡ starts Decimal (W.taken output) (W.has_failed output) }
     {
-        Lines::with_names(alloc, output, None)
+        Lines::with_names(alloc, output, Base::Decimal, None)
     }
 
-    /// Creates a tree of lines, with names for items if there are any.
-    pub fn with_names(alloc: Global, output: W, names: Option<ItemNames>) -> Lines<W>
-        ensures { lines result ≡ starts (W.taken output) (W.has_failed output) }
+    /// Creates a tree of lines with offsets in this base, and with names for items if there are any.
+    pub fn with_names(alloc: Global, output: W, base: Base, names: Option<ItemNames>) -> Lines<W>
+        ensures { lines result ≡ starts base (W.taken output) (W.has_failed output) }
     {
         Lines {
             output: Output::new(alloc, output),
+            base,
             is_begun: false,
             names,
             rows: Rows::new(alloc),
@@ -67,6 +71,7 @@ impl<W: Sink> Lines<W> {
     {
         let Lines {
             output,
+            base: _,
             is_begun: _,
             names: _,
             rows: _,
@@ -197,8 +202,7 @@ impl<W: Sink> Lines<W> {
     // Writes a text in quotes.
     fn in_quotes(&mut self, text: &str)
         ensures adds { Adds (lines self.old) (lines self.new) }
-        ensures says { Says (codes "\"" ++ (flat_map quoted_byte text.now ++ codes "\""))
-            (lines self.old) (lines self.new) }
+        ensures says { Says (quoted_text text.now) (lines self.old) (lines self.new) }
     {
         self.bytes(b"\"");
         self.quoted_bytes(text.as_bytes());
@@ -208,19 +212,20 @@ impl<W: Sink> Lines<W> {
     // Writes a range of offsets.
     fn offsets(&mut self, start: u64, end: u64)
         ensures adds { Adds (lines self.old) (lines self.new) }
-        ensures says { Says (decimal start ++ (codes ".." ++ decimal end))
+        ensures says { SaysInBase
+            (λ base. offset_text base start ++ (codes ".." ++ offset_text base end))
             (lines self.old) (lines self.new) }
     {
-        self.digits(start);
+        self.offset(start);
         self.bytes(b"..");
-        self.digits(end);
+        self.offset(end);
     }
 
     // Writes the value of a field.
     fn value(&mut self, value: Value<'_>)
         requires one_line { breaks_line value ≡ false }
         ensures adds { Adds (lines self.old) (lines self.new) }
-        ensures says { Says (value_text (value_of value.entry)) (lines self.old) (lines self.new) }
+        ensures says { SaysInBase (value_text (value_of value.entry)) (lines self.old) (lines self.new) }
     {
         match value {
             Value::Number(number) => self.digits(number),
@@ -238,7 +243,7 @@ impl<W: Sink> Lines<W> {
         requires name_line { has_line_feed name.now ≡ false }
         requires value_line { breaks_line value ≡ false }
         ensures adds { Adds (lines self.old) (lines self.new) }
-        ensures says { Says (whole_field_text name.now (value_of value.entry))
+        ensures says { SaysInBase (whole_field_text name.now (value_of value.entry))
             (lines self.old) (lines self.new) }
     {
         self.begin_field(name);
@@ -262,7 +267,7 @@ impl<W: Sink> Lines<W> {
         ensures ended { self.new.is_begun ≡ false }
         ensures all { end ≡ None → self.new.rows ≡ [] }
     {
-        'rows: while let Some((row, count)) = self.rows.next_row(end) {
+        'rows: while let Some((row, count)) = self.rows.next_row(self.base, end) {
             self.output.put_text(&row);
             self.rows.pass(count);
         }
@@ -297,7 +302,7 @@ impl<W: Sink> Tree for Lines<W> {
     }
 
     fn style(&self) -> Style {
-        Style::Lines
+        Style::Lines(self.base)
     }
 
     fn out_of_memory(&mut self) {
@@ -328,7 +333,7 @@ impl<W: Sink> Tree for Lines<W> {
         self.indent(level);
         match start {
             Start::Empty => {}
-            Start::Item(offset) => self.digits(offset),
+            Start::Item(offset) => self.offset(offset),
             Start::Word(word) => self.bytes(word.as_bytes()),
             Start::Field(name) => {
                 self.bytes(name.as_bytes());
@@ -356,6 +361,13 @@ impl<W: Sink> Tree for Lines<W> {
         self.short(&number);
     }
 
+    fn offset(&mut self, offset: u64) {
+        self.short(&Offset {
+            base: self.base,
+            offset,
+        });
+    }
+
     fn begin_field(&mut self, name: &str)
         requires one_line { has_line_feed name.now ≡ false }
         ensures adds { Adds (lines self.old) (lines self.new) }
@@ -371,7 +383,7 @@ impl<W: Sink> Tree for Lines<W> {
         requires name_line { has_line_feed name.now ≡ false }
         requires value_line { breaks_line value ≡ false }
         ensures adds { Adds (lines self.old) (lines self.new) }
-        ensures says { Says (field_text (named name.now (value_of value.entry)))
+        ensures says { SaysInBase (field_text (named name.now (value_of value.entry)))
             (lines self.old) (lines self.new) }
     {
         if !is_default(value) {
@@ -382,7 +394,7 @@ impl<W: Sink> Tree for Lines<W> {
     fn label(&mut self, _name: &str, word: &str)
         requires word_line { has_line_feed word.now ≡ false }
         ensures adds { Adds (lines self.old) (lines self.new) }
-        ensures says { Says (field_text (alone word.now)) (lines self.old) (lines self.new) }
+        ensures says { SaysInBase (field_text (alone word.now)) (lines self.old) (lines self.new) }
     {
         self.bytes(b" ");
         self.bytes(word.as_bytes());

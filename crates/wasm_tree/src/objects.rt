@@ -294,6 +294,10 @@ impl<W: Sink> Tree for Objects<W> {
         }
     }
 
+    fn offset(&mut self, offset: u64) {
+        self.digits(offset);
+    }
+
     fn begin_field(&mut self, name: &str) {
         self.member(name, Value::Word(""));
     }

@@ -90,6 +90,8 @@ impl Tree for Offsets {
 
     fn digits(&mut self, _number: u64) {}
 
+    fn offset(&mut self, _offset: u64) {}
+
     fn begin_field(&mut self, _name: &str) {}
 
     fn field(&mut self, _name: &str, _value: Value<'_>) {}

@@ -8,7 +8,7 @@ use crate::escapes::hexadecimal_digits;
 use crate::gathered::Gathered;
 use std::alloc::{AllocError, Global};
 use std::marker::Model;
-use wasm_lines::{ShortText, write_number, write_word};
+use wasm_lines::{Base, ShortText, write_offset, write_word};
 
 /// How many bytes of the stream a row shows at most.
 const WIDTH: usize = 16;
@@ -40,22 +40,25 @@ fn write_row(bytes: &mut [u8], at: usize, shown: &[u8]) -> usize
     end
 }
 
-/// A row: bytes of the stream, and the offset of the first one.
+/// A row: bytes of the stream, and the offset of the first one, in this base.
 #[derive(Drop)]
 pub(crate) struct Row {
+    base: Base,
     offset: u64,
     bytes: Gathered<WIDTH>,
 }
 
 // The row of these bytes, of which the first is at this offset.
-fn row_of(offset: u64, bytes: &[u8]) -> Row
+fn row_of(base: Base, offset: u64, bytes: &[u8]) -> Row
     requires { length bytes.now ≤ 16 }
+    ensures base { result.base ≡ base }
     ensures offset { result.offset ≡ offset }
     ensures bytes { result.bytes ≡ bytes.now }
 {
     let mut gathered = Gathered::new();
     gathered.put(bytes);
     Row {
+        base,
         offset,
         bytes: gathered,
     }
@@ -64,10 +67,10 @@ fn row_of(offset: u64, bytes: &[u8]) -> Row
 impl ShortText for Row {
     ghost use Rattle.wasm_tree.specs.Tree.{row_text};
 
-    ghost text = { λ row. row_text row.offset row.bytes };
+    ghost text = { λ row. row_text row.base row.offset row.bytes };
 
     fn write_at(&self, bytes: &mut [u8], at: usize) -> usize {
-        let at = write_number(bytes, at, self.offset);
+        let at = write_offset(bytes, at, self.base, self.offset);
         let at = write_word(bytes, at, " |");
         let at = write_row(bytes, at, self.bytes.as_bytes());
         write_word(bytes, at, "\n")
@@ -150,17 +153,19 @@ impl Rows {
         }
     }
 
-    /// The next row, and how many bytes it shows, if bytes are left: before this offset, or anywhere.
-    pub(crate) fn next_row(&self, end: Option<u64>) -> Option<(Row, usize)>
+    /// The next row, with its offset in this base, and how many bytes it shows, if bytes are left: before the end, or
+    /// anywhere.
+    pub(crate) fn next_row(&self, base: Base, end: Option<u64>) -> Option<(Row, usize)>
         ensures none { IfNone result (end ≡ None → self.now ≡ []) }
         ensures some { IfSome result (λ row. BeginsWithRow row.0.bytes row.1 self.now) }
+        ensures base { IfSome result (λ row. row.0.base ≡ base) }
     {
         let rest = after(&self.bytes, self.shown);
         let count = self.width(end, rest);
         if count == 0 {
             return None;
         }
-        Some((row_of(self.offset, &rest[..count]), count))
+        Some((row_of(base, self.offset, &rest[..count]), count))
     }
 
     /// Passes bytes that were shown.

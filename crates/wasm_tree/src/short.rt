@@ -1,16 +1,16 @@
 // Short values.
 ghost use Rattle.std.specs.Prelude.{◌≡◌, ◌++◌, ◌<◌, ◌^◌, [], codes, decimal, false, if◌then◌else◌};
 ghost use Rattle.std.specs.Fmt.{signed_decimal};
-ghost use Rattle.wasm_tree.specs.Fields.{flag as flag_value, value_text};
+ghost use Rattle.wasm_tree.specs.Fields.{flag_text};
 ghost use Rattle.wasm_tree.specs.Json.{Leads};
 ghost use Rattle.wasm_tree.specs.Tree.{has_line_feed};
 ghost use Rattle.wasm_tree.specs.declared.objects.Spot.TheVariants.{AtValue, Ended};
 
-use wasm_lines::{ShortText, write_number, write_word};
+use wasm_lines::{Base, ShortText, write_number, write_offset, write_word};
 
 /// `true` or `false`, in lines and in JSON.
 pub(crate) fn flag_word(flag: bool) -> &'static str
-    ensures word { result.now ≡ value_text (flag_value flag) }
+    ensures word { result.now ≡ flag_text flag }
     ensures leads { Leads AtValue result.now Ended }
     ensures one_line { has_line_feed result.now ≡ false }
 {
@@ -45,6 +45,24 @@ impl ShortText for Signed {
         let sign = if self.is_negative { "-" } else { "" };
         let at = write_word(bytes, at, sign);
         write_number(bytes, at, self.digits)
+    }
+}
+
+/// An offset, in this base.
+#[derive(Drop)]
+pub(crate) struct Offset {
+    pub(crate) base: Base,
+    pub(crate) offset: u64,
+}
+
+impl ShortText for Offset {
+    ghost use Rattle.wasm_lines.specs.Offsets.{offset_text};
+
+    ghost text = { λ n. offset_text n.base n.offset };
+
+    #[inline(always)]
+    fn write_at(&self, bytes: &mut [u8], at: usize) -> usize {
+        write_offset(bytes, at, self.base, self.offset)
     }
 }
 

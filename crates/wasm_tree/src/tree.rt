@@ -4,17 +4,18 @@ ghost use Rattle.std.specs.List.{flat_map};
 ghost use Rattle.std.specs.Option.{is_some};
 ghost use Rattle.wasm_tree.specs.Fields.{alone, field_start, field_text, named, number as number_value, word as word_value, quoted, raw};
 ghost use Rattle.wasm_tree.specs.Fields.{range, signed as signed_value, flag as flag_value, number_if_any as optional, hexadecimal, is_default as is_default_value};
-ghost use Rattle.wasm_tree.specs.Said.{Says, SaysSome};
-ghost use Rattle.wasm_tree.specs.Tree.{Adds, AddsBytes, AddsFirst, AddsNumber, IsOut, Writing, has_line_feed};
+ghost use Rattle.wasm_lines.specs.Offsets.{offset_text};
+ghost use Rattle.wasm_tree.specs.Said.{Says, SaysInBase, SaysSome};
+ghost use Rattle.wasm_tree.specs.Tree.{Adds, AddsBytes, AddsFirst, AddsNumber, IsOut, Writing, are_lines, has_line_feed};
 ghost use Rattle.wasm_tree.specs.declared.objects.Spot.TheVariants.{Outside};
-ghost use Rattle.wasm_tree.specs.declared.tree.Style.TheVariants.{Lines, Objects};
+ghost use Rattle.wasm_tree.specs.declared.tree.Style.TheVariants.{Objects};
 ghost use Rattle.wasm_tree.specs.Values.{breaks_line, start_breaks_line, value_of};
 
 use crate::escapes::hexadecimal_digits;
 use crate::numbers::Space;
 use std::alloc::Global;
 use wasm_base::Error;
-use wasm_lines::{ListError, ShortText};
+use wasm_lines::{Base, ListError, ShortText};
 
 /// How many bytes of a byte string are shown.
 const SHOWN: usize = 16;
@@ -33,8 +34,8 @@ fn first_bytes(bytes: &[u8]) -> &[u8]
 /// The format of what a tree writes.
 #[derive(Clone, Copy)]
 pub enum Style {
-    /// Lines of text, indented by two blanks a level.
-    Lines,
+    /// Lines of text, indented by two blanks a level, with offsets in this base.
+    Lines(Base),
     /// Lines of JSON (RFC 8259), each one object.
     Objects,
 }
@@ -133,7 +134,8 @@ pub trait Tree {
     fn end(&mut self)
         ensures adds { Adds (writing self.old) (writing self.new) }
         ensures style { (writing self.new).style ≡ (writing self.old).style }
-        ensures ended { (writing self.new).style ≡ Lines → (writing self.new).is_begun ≡ false }
+        ensures ended { are_lines (writing self.new).style ≡ true
+            → (writing self.new).is_begun ≡ false }
         ensures outside { (writing self.new).style ≡ Objects → (writing self.new).spot ≡ Outside };
 
     /// Begins a line at this level. A line of level 1 is under a line of the first level, and so on. Ends the current
@@ -155,6 +157,12 @@ pub trait Tree {
         ensures says { Says (decimal number) (writing self.old) (writing self.new) }
         ensures some { SaysSome (writing self.old) (writing self.new) };
 
+    /// Writes an offset, in bytes from the start of the stream: in the base of the lines, or in decimal digits.
+    fn offset(&mut self, offset: u64)
+        ensures adds { Adds (writing self.old) (writing self.new) }
+        ensures says { SaysInBase (λ base. offset_text base offset) (writing self.old) (writing self.new) }
+        ensures some { SaysSome (writing self.old) (writing self.new) };
+
     /// Begins a field, whose value is the texts that the next calls write. In lines, writes a blank, the name and `=`.
     fn begin_field(&mut self, name: &str)
         requires one_line { has_line_feed name.now ≡ false }
@@ -167,7 +175,7 @@ pub trait Tree {
         requires name_line { has_line_feed name.now ≡ false }
         requires value_line { breaks_line value ≡ false }
         ensures adds { Adds (writing self.old) (writing self.new) }
-        ensures says { Says (field_text (named name.now (value_of value.entry)))
+        ensures says { SaysInBase (field_text (named name.now (value_of value.entry)))
             (writing self.old) (writing self.new) };
 
     /// Writes a word as the value of a field, without the name of the field in lines.
@@ -175,7 +183,7 @@ pub trait Tree {
         requires name_line { has_line_feed name.now ≡ false }
         requires word_line { has_line_feed word.now ≡ false }
         ensures adds { Adds (writing self.old) (writing self.new) }
-        ensures says { Says (field_text (alone word.now)) (writing self.old) (writing self.new) };
+        ensures says { SaysInBase (field_text (alone word.now)) (writing self.old) (writing self.new) };
 
     /// Writes the number of an item, as `func[5]`, and its name after it, if the tree has one.
     fn item_number(&mut self, space: Space, index: u64)
@@ -243,7 +251,7 @@ pub trait Tree {
     final fn word(&mut self, word: &str)
         requires one_line { has_line_feed word.now ≡ false }
         ensures adds { Adds (writing self.old) (writing self.new) }
-        ensures says { Says (field_text (alone word.now)) (writing self.old) (writing self.new) }
+        ensures says { SaysInBase (field_text (alone word.now)) (writing self.old) (writing self.new) }
         ensures some { SaysSome (writing self.old) (writing self.new) }
     {
         self.text(" ");
@@ -277,7 +285,7 @@ pub trait Tree {
         requires name_line { has_line_feed name.now ≡ false }
         requires word_line { has_line_feed word.now ≡ false }
         ensures adds { Adds (writing self.old) (writing self.new) }
-        ensures says { Says (field_text (named name.now (word_value word.now)))
+        ensures says { SaysInBase (field_text (named name.now (word_value word.now)))
             (writing self.old) (writing self.new) }
     {
         self.field(name, Value::Word(word));
@@ -287,7 +295,7 @@ pub trait Tree {
     final fn number(&mut self, name: &str, number: u64)
         requires one_line { has_line_feed name.now ≡ false }
         ensures adds { Adds (writing self.old) (writing self.new) }
-        ensures says { Says (field_text (named name.now (number_value number)))
+        ensures says { SaysInBase (field_text (named name.now (number_value number)))
             (writing self.old) (writing self.new) }
     {
         self.field(name, Value::Number(number));
@@ -297,7 +305,7 @@ pub trait Tree {
     final fn signed(&mut self, name: &str, number: i64)
         requires one_line { has_line_feed name.now ≡ false }
         ensures adds { Adds (writing self.old) (writing self.new) }
-        ensures says { Says (field_text (named name.now (signed_value number)))
+        ensures says { SaysInBase (field_text (named name.now (signed_value number)))
             (writing self.old) (writing self.new) }
     {
         self.field(name, Value::Signed(number));
@@ -307,7 +315,7 @@ pub trait Tree {
     final fn number_if_any(&mut self, name: &str, number: Option<u64>)
         requires one_line { has_line_feed name.now ≡ false }
         ensures adds { Adds (writing self.old) (writing self.new) }
-        ensures says { Says (field_text (named name.now (optional number)))
+        ensures says { SaysInBase (field_text (named name.now (optional number)))
             (writing self.old) (writing self.new) }
     {
         match number {
@@ -320,7 +328,7 @@ pub trait Tree {
     final fn nothing(&mut self, name: &str)
         requires one_line { has_line_feed name.now ≡ false }
         ensures adds { Adds (writing self.old) (writing self.new) }
-        ensures says { Says (field_text (named name.now (optional None)))
+        ensures says { SaysInBase (field_text (named name.now (optional None)))
             (writing self.old) (writing self.new) }
     {
         self.field(name, Value::Nothing);
@@ -330,7 +338,7 @@ pub trait Tree {
     final fn flag(&mut self, name: &str, flag: bool)
         requires one_line { has_line_feed name.now ≡ false }
         ensures adds { Adds (writing self.old) (writing self.new) }
-        ensures says { Says (field_text (named name.now (flag_value flag)))
+        ensures says { SaysInBase (field_text (named name.now (flag_value flag)))
             (writing self.old) (writing self.new) }
     {
         self.field(name, Value::Flag(flag));
@@ -340,7 +348,7 @@ pub trait Tree {
     final fn quoted(&mut self, name: &str, text: &str)
         requires one_line { has_line_feed name.now ≡ false }
         ensures adds { Adds (writing self.old) (writing self.new) }
-        ensures says { Says (field_text (named name.now (quoted text.now)))
+        ensures says { SaysInBase (field_text (named name.now (quoted text.now)))
             (writing self.old) (writing self.new) }
     {
         self.field(name, Value::Quoted(text));
@@ -350,7 +358,7 @@ pub trait Tree {
     final fn raw(&mut self, name: &str, bytes: &[u8])
         requires one_line { has_line_feed name.now ≡ false }
         ensures adds { Adds (writing self.old) (writing self.new) }
-        ensures says { Says (field_text (named name.now (raw bytes.now)))
+        ensures says { SaysInBase (field_text (named name.now (raw bytes.now)))
             (writing self.old) (writing self.new) }
     {
         self.begin_field(name);
@@ -363,7 +371,7 @@ pub trait Tree {
     final fn range(&mut self, name: &str, start: u64, end: u64)
         requires one_line { has_line_feed name.now ≡ false }
         ensures adds { Adds (writing self.old) (writing self.new) }
-        ensures says { Says (field_text (named name.now (range start end)))
+        ensures says { SaysInBase (field_text (named name.now (range start end)))
             (writing self.old) (writing self.new) }
     {
         self.field(name, Value::Range(start, end));
@@ -375,7 +383,7 @@ pub trait Tree {
     {
         self.begin_line(level, Start::Empty);
         match self.style() {
-            Style::Lines => self.fault_text(error),
+            Style::Lines(_) => self.fault_text(error),
             Style::Objects => self.fault_fields(error),
         }
     }
@@ -397,7 +405,7 @@ pub trait Tree {
         ensures some { SaysSome (writing self.old) (writing self.new) }
     {
         self.text("fault ");
-        self.digits(error.offset());
+        self.offset(error.offset());
         self.word(error.message());
         if let Some(number) = error.number() {
             self.text(": ");

@@ -8,32 +8,37 @@ use super::inks::{Spot, sequence};
 use super::plain::{ESC, count_plain};
 use wasm_feed::{Failed, Sink, write_all};
 
-/// A sink that forwards text to another one, with escape sequences between the bytes that set colors.
+/// A sink that forwards text to another one, with escape sequences between the bytes that set colors, or without.
 ///
 /// The bytes that it has taken are those of the other sink without the sequences. Each line ends in the terminal's own
-/// color. An ESC in the text is followed by a `\`, so that it begins no sequence.
+/// color. An ESC in the text is followed by a `\`, so that it begins no sequence. Without colors it forwards the bytes as
+/// they are.
 ///
 /// ```rattle
-/// let mut output = dump::Colored::new(BoundedSink::new(alloc, 1000)?);
+/// let mut output = dump::Colored::new(BoundedSink::new(alloc, 1000)?, true);
 /// write_all(&mut output, b"end 8\n").ok().ok_or("no room")?;
 /// let colored = output.into_inner();
 /// assert!(rt; colored.written().len() > 6);
 /// ```
 // Colors follow from the bytes of the text alone, so the code that shows items knows nothing of them. Each write begins with a
-// sequence, so no clause asks what the output had received before.
+// sequence, so no clause asks what the output had received before. Whether there are colors is no part of the type: so a
+// program has the code that shows items only once.
 #[derive(Drop)]
 pub struct Colored<W> {
     inner: W,
+    is_colored: bool,
     spot: Spot,
 }
 
 impl<W: Sink> Colored<W> {
-    /// Creates a sink that forwards text to this one.
-    pub fn new(inner: W) -> Self
-        ensures { result.inner ≡ inner }
+    /// Creates a sink that forwards text to this one, with colors or without.
+    pub fn new(inner: W, is_colored: bool) -> Self
+        ensures inner { result.inner ≡ inner }
+        ensures colors { result.is_colored ≡ is_colored }
     {
         Colored {
             inner,
+            is_colored,
             spot: Spot::Start,
         }
     }
@@ -42,7 +47,11 @@ impl<W: Sink> Colored<W> {
     pub fn into_inner(self) -> W
         ensures { result ≡ self.inner }
     {
-        let Colored { inner, spot: _ } = self;
+        let Colored {
+            inner,
+            is_colored: _,
+            spot: _,
+        } = self;
         inner
     }
 }
@@ -103,22 +112,39 @@ fn pass(spot: Spot, bytes: &[u8]) -> Spot {
     spot
 }
 
-impl<W: Sink> Sink for Colored<W> {
-    ghost use Rattle.wasm_cli.specs.Colors.{plain};
+// Writes a prefix of a text, which may begin with an ESC, with its colors.
+fn write_colored<W: Sink>(output: &mut W, spot: Spot, buf: &[u8]) -> Result<usize, Failed>
+    ensures bound { IfOk result (λ n. n ≤ length buf.now) }
+    ensures some { IfOk result (λ n. 0 < length buf.now → 0 < n) }
+    ensures bytes { WriteAppends (plain (W.taken output.old)) (plain (W.taken output.new))
+        result buf.now }
+    ensures failed { W.has_failed output.new
+        ≡ (if is_ok result then W.has_failed output.old else true) }
+{
+    let Some((first, later)) = buf.split_first() else {
+        return Ok(0);
+    };
+    if *first == ESC {
+        write_escape(output)
+    } else {
+        write_colors(output, spot, *first, later)
+    }
+}
 
-    ghost taken = { λ s. plain (W.taken s.inner) };
+impl<W: Sink> Sink for Colored<W> {
+    ghost use Rattle.wasm_cli.specs.Colors.{marked};
+
+    // The number before the bytes stays where it is. So wherever the bytes are known, it is known that the sink still has colors,
+    // or still has none.
+    ghost taken = { λ s. marked s.is_colored (W.taken s.inner) };
 
     ghost has_failed = { λ s. W.has_failed s.inner };
 
     fn write(&mut self, buf: &[u8]) -> Result<usize, Failed> {
-        let Some((first, later)) = buf.split_first() else {
-            return Ok(0);
-        };
-        let count = if *first == ESC {
-            write_escape(&mut self.inner)?
-        } else {
-            write_colors(&mut self.inner, self.spot, *first, later)?
-        };
+        if !self.is_colored {
+            return self.inner.write(buf);
+        }
+        let count = write_colored(&mut self.inner, self.spot, buf)?;
         self.spot = pass(self.spot, &buf[..count]);
         Ok(count)
     }

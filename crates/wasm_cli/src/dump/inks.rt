@@ -104,9 +104,10 @@ fn after_fault_word(byte: u8) -> Spot {
     }
 }
 
+// An offset is decimal, or hexadecimal with `0x` before its digits.
 fn after_offset(byte: u8) -> Spot {
     match byte {
-        b'0'..=b'9' => Spot::Offset,
+        b'0'..=b'9' | b'a'..=b'f' | b'x' => Spot::Offset,
         _ => Spot::Fields,
     }
 }

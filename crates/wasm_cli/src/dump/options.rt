@@ -1,8 +1,9 @@
 // The options of the program, besides those that choose sections.
 ghost use Rattle.std.specs.Prelude.{◌≡◌};
-ghost use Rattle.wasm_cli.specs.Options.{contradict, has_colors, mark_named, no_options, say_how, with_mark};
+ghost use Rattle.wasm_cli.specs.Options.{contradict, has_colors, mark_named, no_options, offset_base, say_how, with_mark};
 
 use wasm_dumper::{Only, Shown};
+use wasm_lines::Base;
 
 /// The format of a dump, and what it shows besides the items.
 ///
@@ -20,6 +21,8 @@ pub struct Options {
     pub is_json: bool,
     /// Whether the bytes that a line is read from come before it (`--bytes`).
     pub has_bytes: bool,
+    /// Whether offsets are hexadecimal (`--hex`). JSON has no such numbers.
+    pub is_hex: bool,
 }
 
 /// An option without a value.
@@ -33,6 +36,8 @@ pub(super) enum Mark {
     Json,
     /// Bytes are asked for.
     Bytes,
+    /// Hexadecimal offsets are asked for.
+    Hex,
 }
 
 /// The option that a word is, if it is one without a value.
@@ -44,12 +49,13 @@ pub(super) fn mark_of(word: &str) -> Option<Mark>
         "--names" => Some(Mark::Names),
         "--json" => Some(Mark::Json),
         "--bytes" => Some(Mark::Bytes),
+        "--hex" => Some(Mark::Hex),
         _ => None,
     }
 }
 
 impl Options {
-    /// Returns the options of a dump without any: text without colors, names and bytes.
+    /// Returns the options of a dump without any: text without colors, names and bytes, with decimal offsets.
     pub fn new() -> Options
         ensures { result ≡ no_options }
     {
@@ -58,6 +64,7 @@ impl Options {
             is_named: false,
             is_json: false,
             has_bytes: false,
+            is_hex: false,
         }
     }
 
@@ -82,14 +89,18 @@ impl Options {
                 has_bytes: true,
                 ..self
             },
+            Mark::Hex => Options {
+                is_hex: true,
+                ..self
+            },
         }
     }
 
-    /// Whether no dump can be all of this: JSON has no colors and no rows of bytes.
+    /// Whether no dump can be all of this: JSON has no colors, no rows of bytes and no hexadecimal numbers.
     pub(super) fn contradict(self) -> bool
         ensures { result ≡ contradict self }
     {
-        self.is_json && (self.is_colored || self.has_bytes)
+        self.is_json && (self.is_colored || self.has_bytes || self.is_hex)
     }
 
     /// Whether the dump has colors.
@@ -103,7 +114,18 @@ impl Options {
     pub(super) fn say_how(self) -> bool
         ensures { result ≡ say_how self }
     {
-        self.is_colored || self.is_json || self.has_bytes
+        self.is_colored || self.is_json || self.has_bytes || self.is_hex
+    }
+
+    /// The base of the offsets in lines.
+    pub(super) fn base(self) -> Base
+        ensures { result ≡ offset_base self }
+    {
+        if self.is_hex {
+            Base::Hexadecimal
+        } else {
+            Base::Decimal
+        }
     }
 
     /// What is shown of these sections.

@@ -6,7 +6,7 @@ ghost use Rattle.std.specs.Vec.Iter.{into_iter_items};
 ghost use Rattle.wasm_lines.specs.Calls.{device_of, writer_device};
 ghost use Rattle.wasm_cli.specs.Devices.{Says};
 ghost use Rattle.wasm_cli.specs.Endings.{Reports, status_of};
-ghost use Rattle.wasm_cli.specs.Colors.{plain_device, seen_as};
+ghost use Rattle.wasm_cli.specs.Colors.{seen_as};
 ghost use Rattle.wasm_cli.specs.Options.{has_colors};
 ghost use Rattle.wasm_cli.specs.DumpCommands.{WantsMemory, asked_if_any, asked_of};
 ghost use Rattle.wasm_cli.specs.DumpRuns.{DumpsAs, Flushes, Runs, RunsDump, RunsProgram, Shows, ShowsChosen, Tells, help_text, names_usage, version_text};
@@ -27,8 +27,8 @@ use wasm_feed::{Ended, Failed, ListError, ReadSource, Sink, Source, WriteSink, w
 use wasm_tree::{ItemNames, Lines, Objects};
 
 /// What `--help` says.
-const HELP: &[u8] = b"usage: wasm_dump [--color] [--names] [--json] [--bytes] [--section ID|NAME]
-                 [FILE...]
+const HELP: &[u8] = b"usage: wasm_dump [--color] [--names] [--json] [--bytes] [--hex]
+                 [--section ID|NAME] [FILE...]
        wasm_dump --help | --version
 
 wasm_dump shows what each FILE contains: a line for each section and function
@@ -49,6 +49,8 @@ Options come before files, in any order:
              twice.
   --json     Each line is a JSON object, for programs.
   --bytes    Each line follows the bytes that it was read from, in hexadecimal.
+             It cannot be combined with --json.
+  --hex      Offsets are hexadecimal, as 0x1f. All other numbers stay decimal.
              It cannot be combined with --json.
   --section ID|NAME
              Only sections with this id, with this name in the standard, or
@@ -279,96 +281,61 @@ fn forward_all<W: Write>(
     }
 }
 
-// Shows these sections of the input over a sink as lines without colors, with these names, if there are any.
-fn dump_lines<R: Source, S: Sink>(
+// Shows these sections of the input as lines, with these names, if there are any.
+fn dump_lines<R: Source, W: Write>(
     alloc: Global,
     only: &[Only<'_>],
     options: Options,
     names: Option<ItemNames>,
     input: &mut R,
-    output: S,
-) -> (Result<Ended, ListError>, S)
+    output: WriteSink<W>,
+) -> (Result<Ended, ListError>, WriteSink<W>)
     requires { options.is_json ≡ false }
     ensures { DumpsAs options only.now (device_of R.remaining R.has_failed input.old input.new)
-        (device_of S.taken S.has_failed output result.1) result.0 }
+        (seen_as (has_colors options) (writer_device W.contents output result.1)) result.0 }
 {
-    let mut tree = Lines::with_names(alloc, output, names);
+    let colored = Colored::new(output, options.has_colors());
+    let mut tree = Lines::with_names(alloc, colored, options.base(), names);
     let how = dump(alloc, options.shown(only), input, &mut tree, PIECE);
-    (how, tree.into_output())
+    let colored = tree.into_output();
+    (how, colored.into_inner())
 }
 
 // Like `dump_lines`, as objects.
-fn dump_objects<R: Source, S: Sink>(
+fn dump_objects<R: Source, W: Write>(
     alloc: Global,
     only: &[Only<'_>],
     options: Options,
     names: Option<ItemNames>,
     input: &mut R,
-    output: S,
-) -> (Result<Ended, ListError>, S)
+    output: WriteSink<W>,
+) -> (Result<Ended, ListError>, WriteSink<W>)
     requires { options.is_json ≡ true }
     ensures { DumpsAs options only.now (device_of R.remaining R.has_failed input.old input.new)
-        (device_of S.taken S.has_failed output result.1) result.0 }
+        (seen_as (has_colors options) (writer_device W.contents output result.1)) result.0 }
 {
     let mut tree = Objects::with_names(alloc, output, names);
     let how = dump(alloc, options.shown(only), input, &mut tree, PIECE);
     (how, tree.into_output())
 }
 
-// Shows these sections of the input over a sink, as the options say but without colors.
-fn dump_over<R: Source, S: Sink>(
+// Shows these sections of the input as the options say.
+fn dump_over<R: Source, W: Write>(
     alloc: Global,
     only: &[Only<'_>],
     options: Options,
     names: Option<ItemNames>,
     input: &mut R,
-    output: S,
-) -> (Result<Ended, ListError>, S)
+    output: WriteSink<W>,
+) -> (Result<Ended, ListError>, WriteSink<W>)
     ensures { DumpsAs options only.now (device_of R.remaining R.has_failed input.old input.new)
-        (device_of S.taken S.has_failed output result.1) result.0 }
+        (seen_as (has_colors options) (writer_device W.contents output result.1)) result.0 }
 {
     if options.is_json {
         dump_objects(alloc, only, options, names, input, output)
     } else {
         dump_lines(alloc, only, options, names, input, output)
     }
-}
-
-// Dumps, and flushes the output.
-fn dump_plain<R: Source, W: Write>(
-    alloc: Global,
-    only: &[Only<'_>],
-    options: Options,
-    names: Option<ItemNames>,
-    input: &mut R,
-    output: WriteSink<W>,
-) -> (Result<Ended, ListError>, WriteSink<W>)
-    ensures { RunsDump options only.now (device_of R.remaining R.has_failed input.old input.new)
-        (writer_device W.contents output result.1) result.1.forwarded result.0 }
-{
-    let (how, mut output) = dump_over(alloc, only, options, names, input, output);
-    let result = forward_all(how, &mut output);
-    (result, output)
-}
-
-// Dumps lines with colors, and flushes the output.
-fn dump_colored<R: Source, W: Write>(
-    alloc: Global,
-    only: &[Only<'_>],
-    options: Options,
-    names: Option<ItemNames>,
-    input: &mut R,
-    output: WriteSink<W>,
-) -> (Result<Ended, ListError>, WriteSink<W>)
-    requires { options.is_json ≡ false }
-    ensures { RunsDump options only.now (device_of R.remaining R.has_failed input.old input.new)
-        (plain_device (writer_device W.contents output result.1)) result.1.forwarded result.0 }
-{
-    let colored = Colored::new(output);
-    let (how, colored) = dump_lines(alloc, only, options, names, input, colored);
-    let mut output = colored.into_inner();
-    let result = forward_all(how, &mut output);
-    (result, output)
 }
 
 /// Writes the dump of the input as the options say, flushes the output, and returns how the stream ended, and the
@@ -402,9 +369,7 @@ pub fn dump_as<R: Source, W: Write>(
         (seen_as (has_colors options) (writer_device W.contents output result.1))
         result.1.forwarded result.0 }
 {
-    if options.has_colors() {
-        dump_colored(alloc, only, options, names, input, output)
-    } else {
-        dump_plain(alloc, only, options, names, input, output)
-    }
+    let (how, mut output) = dump_over(alloc, only, options, names, input, output);
+    let result = forward_all(how, &mut output);
+    (result, output)
 }

@@ -6,7 +6,7 @@ use wasm_feed::{BoundedSink, Sink, write_all};
 
 // What a sink with room for this many bytes has after this text was written through colours, and whether all was.
 fn written(alloc: Global, room: usize, text: &[u8]) -> Result<(BoundedSink, bool), Fail> {
-    let mut colored = Colored::new(BoundedSink::new(alloc, room)?);
+    let mut colored = Colored::new(BoundedSink::new(alloc, room)?, true);
     let whole = write_all(&mut colored, text).is_ok();
     Ok((colored.into_inner(), whole))
 }

@@ -1,4 +1,4 @@
-// Dumps in other forms: objects of JSON, and lines with bytes.
+// Dumps in other forms: objects of JSON, lines with bytes, and lines with hexadecimal offsets.
 use crate::tests::runs::{MODULE, USAGE, all_refused, runs};
 use std::alloc::Global;
 use std::process::Abort;
@@ -23,7 +23,7 @@ const LONG: &[u8] =
 /// Options, a stream, and the exit status and the dump of a run.
 type Row = (&'static [&'static str], &'static [u8], u8, &'static [u8]);
 
-const ROWS: [Row; 6] = [
+const ROWS: [Row; 11] = [
     (&["--json"], MODULE, 0, OBJECTS),
     (&["--json"], NAMES, 0, ESCAPED),
     (&["--json"], ADDENDS, 0, SIGNED),
@@ -31,6 +31,22 @@ const ROWS: [Row; 6] = [
     (&["--bytes"], MODULE, 0, BYTES),
     // Sixteen bytes a row, and only those of the sections that are chosen.
     (&["--section", "custom", "--bytes"], LONG, 1, SIXTEEN),
+    (&["--hex"], MODULE, 0, HEX),
+    // Offsets that don't count from the start of the stream stay decimal.
+    (&["--hex"], ADDENDS, 0, HEX_RANGES),
+    (&["--hex"], FAULTS, 1, HEX_FAULTS),
+    (
+        &["--section", "custom", "--hex", "--bytes"],
+        LONG,
+        1,
+        HEX_BYTES,
+    ),
+    (
+        &["--color", "--hex", "--section", "3"],
+        MODULE,
+        0,
+        HEX_COLORS,
+    ),
 ];
 
 const OBJECTS: &[u8] = b"{\"event\":\"version\",\"range\":[0,8],\"num\":1,\"encoding\":\"module\"}
@@ -88,6 +104,41 @@ custom 10 32 12
 fault 36 function section has non-zero count but code section is absent
 ";
 
+const HEX: &[u8] = b"version 0x0 0x8 1 module
+section 3 0xa 0xc 1 function
+  0xb func[0] index=5
+code 0xe 0x12 1 3
+body 0x10 0x12 func[0]
+custom 0x14 0x1a 0x19
+  section name=\"type\" unknown
+end 0x1a
+";
+
+const HEX_RANGES: &[u8] = b"version 0x0 0x8 1 module
+custom 0xa 0x20 0x15
+  section name=\"reloc.CODE\" section=3 range=0x15..0x20 entries=0x16..0x20 count=2
+    0x17 type=R_WASM_MEMORY_ADDR_LEB offset=33 index=73 addend=-4
+    0x1b type=R_WASM_MEMORY_ADDR_LEB offset=34 index=74 addend=130
+end 0x20
+";
+
+const HEX_FAULTS: &[u8] = b"version 0x0 0x8 1 module
+section 7 0xa 0xc 1 export
+  fault 0xc unexpected end-of-file
+fault 0xc malformed section id
+";
+
+const HEX_BYTES: &[u8] = b"0x8 | 00 16 01 61 00 01 02 03 04 05 06 07 08 09 0a 0b
+0x18 | 0c 0d 0e 0f 10 11 12 13
+custom 0xa 0x20 0xc
+  section name=\"a\" unknown
+fault 0x24 function section has non-zero count but code section is absent
+";
+
+const HEX_COLORS: &[u8] =
+    b"\x1b[0;1msection\x1b[0m 3 0xa 0xc 1 function\n  \x1b[0;2m0xb\x1b[0m func[0] index=5
+\x1b[0;1mend\x1b[0m 0x1a\n";
+
 fn all_write(rt: &impl Abort, alloc: Global, rows: &[Row]) -> Result<(), Fail> {
     for (words, stream, status, text) in rows {
         runs(rt, alloc, words, stream, (*status, text, b""))?;
@@ -96,15 +147,18 @@ fn all_write(rt: &impl Abort, alloc: Global, rows: &[Row]) -> Result<(), Fail> {
 }
 
 #[test]
-fn writes_objects_and_bytes(rt: HostRuntime) -> Result<(), Fail> {
+fn writes_other_forms(rt: HostRuntime) -> Result<(), Fail> {
     all_write(&rt, rt.alloc(), &ROWS)
 }
 
-const REFUSED: [&[&str]; 4] = [
+const REFUSED: [&[&str]; 7] = [
     &["--json", "--color"],
     &["--bytes", "--json"],
     &["--json", "--version"],
     &["--bytes", "--help"],
+    &["--hex", "--json"],
+    &["--json", "--section", "3", "--hex"],
+    &["--hex", "--version"],
 ];
 
 #[test]

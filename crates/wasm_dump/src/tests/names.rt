@@ -4,6 +4,7 @@ use std::test::Fail;
 use wasm_cli::dump::{Options, dump_as};
 use wasm_dumper::{Only, Shown, collect_names, dump};
 use wasm_feed::{BoundedSink, Ended, ListError, Sink, SliceSource, WriteSink};
+use wasm_lines::Base;
 use wasm_tree::{ItemNames, Lines};
 
 // The linked module of docs/DUMP.md, whose bodies are filled with a byte.
@@ -159,7 +160,7 @@ fn dumped_into(
 ) -> Result<(Result<Ended, ListError>, BoundedSink), Fail> {
     let names = names_in(alloc, stream)?;
     let output = BoundedSink::new(alloc, room)?;
-    let mut tree = Lines::with_names(alloc, output, Some(names));
+    let mut tree = Lines::with_names(alloc, output, Base::Decimal, Some(names));
     let shown = Shown {
         only: &[Only::Id(10)],
         has_bytes: false,

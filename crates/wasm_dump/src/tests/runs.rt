@@ -21,8 +21,8 @@ custom 20 26 25
 end 26
 ";
 
-const HELP: &[u8] = b"usage: wasm_dump [--color] [--names] [--json] [--bytes] [--section ID|NAME]
-                 [FILE...]
+const HELP: &[u8] = b"usage: wasm_dump [--color] [--names] [--json] [--bytes] [--hex]
+                 [--section ID|NAME] [FILE...]
        wasm_dump --help | --version
 
 wasm_dump shows what each FILE contains: a line for each section and function
@@ -43,6 +43,8 @@ Options come before files, in any order:
              twice.
   --json     Each line is a JSON object, for programs.
   --bytes    Each line follows the bytes that it was read from, in hexadecimal.
+             It cannot be combined with --json.
+  --hex      Offsets are hexadecimal, as 0x1f. All other numbers stay decimal.
              It cannot be combined with --json.
   --section ID|NAME
              Only sections with this id, with this name in the standard, or

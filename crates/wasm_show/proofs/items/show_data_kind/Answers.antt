@@ -1,4 +1,4 @@
-use Rattle.std.proofs.Common.{[], refl}
+use Rattle.std.proofs.Common.{[]}
 use Rattle.wasm_show.proofs.items.show_data_kind.Goals as goal
 
 pub returns-in-Passive-clause-says : goal.returns-in-Passive-clause-says

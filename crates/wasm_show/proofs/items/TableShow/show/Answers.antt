@@ -1,4 +1,4 @@
-use Rattle.std.proofs.Common.{[], refl}
+use Rattle.std.proofs.Common.{[]}
 use Rattle.wasm_show.proofs.items.TableShow.show.Goals as goal
 
 pub returns-in-RefNull-clause-says : goal.returns-in-RefNull-clause-says

@@ -1,4 +1,3 @@
-use Rattle.std.proofs.Common.{refl}
 use Rattle.wasm_show.proofs.types.TagTypeShow.show.Goals as goal
 
 pub returns-clause-says : goal.returns-clause-says

@@ -1,7 +1,7 @@
 use Rattle.std.proofs.Common.{◌++◌, [], codes, option_map, true, refl}
 use Rattle.wasm_tree.specs.Tree.{name_text}
 use Rattle.wasm_tree.specs.Written.{lines}
-use Rattle.wasm_tree.proofs.Saying.{has_nothing}
+use Rattle.wasm_tree.proofs.Saying.{has_nothing, still_same}
 use Rattle.wasm_tree.proofs.Writing.{named_more, puts_line}
 use Rattle.wasm_tree.proofs.lines.Lines.first_with_name.Goals as goal
 
@@ -11,6 +11,8 @@ returns g c outline numbers e o i =
     let text = g.T.ShortText.text c.args.text.now in
     let mid = c.rows_to_cut.new.self in
     let since = lines (record mid { is_begun = true }) in
-    puts_line o (lines mid) (lines c.named_text.new.self) (text ++ (name_text name ++ codes "\n")) outline numbers
-    (named_more text outline numbers name e) refl c.rows_to_cut.ensures.ended refl
-    (c.named_text.ensures since [] (has_nothing since refl refl)).puts (c.rows_to_cut.ensures.adds o i)
+    let new = lines c.named_text.new.self in
+    let line = text ++ (name_text name ++ codes "\n") in
+    let has = c.named_text.ensures since [] (has_nothing since refl refl) in
+    puts_line _ o (lines mid) new line outline numbers (named_more _ text outline numbers name e) refl c.rows_to_cut.ensures.ended
+    (still_same since new line has) has.puts (c.rows_to_cut.ensures.adds o i)

@@ -1,8 +1,10 @@
-use Rattle.std.proofs.Common.{◌++◌, codes, decimal}
-use Rattle.wasm_tree.proofs.Saying.{says_then}
+use Rattle.std.proofs.Common.{◌++◌, codes}
+use Rattle.wasm_lines.specs.Offsets.{offset_text}
+use Rattle.wasm_tree.proofs.Saying.{says_both}
 use Rattle.wasm_tree.proofs.lines.Lines.offsets.Goals as goal
 
 pub returns-clause-says : goal.returns-clause-says
 returns-clause-says g c =
-    says_then (decimal c.args.start) (codes ".." ++ decimal c.args.end) _ _ _ c.digits.ensures.says
-    (says_then (codes "..") (decimal c.args.end) _ _ _ c.bytes.ensures.says c.digits-2.ensures.says)
+    says_both (λ base. offset_text base c.args.start) (λ base. codes ".." ++ offset_text base c.args.end) _ _ _
+    c.offset.ensures.says
+    (says_both (λ base. codes "..") (λ base. offset_text base c.args.end) _ _ _ c.bytes.ensures.says c.offset-2.ensures.says)

@@ -7,7 +7,7 @@ use Rattle.wasm_tree.proofs.lines.Lines.piece.Goals as goal
 pub returns-clause-adds : goal.returns-clause-adds
 returns-clause-adds g c o i =
     let mid = c.begin.new.self in
-    puts_part o (lines mid) _ refl c.args.bytes.now c.begin.ensures.begun c.requires.one_line (c.put.ensures (lines_rest mid))
+    puts_part _ o (lines mid) _ refl c.args.bytes.now c.begin.ensures.begun c.requires.one_line (c.put.ensures (lines_rest mid))
     (c.begin.ensures.adds o i)
 
 pub returns-clause-says : goal.returns-clause-says

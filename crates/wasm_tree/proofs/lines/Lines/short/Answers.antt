@@ -8,7 +8,7 @@ pub returns-clause-adds : goal.returns-clause-adds
 returns-clause-adds g c o i =
     let text = g.T.ShortText.text c.args.text.now in
     let mid = c.begin.new.self in
-    puts_part o (lines mid) _ refl text c.begin.ensures.begun c.requires.one_line (c.put_text.ensures (lines_rest mid))
+    puts_part _ o (lines mid) _ refl text c.begin.ensures.begun c.requires.one_line (c.put_text.ensures (lines_rest mid))
     (c.begin.ensures.adds o i)
 
 pub returns-clause-says : goal.returns-clause-says

@@ -7,13 +7,13 @@ use Rattle.wasm_tree.proofs.lines.LinesTree.begin_part.Goals as goal
 
 pub returns-then-is_some : goal.returns-then-is_some
 returns-then-is_some g c o i =
-    never_shown o (lines c.rows_to_end.new.self) c.args.bytes.now refl
+    never_shown _ o (lines c.rows_to_end.new.self) c.args.bytes.now refl
     (ap is_some (sym c.stopped.ensures) ∙ (sym c.is_some.ensures ∙ c.if-is_some.true)) (c.rows_to_end.ensures.adds o i)
 
 pub returns-in-Err : goal.returns-in-Err
 returns-in-Err g c o i =
     let mid = c.rows_to_end.new.self in
     let stops = c.out_of_memory.ensures in
-    never_shown o (lines (record mid { output = c.out_of_memory.new.self })) c.args.bytes.now refl
+    never_shown _ o (lines (record mid { output = c.out_of_memory.new.self })) c.args.bytes.now refl
     (ap (λ (p : Put). is_some p.why) stops)
     (stops_here o (lines_rest mid) mid.output c.out_of_memory.new.self stops (c.rows_to_end.ensures.adds o i))

@@ -5,4 +5,4 @@ use Rattle.wasm_tree.proofs.lines.LinesTree.end.Goals as goal
 
 pub returns-clause-adds : goal.returns-clause-adds
 returns-clause-adds g c o i =
-    ends o (lines c.args.self.now) _ refl c.if-not-self.false (c.put.ensures (lines_rest c.args.self.now)) i
+    ends _ o (lines c.args.self.now) _ refl c.if-not-self.false (c.put.ensures (lines_rest c.args.self.now)) i

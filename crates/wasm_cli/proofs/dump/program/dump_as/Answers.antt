@@ -1,13 +1,13 @@
-use Rattle.wasm_cli.specs.Options.{style_of}
+use Rattle.wasm_cli.specs.Options.{has_colors, style_of}
 use Rattle.wasm_cli.proofs.Running.{dumps_kept}
-use Rattle.wasm_cli.proofs.dump.program.dump_plain.Goals as goal
+use Rattle.wasm_cli.proofs.dump.program.dump_as.Goals as goal
 
 pub returns : goal.returns
 returns g c =
     let d = c.dump_over-how.ensures in
     record {
       how = c.dump_over-how.result.0;
-      dumps = dumps_kept (style_of c.args.options) _ _ _ _ _ _ _ _ d.dumps c.forward_all-result.ensures.keeps;
+      dumps = dumps_kept (style_of c.args.options) _ _ (has_colors c.args.options) _ _ _ _ _ _ d.dumps c.forward_all-result.ensures.keeps;
       source = d.source;
       ends = rw d.sink at c.forward_all-result.ensures.ends;
     }
