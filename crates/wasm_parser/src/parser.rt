@@ -62,7 +62,7 @@ use wasm_items::FunctionBody;
 /// ```
 #[derive(Debug, Drop)]
 pub struct Parser {
-    // Its methods parse. So the parser of a program in C, which is such numbers, is parsed in place.
+    // `StoredParser` has the methods that parse: so a program in C parses in its own memory.
     stored: StoredParser,
 }
 
