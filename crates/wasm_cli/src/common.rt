@@ -59,22 +59,6 @@ pub fn complain<E: Sink>(errors: &mut E, message: &[u8])
     let _ = write_all(errors, message);
 }
 
-/// Says that a file could not be opened, and why, and returns the exit status 3.
-pub(crate) fn complain_of<R: AllocGlobal, E: Sink>(
-    rt: &R,
-    name: &str,
-    error: &Error,
-    errors: &mut E,
-) -> u8 {
-    match format!(in rt.alloc(); "{name}: {error}\n") {
-        Ok(message) => {
-            complain(errors, message.as_str().as_bytes());
-            3
-        }
-        Err(_) => give_up(errors, ListError::Memory),
-    }
-}
-
 // The message of a failure.
 fn message(error: ListError) -> &'static [u8]
     ensures { result.now ≡ complaint_of error }

@@ -2,8 +2,9 @@
 use super::options::{choice_of, rest_after_options};
 use super::stripping::strip_input;
 use super::twice::strip_twice;
-use crate::common::{complain_of, give_up};
-use std::fs;
+use crate::common::{complain, give_up};
+use crate::streams::Input;
+use std::fs::{self, File};
 use std::io::Write;
 use std::path::Path;
 use wasm_feed::{ListError, ReadSource, Sink, WriteSink};
@@ -30,6 +31,11 @@ pub(super) fn file_of(words: &[String]) -> Option<Named<'_>> {
     Some(Named { options, name })
 }
 
+// The input that this file is.
+fn input_of(file: File) -> ReadSource<Input> {
+    ReadSource::new(Input::File(file))
+}
+
 /// Strips a file. A regular file is read twice; another, such as a pipe, once, as standard input is.
 pub(super) fn strip_file<W: Write, E: Sink>(
     rt: &HostRuntime,
@@ -38,30 +44,33 @@ pub(super) fn strip_file<W: Write, E: Sink>(
     errors: &mut E,
 ) -> u8 {
     let Named { options, name } = named;
-    match fs::open(rt, name) {
-        Ok(file) => {
-            let mut first = ReadSource::new(file);
-            if !Path::new(name).is_file(rt) {
-                return strip_input(rt.alloc(), options, &mut first, output, errors);
-            }
-            let Ok(choice) = choice_of(rt.alloc(), options) else {
-                return give_up(errors, ListError::Memory);
-            };
-            match fs::open(rt, name) {
-                Ok(file) => {
-                    let mut second = ReadSource::new(file);
-                    strip_twice(
-                        rt.alloc(),
-                        choice.keep(),
-                        &mut first,
-                        &mut second,
-                        output,
-                        errors,
-                    )
-                }
-                Err(error) => complain_of(rt, name, &error, errors),
-            }
-        }
-        Err(error) => complain_of(rt, name, &error, errors),
+    let Ok(file) = fs::open(rt, name) else {
+        return refuse_file(name, errors);
+    };
+    let mut first = input_of(file);
+    if !Path::new(name).is_file(rt) {
+        return strip_input(rt.alloc(), options, &mut first, output, errors);
     }
+    let Ok(choice) = choice_of(rt.alloc(), options) else {
+        return give_up(errors, ListError::Memory);
+    };
+    let Ok(file) = fs::open(rt, name) else {
+        return refuse_file(name, errors);
+    };
+    let mut second = input_of(file);
+    strip_twice(
+        rt.alloc(),
+        choice.keep(),
+        &mut first,
+        &mut second,
+        output,
+        errors,
+    )
+}
+
+// Says that a file could not be opened. The system's reason is left out: its table of texts is half as large as the program.
+fn refuse_file<E: Sink>(name: &str, errors: &mut E) -> u8 {
+    complain(errors, name.as_bytes());
+    complain(errors, b": can't be opened\n");
+    3
 }

@@ -11,7 +11,7 @@ use super::command::{Command, Given, command_of, words_given};
 use super::files::{file_of, strip_file};
 use super::stripping::strip_input;
 use crate::common::{PIECE, complain, finish, give_up};
-use crate::streams::{Messages, Piped};
+use crate::streams::{Input, Messages, Piped};
 use std::alloc::Global;
 use std::cell::Cell;
 use std::env::{self, Args};
@@ -82,7 +82,7 @@ fn version() -> &'static [u8]
 /// It prints no message if the reader of its output has closed the pipe.
 pub fn run_host(rt: HostRuntime) -> ExitCode {
     let is_closed = Cell::new(false);
-    let mut input = ReadSource::new(rt.stdin());
+    let mut input = ReadSource::new(Input::Standard(rt.stdin()));
     let mut output = WriteSink::new(Piped::new(rt.stdout(), &is_closed));
     let mut errors = Messages::new(WriteSink::new(rt.stderr()), &is_closed);
     let given = words_given(rt.alloc(), env::args(&rt));
