@@ -47,7 +47,7 @@ use Rattle.wasm_dumper.specs.Dump.{DumpsByTree, Writes, stopped_by}
 use Rattle.wasm_tree.specs.Tree as Tree
 use Rattle.wasm_tree.specs.Tree.{IsOutlined, Part, Writing, Origin, begun, begun_numbers, IsGoingIn, IsCutShort, IsWritten, Adds, IsOut}
 use Rattle.wasm_tree.specs.Tree.{IsShaped, are_lines}
-use Rattle.wasm_lines.specs.declared.offsets.Base.{Base}
+use Rattle.wasm_lines.specs.declared.digits.Base.{Base}
 use Rattle.wasm_tree.specs.Json.{IsAt}
 use Rattle.wasm_tree.specs.Json as json
 use Rattle.wasm_tree.specs.declared.objects.Spot.{Spot}

@@ -4,7 +4,7 @@ use Rattle.std.proofs.Common.{Option, Some, None, refl, sym, ap, ◌∙◌, appe
 use Rattle.wasm_grammar.specs.Ids.{names, name_of}
 use Rattle.wasm_grammar.specs.Reading.{Report}
 use Rattle.wasm_lines.specs.Listing.{report_text}
-use Rattle.wasm_lines.specs.declared.offsets.Base.{Base}
+use Rattle.wasm_lines.specs.declared.digits.Base.{Base}
 use Rattle.wasm_tree.specs.Numbers.{blank_numbers}
 use Rattle.wasm_dumper.specs.Chosen.{numbered_line, numbered_text, section_words, shown_line, BeginAlike}
 use Rattle.wasm_tree.specs.Numbers.{numbers_in_line}

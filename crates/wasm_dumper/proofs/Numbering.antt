@@ -18,7 +18,7 @@ use Rattle.wasm_parser.specs.declared.payload.Payload.TheVariants.{TypeSection, 
 use Rattle.wasm_parser.specs.declared.payload.Payload.TheVariants.{MemorySection, TagSection, GlobalSection}
 use Rattle.wasm_parser.specs.declared.payload.Payload.TheVariants.{ElementSection, DataSection}
 use Rattle.wasm_lines.specs.Listing.{line_in}
-use Rattle.wasm_lines.specs.declared.offsets.Base.{Base}
+use Rattle.wasm_lines.specs.declared.digits.Base.{Base}
 use Rattle.wasm_feed.specs.declared.feeder.Step.{Step}
 use Rattle.wasm_feed.specs.declared.feeder.Step.TheVariants.{NeedMoreData, Parsed}
 use Rattle.wasm_feed.specs.Turns.{turn_after}

@@ -1,8 +1,8 @@
 -- Offsets as text.
 use Rattle.std.specs.Prelude.{ℕ, false, List, ◌++◌, codes, decimal}
 use Rattle.std.specs.Fmt.{digits}
-use Rattle.wasm_lines.specs.declared.offsets.Base.{Base}
-use Rattle.wasm_lines.specs.declared.offsets.Base.TheVariants.{Decimal, Hexadecimal}
+use Rattle.wasm_lines.specs.declared.digits.Base.{Base}
+use Rattle.wasm_lines.specs.declared.digits.Base.TheVariants.{Decimal, Hexadecimal}
 
 -- an offset in this base, as `{}` or `{:#x}` writes it
 abbrev pub offset_text : Base → ℕ → List ℕ

@@ -8,7 +8,6 @@
 mod devices;
 mod digits;
 mod lines;
-mod offsets;
 mod page;
 mod short_text;
 
@@ -16,8 +15,7 @@ pub use devices::{
     BoundedSink, Failed, ListError, ReadSource, Sink, SliceSource, Source, WriteSink,
     list_of_capacity, write_all,
 };
-pub use digits::write_number;
+pub use digits::{Base, write_number, write_offset};
 pub use lines::{encoding_name, write_fault, write_payload};
-pub use offsets::{Base, write_offset};
 pub use page::Page;
 pub use short_text::{ShortText, TEXT_BYTES, write_word};

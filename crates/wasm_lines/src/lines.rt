@@ -7,8 +7,7 @@ ghost use Rattle.wasm_grammar.specs.Content.{fault};
 ghost use Rattle.wasm_grammar.specs.Reading.{code_start, stream_end};
 ghost use Rattle.wasm_lines.specs.Listing.{encoding_name as name_of, field, fault_number, offset_field, report_text};
 
-use crate::digits::write_number;
-use crate::offsets::{Base, write_offset};
+use crate::digits::{Base, write_number, write_offset};
 use crate::short_text::{ShortText, write_word};
 use std::ops::Range;
 use wasm_parser::{CountedSection, Encoding, Error, Payload};
@@ -300,7 +299,7 @@ pub fn write_fault(bytes: &mut [u8], at: usize, base: Base, error: &Error) -> us
 impl ShortText for Payload<'_> {
     ghost use Rattle.wasm_parser.specs.ParseAnswer.{report_of};
     ghost use Rattle.wasm_lines.specs.Listing.{report_text};
-    ghost use Rattle.wasm_lines.specs.declared.offsets.Base.TheVariants.{Decimal};
+    ghost use Rattle.wasm_lines.specs.declared.digits.Base.TheVariants.{Decimal};
 
     ghost text = { λ payload. report_text Decimal (report_of payload) };
 
@@ -316,7 +315,7 @@ impl ShortText for Error {
     ghost use Rattle.wasm_grammar.specs.Content.{fault};
     ghost use Rattle.wasm_grammar.specs.Reading.{stream_end};
     ghost use Rattle.wasm_lines.specs.Listing.{report_text};
-    ghost use Rattle.wasm_lines.specs.declared.offsets.Base.TheVariants.{Decimal};
+    ghost use Rattle.wasm_lines.specs.declared.digits.Base.TheVariants.{Decimal};
 
     ghost text = { λ error. report_text Decimal (stream_end (fault (fault_at error))) };
 

@@ -4,7 +4,7 @@ use Rattle.std.specs.Prelude.{slice_index, ◌||◌, nat_lt, nat_eq, if◌then�
 use Rattle.std.specs.Fmt.{signed_decimal}
 use Rattle.std.specs.List.{flat_map}
 use Rattle.wasm_lines.specs.Offsets.{offset_text}
-use Rattle.wasm_lines.specs.declared.offsets.Base.{Base}
+use Rattle.wasm_lines.specs.declared.digits.Base.{Base}
 
 -- what a field may say
 pub data Value : Type 0 where

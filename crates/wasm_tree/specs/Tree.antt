@@ -12,8 +12,8 @@ use Rattle.wasm_lines.specs.Calls.{output_failed}
 use Rattle.wasm_lines.specs.Offsets.{offset_text}
 use Rattle.wasm_lines.specs.Page.{IsCut, PutsBytes}
 use Rattle.wasm_lines.specs.declared.devices.ListError.{ListError}
-use Rattle.wasm_lines.specs.declared.offsets.Base.{Base}
-use Rattle.wasm_lines.specs.declared.offsets.Base.TheVariants.{Decimal}
+use Rattle.wasm_lines.specs.declared.digits.Base.{Base}
+use Rattle.wasm_lines.specs.declared.digits.Base.TheVariants.{Decimal}
 use Rattle.wasm_tree.specs.Fields.{hexadecimal, quoted_text}
 use Rattle.wasm_tree.specs.Numbers.{Number, blank_numbers, number_text, numbers_from, numbers_read}
 use Rattle.wasm_tree.specs.Numbers.{AreShown, AreFrom, AreUpTo}

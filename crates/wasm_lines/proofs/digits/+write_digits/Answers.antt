@@ -1,7 +1,7 @@
 use Rattle.std.proofs.Common.{◌+◌, append_assoc, arith}
 use Rattle.std.proofs.lemmas.Grind.{take-set_at}
 use Rattle.wasm_lines.proofs.Hexadecimal.{hexadecimal_digit, hexadecimal_step}
-use Rattle.wasm_lines.proofs.offsets.+write_digits.Goals as goal
+use Rattle.wasm_lines.proofs.digits.+write_digits.Goals as goal
 
 pub returns-then-number-lt16-clause-written : goal.returns-then-number-lt16-clause-written
 returns-then-number-lt16-clause-written t c = rw (
