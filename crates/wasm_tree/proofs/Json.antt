@@ -8,7 +8,7 @@ use Rattle.std.proofs.lemmas.Fmt.{decimal_by_steps}
 use Rattle.wasm_tree.specs.Json.{Place, State, Bracket, object, array, here, start, after_all, after_byte, has_value, is_digit}
 use Rattle.wasm_tree.specs.Json.{first_value, value, string}
 use Rattle.wasm_tree.specs.Json.{after_minus, after_zero, digits, ended, IsAt, Leads, StaysInString, after_value}
-use Rattle.wasm_tree.specs.Json.{begins_value, escaped_byte, is_hexadecimal}
+use Rattle.wasm_tree.specs.Json.{begins_value, escaped_byte, is_hexadecimal, object_end}
 use Rattle.wasm_tree.specs.Fields.{is_escaped}
 use Rattle.wasm_tree.specs.declared.objects.Spot.{Spot}
 use Rattle.wasm_tree.specs.declared.objects.Spot.TheVariants.{Outside, Ended, InName, AtValue, InText}
@@ -20,13 +20,6 @@ after_all-append s (x ∷ xs) ys = after_all-append (after_byte s.place s.inside
 
 -- ---- what completes an object that was begun
 
-abbrev pub completion : Spot → List ℕ
-completion Outside = []
-completion Ended = codes "}\n"
-completion InName = codes "\":null}\n"
-completion AtValue = codes "null}\n"
-completion InText = codes "\"}\n"
-
 -- after a value comes what may follow one, though a number has no byte that ends it
 value_over : (p : Place) (inside : List Bracket) (b : ℕ) → has_value p ≡ true → is_digit b ≡ false → after_byte p inside b
     ≡ after_value inside b
@@ -35,7 +28,7 @@ value_over p inside b h d = grind arith
 closes : (s : State) → has_value s.place ≡ true → s.inside ≡ object ∷ [] → after_all s (codes "}\n") ≡ start
 closes s h e = grind arith
 
-pub completes : (spot : Spot) (s : State) → IsAt spot s → after_all s (completion spot) ≡ start
+pub completes : (spot : Spot) (s : State) → IsAt spot s → after_all s (object_end spot) ≡ start
 completes spot s e = grind arith
 
 -- ---- strings

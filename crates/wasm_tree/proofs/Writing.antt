@@ -13,7 +13,7 @@ use Rattle.std.proofs.lemmas.List.Folds.{list_all-append}
 use Rattle.wasm_lines.specs.Calls.{output_failed}
 use Rattle.wasm_lines.specs.declared.devices.ListError.{ListError}
 use Rattle.wasm_lines.specs.Page.{WritesHead, IsCut}
-use Rattle.wasm_lines.specs.declared.offsets.Base.{Base}
+use Rattle.wasm_lines.specs.declared.digits.Base.{Base}
 use Rattle.wasm_lines.specs.declared.devices.ListError.TheVariants.{Input, Output, Memory}
 use Rattle.wasm_tree.specs.Numbers.{Number, blank_numbers, number_text}
 use Rattle.wasm_tree.specs.Said.{PutsText, StopsIn}
@@ -23,11 +23,11 @@ use Rattle.wasm_tree.specs.Tree.{part_numbers, numbers_of, IsFirst, IsOutlined, 
 use Rattle.wasm_tree.specs.Tree.{IsGoing, IsGoingInObjects, IsGoingIn, IsCutShort, IsWrittenAs, IsWritten, IsShaped, with_line}
 use Rattle.wasm_tree.specs.Tree.{IsPushed, IsStuck, PutsAs, Puts, Adds, AddsFirst}
 use Rattle.wasm_tree.specs.Tree.{Put, Rest, stopped_without_memory, with_rest}
-use Rattle.wasm_tree.specs.Json.{AreObjects, IsAt, Leads, after_all, start}
+use Rattle.wasm_tree.specs.Json.{AreObjects, IsAt, Leads, after_all, object_end, start}
 use Rattle.wasm_tree.specs.declared.objects.Spot.{Spot}
 use Rattle.wasm_tree.specs.declared.tree.Style.{Style}
 use Rattle.wasm_tree.specs.declared.tree.Style.TheVariants.{Lines, Objects}
-use Rattle.wasm_tree.proofs.Json.{after_all-append, completes, completion}
+use Rattle.wasm_tree.proofs.Json.{after_all-append, completes}
 
 -- ---- lines after lines
 
@@ -347,7 +347,7 @@ module _ (o : Origin) (old new : Writing) (why : ListError) (s : IsStuck why old
       }
   stuck_in Objects e i =
       let w = beginning old.taken new.taken old.waiting why s.cut in
-      let more = completion old.spot in
+      let more = object_end old.spot in
       let objects : AreObjects ((i.written ++ old.waiting) ++ more) = after_all-append start (i.written ++ old.waiting) more
       ∙ completes old.spot (after_all start (i.written ++ old.waiting)) i.is_at in
       record {

@@ -1,9 +1,11 @@
 -- Lines of JSON, each of which is one object. RFC 8259 (The JavaScript Object Notation Data Interchange Format),
 -- sections 4 to 7; without blanks between tokens, and without fractions and exponents. Bytes of 128 and more are plain.
-use Rattle.std.specs.Prelude.{◌≡◌, ℕ, zero, suc, Bool, true, false, List, [], ◌∷◌, ◌++◌, codes, nat_eq, nat_lt, ◌&&◌}
+use Rattle.std.specs.Prelude.{◌≡◌, ℕ, zero, suc, Bool, true, false, List, [], ◌∷◌, ◌++◌, codes, decimal, nat_eq, nat_lt, ◌&&◌}
 use Rattle.std.specs.Prelude.{◌||◌}
 use Rattle.std.specs.Prelude.{if◌then◌else◌}
 use Rattle.wasm_tree.specs.Fields.{hexadecimal}
+use Rattle.wasm_tree.specs.Numbers.{word_of}
+use Rattle.wasm_tree.specs.declared.numbers.Space.{Space}
 use Rattle.wasm_tree.specs.declared.objects.Spot.{Spot}
 use Rattle.wasm_tree.specs.declared.objects.Spot.TheVariants.{Outside, Ended, InName, AtValue, InText}
 
@@ -181,3 +183,35 @@ is_in_string other = false
 -- These bytes are part of a string, in a name and in a text.
 abbrev pub StaysInString : List ℕ → Type 0
 StaysInString bytes = (spot : Spot) → is_in_string spot ≡ true → Leads spot bytes spot
+
+-- ---- what is put at once
+
+-- what leads into the name of the next member
+abbrev pub name_start : Spot → List ℕ
+name_start Outside = codes "{\""
+name_start Ended = codes ",\""
+name_start InName = codes "\":null,\""
+name_start AtValue = codes "null,\""
+name_start InText = codes "\",\""
+
+-- what ends an object that was begun, and its line
+abbrev pub object_end : Spot → List ℕ
+object_end Outside = []
+object_end Ended = codes "}\n"
+object_end InName = codes "\":null}\n"
+object_end AtValue = codes "null}\n"
+object_end InText = codes "\"}\n"
+
+-- the name of a member, up to its value
+abbrev pub member_start : Spot → List ℕ → List ℕ
+member_start spot text = name_start spot ++ (text ++ codes "\":")
+
+-- the end of a line, and the first members of the object of an item
+abbrev pub item_start : Spot → (level offset : ℕ) → List ℕ
+item_start spot level offset =
+    object_end spot ++ (codes "{\"level\":" ++ (decimal level ++ (codes ",\"at\":" ++ decimal offset)))
+
+-- the members for the number of an item
+abbrev pub number_members : Spot → Space → (index : ℕ) → List ℕ
+number_members spot space index =
+    name_start spot ++ (codes "space\":\"" ++ (word_of space ++ (codes "\",\"number\":" ++ decimal index)))

@@ -7,11 +7,18 @@ ghost use Rattle.wasm_tree.specs.Tree.{has_line_feed};
 /// How many bytes are put at once at most.
 pub(crate) const PAGE_BYTES: usize = 65_536;
 
+// An `x` for each byte that is escaped. A look at a table takes fewer instructions than four comparisons.
+static ESCAPED: [u8; 256] = *b"xxxxxxxxxxxxxxxxxxxxxxxxxxxxxxxx--x-----------------------------\
+    ----------------------------x----------------------------------x\
+    xxxxxxxxxxxxxxxxxxxxxxxxxxxxxxxxxxxxxxxxxxxxxxxxxxxxxxxxxxxxxxxx\
+    xxxxxxxxxxxxxxxxxxxxxxxxxxxxxxxxxxxxxxxxxxxxxxxxxxxxxxxxxxxxxxxx";
+
 /// Whether a byte of a text in quotes is written by its digits.
+#[inline(always)]
 pub(crate) fn is_escaped(byte: u8) -> bool
     ensures { result ≡ byte_is_escaped byte }
 {
-    byte < 32 || byte > 126 || byte == b'"' || byte == b'\\'
+    ESCAPED[usize::from(byte)] == b'x'
 }
 
 /// The number of leading bytes that are plain in a text in quotes, and in a string of JSON too: at most a page of them.

@@ -3,7 +3,7 @@ ghost use Rattle.std.specs.Prelude.{◌≡◌, ◌≤◌, ◌++◌, [], None, tr
 ghost use Rattle.std.specs.List.{flat_map};
 ghost use Rattle.std.specs.Option.{is_some};
 ghost use Rattle.wasm_lines.specs.Offsets.{offset_text};
-ghost use Rattle.wasm_lines.specs.declared.offsets.Base.TheVariants.{Decimal};
+ghost use Rattle.wasm_lines.specs.declared.digits.Base.TheVariants.{Decimal};
 ghost use Rattle.wasm_tree.specs.Fields.{alone, field_start, field_text, named, quoted_byte, quoted_text, value_text, whole_field_text};
 ghost use Rattle.wasm_tree.specs.Said.{Says, SaysInBase, SaysSome};
 ghost use Rattle.wasm_tree.specs.Tree.{Adds, AddsBytes, AddsFirst, IsOut, has_line_feed, name_text, starts};
@@ -14,6 +14,7 @@ use crate::escapes::{PAGE_BYTES, hexadecimal_digits, is_escaped, plain_count};
 use crate::known_names::{ItemNames, function_name, name_in};
 use crate::numbers::{ItemNumber, Space};
 use crate::output::Output;
+use crate::plain::{FieldStart, Plain, Quoted};
 use crate::rows::Rows;
 use crate::short::{Offset, flag_word, signed_of};
 use crate::tree::{Start, Style, Tree, Value, is_default};
@@ -199,14 +200,37 @@ impl<W: Sink> Lines<W> {
         }
     }
 
-    // Writes a text in quotes.
-    fn in_quotes(&mut self, text: &str)
+    // Writes a long text, or one with escapes, in quotes.
+    fn long_in_quotes(&mut self, text: &str)
         ensures adds { Adds (lines self.old) (lines self.new) }
         ensures says { Says (quoted_text text.now) (lines self.old) (lines self.new) }
     {
         self.bytes(b"\"");
         self.quoted_bytes(text.as_bytes());
         self.bytes(b"\"");
+    }
+
+    // Writes a text in quotes.
+    fn in_quotes(&mut self, text: &str)
+        ensures adds { Adds (lines self.old) (lines self.new) }
+        ensures says { Says (quoted_text text.now) (lines self.old) (lines self.new) }
+    {
+        match Plain::of(text) {
+            Some(text) => self.short(&Quoted { text }),
+            None => self.long_in_quotes(text),
+        }
+    }
+
+    // Begins a field with a long name.
+    fn begin_long_field(&mut self, name: &str)
+        requires one_line { has_line_feed name.now ≡ false }
+        ensures adds { Adds (lines self.old) (lines self.new) }
+        ensures says { Says (field_start name.now) (lines self.old) (lines self.new) }
+        ensures some { SaysSome (lines self.old) (lines self.new) }
+    {
+        self.bytes(b" ");
+        self.bytes(name.as_bytes());
+        self.bytes(b"=");
     }
 
     // Writes a range of offsets.
@@ -374,9 +398,10 @@ impl<W: Sink> Tree for Lines<W> {
         ensures says { Says (field_start name.now) (lines self.old) (lines self.new) }
         ensures some { SaysSome (lines self.old) (lines self.new) }
     {
-        self.bytes(b" ");
-        self.bytes(name.as_bytes());
-        self.bytes(b"=");
+        match FieldStart::of(name) {
+            Some(start) => self.short(&start),
+            None => self.begin_long_field(name),
+        }
     }
 
     fn field(&mut self, name: &str, value: Value<'_>)

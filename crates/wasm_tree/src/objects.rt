@@ -1,5 +1,7 @@
 // Lines of JSON, each an object.
-ghost use Rattle.std.specs.Prelude.{◌≡◌, ◌≤◌, ◌<◌, length, true};
+ghost use Rattle.std.specs.List.{list_any};
+ghost use Rattle.std.specs.Prelude.{◌≡◌, ◌≤◌, ◌<◌, false, length, true};
+ghost use Rattle.wasm_tree.specs.Fields.{is_escaped};
 ghost use Rattle.wasm_tree.specs.Json.{escaped_byte, is_in_string, Leads};
 ghost use Rattle.wasm_tree.specs.Tree.{Adds, starts_objects};
 ghost use Rattle.wasm_tree.specs.Written.{objects};
@@ -7,8 +9,10 @@ ghost use Rattle.wasm_tree.specs.declared.objects.Spot.TheVariants.{Outside, End
 
 use crate::escapes::{hexadecimal_digits, plain_count};
 use crate::known_names::{ItemNames, name_in};
-use crate::numbers::{Space, space_word};
+use crate::members::{ItemStart, MemberStart, NumberMembers, TextStart, after_last, before_name};
+use crate::numbers::Space;
 use crate::output::Output;
+use crate::plain::Plain;
 use crate::short::{Two, flag_word, signed_of};
 use crate::tree::{Start, Style, Tree, Value};
 use std::alloc::Global;
@@ -27,34 +31,6 @@ pub(crate) enum Spot {
     AtValue,
     /// In a text, which is the value of a member.
     InText,
-}
-
-// What leads into the name of the next member.
-fn before_name(spot: Spot) -> &'static str
-    ensures leads { Leads spot result.now InName }
-    ensures short { length result.now ≤ 8 }
-{
-    match spot {
-        Spot::Outside => "{\"",
-        Spot::Ended => ",\"",
-        Spot::InName => "\":null,\"",
-        Spot::AtValue => "null,\"",
-        Spot::InText => "\",\"",
-    }
-}
-
-// What ends the line.
-fn after_last(spot: Spot) -> &'static str
-    ensures leads { Leads spot result.now Outside }
-    ensures short { length result.now ≤ 8 }
-{
-    match spot {
-        Spot::Outside => "",
-        Spot::Ended => "}\n",
-        Spot::InName => "\":null}\n",
-        Spot::AtValue => "null}\n",
-        Spot::InText => "\"}\n",
-    }
 }
 
 // The escape of a control character.
@@ -185,8 +161,21 @@ impl<W: Sink> Objects<W> {
         }
     }
 
-    // Begins a member, whose value follows. An object is begun if none is.
-    fn begin_member(&mut self, name: &str)
+    // Begins a member with a short name.
+    fn begin_plain_member(&mut self, name: Plain<'_>)
+        requires { list_any is_escaped name ≡ false }
+        ensures adds { Adds (objects self.old) (objects self.new) }
+        ensures spot { self.new.spot ≡ AtValue }
+    {
+        let start = MemberStart {
+            spot: self.spot,
+            name,
+        };
+        self.short(&start, Spot::AtValue);
+    }
+
+    // Begins a member whose name is long or has escapes.
+    fn begin_long_member(&mut self, name: &str)
         ensures adds { Adds (objects self.old) (objects self.new) }
         ensures spot { self.new.spot ≡ AtValue }
     {
@@ -196,13 +185,67 @@ impl<W: Sink> Objects<W> {
         self.put(b"\":", Spot::AtValue);
     }
 
-    // Puts a text as the value. More of it may follow.
-    fn begin_text(&mut self, text: &str)
+    // Begins a member, whose value follows. An object is begun if none is.
+    fn begin_member(&mut self, name: &str)
+        ensures adds { Adds (objects self.old) (objects self.new) }
+        ensures spot { self.new.spot ≡ AtValue }
+    {
+        match Plain::of(name) {
+            Some(name) => self.begin_plain_member(name),
+            None => self.begin_long_member(name),
+        }
+    }
+
+    // Ends the line, and begins the object of an item.
+    fn begin_item(&mut self, level: usize, offset: u64)
+        ensures { Adds (objects self.old) (objects self.new) }
+    {
+        let start = ItemStart {
+            spot: self.spot,
+            level: level as u64,
+            offset,
+        };
+        self.short(&start, Spot::Ended);
+    }
+
+    // Ends the line, and begins an object with its level.
+    fn begin_level(&mut self, level: usize)
+        ensures { Adds (objects self.old) (objects self.new) }
+    {
+        self.end();
+        self.member("level", Value::Number(level as u64));
+    }
+
+    // Puts the number of an item.
+    fn number_members(&mut self, space: Space, index: u64)
+        ensures { Adds (objects self.old) (objects self.new) }
+    {
+        let members = NumberMembers {
+            spot: self.spot,
+            space,
+            index,
+        };
+        self.short(&members, Spot::Ended);
+    }
+
+    // Puts a long text, or one with escapes, as the value.
+    fn begin_long_text(&mut self, text: &str)
         requires { self.old.spot ≡ AtValue }
         ensures { Adds (objects self.old) (objects self.new) }
     {
         self.put(b"\"", Spot::InText);
         self.put_string(text.as_bytes());
+    }
+
+    // Puts a text as the value. More of it may follow.
+    fn begin_text(&mut self, text: &str)
+        requires { self.old.spot ≡ AtValue }
+        ensures { Adds (objects self.old) (objects self.new) }
+    {
+        match Plain::of(text) {
+            Some(text) => self.short(&TextStart { text }, Spot::InText),
+            None => self.begin_long_text(text),
+        }
     }
 
     // Puts a number as the value.
@@ -272,13 +315,17 @@ impl<W: Sink> Tree for Objects<W> {
     }
 
     fn begin_line(&mut self, level: usize, start: Start<'_>) {
-        self.end();
-        self.member("level", Value::Number(level as u64));
         match start {
-            Start::Empty => {}
-            Start::Item(offset) => self.member("at", Value::Number(offset)),
-            Start::Word(word) => self.member("line", Value::Word(word)),
-            Start::Field(name) => self.member(name, Value::Word("")),
+            Start::Empty => self.begin_level(level),
+            Start::Item(offset) => self.begin_item(level, offset),
+            Start::Word(word) => {
+                self.begin_level(level);
+                self.member("line", Value::Word(word));
+            }
+            Start::Field(name) => {
+                self.begin_level(level);
+                self.member(name, Value::Word(""));
+            }
         }
     }
 
@@ -311,8 +358,7 @@ impl<W: Sink> Tree for Objects<W> {
     }
 
     fn item_number(&mut self, space: Space, index: u64) {
-        self.member("space", Value::Word(space_word(space)));
-        self.member("number", Value::Number(index));
+        self.number_members(space, index);
         self.item_name(space, index);
     }
 

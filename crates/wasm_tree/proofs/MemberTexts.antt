@@ -1,0 +1,77 @@
+-- Parts of JSON objects that are put at once.
+use Rattle.std.proofs.Common.{◌≡◌, ℕ, ◌<◌, ◌^◌, false, List, ◌++◌, codes, decimal, arith, refl}
+use Rattle.std.specs.List.{list_any}
+use Rattle.wasm_tree.proofs.Json.{after_all-append, completes, leads_from, number_leads, plain_run_stays}
+use Rattle.wasm_tree.specs.Fields.{is_escaped}
+use Rattle.wasm_tree.specs.Json.{State, IsAt, Leads, after_all, item_start, member_start, name_start, number_members, object_end}
+use Rattle.wasm_tree.specs.Numbers.{word_of}
+use Rattle.wasm_tree.specs.declared.numbers.Space.{Space}
+use Rattle.wasm_tree.specs.declared.numbers.Space.TheVariants.{Types, Functions, Tables, Memories, Tags, Globals, Elements, DataSegments}
+use Rattle.wasm_tree.specs.declared.objects.Spot.{Spot}
+use Rattle.wasm_tree.specs.declared.objects.Spot.TheVariants.{Outside, Ended, InName, AtValue, InText}
+
+-- what leads to a spot, and what leads on from there
+leads_on : (old mid new : Spot) (xs ys : List ℕ) → Leads old xs mid → Leads mid ys new → Leads old (xs ++ ys) new
+leads_on old mid new xs ys first later s i = rw (after_all-append s xs ys) (later (after_all s xs) (first s i))
+
+pub start_leads : (spot : Spot) → Leads spot (name_start spot) InName
+start_leads spot s i = grind arith
+
+pub end_leads : (spot : Spot) → Leads spot (object_end spot) Outside
+end_leads spot s i = completes spot s i
+
+colon_leads : Leads InName (codes "\":") AtValue
+colon_leads s i = rw i refl
+
+-- a name without escapes
+pub member_leads : (spot : Spot) (name : List ℕ) → list_any is_escaped name ≡ false → Leads spot (member_start spot name) AtValue
+member_leads spot name plain =
+    leads_on spot InName AtValue (name_start spot) (name ++ codes "\":") (start_leads spot)
+    (leads_on InName InName AtValue name (codes "\":") (plain_run_stays name plain InName refl) colon_leads)
+
+level_leads : Leads Outside (codes "{\"level\":") AtValue
+level_leads s i = rw i refl
+
+at_leads : Leads Ended (codes ",\"at\":") AtValue
+at_leads s i = grind arith
+
+pub item_leads : (spot : Spot) (level offset : ℕ) → level < 2 ^ 64 → offset < 2 ^ 64 → Leads spot (item_start spot level offset) Ended
+item_leads spot level offset h k =
+    let further = codes ",\"at\":" ++ decimal offset in
+    leads_on spot Outside Ended (object_end spot) (codes "{\"level\":" ++ (decimal level ++ further)) (end_leads spot)
+    (leads_on Outside AtValue Ended (codes "{\"level\":") (decimal level ++ further) level_leads
+    (leads_on AtValue Ended Ended (decimal level) further (number_leads level h)
+    (leads_on Ended AtValue Ended (codes ",\"at\":") (decimal offset) at_leads (number_leads offset k))))
+
+space_leads : Leads InName (codes "space\":\"") InText
+space_leads s i = rw i refl
+
+word_leads : (space : Space) → Leads InText (word_of space) InText
+word_leads Types s i = rw i refl
+word_leads Functions s i = rw i refl
+word_leads Tables s i = rw i refl
+word_leads Memories s i = rw i refl
+word_leads Tags s i = rw i refl
+word_leads Globals s i = rw i refl
+word_leads Elements s i = rw i refl
+word_leads DataSegments s i = rw i refl
+
+index_leads : Leads InText (codes "\",\"number\":") AtValue
+index_leads s i = rw i refl
+
+pub number_members_lead : (spot : Spot) (space : Space) (index : ℕ) → index < 2 ^ 64 → Leads spot (number_members spot space index) Ended
+number_members_lead spot space index h =
+    let further = codes "\",\"number\":" ++ decimal index in
+    leads_on spot InName Ended (name_start spot) (codes "space\":\"" ++ (word_of space ++ further)) (start_leads spot)
+    (leads_on InName InText Ended (codes "space\":\"") (word_of space ++ further) space_leads
+    (leads_on InText InText Ended (word_of space) further (word_leads space)
+    (leads_on InText AtValue Ended (codes "\",\"number\":") (decimal index) index_leads (number_leads index h))))
+
+quote_leads : Leads AtValue (codes "\"") InText
+quote_leads s i = rw i refl
+
+-- a text without escapes
+pub text_leads : (spot : Spot) (text : List ℕ) → spot ≡ AtValue → list_any is_escaped text ≡ false → Leads spot (codes "\"" ++ text) InText
+text_leads spot text e plain =
+    leads_from spot AtValue InText (codes "\"" ++ text) e
+    (leads_on AtValue InText InText (codes "\"") text quote_leads (plain_run_stays text plain InText refl))
