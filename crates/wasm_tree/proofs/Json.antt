@@ -11,7 +11,7 @@ use Rattle.wasm_tree.specs.Json.{after_minus, after_zero, digits, ended, IsAt, L
 use Rattle.wasm_tree.specs.Json.{begins_value, escaped_byte, is_hexadecimal, object_end}
 use Rattle.wasm_tree.specs.Fields.{is_escaped}
 use Rattle.wasm_tree.specs.declared.objects.Spot.{Spot}
-use Rattle.wasm_tree.specs.declared.objects.Spot.TheVariants.{Outside, Ended, InName, AtValue, InText}
+use Rattle.wasm_tree.specs.declared.objects.Spot.TheVariants.{Ended, InName, AtValue, InText}
 
 -- bytes after bytes
 pub after_all-append : (s : State) (xs ys : List ℕ) → after_all s (xs ++ ys) ≡ after_all (after_all s xs) ys

@@ -3,7 +3,7 @@ use Rattle.std.proofs.Common.{◌≡◌, ℕ, ◌<◌, ◌^◌, false, List, ◌
 use Rattle.std.specs.List.{list_any}
 use Rattle.wasm_tree.proofs.Json.{after_all-append, completes, leads_from, number_leads, plain_run_stays}
 use Rattle.wasm_tree.specs.Fields.{is_escaped}
-use Rattle.wasm_tree.specs.Json.{State, IsAt, Leads, after_all, item_start, member_start, name_start, number_members, object_end}
+use Rattle.wasm_tree.specs.Json.{Leads, after_all, item_start, member_start, name_start, number_members, object_end}
 use Rattle.wasm_tree.specs.Numbers.{word_of}
 use Rattle.wasm_tree.specs.declared.numbers.Space.{Space}
 use Rattle.wasm_tree.specs.declared.numbers.Space.TheVariants.{Types, Functions, Tables, Memories, Tags, Globals, Elements, DataSegments}

@@ -1,7 +1,7 @@
 -- Lines of JSON, each of which is one object. RFC 8259 (The JavaScript Object Notation Data Interchange Format),
 -- sections 4 to 7; without blanks between tokens, and without fractions and exponents. Bytes of 128 and more are plain.
-use Rattle.std.specs.Prelude.{◌≡◌, ℕ, zero, suc, Bool, true, false, List, [], ◌∷◌, ◌++◌, codes, decimal, nat_eq, nat_lt, ◌&&◌}
-use Rattle.std.specs.Prelude.{◌||◌}
+use Rattle.std.specs.Prelude.{◌≡◌, ℕ, zero, suc, Bool, true, false, List, [], ◌∷◌, ◌++◌, codes, nat_eq, nat_lt, ◌&&◌}
+use Rattle.std.specs.Prelude.{◌||◌, decimal}
 use Rattle.std.specs.Prelude.{if◌then◌else◌}
 use Rattle.wasm_tree.specs.Fields.{hexadecimal}
 use Rattle.wasm_tree.specs.Numbers.{word_of}
