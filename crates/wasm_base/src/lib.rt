@@ -39,7 +39,7 @@ pub use limits::{
     MAX_WASM_TABLES, MAX_WASM_TAGS, MAX_WASM_TYPE_SIZE, MAX_WASM_TYPES, is_page_size,
     max_wasm_memory32_pages, max_wasm_memory64_pages,
 };
-pub use owned::{FromReaderIn, read_list, read_list_in};
+pub use owned::{FromReaderIn, read_items, read_list, read_list_in};
 pub use reader::{BinaryReader, MAGIC, fits};
 pub use section::{
     SectionLimited, SectionLimitedIntoIter, SectionLimitedIntoIterIn,

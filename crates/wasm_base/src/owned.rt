@@ -53,8 +53,20 @@ fn put<T: Drop, A: Allocator>(items: &mut Vec<T, A>, item: T, count: u32) -> Res
     Ok(())
 }
 
-// Reads `count` items, one after the other. The list grows as they are read.
-fn read_items<'a, T: FromReader<'a>, A: Allocator>(
+/// Reads `count` items, one after the other: a list whose count was read.
+///
+/// The list grows as its items are read, so a large count alone allocates nothing.
+///
+/// # Errors
+///
+/// Those of the items, and `OutOfMemory` at offset 0 when an allocation fails.
+///
+/// ```rattle
+/// let mut reader = BinaryReader::new(&[5, 7], 0);
+/// let numbers = read_items::<u32, _>(alloc, &mut reader, 2)?;
+/// assert_eq!(rt; numbers.as_slice(), [5, 7].as_slice());
+/// ```
+pub fn read_items<'a, T: FromReader<'a>, A: Allocator>(
     alloc: A,
     reader: &mut BinaryReader<'a>,
     count: u32,

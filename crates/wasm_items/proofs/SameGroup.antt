@@ -50,8 +50,8 @@ function_same : (one other : FuncType) → (FuncTypeCompared.ghosts).eq one othe
 function_same one other h =
     let p = both_of h in
     record {
-      params = list_same value one.params.items other.params.items p.0;
-      results = list_same value one.results.items other.results.items p.1;
+      params = list_same value one.params other.params p.0;
+      results = list_same value one.results other.results p.1;
     }
 
 function_back : (one other : FuncType) → IsSameFunction one other → (FuncTypeCompared.ghosts).eq one other ≡ true
@@ -63,7 +63,7 @@ function one other = (function_same one other, function_back one other)
 composite_same : (one other : CompositeType) → (CompositeTypeCompared.ghosts).eq one other ≡ true → IsSameComposite one other
 composite_same (Func one) (Func other) h = function_same one other h
 composite_same (Array one) (Array other) h = field.same one other h
-composite_same (Struct one) (Struct other) h = list_same field one.items other.items h
+composite_same (Struct one) (Struct other) h = list_same field one other h
 composite_same one other h = cc
 
 composite_back : (one other : CompositeType) → IsSameComposite one other → (CompositeTypeCompared.ghosts).eq one other ≡ true
@@ -98,12 +98,12 @@ group_same one other h =
     let p = both_of h in
     record {
       explicit = truth.same one.explicit other.explicit p.0;
-      types = each_so subtype one.types.items other.types.items p.1;
+      types = each_so subtype one.types other.types p.1;
     }
 
 group_back : (one other : RecGroup) → IsSameGroup one other → (RecGroupCompared.ghosts).eq one other ≡ true
 group_back one other is =
-    both_true (back truth is.explicit) (each_back subtype one.types.items other.types.items is.types)
+    both_true (back truth is.explicit) (each_back subtype one.types other.types is.types)
 
 pub group : DecidesWhether IsSameGroup (RecGroupCompared.ghosts).eq
 group one other = (group_same one other, group_back one other)

@@ -16,5 +16,6 @@ pub mod Memories
 pub mod Same
 pub mod Tables
 pub mod Tags
+pub mod TypeLists
 pub mod Values
 pub mod Windows

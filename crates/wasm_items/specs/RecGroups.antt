@@ -54,7 +54,7 @@ pub record FunctionParts : Type 0 where
   pub results : List ValType
 
 abbrev pub function_parts : FuncType → FunctionParts
-function_parts function = record { params = function.params.items; results = function.results.items }
+function_parts function = record { params = function.params; results = function.results }
 
 -- the type of a function: the list of its parameters, and that of its results (Composite Types)
 unfoldable pub func_type_at : Place → Outcome FunctionParts
@@ -72,7 +72,7 @@ pub data CompositeParts : Type 0 where
 abbrev pub composite_parts : CompositeType → CompositeParts
 composite_parts (Func function) = functions (function_parts function)
 composite_parts (Array element) = arrays element
-composite_parts (Struct fields) = structures fields.items
+composite_parts (Struct fields) = structures fields
 
 abbrev pub functions_at : Place → Outcome CompositeParts
 functions_at p = do
@@ -155,7 +155,7 @@ pub record RecGroupParts : Type 0 where
   pub types : List SubtypeParts
 
 abbrev pub rec_group_parts : RecGroup → RecGroupParts
-rec_group_parts group = record { explicit = group.explicit; types = map subtype_parts group.types.items }
+rec_group_parts group = record { explicit = group.explicit; types = map subtype_parts group.types }
 
 -- the types of an explicit group
 abbrev pub whole_group_at : Place → Outcome RecGroupParts

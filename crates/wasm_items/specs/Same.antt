@@ -29,14 +29,14 @@ pub record IsSameExport (one other : Export) : Type 0 where
 
 -- Two types of functions have the same parameters and the same results.
 pub record IsSameFunction (one other : FuncType) : Type 0 where
-  pub params : one.params.items ≡ other.params.items
-  pub results : one.results.items ≡ other.results.items
+  pub params : one.params ≡ other.params
+  pub results : one.results ≡ other.results
 
 -- Two composite types are of the same kind, and have the same parts.
 abbrev pub IsSameComposite : CompositeType → CompositeType → Type 0
 IsSameComposite (Func one) (Func other) = IsSameFunction one other
 IsSameComposite (Array one) (Array other) = one ≡ other
-IsSameComposite (Struct one) (Struct other) = one.items ≡ other.items
+IsSameComposite (Struct one) (Struct other) = one ≡ other
 IsSameComposite one other = ⊥
 
 -- Two subtypes extend the same type, if any, are both final or both not, and have the same composite type.
@@ -48,4 +48,4 @@ pub record IsSameSubtype (one other : SubType) : Type 0 where
 -- Two groups are both explicit or both not, and have the same types.
 pub record IsSameGroup (one other : RecGroup) : Type 0 where
   pub explicit : one.explicit ≡ other.explicit
-  pub types : AllZip IsSameSubtype one.types.items other.types.items
+  pub types : AllZip IsSameSubtype one.types other.types

@@ -1,5 +1,5 @@
 -- Types of values, references and heaps. Core specification, Binary format, Types.
-use Rattle.std.specs.Prelude.{ℕ, ◌==◌, Bool, true, false, List, [], ◌∷◌, ℤ, pos, negsuc, Option, Some}
+use Rattle.std.specs.Prelude.{ℕ, ◌==◌, Bool, true, false, [], ◌∷◌, ℤ, pos, negsuc, Option, Some}
 use Rattle.std.specs.Prelude.{None, Ok, Err, if◌then◌else◌}
 use Rattle.wasm_base.specs.FaultAt.{FaultAt}
 use Rattle.wasm_base.specs.Name.{byte_at, peeked_byte_at}

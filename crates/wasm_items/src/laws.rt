@@ -59,7 +59,7 @@ pub fn types_are_hashed_as_their_fields()
     ensures tag_kind { (kind : TagKind) → ⟦<TagKind as Hash>⟧.hash_input kind ≡ hash_of_kind kind }
 {}
 
-/// Two types that own lists are equal exactly if all that they have is the same, whatever the capacity of the lists.
+/// Two types that own lists are equal exactly if all that they have is the same, wherever the items of the lists are.
 pub fn equal_groups_are_the_same()
     ensures function { DecidesWhether IsSameFunction ⟦<FuncType as PartialEq>⟧.eq }
     ensures composite { DecidesWhether IsSameComposite ⟦<CompositeType as PartialEq>⟧.eq }

@@ -8,11 +8,12 @@ ghost use Rattle.wasm_base.specs.Window.{place, KeepsWindow};
 ghost use Rattle.wasm_items.specs.RecGroups.{field_type_at, supertypes_at, subtype_parts, subtype_at, extending_at};
 ghost use Rattle.wasm_items.specs.Values.{val_type_at};
 
+use crate::type_lists::{FieldTypes, OneSubType, TypeList, ValTypes, read_types};
 use crate::types::{CompositeType, FieldType, FuncType, RecGroup, StorageType, SubType, ValType};
 use std::alloc::Global;
 use wasm_base::{
     BinaryReader, Error, Fault, FromReader, FromReaderIn, Lead, Result, leading_byte_error,
-    read_flag, read_list, read_list_in,
+    read_flag, read_list_in,
 };
 
 /// Reads the byte 0x78 for `I8` or 0x77 for `I16`, or a value type, with the errors of `ValType`.
@@ -55,21 +56,22 @@ impl<'a> FromReader<'a> for FieldType {
 }
 
 // Reads a list of value types.
-fn read_val_types(alloc: Global, reader: &mut BinaryReader<'_>) -> Result<Vec<ValType>>
-    ensures gives { GivesUnlessMemory (λ types. types.items)
+#[inline(always)]
+fn read_val_types(alloc: Global, reader: &mut BinaryReader<'_>) -> Result<ValTypes>
+    ensures gives { GivesUnlessMemory (λ types. types)
         result (place reader.new) (list_at val_type_at (place reader.old)) }
     ensures keeps { KeepsWindow reader.old reader.new }
 {
-    read_list(alloc, reader)
+    read_types(alloc, reader)
 }
 
 // Reads a list of fields.
-fn read_fields(alloc: Global, reader: &mut BinaryReader<'_>) -> Result<Vec<FieldType>>
-    ensures gives { GivesUnlessMemory (λ fields. fields.items)
+fn read_fields(alloc: Global, reader: &mut BinaryReader<'_>) -> Result<FieldTypes>
+    ensures gives { GivesUnlessMemory (λ fields. fields)
         result (place reader.new) (list_at field_type_at (place reader.old)) }
     ensures keeps { KeepsWindow reader.old reader.new }
 {
-    read_list(alloc, reader)
+    read_types(alloc, reader)
 }
 
 // Reads a list of subtypes.
@@ -92,6 +94,7 @@ impl<'a> FromReaderIn<'a> for FuncType {
     ghost meaning = { ReadsAs function_parts func_type_at };
 
     #[tactic(auto, unfolding(crate::specs::RecGroups::func_type_at))]
+    #[inline(always)]
     fn from_reader(alloc: Global, reader: &mut BinaryReader<'a>) -> Result<Self> {
         let params = read_val_types(alloc, reader)?;
         let results = read_val_types(alloc, reader)?;
@@ -202,15 +205,13 @@ impl<'a> FromReaderIn<'a> for RecGroup {
             reader.read_u8()?;
             return Ok(RecGroup {
                 explicit: true,
-                types: read_subtypes(alloc, reader)?,
+                types: TypeList::allocated(read_subtypes(alloc, reader)?),
             });
         }
         let one = SubType::from_reader(alloc, reader)?;
-        let mut types = Vec::new(alloc);
-        types.push(one)?;
         Ok(RecGroup {
             explicit: false,
-            types,
+            types: TypeList::in_place(OneSubType::new(one)),
         })
     }
 }

@@ -1,4 +1,5 @@
 // Types.
+use crate::type_lists::{FieldTypes, SubTypes, ValTypes};
 use wasm_base::SectionLimited;
 
 /// The type section, whose items are groups of types.
@@ -109,7 +110,7 @@ pub enum HeapType {
 
 /// A recursive group of types, which may refer to each other.
 ///
-/// A group owns its lists. Reading it allocates, so it implements `FromReaderIn`.
+/// A group owns its lists. Reading it may allocate, so it implements `FromReaderIn`.
 ///
 /// ```rattle
 /// let mut reader = BinaryReader::new(&[0x4e, 2, 0x5f, 0, 0x60, 0, 0], 0);
@@ -125,7 +126,7 @@ pub struct RecGroup {
     /// Whether the group is encoded as a group. Otherwise it is a single type, encoded without a group.
     pub explicit: bool,
     /// The types of the group, in order. Each takes the next type index of the module.
-    pub types: Vec<SubType>,
+    pub types: SubTypes,
 }
 
 /// A composite type and the type that it extends, if any.
@@ -167,7 +168,7 @@ pub enum CompositeType {
     /// The type of arrays with this type of elements.
     Array(FieldType),
     /// The type of structures with these fields.
-    Struct(Vec<FieldType>),
+    Struct(FieldTypes),
 }
 
 /// The type of a function.
@@ -183,9 +184,9 @@ pub enum CompositeType {
 #[derive(Debug, PartialEq, Eq, Drop)]
 pub struct FuncType {
     /// The types of the parameters.
-    pub params: Vec<ValType>,
+    pub params: ValTypes,
     /// The types of the results.
-    pub results: Vec<ValType>,
+    pub results: ValTypes,
 }
 
 /// The type of a structure's field or an array's elements.

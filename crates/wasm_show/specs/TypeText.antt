@@ -78,7 +78,7 @@ types_text start (ty ∷ later) = start ++ (flat_map (λ v. after_blank (val_tex
 
 abbrev pub func_text : FuncType → List ℕ
 func_text f = codes "(func"
-    ++ (types_text (codes " (param") f.params.items ++ (types_text (codes " (result") f.results.items ++ codes ")"))
+    ++ (types_text (codes " (param") f.params ++ (types_text (codes " (result") f.results ++ codes ")"))
 
 abbrev pub array_text : FieldType → List ℕ
 array_text f = codes "(array " ++ (element_text f ++ codes ")")
@@ -89,7 +89,7 @@ struct_text fields = codes "(struct" ++ (flat_map (λ f. after_blank (field_type
 abbrev pub composite_text : CompositeType → List ℕ
 composite_text (composites.Func f) = func_text f
 composite_text (composites.Array f) = array_text f
-composite_text (composites.Struct fields) = struct_text fields.items
+composite_text (composites.Struct fields) = struct_text fields
 
 -- how the text of a type begins
 abbrev pub sub_start : (is_final : Bool) → List ℕ

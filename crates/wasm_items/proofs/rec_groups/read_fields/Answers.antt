@@ -3,4 +3,4 @@ use Rattle.wasm_items.specs.RecGroups.{field_type_at}
 use Rattle.wasm_items.proofs.rec_groups.read_fields.Goals as goal
 
 pub returns-clause-gives : goal.returns-clause-gives
-returns-clause-gives c = gives_whole_list field_type_at (λ list. list.items) _ _ _ c.read_list.ensures.means
+returns-clause-gives c = gives_whole_list field_type_at (λ list. list) _ _ _ c.read_types.ensures.means
