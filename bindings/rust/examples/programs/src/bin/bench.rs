@@ -1,9 +1,10 @@
 //! Reads the module on standard input as `wasm_bench` does. Each argument is a way: `parse`, `parse_all`, `items` or `indices`. Prints its
-//! name, how many events or items there were, and a checksum, the same as that of `wasm_bench`.
+//! name, how many events or items there were, a checksum, and the nanoseconds of the fastest of the rounds of a second.
 //!
 //! `tools/bench --original FOLDER` builds it over the source of `wasmparser`, with link-time optimization, and counts its instructions.
 #![allow(clippy::unnecessary_cast)]
 use std::io::Read;
+use std::time::{Duration, Instant};
 use wasmparser::{
     Chunk, CustomSectionReader, ElementItems, ElementSectionReader, Import, KnownCustom, Linking, Name, Parser, Payload, Result, SymbolInfo, TypeRef,
 };
@@ -149,17 +150,25 @@ fn see_symbol(symbol: SymbolInfo<'_>) -> u64 {
     }
 }
 
+fn read(way: &str, bytes: &[u8]) -> Result<Tally> {
+    match way {
+        "parse" => original_parse(bytes),
+        "parse_all" => original_parse_all(bytes),
+        _ => original_items(bytes, way == "indices"),
+    }
+}
+
 fn main() -> std::result::Result<(), Box<dyn std::error::Error>> {
     let mut bytes = Vec::new();
     std::io::stdin().read_to_end(&mut bytes)?;
     for way in std::env::args().skip(1) {
-        let read = match way.as_str() {
-            "parse" => original_parse(&bytes),
-            "parse_all" => original_parse_all(&bytes),
-            _ => original_items(&bytes, way == "indices"),
-        };
-        let tally = read.map_err(|error| error.to_string())?;
-        println!("{way} {} {}", tally.count, tally.sum);
+        let (first, mut least, mut tally) = (Instant::now(), Duration::MAX, Tally::default());
+        while least == Duration::MAX || first.elapsed() < Duration::from_secs(1) {
+            let start = Instant::now();
+            tally = read(&way, &bytes).map_err(|error| error.to_string())?;
+            least = least.min(start.elapsed());
+        }
+        println!("{way} {} {} {}", tally.count, tally.sum, least.as_nanos());
     }
     Ok(())
 }

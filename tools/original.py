@@ -1,0 +1,42 @@
+"""The program of the crate for Rust's examples that reads as wasm_bench does, built over a crate with the API of wasmparser."""
+import json
+import os
+import re
+import shutil
+import subprocess
+
+import common
+
+SOURCE = os.path.join(common.TOP, "bindings", "rust", "examples", "programs", "src", "bin", "bench.rs")
+# The manifest: the crate's folder, name and features.
+MANIFEST = """[package]
+name = "original"
+version = "0.0.0"
+edition = "2024"
+
+[dependencies]
+wasmparser = { path = %s, package = %s, default-features = false, features = %s }
+
+[profile.release]
+lto = "fat"
+codegen-units = 1
+debug = "line-tables-only"
+
+[workspace]
+"""
+
+
+def built(source, folder):
+    """The program that reads with the crate in a folder, built with link-time optimization."""
+    with open(os.path.join(source, "Cargo.toml"), encoding="utf-8") as file:
+        manifest = file.read()
+    package = re.search(r'^name = "(.*)"$', manifest, re.M).group(1)
+    features = [name for name in ("std", "features") if re.search("^%s = " % name, manifest, re.M)]
+    project = os.path.join(folder, "original")
+    os.makedirs(os.path.join(project, "src"))
+    shutil.copy(SOURCE, os.path.join(project, "src", "main.rs"))
+    with open(os.path.join(project, "Cargo.toml"), "w", encoding="utf-8") as out:
+        out.write(MANIFEST % (json.dumps(os.path.abspath(source)), json.dumps(package), json.dumps(features)))
+    if subprocess.run(["cargo", "build", "--offline", "--quiet", "--release"], cwd=project).returncode:
+        common.stop(common.NO_PROGRAM, "%s could not be built over %s" % (SOURCE, source))
+    return os.path.join(project, "target", "release", "original")
