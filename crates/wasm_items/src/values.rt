@@ -128,6 +128,7 @@ impl<'a> FromReader<'a> for ValType {
     ghost meaning = { ReadsAs (λ ty. ty) val_type_at };
 
     #[tactic(auto, unfolding(crate::specs::Values::val_type_at))]
+    #[inline(always)]
     fn from_reader(reader: &mut BinaryReader<'a>) -> Result<Self> {
         if let Some(plain) = plain_type(reader.peek()?) {
             reader.read_u8()?;

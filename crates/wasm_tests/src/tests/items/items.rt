@@ -1,8 +1,10 @@
 // Types and items of sections, by the debug texts of their copies. Tables of rows are in `wasm_rows`.
-use crate::tests::{prints, prints_in};
+use crate::tests::{prints, prints_in, same};
+use std::test::Fail;
+use wasm_base::{BinaryReader, FromReaderIn};
 use wasm_items::{
-    ConstExpr, Export, Global, HeapType, MemoryType, RecGroup, RefType, Table, TableType, TagType,
-    ValType,
+    ConstExpr, Export, FuncType, Global, HeapType, MemoryType, RecGroup, RefType, Table, TableType,
+    TagType, ValType,
 };
 
 /// Types of values, the offsets after them and their debug texts.
@@ -45,6 +47,28 @@ fn groups_of_types(rt: HostRuntime) {
     let text = "RecGroup { explicit: false, types: [SubType { is_final: false, supertype: None, \
         composite: Array(FieldType { storage: I8, mutable: true }) }] }";
     prints_in::<RecGroup>(&rt, rt.alloc(), b"\x50\x00\x5e\x78\x01", 0, 5, text);
+}
+
+// Six types are in the list itself, seven are allocated.
+#[test]
+fn lists_of_types(rt: HostRuntime) -> Result<(), Fail> {
+    let bytes = b"\x06\x7f\x7e\x7d\x7c\x7b\x70\x07\x7f\x7e\x7d\x7c\x7b\x70\x6f";
+    let FuncType { params, results } = FuncType::from_reader(
+        rt.alloc(),
+        &mut BinaryReader::new(bytes, 0),
+    )?;
+    same(&rt, (params.len(), results.len()), (6, 7));
+    same(&rt, params.is_empty(), false);
+    same(&rt, params.get(1), Some(&ValType::I64));
+    assert!(rt; params.as_slice() == &results[..6]);
+    assert!(rt; params != results);
+    let mut number = 0;
+    for ty in &results {
+        assert!(rt; params.get(number).unwrap_or(ty) == ty);
+        number += 1;
+    }
+    same(&rt, number, 7);
+    Ok(())
 }
 
 #[test]
