@@ -127,3 +127,27 @@ def some_stream(rng):
     if rng.random() < 0.12:
         del data[rng.randrange(len(data) + 1) :]
     return bytes(data)
+
+
+def some_large_content(rng, ident, functions, segments):
+    """Content that is larger than a chunk of the programs, 65,536 bytes; in a code section each body is."""
+    filler = bytes([rng.randrange(256)]) * rng.choice([65530, 65536, 65537, 70000, 200000])
+    if ident == S.CODE_SECTION:
+        return some_leb(rng, functions) + functions * (some_leb(rng, len(filler)) + filler)
+    return some_content(rng, ident, functions, segments) + filler
+
+
+def some_large_stream(rng):
+    """A stream with a part that is larger than a chunk of the programs, and perhaps cut."""
+    data, functions, segments = bytearray(some_header(rng)), rng.choice([1, 1, 2]), rng.choice([0, 1])
+    ids = some_ids(rng) or [S.CUSTOM_SECTION]
+    large = rng.randrange(len(ids))
+    for place, ident in enumerate(ids):
+        if place == large:
+            content = some_large_content(rng, ident, functions, segments)
+            data += bytes([ident]) + some_leb(rng, len(content)) + content
+        else:
+            data += some_section(rng, ident, functions, segments)
+    if rng.random() < 0.3:
+        del data[rng.randrange(len(data) + 1) :]
+    return bytes(data)

@@ -99,12 +99,12 @@ module _ (text_of : Report → List ℕ) where
   }
 
   -- a run that ends with this line, after these events
-  record AtEnd (given : List ℕ) (events : List Event) (eof : Bool) (line : List ℕ) (how : Ended) : Type 0 where
-    end : Ending
-    same : line ≡ text_of (stream_end end)
-    ends : IsEndedBy how end
-    within : length given < 2 ^ 64 → ReadsEach 0 all_features eof given (events ++ last_event end ∷ [])
-    past_the_top : 2 ^ 64 ≤ length given → end ≡ fault (at_offset OffsetRange (length (consumed_by events)))
+  pub record AtEnd (given : List ℕ) (events : List Event) (eof : Bool) (line : List ℕ) (how : Ended) : Type 0 where
+    pub end : Ending
+    pub same : line ≡ text_of (stream_end end)
+    pub ends : IsEndedBy how end
+    pub within : length given < 2 ^ 64 → ReadsEach 0 all_features eof given (events ++ last_event end ∷ [])
+    pub past_the_top : 2 ^ 64 ≤ length given → end ≡ fault (at_offset OffsetRange (length (consumed_by events)))
 
   -- ---- a turn
 
@@ -168,7 +168,7 @@ module _ (text_of : Report → List ℕ) where
     }
 
     -- the line of an event was put after those that waited
-    put_line : (written' : Option (List ℕ)) (line page' : List ℕ) (e : Event) (w : PutsBytes written written' page line page') → line
+    pub put_line : (written' : Option (List ℕ)) (line page' : List ℕ) (e : Event) (w : PutsBytes written written' page line page') → line
         ≡ text_of e.report
         → Appends taken written' (p.lines ++ w.moved) × (listing_by text_of (p.events ++ e ∷ []) ≡ (p.lines ++ w.moved) ++ page')
     put_line written' line page' e w same = grind (arith, Appends-trans, one_more, append_assoc)
@@ -288,30 +288,27 @@ module _ (text_of : Report → List ℕ) where
 
     -- ---- the end
 
-    module _ (g : Feed) (x : Result Step Error) (s : Steps f x g) (written' : Option (List ℕ)) (page' : List ℕ)
-        (w : PutsBytes written written' page (text_after text_of x) page') where
+    module _ (line : List ℕ) (how : Ended) (a : AtEnd p.given p.events f.eof line how) (written' : Option (List ℕ)) (page' : List ℕ)
+        (w : PutsBytes written written' page line page') where
       -- all is written, and the run ends
-      pub listed_all : (how : Ended) → turn.End how ≡ turn_after x → (written'' : Option (List ℕ)) → Appends written' written'' page'
+      pub listed_to_end : (written'' : Option (List ℕ)) → Appends written' written'' page'
           → IsListed text_of (from_to source rest) (from_to taken written'') how
-      listed_all how t written'' v =
-          let a = end_at g x s how t in
-          record {
-            given = p.given;
-            first = p.events;
-            end = a.end;
-            gave = p.gave;
-            listed = search last_line;
-            ends = a.ends;
-            within = λ l. whole_input (p.events ++ last_event a.end ∷ []) (a.within l);
-            past_the_top = λ h. record { begins = begins_here; is_fault = a.past_the_top h };
-          }
+      listed_to_end written'' v = record {
+        given = p.given;
+        first = p.events;
+        end = a.end;
+        gave = p.gave;
+        listed = last_line written' line page' a.end w a.same written'' v;
+        ends = a.ends;
+        within = λ l. whole_input (p.events ++ last_event a.end ∷ []) (a.within l);
+        past_the_top = λ h. record { begins = begins_here; is_fault = a.past_the_top h };
+      }
 
       -- the last lines were cut
-      end_head : (how : Ended) → turn.End how ≡ turn_after x → (written'' : Option (List ℕ))
-          → WritesHead written' written'' page' → IsHead text_of (from_to source rest) (from_to taken written'')
-      end_head how t written'' v =
-          let a = end_at g x s how t in
-          let (wrote, parts) = put_line written' (text_after text_of x) page' (last_event a.end) w a.same in
+      end_head : (written'' : Option (List ℕ)) → WritesHead written' written'' page'
+          → IsHead text_of (from_to source rest) (from_to taken written'')
+      end_head written'' v =
+          let (wrote, parts) = put_line written' line page' (last_event a.end) w a.same in
           record {
             given = p.given;
             shown = (p.lines ++ w.moved) ++ v.moved;
@@ -324,9 +321,19 @@ module _ (text_of : Report → List ℕ) where
                 (grind (arith, append_assoc));
           }
 
+      pub cut_at_end : (written'' : Option (List ℕ)) (e : ListError) → IsCut written' written'' page' e
+          → ListsBy text_of (from_to source rest) (from_to taken written'') (Err e)
+      cut_at_end written'' e v = grind (arith, end_head)
+
+    module _ (g : Feed) (x : Result Step Error) (s : Steps f x g) (written' : Option (List ℕ)) (page' : List ℕ)
+        (w : PutsBytes written written' page (text_after text_of x) page') where
+      pub listed_all : (how : Ended) → turn.End how ≡ turn_after x → (written'' : Option (List ℕ)) → Appends written' written'' page'
+          → IsListed text_of (from_to source rest) (from_to taken written'') how
+      listed_all how t written'' v = listed_to_end (text_after text_of x) how (end_at g x s how t) written' page' w written'' v
+
       pub end_cut : (how : Ended) → turn.End how ≡ turn_after x → (written'' : Option (List ℕ)) (e : ListError)
           → IsCut written' written'' page' e → ListsBy text_of (from_to source rest) (from_to taken written'') (Err e)
-      end_cut how t written'' e v = grind (arith, end_head)
+      end_cut how t written'' e v = cut_at_end (text_after text_of x) how (end_at g x s how t) written' page' w written'' e v
 
   -- ---- a read
 

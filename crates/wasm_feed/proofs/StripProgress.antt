@@ -1,9 +1,8 @@
 -- How far a stream is stripped while it is read, and what each turn does to it.
-use Rattle.std.proofs.Common.{◌≡◌, ℕ, ◌+◌, ◌^◌, ◌<◌, ◌≤◌, Bool, true, false, if◌then◌else◌, List, [], ◌∷◌, ◌++◌, length, drop, Option}
+use Rattle.std.proofs.Common.{◌≡◌, ℕ, ◌+◌, ◌^◌, ◌<◌, ◌≤◌, Bool, true, false, if◌then◌else◌, List, [], ◌∷◌, ◌++◌, length, Option}
 use Rattle.std.proofs.Common.{Some, None}
 use Rattle.std.proofs.Common.{Result, Ok, Err, refl, sym, ap, subst, subst₂, ◌∙◌, arith, append_assoc, append-nil, length-append, inl}
 use Rattle.std.proofs.Common.{inr}
-use Rattle.std.specs.Prelude.{IfSome}
 use Rattle.std.specs.Io.KnownBytes.{Consumes, Appends, IsAtEnd}
 use Rattle.std.proofs.KnownBytes.{Consumes-nil, Consumes-trans, Consumes-whole, Appends-nil, Appends-trans}
 use Rattle.wasm_base.specs.FaultAt.{fault_at, at_offset}
@@ -12,23 +11,24 @@ use Rattle.wasm_base.specs.declared.error.Error.{Error}
 use Rattle.wasm_base.specs.declared.fault.Fault.TheVariants.{UnexpectedEof, OffsetRange}
 use Rattle.wasm_grammar.specs.Content.{Ending, fault, ended}
 use Rattle.wasm_grammar.specs.EventRanges.{consumed_by}
-use Rattle.wasm_grammar.specs.Reading.{Report, Event, last_event, Reading, Stream, custom_section, counted, unknown_section, code_entry}
+use Rattle.wasm_grammar.specs.Reading.{Report, Event, last_event, Reading, custom_section, counted, unknown_section, code_entry}
 use Rattle.wasm_lines.specs.Calls.{from_to}
 use Rattle.wasm_lines.specs.Page.{IsCut, PutsBytes}
 use Rattle.wasm_lines.specs.declared.devices.ListError.{ListError}
 use Rattle.wasm_parser.specs.Along.{Along, ReadsEach, Came}
-use Rattle.wasm_parser.specs.GivesNextEvent.{MayBe, IsUndecided}
+use Rattle.wasm_parser.specs.GivesNextEvent.{MayBe}
 use Rattle.wasm_parser.specs.ParseAnswer.{report_of, is_end}
-use Rattle.wasm_parser.specs.SkipNext.{Head, Skip, SkipCame, SkipsPart, head_in}
+use Rattle.wasm_parser.specs.SkipNext.{Skip, SkipCame, skip_in}
 use Rattle.wasm_parser.specs.declared.payload.Payload.{Payload}
-use Rattle.wasm_parser.proofs.ForCallers.{answers_go_along, skipping_goes_along}
-use Rattle.wasm_feed.specs.Beside.{beside, seen, unseen, lending, IsAlike, FillsAlike}
+use Rattle.wasm_parser.proofs.ForCallers.{answers_go_along}
+use Rattle.wasm_feed.specs.Beside.{beside, lending, IsAlike, FillsAlike}
 use Rattle.wasm_feed.specs.Cursors.{feed_of}
 use Rattle.wasm_feed.specs.Feed.{Feed, new_feed, pushed, finished}
 use Rattle.wasm_feed.specs.Lists.{IsEndedBy, IsWhole}
+use Rattle.wasm_feed.specs.Passing.{GivesUp, held_by, if_stays}
 use Rattle.wasm_feed.specs.Progress.{weight}
 use Rattle.wasm_feed.specs.Step.{chunk_of, Stepped, Steps}
-use Rattle.wasm_feed.specs.StripStream.{IsStreamed, PassesHere, ReadsOrPasses, WroteSome, head_stays, if_stays, piece_after}
+use Rattle.wasm_feed.specs.StripStream.{IsStreamed, PassesHere, ReadsOrPasses, WroteSome, head_stays, piece_after}
 use Rattle.wasm_feed.specs.Stripped.{event_stays, kept_bytes, report_stays}
 use Rattle.wasm_feed.specs.Turns.{turn_after}
 use Rattle.wasm_feed.specs.declared.feeder.Cursor.{Cursor}
@@ -40,7 +40,8 @@ use Rattle.wasm_feed.specs.declared.listing.Turn.TheVariants as turn
 use Rattle.wasm_feed.proofs.KeptFrames.{kept_more}
 use Rattle.wasm_feed.proofs.Stepping.{stepped as step_along}
 use Rattle.wasm_feed.proofs.StripLaws.{strips_so}
-use Rattle.wasm_feed.proofs.StripStream.{cut_wrote}
+use Rattle.wasm_feed.proofs.PassedParts.{cut_wrote}
+use Rattle.wasm_feed.proofs.Skipping.{came, is_along, is_below, is_short, lighter as lighter_after, reads_short, same_held}
 
 -- The bytes of what the feeder has passed that stay are written, or wait on the page.
 pub record StripProgress (keeps : List ℕ → Bool) (source rest taken written : Option (List ℕ)) (f : Feed) (page : List ℕ) : Type
@@ -98,13 +99,13 @@ kept_one keeps e true s = rw s (append-nil e.consumed)
 kept_one keeps e false s = rw s refl
 
 -- a part with these first fields stays if its event does
-same_stays : (keeps : List ℕ → Bool) (report : Report) (head : Head) → head_in report ≡ Some head → report_stays keeps report
-    ≡ head_stays keeps head
-same_stays keeps (custom_section text data_offset window) head e = grind arith
-same_stays keeps (counted id count window) head e = grind arith
-same_stays keeps (unknown_section id contents from to) head e = grind arith
-same_stays keeps (code_entry window) head e = grind arith
-same_stays keeps _ head e = cc
+same_stays : (keeps : List ℕ → Bool) (report : Report) (s : Skip) → skip_in report ≡ Some s → report_stays keeps report
+    ≡ head_stays keeps s.head
+same_stays keeps (custom_section text data_offset window) s e = grind arith
+same_stays keeps (counted id count window) s e = grind arith
+same_stays keeps (unknown_section id contents from to) s e = grind arith
+same_stays keeps (code_entry window) s e = grind arith
+same_stays keeps _ s e = cc
 
 all_given : (eof : Bool) (given : List ℕ) → MayBe eof given given
 all_given eof given = grind (arith, append-nil)
@@ -403,122 +404,85 @@ module _ (keeps : List ℕ → Bool) (source rest taken written : Option (List �
 
 -- ---- a part that is skipped
 
-held_by : Cursor → (stored chunk : List ℕ) → List ℕ
-held_by c stored chunk = drop c.mark (seen stored chunk) ++ unseen stored chunk
-
 module _ (keeps : List ℕ → Bool) (source rest taken written : Option (List ℕ)) (c : Cursor) (stored chunk page : List ℕ)
     (w : StripWants keeps source rest taken written (lending stored chunk c) page) (rest' written' : Option (List ℕ))
     (how_cut : Option Error)
     (new : Feed) (page' : List ℕ) (x : PassesHere keeps rest rest' written written' c stored chunk page how_cut new page') where
-  q : StripProgress keeps source rest taken written (lending stored chunk c) page
+  abbrev q : StripProgress keeps source rest taken written (lending stored chunk c) page
   q = w.progress
-
-  same_mark : x.skipped.mark ≡ c.mark
-  same_mark = ap (λ (y : Cursor). y.mark) x.skips.same
-
-  -- the bytes that were held and read are those of the part, and the others
-  whole_part : (drop c.mark (seen stored chunk) ++ unseen stored chunk) ++ x.passes.fetched ≡ x.passes.part ++ x.left
-  whole_part = subst (λ (n : ℕ). (drop n (seen stored chunk) ++ unseen stored chunk) ++ x.passes.fetched ≡ x.passes.part ++ x.left)
-      same_mark x.passes.parts
 
   gave_all : Consumes source rest' (q.given ++ x.passes.fetched)
   gave_all = Consumes-trans source rest rest' q.given x.passes.fetched q.gave x.passes.gave
 
-  sizes : length q.given + length x.passes.fetched ≡ c.parser.offset + (length x.passes.part + length x.left)
-  sizes =
-      let o = ends_at keeps source rest taken written (lending stored chunk c) page q in
-      let a = length-append (drop c.mark (seen stored chunk) ++ unseen stored chunk) x.passes.fetched in
-      let b = length-append x.passes.part x.left in
-      let e = ap (λ (l : List ℕ). length l) whole_part in
-      omega (arith, o, a, b, e)
-
-  came : length x.passes.part ≡ x.passing.size
+  abbrev skipping : length x.passes.part ≡ x.passing.size
       → SkipCame 0 all_features (q.given ++ x.passes.fetched) q.events x.passes.part x.left x.skips.skip x.skipped.parser
-  came n =
-      skipping_goes_along.whole 0 all_features q.given c.parser (drop c.mark (seen stored chunk)) (unseen stored chunk) q.events
-      x.skips.skip x.skipped.parser x.passes.fetched x.passes.part x.left q.is_along x.skips.skips whole_part
-      (let z = x.skips.size in omega (arith, n, z))
+  skipping n =
+      came (head_stays keeps) q.given q.events c stored chunk q.is_along x.passing x.skipped x.skips x.passes.fetched x.passes.part x.left
+      x.passes.parts n
 
   over : length x.passes.part ≡ x.passing.size → StripProgress keeps source rest' taken written' new page'
       × (weight new < weight (lending stored chunk c))
   over n =
-      let k : SkipCame 0 all_features (q.given ++ x.passes.fetched) q.events x.passes.part x.left x.skips.skip x.skipped.parser = came n in
-      let along : Along 0 all_features (q.given ++ x.passes.fetched) new.state new.held (q.events ++ k.event ∷ []) =
-      subst₂ (λ (s : _) (h : List ℕ). Along 0 all_features (q.given ++ x.passes.fetched) s h (q.events ++ k.event ∷ [])) (sym x.state)
-      (sym x.held) k.is_along in
-      let stays : event_stays keeps k.event ≡ x.passing.stays = same_stays keeps k.event.report x.skips.skip.head k.head
+      let k : SkipCame 0 all_features (q.given ++ x.passes.fetched) q.events x.passes.part x.left x.skips.skip x.skipped.parser =
+      skipping n in
+      let stays : event_stays keeps k.event ≡ x.passing.stays = same_stays keeps k.event.report x.skips.skip k.says
       ∙ sym x.skips.stays in
       let one : kept_bytes keeps (k.event ∷ []) ≡ if_stays x.passing.stays x.passes.part =
       kept_one keeps k.event x.passing.stays stays ∙ ap (if_stays x.passing.stays) k.consumed in
       let (wrote, parts) = put_more keeps source rest taken written (lending stored chunk c) page q written'
       (if_stays x.passing.stays x.passes.part) page' k.event x.passes.puts one in
-      let e : new.eof ≡ false = x.eof ∙ (ap (λ (y : Cursor). y.is_finished) x.skips.same ∙ w.goes_on) in
-      let o : new.state.offset + length new.held ≡ 0 + length (q.given ++ x.passes.fetched) =
-      answers_go_along.ends 0 all_features (q.given ++ x.passes.fetched) new.state new.held (q.events ++ k.event ∷ []) along in (
+      let e : new.eof ≡ false = x.eof ∙ (ap (λ (y : Cursor). y.is_finished) x.skips.same ∙ w.goes_on) in (
         record {
           given = q.given ++ x.passes.fetched;
           events = q.events ++ k.event ∷ [];
-          is_along = along;
+          is_along = is_along (head_stays keeps) q.given q.events c stored chunk q.is_along x.passing x.skipped x.skips x.passes.fetched
+              x.passes.part x.left x.passes.parts n new x.state x.held;
           gave = gave_all;
           at_end = λ z. absurd (let no : true ≡ false = sym z ∙ e in cc);
           lines = q.lines ++ x.passes.puts.moved;
           wrote = wrote;
           parts = parts;
         },
-        lighter_after n e o,
+        lighter_after (head_stays keeps) q.given q.events c stored chunk q.is_along x.passing x.skipped x.skips x.passes.fetched
+            x.passes.part x.left x.passes.parts n new x.state x.held w.below w.goes_on e,
       )
-    where
-      lighter_after : length x.passes.part ≡ x.passing.size → new.eof ≡ false
-          → new.state.offset + length new.held ≡ 0 + length (q.given ++ x.passes.fetched) → weight new < weight (lending stored chunk c)
-      lighter_after n e o =
-          let l = ends_at keeps source rest taken written (lending stored chunk c) page q in
-          let a = length-append q.given x.passes.fetched in
-          let h = ap (λ (y : List ℕ). length y) x.held in
-          let b = w.below in
-          let f = x.skips.fewer in
-          let z = sizes in
-          let g : (lending stored chunk c).eof ≡ false = w.goes_on in
-          rw (e, g) (omega (arith, l, a, h, b, f, z, n, o))
 
   -- the stream ends within the part
   cut_off : (e : Error) → fault_at e ≡ at_offset UnexpectedEof x.passing.from → length x.passes.part < x.passing.size → IsAtEnd rest'
       → x.left ≡ [] → (written'' : Option (List ℕ)) → Appends written' written'' page'
       → IsStreamed keeps (from_to source rest') (from_to taken written'') (Fault e)
   cut_off e at n end none written'' v =
-      let whole : (drop c.mark (seen stored chunk) ++ unseen stored chunk) ++ x.passes.fetched ≡ x.passes.part =
-      whole_part ∙ (ap (λ (l : List ℕ). x.passes.part ++ l) none ∙ append-nil x.passes.part) in
-      let z = x.skips.size in
-      let wl = ap (λ (l : List ℕ). length l) whole in
-      let top = x.skips.skips.fits in
+      let whole : held_by x.skipped stored chunk ++ x.passes.fetched ≡ x.passes.part =
+      x.passes.parts ∙ (ap (λ (l : List ℕ). x.passes.part ++ l) none ∙ append-nil x.passes.part) in
+      let short = is_short (head_stays keeps) q.given q.events c stored chunk q.is_along x.passing x.skipped x.skips x.passes.fetched
+      x.passes.part x.left x.passes.parts n none in
       let reading : Reading (q.given ++ x.passes.fetched) 0 all_features
-      (q.events ++ last_event (fault (at_offset UnexpectedEof x.skips.skip.from)) ∷ []) =
-      skipping_goes_along.short 0 all_features q.given c.parser (drop c.mark (seen stored chunk)) (unseen stored chunk) q.events
-      x.skips.skip x.skipped.parser x.passes.fetched q.is_along x.skips.skips (omega (arith, wl, n, z)) in
-      let consumed = answers_go_along.consumed 0 all_features q.given c.parser
-      (drop c.mark (seen stored chunk) ++ unseen stored chunk) q.events q.is_along in
-      let size = sizes in
-      let nl = ap (λ (l : List ℕ). length l) none in
-      let a = length-append q.given x.passes.fetched in
+      (q.events ++ last_event (fault (at_offset UnexpectedEof x.passing.from)) ∷ []) =
+      reads_short (head_stays keeps) q.given q.events c stored chunk q.is_along x.passing x.skipped x.skips x.passes.fetched short in
+      let below = is_below (head_stays keeps) q.given q.events c stored chunk q.is_along x.passing x.skipped x.skips x.passes.fetched
+      short in
+      let same = same_held (head_stays keeps) q.given q.events c stored chunk q.is_along x.passing x.skipped x.skips x.passes.fetched in
+      let consumed = answers_go_along.consumed 0 all_features q.given c.parser (held_by c stored chunk) q.events q.is_along in
       record {
         given = q.given ++ x.passes.fetched;
         first = q.events;
-        end = fault (at_offset UnexpectedEof x.skips.skip.from);
+        end = fault (at_offset UnexpectedEof x.passing.from);
         partial = if_stays x.passing.stays x.passes.part;
         unread = dropped x.passing.stays x.passes.part;
         gave = gave_all;
-        parts = ap (λ (l : List ℕ). l ++ x.passes.fetched) consumed
-            ∙ (append_assoc (consumed_by q.events) (drop c.mark (seen stored chunk) ++ unseen stored chunk) x.passes.fetched
+        parts = ap (λ (l : List ℕ). l ++ x.passes.fetched) (consumed ∙ ap (λ (l : List ℕ). consumed_by q.events ++ l) (sym same))
+            ∙ (append_assoc (consumed_by q.events) (held_by x.skipped stored chunk) x.passes.fetched
             ∙ ap (λ (l : List ℕ). consumed_by q.events ++ l) (whole ∙ sym (both_parts x.passing.stays x.passes.part)));
         wrote = subst (Appends taken written'') all_written (Appends-trans taken written' written'' (q.lines ++ x.passes.puts.moved) page'
             (Appends-trans taken written written' q.lines x.passes.puts.moved q.wrote x.passes.puts.writes) v);
-        ends = at ∙ ap (at_offset UnexpectedEof) x.skips.from;
+        ends = at;
         within = λ l. record {
           reading = reading;
           all = Consumes-whole source rest' (q.given ++ x.passes.fetched)
               (λ (input : List ℕ). Reading input 0 all_features
-              (q.events ++ last_event (fault (at_offset UnexpectedEof x.skips.skip.from)) ∷ [])) gave_all end reading;
+              (q.events ++ last_event (fault (at_offset UnexpectedEof x.passing.from)) ∷ [])) gave_all end reading;
         };
-        past_the_top = λ h. absurd (omega (arith, h, top, size, nl, a, n, z));
+        past_the_top = λ h. absurd (omega (arith, h, below));
         strips = λ k. absurd (let no : Fault e ≡ End = k in cc);
       }
     where
@@ -577,3 +541,8 @@ pub wrote_more : (source rest taken written written' : Option (List ℕ)) (waiti
 wrote_more source rest taken written written' waiting e w v =
     let (some, a) = cut_wrote written written' waiting e v in
     record { given = w.given; some = w.some ++ some; gave = w.gave; wrote = Appends-trans taken written written' w.some some w.wrote a }
+
+pub up_wrote : (source rest taken written : Option (List ℕ)) (stays : Bool) (missing : ℕ) (chunk waiting : List ℕ) (e : ListError)
+    → GivesUp source rest taken written stays missing chunk waiting e → WroteSome (from_to source rest) (from_to taken written)
+up_wrote source rest taken written stays missing chunk waiting e w =
+    record { given = w.given; some = w.some; gave = w.gave; wrote = w.wrote }

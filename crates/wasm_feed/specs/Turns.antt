@@ -1,16 +1,21 @@
 -- What a listing does after a result of the parser.
-use Rattle.std.specs.Prelude.{◌≡◌, ℕ, List, [], Option, Result, Ok, Err, if◌then◌else◌}
+use Rattle.std.specs.Prelude.{◌≡◌, ℕ, false, List, [], Option, Some, None, Result, Ok, Err, if◌then◌else◌}
 use Rattle.wasm_base.specs.FaultAt.{fault_at}
 use Rattle.wasm_base.specs.declared.error.Error.{Error}
 use Rattle.wasm_grammar.specs.Content.{fault}
 use Rattle.wasm_parser.specs.ParseAnswer.{report_of, is_end}
 use Rattle.wasm_grammar.specs.Reading.{Report, stream_end}
-use Rattle.wasm_lines.specs.Listing.{line_of}
+use Rattle.wasm_parser.specs.SkipNext.{skip_is}
+use Rattle.wasm_lines.specs.Listing.{line_of, skip_text}
 use Rattle.wasm_lines.specs.Page.{IsCut, PutsBytes}
 use Rattle.wasm_feed.specs.declared.feeder.Step.{Step}
 use Rattle.wasm_feed.specs.declared.feeder.Step.TheVariants.{NeedMoreData, Parsed}
 use Rattle.wasm_feed.specs.declared.listing.Ended.TheVariants as how
 use Rattle.wasm_lines.specs.declared.devices.ListError.{ListError}
+use Rattle.wasm_lines.specs.declared.digits.Base.TheVariants.{Decimal}
+use Rattle.wasm_feed.specs.Passing.{SkipsHere}
+use Rattle.wasm_feed.specs.declared.feeder.Cursor.{Cursor}
+use Rattle.wasm_feed.specs.declared.listing.Dropped.{Dropped}
 use Rattle.wasm_feed.specs.declared.listing.Turn.{Turn}
 use Rattle.wasm_feed.specs.declared.listing.Turn.TheVariants as turn
 
@@ -36,3 +41,12 @@ abbrev pub TakesTurn : (taken written : Option (List ℕ)) (waiting new : List �
 TakesTurn taken written waiting new answer (Ok next) =
     PutsBytes taken written waiting (line_after answer) new × (next ≡ turn_after answer)
 TakesTurn taken written waiting new answer (Err e) = IsCut taken written waiting e
+
+-- The parser skipped a part that is dropped, whose line is known.
+pub record DropsHere (old : Cursor) (bytes : List ℕ) (dropped : Dropped) (new : Cursor) : Type 0 where
+  pub skips : SkipsHere (λ head. false) old bytes dropped.passing new
+  pub line : skip_text Decimal (skip_is dropped.part) ≡ skip_text Decimal skips.skip
+
+abbrev pub DropsIfAny : Cursor → (bytes : List ℕ) → Option Dropped → Cursor → Type 0
+DropsIfAny old bytes (Some dropped) new = DropsHere old bytes dropped new
+DropsIfAny old bytes None new = new ≡ old

@@ -39,6 +39,7 @@ mod events;
 mod feeder;
 pub mod laws;
 mod listing;
+mod passing;
 mod pieces;
 mod streaming;
 mod stripping;

@@ -1,14 +1,21 @@
 // The listing of a stream.
-ghost use Rattle.std.specs.Prelude.{◌≡◌, ◌≤◌};
-ghost use Rattle.wasm_lines.specs.Calls.{device_of, output_failed};
+ghost use Rattle.std.specs.Prelude.{◌≡◌, ◌+◌, ◌≤◌, length, vec_len, vec_capacity};
+ghost use Rattle.wasm_lines.specs.Calls.{change_of, device_of, input_failed, output_failed};
+ghost use Rattle.wasm_lines.specs.Listing.{line_of, skip_text};
+ghost use Rattle.wasm_lines.specs.declared.digits.Base.TheVariants.{Decimal};
+ghost use Rattle.wasm_parser.specs.SkipNext.{skip_is};
+ghost use Rattle.wasm_feed.specs.Beside.{beside, lending};
+ghost use Rattle.wasm_feed.specs.Cursors.{feed_of};
 ghost use Rattle.wasm_feed.specs.Lists.{ListsSource};
-ghost use Rattle.wasm_feed.specs.Turns.{TakesTurn};
+ghost use Rattle.wasm_feed.specs.Progress.{ReadsOn};
+ghost use Rattle.wasm_feed.specs.Turns.{DropsIfAny, TakesTurn};
 
 use crate::ahead::Ahead;
 use crate::feeder::{Cursor, Step, parse_next, seen};
+use crate::passing::{Passing, pass_part};
 use std::alloc::{Allocator, Global};
 use wasm_lines::{ListError, Page, Sink, Source};
-use wasm_parser::{Error, Parser, Payload, Result as ParserResult};
+use wasm_parser::{Error, Parser, PartHead, Payload, Result as ParserResult, SkippedPart};
 
 /// The end of a stream that was listed or dumped: without a fault, or at the first fault.
 ///
@@ -67,6 +74,85 @@ fn put_answer<A: Allocator, W: Sink>(
     }
 }
 
+// A part that was skipped, whose bytes are dropped.
+#[derive(Drop)]
+struct Dropped {
+    passing: Passing,
+    // The part without its name, so that it borrows nothing: its line has none.
+    part: SkippedPart<'static>,
+}
+
+// The part without its name.
+fn without_name(part: SkippedPart<'_>) -> SkippedPart<'static>
+    ensures { skip_text Decimal (skip_is result) ≡ skip_text Decimal (skip_is part.entry) }
+{
+    let head = match part.head {
+        PartHead::Custom { data_offset, .. } => PartHead::Custom {
+            name: "",
+            data_offset,
+        },
+        PartHead::Items { id, count } => PartHead::Items { id, count },
+        PartHead::Unknown { id } => PartHead::Unknown { id },
+        PartHead::Body => PartHead::Body,
+    };
+    SkippedPart {
+        range: part.range,
+        head,
+    }
+}
+
+// Skips the part at the cursor, if its first fields are in these bytes.
+fn skip_dropped(cursor: &mut Cursor, bytes: &[u8]) -> Option<Dropped>
+    ensures { DropsIfAny cursor.old bytes.now result cursor.new }
+{
+    let start = cursor.offset();
+    let part = cursor.skip_next(bytes)?;
+    Some(Dropped {
+        passing: Passing {
+            from: part.range.start,
+            size: part.range.end - start,
+            stays: false,
+        },
+        part: without_name(part),
+    })
+}
+
+// Writes the page out, and reads on: drops the part at the cursor and puts its line on the page; or reads more, if its
+// first fields are not here. Returns the fault of a stream that ends within a part that was skipped, once all is written.
+fn read_on<A: Allocator, R: Source, W: Sink>(
+    cursor: &mut Cursor,
+    stored: &mut Vec<u8, A>,
+    ahead: &mut Ahead<A>,
+    page: &mut Page<A>,
+    input: &mut R,
+    output: &mut W,
+) -> Result<Option<Error>, ListError>
+    requires { vec_len stored.old + length ahead.old ≤ vec_capacity stored.old }
+    ensures reads { ReadsOn line_of (change_of R.remaining input.old input.new)
+        (change_of W.taken output.old output.new)
+        (lending stored.old.items ahead.old cursor.old) page.old
+        (beside (feed_of stored.new.items cursor.new) ahead.new) page.new result }
+    ensures source { R.has_failed input.new ≡ input_failed result (R.has_failed input.old) }
+    ensures sink { W.has_failed output.new ≡ output_failed result (W.has_failed output.old) }
+{
+    page.write_out(output)?;
+    let Some(dropped) = skip_dropped(cursor, seen(stored, ahead.bytes())) else {
+        ahead.refill(cursor, stored, input)?;
+        return Ok(None);
+    };
+    match pass_part(dropped.passing, cursor, stored, ahead, page, input, output)? {
+        None => {
+            page.put_line(&dropped.part, output)?;
+            Ok(None)
+        }
+        Some(error) => {
+            page.put_line(&error, output)?;
+            page.write_out(output)?;
+            Ok(Some(error))
+        }
+    }
+}
+
 /// Reads a stream and writes its listing like `list`, with any allocator.
 ///
 /// # Errors
@@ -95,8 +181,17 @@ pub fn list_in<A: Allocator + Copy, R: Source, W: Sink>(
         match turn? {
             Turn::Advance => ahead.pass_borrowed(&mut cursor, &stored),
             Turn::Read => {
-                page.write_out(output)?;
-                ahead.refill(&mut cursor, &mut stored, input)?;
+                let fault = read_on(
+                    &mut cursor,
+                    &mut stored,
+                    &mut ahead,
+                    &mut page,
+                    input,
+                    output,
+                )?;
+                if let Some(error) = fault {
+                    return Ok(Ended::Fault(error));
+                }
             }
             Turn::End(ended) => {
                 page.write_out(output)?;
@@ -109,8 +204,9 @@ pub fn list_in<A: Allocator + Copy, R: Source, W: Sink>(
 /// Reads a stream from a source and writes its listing to a sink: a line for each event.
 ///
 /// It reads at most `piece` bytes at once, which must be at least 1. It writes the lines of all decided events before
-/// it reads more. It buffers the undecided bytes, the last chunk and at most 65,536 bytes of lines. Offsets are in bytes
-/// from the start of the stream, which is offset 0.
+/// it reads more. It buffers one chunk, at most 65,536 bytes of lines, and the first fields of a part. The parts of a
+/// well-formed stream are not buffered, however large they are. Offsets are in bytes from the start of the stream, which
+/// is offset 0.
 ///
 /// A fault of the stream is no error: its line is written, and `Ended::Fault` is returned. A stream that ends beyond
 /// the offset 2^64 - 1 has the fault `OffsetRange`.

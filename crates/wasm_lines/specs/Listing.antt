@@ -8,6 +8,7 @@ use Rattle.wasm_grammar.specs.Reading.{Report, version, counted, start_section, 
 use Rattle.wasm_grammar.specs.Reading.{code_entry, custom_section, unknown_section, stream_end, Event}
 use Rattle.wasm_grammar.specs.declared.encoding.Encoding.{Encoding}
 use Rattle.wasm_grammar.specs.declared.encoding.Encoding.TheVariants.{Module, Component}
+use Rattle.wasm_parser.specs.SkipNext.{Head, Skip, custom, items, unknown, body}
 use Rattle.wasm_lines.specs.Offsets.{offset_text}
 use Rattle.wasm_lines.specs.declared.digits.Base.{Base}
 use Rattle.wasm_lines.specs.declared.digits.Base.TheVariants.{Decimal}
@@ -53,6 +54,17 @@ report_text base (unknown_section id contents from to) = codes "unknown"
 report_text base (stream_end (fault f)) = codes "fault"
     ++ (offset_field base f.offset ++ (codes " " ++ (message_of f.fault ++ fault_number f.number)))
 report_text base (stream_end (ended offset)) = codes "end" ++ offset_field base offset
+
+-- the text of a part with these first fields, whose offsets are written so
+abbrev pub head_text : Base → (offsets : List ℕ) → Head → List ℕ
+head_text base offsets (custom text data_offset) = codes "custom" ++ (offsets ++ offset_field base data_offset)
+head_text base offsets (items id count) = codes "section" ++ (field id ++ (offsets ++ field count))
+head_text base offsets (unknown id) = codes "unknown" ++ (field id ++ offsets)
+head_text base offsets body = codes "body" ++ offsets
+
+-- the text of a part by its first fields, with offsets in this base: that of what is reported of it
+abbrev pub skip_text : Base → Skip → List ℕ
+skip_text base s = head_text base (offset_field base s.from ++ offset_field base s.to) s.head
 
 -- the line of what is reported: its text, and a line feed
 abbrev pub line_in : Base → Report → List ℕ

@@ -2,15 +2,16 @@
 ghost use Rattle.std.specs.List.{list_any};
 ghost use Rattle.std.specs.Prelude.{◌≡◌, ◌≤◌, ◌+◌, ◌++◌, codes, false, length, nat_eq, take};
 ghost use Rattle.wasm_parser.specs.ParseAnswer.{report_of};
+ghost use Rattle.wasm_parser.specs.SkipNext.{skip_is};
 ghost use Rattle.wasm_base.specs.FaultAt.{fault_at};
 ghost use Rattle.wasm_grammar.specs.Content.{fault};
 ghost use Rattle.wasm_grammar.specs.Reading.{code_start, stream_end};
-ghost use Rattle.wasm_lines.specs.Listing.{encoding_name as name_of, field, fault_number, offset_field, report_text};
+ghost use Rattle.wasm_lines.specs.Listing.{encoding_name as name_of, field, fault_number, offset_field, report_text, skip_text};
 
 use crate::digits::{Base, write_number, write_offset};
 use crate::short_text::{ShortText, write_word};
 use std::ops::Range;
-use wasm_parser::{CountedSection, Encoding, Error, Payload};
+use wasm_parser::{Encoding, Error, PartHead, Payload, SkippedPart};
 
 /// Returns the name of an encoding in listings: `module` or `component`.
 pub fn encoding_name(encoding: Encoding) -> &'static str
@@ -69,18 +70,25 @@ fn write_range(
 }
 
 // Writes a section that begins with a count.
-fn write_counted(bytes: &mut [u8], at: usize, base: Base, section: &CountedSection) -> usize
+fn write_counted(
+    bytes: &mut [u8],
+    at: usize,
+    base: Base,
+    id: u8,
+    range: &Range<u64>,
+    count: u32,
+) -> usize
     requires { at + 100 ≤ length bytes.old }
     ensures short { result ≤ at + 100 }
     ensures written { take result bytes.new ≡ take at bytes.old
-        ++ (codes "section" ++ (field section.now.id ++ ((offset_field base section.now.range.start
-        ++ offset_field base section.now.range.end) ++ field section.now.count))) }
+        ++ (codes "section" ++ (field id ++ ((offset_field base range.now.start
+        ++ offset_field base range.now.end) ++ field count))) }
 {
     let at = write_word(bytes, at, "section");
-    let at = write_field(bytes, at, u64::from(section.id));
-    let at = write_place(bytes, at, base, section.range.start);
-    let at = write_place(bytes, at, base, section.range.end);
-    write_field(bytes, at, u64::from(section.count))
+    let at = write_field(bytes, at, u64::from(id));
+    let at = write_place(bytes, at, base, range.start);
+    let at = write_place(bytes, at, base, range.end);
+    write_field(bytes, at, u64::from(count))
 }
 
 // Writes the start of a code section.
@@ -249,9 +257,28 @@ pub fn write_payload(bytes: &mut [u8], at: usize, base: Base, payload: &Payload)
         Payload::UnknownSection { id, range, .. } => write_unknown(bytes, at, base, *id, range),
         Payload::End(offset) => write_end(bytes, at, base, *offset),
         _ => match payload.as_counted() {
-            Some(section) => write_counted(bytes, at, base, &section),
+            Some(section) => {
+                write_counted(bytes, at, base, section.id, &section.range, section.count)
+            }
             None => unreachable!(),
         },
+    }
+}
+
+// Writes the line of a part that was skipped.
+fn write_skipped(bytes: &mut [u8], at: usize, base: Base, part: &SkippedPart<'_>) -> usize
+    requires { at + 100 ≤ length bytes.old }
+    ensures short { result ≤ at + 100 }
+    ensures written { take result bytes.new ≡ take at bytes.old
+        ++ skip_text base (skip_is part.now) }
+{
+    match &part.head {
+        PartHead::Custom { data_offset, .. } => {
+            write_custom(bytes, at, base, &part.range, *data_offset)
+        }
+        PartHead::Items { id, count } => write_counted(bytes, at, base, *id, &part.range, *count),
+        PartHead::Unknown { id } => write_unknown(bytes, at, base, *id, &part.range),
+        PartHead::Body => write_body(bytes, at, base, &part.range),
     }
 }
 
@@ -306,6 +333,19 @@ impl ShortText for Payload<'_> {
     #[inline(always)]
     fn write_at(&self, bytes: &mut [u8], at: usize) -> usize {
         write_payload(bytes, at, Base::Decimal, self)
+    }
+}
+
+/// The line of a part that was skipped in a listing, without a line feed: that of the payload that it would have been.
+impl ShortText for SkippedPart<'_> {
+    ghost use Rattle.wasm_parser.specs.SkipNext.{skip_is};
+    ghost use Rattle.wasm_lines.specs.Listing.{skip_text};
+    ghost use Rattle.wasm_lines.specs.declared.digits.Base.TheVariants.{Decimal};
+
+    ghost text = { λ part. skip_text Decimal (skip_is part) };
+
+    fn write_at(&self, bytes: &mut [u8], at: usize) -> usize {
+        write_skipped(bytes, at, Base::Decimal, self)
     }
 }
 

@@ -4,11 +4,10 @@ use Rattle.std.proofs.Common.{append_assoc}
 use Rattle.wasm_base.specs.FaultAt.{at_offset}
 use Rattle.wasm_base.specs.declared.fault.Fault.TheVariants.{UnexpectedEof}
 use Rattle.wasm_grammar.specs.Content.{fault}
-use Rattle.wasm_grammar.specs.Grammar.{Tile}
 use Rattle.wasm_grammar.specs.Reading.{Event, last_event, Reading, tile_report}
 use Rattle.wasm_parser.specs.Along.{Along}
 use Rattle.wasm_parser.specs.ParserState.{ParserState}
-use Rattle.wasm_parser.specs.SkipNext.{Skip, SkipsPart, PassesTile, SkipCame, SkippingGoesAlong, head_in}
+use Rattle.wasm_parser.specs.SkipNext.{Skip, SkipsPart, PassesTile, SkipCame, SkippingGoesAlong, skip_in}
 use Rattle.wasm_parser.proofs.Along.{pushed, event_here, offset_is, along_tile, reading_here}
 
 whole : (start features : ℕ) (given : List ℕ) (p : ParserState) (first others : List ℕ) (events : List Event) (skip : Skip)
@@ -26,9 +25,9 @@ whole start features given p first others events skip new more bytes rest a s w 
     let z = along_tile start features (given ++ more) p (first ++ (others ++ more)) events b t.next bytes rest new t.is_next l v t.state in
     record {
       event = event_here start features (given ++ more) p (first ++ (others ++ more)) events b t.next;
-      head = subst₂ (λ (f o : ℕ). head_in (tile_report f o (o + length t.next.bytes) t.next.shape) ≡ Some skip.head) b.has_features
+      says = subst₂ (λ (f o : ℕ). skip_in (tile_report f o (o + length t.next.bytes) t.next.shape) ≡ Some skip) b.has_features
           (offset_is start features (given ++ more) p (first ++ (others ++ more)) events b)
-          (subst (λ (x : ℕ). head_in (tile_report p.features p.offset x t.next.shape) ≡ Some skip.head) (sym t.ends) t.head);
+          (subst (λ (x : ℕ). skip_in (tile_report p.features p.offset x t.next.shape) ≡ Some skip) (sym t.ends) t.says);
       consumed = z.1;
       is_along = z.0;
     }

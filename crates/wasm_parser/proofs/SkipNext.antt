@@ -27,7 +27,7 @@ use Rattle.wasm_parser.specs.ReadsPart.{is_other}
 use Rattle.wasm_parser.specs.SkipNext as skip
 use Rattle.wasm_parser.specs.ParserState.{ParserState, known_context, grammar_of}
 use Rattle.wasm_parser.specs.StateAfter.{state_after}
-use Rattle.wasm_parser.specs.SkipNext.{Head, Skip, SkipsPart, head_in, report_with, skip_at, fields_at, stays, is_cut, is_in_order}
+use Rattle.wasm_parser.specs.SkipNext.{Head, Skip, SkipsPart, report_with, skip_in, skip_at, fields_at, stays, is_cut, is_in_order}
 use Rattle.wasm_parser.specs.SkipNext.{skip_of_head, sized_skip_at, content_skip_at, body_skip_at, section_skip_at}
 use Rattle.wasm_grammar.proofs.parts.Verdicts.{agree-more}
 
@@ -147,11 +147,20 @@ abbrev place_or : Place → Outcome Head → Place
 place_or p (Ok x) = x.1
 place_or p (Err e) = p
 
+-- a part with content of this size at an offset
+abbrev sized : (offset size : ℕ) → Head → Skip
+sized offset size head = record { from = offset; to = offset + size; head = head }
+
+-- a tile of this shape is the part
+abbrev SaysSkip : (features : ℕ) → Skip → Shape → Type 0
+SaysSkip features s shape = (from : ℕ) → skip_in (tile_report features from s.to shape) ≡ Some s
+
 -- what content that goes on with these bytes is: of this form, right, and with these first fields
 pub record Fields (context : SectionContext) (features : ℕ) (form : Form) (id : ℕ) (p : Place) (head : Head) (zs : List ℕ) : Type 0 where
   pub right : wrong_content form p.offset (p.rest ++ zs) ≡ None
   pub counts : wrong_data context form id (p.offset + length (p.rest ++ zs)) (p.rest ++ zs) ≡ None
-  pub says : (to : ℕ) → head_in (section_report features p.offset to form id (p.rest ++ zs)) ≡ Some head
+  pub says : skip_in (section_report features p.offset (p.offset + length (p.rest ++ zs)) form id (p.rest ++ zs))
+      ≡ Some (sized p.offset (length (p.rest ++ zs)) head)
 
 abbrev pub FieldsOf : SectionContext → (features : ℕ) → Kind → (id : ℕ) → Place → Head → Type 0
 FieldsOf context features (whole form) id p head = (zs : List ℕ) → Fields context features form id p head zs
@@ -168,7 +177,7 @@ fields_say context announced features (whole custom) id p q head c f = λ zs. by
         → (zs : List ℕ) → Fields context features custom id p head zs
     by_name (named text used) e f zs =
         let m = same_name p.rest zs text used e in
-        record { right = rw m refl; counts = refl; says = λ to. grind arith }
+        record { right = rw m refl; counts = refl; says = grind arith }
     by_name (refused g i) e f zs = cc
 fields_say context announced features (whole items) id p q head c f = λ zs. by_count (number VarU32 p.rest) refl f zs
   where
@@ -189,13 +198,13 @@ fields_say context announced features (whole items) id p q head c f = λ zs. by_
         by_other false o f = record {
           right = rw m refl;
           counts = rw (m, c, o) refl;
-          says = λ to. rw m (ap (λ (x : Outcome Head). Some (head_or head x)) f);
+          says = rw m (ap (λ (x : Outcome Head). Some (sized p.offset (length (p.rest ++ zs)) (head_or head x))) f);
         }
     by_count _ e f zs = cc
 fields_say context announced features (whole unknown) id p q head c f = λ zs. record {
   right = refl;
   counts = refl;
-  says = λ to. ap (λ (x : Outcome Head). Some (head_or head x)) f;
+  says = ap (λ (x : Outcome Head). Some (sized p.offset (length (p.rest ++ zs)) (head_or head x))) f;
 }
 fields_say context announced features (whole index) id p q head c f = cc
 fields_say context announced features (whole data_count) id p q head c f = cc
@@ -209,7 +218,7 @@ pub record SkipsAs (g : Grammar) (features : ℕ) (p : Place) (s : Skip) : Type 
   pub ends : p.offset + size ≡ s.to
   pub missing : length p.rest < size
   pub fits : s.to < 2 ^ 64
-  pub skips : Skips g p.rest size s.from (λ shape. (from : ℕ) → head_in (tile_report features from s.to shape) ≡ Some s.head)
+  pub skips : Skips g p.rest size s.from (SaysSkip features s)
 
 abbrev skip_or : Skip → Outcome Skip → Skip
 skip_or s (Ok x) = x.0
@@ -223,14 +232,21 @@ not_is false e = refl
 cut_short : (size : ℕ) (p : Place) → is_cut size p ≡ true → (length p.rest < size) × (p.offset + size < 2 ^ 64)
 cut_short size p e = let q = and_parts _ _ e in (ltb-true _ _ q.0, ltb-true _ _ q.1)
 
+body_is : (offset size features : ℕ) (content : List ℕ) → length content ≡ size
+    → skip_in (body_report (window_over features (offset + size - length content) content)) ≡ Some (sized offset size skip.body)
+body_is offset size features content n =
+    let from : offset + size - length content ≡ offset = omega (arith, n) in
+    let to : offset + size - length content + length content ≡ offset + size = omega (arith, n) in
+    λ i. Some (record { from = from i; to = to i; head = skip.body })
+
 body_skips : (bodies code_bytes features : ℕ) (p : Place) (size used : ℕ) → number VarU32 p.rest ≡ read size used
     → length (drop used p.rest) < size → nat_eq bodies 0 ≡ false → nat_lt code_bytes (used + size) ≡ false
     → Skips (body_grammar bodies code_bytes p.offset) p.rest (used + size) (p.offset + used)
-    (λ shape. (from : ℕ) → head_in (tile_report features from (p.offset + used + size) shape) ≡ Some skip.body)
+    (SaysSkip features (sized (p.offset + used) size skip.body))
 unfolding body_grammar verdict
 body_skips zero code_bytes features p size used n l b c = cc
 body_skips (suc bodies) code_bytes features p size used n l b c =
-    let Says : Shape → Type 0 = λ shape. (from : ℕ) → head_in (tile_report features from (p.offset + used + size) shape) ≡ Some skip.body in
+    let Says : Shape → Type 0 = SaysSkip features (sized (p.offset + used) size skip.body) in
     skips_number p.offset
     (λ value width. check (when (nat_lt code_bytes (width + value)) (at_offset UnexpectedEof p.offset))
     (bytes value (p.offset + width) (λ content. accept (code_entry content))))
@@ -238,7 +254,12 @@ body_skips (suc bodies) code_bytes features p size used n l b c =
     (skips_check (when (nat_lt code_bytes (used + size)) (at_offset UnexpectedEof p.offset)) _ (drop used p.rest) size (p.offset + used)
     Says (rw c refl)
     (skips_content size (p.offset + used) (λ content. accept (code_entry content)) (drop used p.rest) Says l
-    (λ zs m. (code_entry (drop used p.rest ++ zs), λ rest. refl, λ from. refl))))
+    (λ zs m. (
+      code_entry (drop used p.rest ++ zs),
+      λ rest. refl,
+      λ from. body_is (p.offset + used) size features
+          (drop used p.rest ++ zs) m,
+    ))))
 
 pub body_skips_as : (q : ParserState) (features : ℕ) (p after : Place) (s : Skip) → body_skip_at q p ≡ Ok (s, after)
     → SkipsAs (body_grammar q.bodies q.code_bytes p.offset) features p s
@@ -278,28 +299,29 @@ body_skips_as q features p after s f = by_size (number VarU32 p.rest) refl f
 content_skips : (q : ParserState) (features : ℕ) (form : Form) (id size : ℕ) (p : Place) (head : Head) → length p.rest < size
     → ((zs : List ℕ) → Fields (known_context q) features form id p head zs)
     → Skips (whole_grammar (known_context q) form id p.offset size) p.rest size p.offset
-    (λ shape. (from : ℕ) → head_in (tile_report features from (p.offset + size) shape) ≡ Some head)
+    (SaysSkip features (sized p.offset size head))
 unfolding verdict
 content_skips q features form id size p head l f =
     skips_content size p.offset
     (λ content. check (wrong_content form p.offset content)
     (check (wrong_data (known_context q) form id (p.offset + size) content) (accept (section form id content)))) p.rest
-    (λ shape. (from : ℕ) → head_in (tile_report features from (p.offset + size) shape) ≡ Some head) l
+    (SaysSkip features (sized p.offset size head)) l
     (λ zs n.
     let x = f zs in
     let counts : wrong_data (known_context q) form id (p.offset + size) (p.rest ++ zs) ≡ None = rw n at x.counts in
     let w : p.offset + size - length (p.rest ++ zs) ≡ p.offset = omega (arith, n) in (
       section form id (p.rest ++ zs),
       λ rest. rw (x.right, counts) refl,
-      λ from. rw w (x.says (p.offset + size)),
+      λ from. rw w (subst (λ (k : ℕ). skip_in (section_report features p.offset (p.offset + k) form id (p.rest ++ zs))
+          ≡ Some (sized p.offset k head)) n x.says),
     ))
 
 sized_skips : (q : ParserState) (features : ℕ) (kind : Kind) (id field size : ℕ) (p : Place) (head : Head) → p.offset + size < 2 ^ 64
     → is_in_order q kind id ≡ true → length p.rest < size → FieldsOf (known_context q) features kind id p head
     → Skips (after_length (known_context q) kind id field p.offset size) p.rest size p.offset
-    (λ shape. (from : ℕ) → head_in (tile_report features from (p.offset + size) shape) ≡ Some head)
+    (SaysSkip features (sized p.offset size head))
 sized_skips q features (whole form) id field size p head b o l f =
-    let Says : Shape → Type 0 = λ shape. (from : ℕ) → head_in (tile_report features from (p.offset + size) shape) ≡ Some head in
+    let Says : Shape → Type 0 = SaysSkip features (sized p.offset size head) in
     let fits : nat_lt (2 ^ 64 - 1) (p.offset + size) ≡ false = le-ltb _ _ (omega (arith, b)) in
     skips_check _ _ p.rest size p.offset Says (rw fits refl)
     (skips_check _ _ p.rest size p.offset Says (rw (not_is _ o) refl) (content_skips q features form id size p head l f))
@@ -337,8 +359,7 @@ section_skips_as q features p after s f = by_rest p.rest refl f
             let is : record { from = p.offset + 1 + used; to = p.offset + 1 + used + size; head = head } ≡ s =
             ap (λ (x : Outcome Skip). skip_or s x) f in
             let d = length-drop used r in
-            let Says : Shape → Type 0 = λ shape. (from : ℕ)
-            → head_in (tile_report features from (p.offset + 1 + used + size) shape) ≡ Some head in
+            let Says : Shape → Type 0 = SaysSkip features (sized (p.offset + 1 + used) size head) in
             subst (λ (x : Skip). SkipsAs (section_grammar (known_context q) p.offset) features (at (id ∷ r)) x) is (record {
               size = suc (used + size);
               ends = omega arith;
@@ -384,13 +405,13 @@ section_skips_as q features p after s f = by_rest p.rest refl f
 -- ---- the parser
 
 -- what is said to later parts is in the first fields
-same_state : (p : ParserState) (to : ℕ) (report : Report) (head : Head) → head_in report ≡ Some head
-    → state_after p to (report_with head) ≡ state_after p to report
-same_state p to (custom_section text data_offset window) head e = grind arith
-same_state p to (counted id count window) head e = grind arith
-same_state p to (unknown_section id contents from end) head e = grind arith
-same_state p to (body_report window) head e = grind arith
-same_state p to _ head e = cc
+same_state : (p : ParserState) (to : ℕ) (report : Report) (s : Skip) → skip_in report ≡ Some s
+    → state_after p to (report_with s.head) ≡ state_after p to report
+same_state p to (custom_section text data_offset window) s e = grind arith
+same_state p to (counted id count window) s e = grind arith
+same_state p to (unknown_section id contents from end) s e = grind arith
+same_state p to (body_report window) s e = grind arith
+same_state p to _ s e = cc
 
 at_grammar : (p : ParserState) (xs : List ℕ) (s : Skip) (after : Place) (b : Bool) → nat_eq (p.bodies + p.code_bytes) 0 ≡ b
     → cond b (section_skip_at p (record { features = p.features; offset = p.offset; rest = xs }))
@@ -419,8 +440,8 @@ skips_part p new xs s after h f n =
             next = t;
             is_next = v;
             ends = ends;
-            head = says p.offset;
-            state = n ∙ (same_state p s.to (tile_report p.features p.offset s.to t.shape) s.head (says p.offset)
+            says = says p.offset;
+            state = n ∙ (same_state p s.to (tile_report p.features p.offset s.to t.shape) s (says p.offset)
                 ∙ ap (λ (x : ℕ). state_after p x (tile_report p.features p.offset x t.shape)) (sym ends));
           };
       short = λ more l. k.skips.short more (omega (arith, l, k.ends));

@@ -1,12 +1,12 @@
 -- Skipping a section or body by its first fields. Core specification, Binary format, Modules.
 use Rattle.std.specs.Prelude.{◌≡◌, ℕ, ◌+◌, ◌-◌, ◌<◌, ◌≤◌, ◌^◌, ◌||◌, ◌&&◌, not, Bool, List, [], ◌∷◌, ◌++◌, length}
 use Rattle.std.specs.Prelude.{Option}
-use Rattle.std.specs.Prelude.{Some, None, Result, Ok, Err, is_some, nat_lt, nat_le, nat_eq, ◌==◌, if◌then◌else◌}
-use Rattle.wasm_base.specs.FaultAt.{FaultAt, at_offset}
+use Rattle.std.specs.Prelude.{Some, None, Ok, Err, is_some, nat_lt, nat_le, nat_eq, ◌==◌, if◌then◌else◌}
+use Rattle.wasm_base.specs.FaultAt.{at_offset}
 use Rattle.wasm_base.specs.Name.{byte_at, name_limit, text_at}
 use Rattle.wasm_base.specs.Number.{unsigned_at}
 use Rattle.wasm_base.specs.Outcome.{Outcome, ◌>>=◌}
-use Rattle.wasm_base.specs.Window.{Place, window_over}
+use Rattle.wasm_base.specs.Window.{Place, Window, window_over}
 use Rattle.wasm_base.specs.declared.fault.Fault.TheVariants.{UnexpectedEof}
 use Rattle.wasm_base.specs.declared.fault.NumberKind.TheVariants.{VarU32}
 use Rattle.wasm_grammar.specs.Content as content
@@ -128,21 +128,25 @@ abbrev pub state_after_skip : ParserState → Option Skip → ParserState
 state_after_skip p (Some skip) = state_after p skip.to (report_with skip.head)
 state_after_skip p None = p
 
--- the first fields of what is reported
-abbrev pub head_in : Report → Option Head
-head_in (custom_section text data_offset window) = Some (custom text data_offset)
-head_in (counted id count window) = Some (items id count)
-head_in (unknown_section id contents from to) = Some (unknown id)
-head_in (code_entry window) = Some body
-head_in other = None
+-- a part with these first fields, of which this window is the content
+abbrev pub windowed : Window → Head → Skip
+windowed window head = record { from = window.start; to = window.start + length window.bytes; head = head }
 
--- The next tile of a stream that goes on with these bytes is the part that was skipped, with the same first fields, and
--- the parser is after it.
+-- the part that is reported, if it is one that can be skipped
+abbrev pub skip_in : Report → Option Skip
+skip_in (custom_section text data_offset window) = Some (windowed window (custom text data_offset))
+skip_in (counted id count window) = Some (windowed window (items id count))
+skip_in (unknown_section id contents from to) = Some (record { from = from; to = to; head = unknown id })
+skip_in (code_entry window) = Some (windowed window body)
+skip_in other = None
+
+-- The next tile of a stream that goes on with these bytes is the part that was skipped, with the same first fields and
+-- offsets, and the parser is after it.
 pub record PassesTile (old : ParserState) (rest : List ℕ) (skip : Skip) (new : ParserState) : Type 0 where
   pub next : Tile
   pub is_next : verdict (grammar_of old) rest ≡ tile next
   pub ends : old.offset + length next.bytes ≡ skip.to
-  pub head : head_in (tile_report old.features old.offset skip.to next.shape) ≡ Some skip.head
+  pub says : skip_in (tile_report old.features old.offset skip.to next.shape) ≡ Some skip
   pub state : new ≡ state_after_tile old next
 
 -- Whatever bytes come after these, the parser has skipped the next part if they are enough, and otherwise the stream
@@ -159,11 +163,11 @@ abbrev pub SkipsNext : ParserState → (bytes : List ℕ) → Option Skip → Pa
 SkipsNext old bytes (Some skip) new = SkipsPart old bytes skip new
 SkipsNext old bytes None new = new ≡ old
 
--- The next event of a stream is the part that was skipped, with these bytes and first fields; the parser is after it.
+-- The next event of a stream is the part that was skipped, with these bytes; the parser is after it.
 pub record SkipCame (start features : ℕ) (given : List ℕ) (events : List Event) (bytes rest : List ℕ) (skip : Skip)
     (new : ParserState) : Type 0 where
   pub event : Event
-  pub head : head_in event.report ≡ Some skip.head
+  pub says : skip_in event.report ≡ Some skip
   pub consumed : event.consumed ≡ bytes
   pub is_along : Along start features given new rest (events ++ event ∷ [])
 

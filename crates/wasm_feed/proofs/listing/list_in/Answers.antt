@@ -6,9 +6,9 @@ use Rattle.wasm_feed.specs.Beside.{beside}
 use Rattle.wasm_feed.specs.Cursors.{feed_of}
 use Rattle.wasm_feed.specs.Feed.{empty_feed}
 use Rattle.wasm_lines.specs.Listing.{line_of}
-use Rattle.wasm_feed.proofs.Beside.{both, begun_beside, same_lighter, filled_alike}
+use Rattle.wasm_feed.proofs.Beside.{both, begun_beside, same_lighter}
 use Rattle.wasm_lines.proofs.ForCallers.{cut_of}
-use Rattle.wasm_feed.proofs.Progress.{begun, no_memory, cut, to_be_written, advanced, asked, listed_all, end_cut, not_filled}
+use Rattle.wasm_feed.proofs.Progress.{begun, no_memory, cut, advanced, asked, listed_all, end_cut}
 use Rattle.wasm_feed.proofs.listing.list_in.Goals as goal
 
 pub returns-in_err-vec : goal.returns-in_err-vec
@@ -73,35 +73,31 @@ events-preserved-in-Advance g c =
       output = grind (arith, common_steps);
     }
 
-pub returns-in_err-write_out-in-Read : goal.returns-in_err-write_out-in-Read
-returns-in_err-write_out-in-Read g c =
+pub returns-in_err-fault-in-Read : goal.returns-in_err-fault-in-Read
+returns-in_err-fault-in-Read g c =
     let a = c.parse_next-answer.ensures in
     let ready = c.in_ok-make_ready.ensures in
     let s = both _ _ _ _ _ _ _ _ _ ready.same ready.enough c.seen.ensures c.deref.ensures.value c.bytes.ensures a.parses a.shows a.finished
     a.wants in
     let t = c.in_ok-turn.ensures.takes in
-    let asks = (asked line_of _ _ _ _ _ _ c.events.invariant.progress _ _ s _ _ t.0 (sym c.in-Read.is ∙ t.1)).0 in
-    let e = err_from_is_err_and c.from_residual-in_err-write_out-in-Read.result c.from_residual-in_err-write_out-in-Read.ensures.1 in
+    let (asks, same) = asked line_of _ _ _ _ _ _ c.events.invariant.progress _ _ s _ _ t.0 (sym c.in-Read.is ∙ t.1) in
+    let e = err_from_is_err_and c.from_residual-in_err-fault-in-Read.result c.from_residual-in_err-fault-in-Read.ensures.1 in
     record {
-      lists = rw (e.1, e.2) (cut line_of _ _ _ _ _ _ asks.progress _ _ (cut_of _ _ _ _ c.in_err-write_out-in-Read.ensures.writes));
+      lists = rw (e.1, e.2) (c.in_err-fault-in-Read.ensures.reads _ _ asks);
       source = grind (arith, common_steps);
       sink = grind (arith, common_steps);
     }
 
-pub returns-in_err-refill-in-Read : goal.returns-in_err-refill-in-Read
-returns-in_err-refill-in-Read g c =
+pub returns-in-Some : goal.returns-in-Some
+returns-in-Some g c =
     let a = c.parse_next-answer.ensures in
     let ready = c.in_ok-make_ready.ensures in
     let s = both _ _ _ _ _ _ _ _ _ ready.same ready.enough c.seen.ensures c.deref.ensures.value c.bytes.ensures a.parses a.shows a.finished
     a.wants in
     let t = c.in_ok-turn.ensures.takes in
-    let asks = (asked line_of _ _ _ _ _ _ c.events.invariant.progress _ _ s _ _ t.0 (sym c.in-Read.is ∙ t.1)).0 in
-    let written = to_be_written line_of _ _ _ _ _ _ _ asks c.in_ok-write_out-in-Read.ensures.writes.0 in
-    let e = err_from_is_err_and c.from_residual-in_err-refill-in-Read.result c.from_residual-in_err-refill-in-Read.ensures.1 in
+    let (asks, same) = asked line_of _ _ _ _ _ _ c.events.invariant.progress _ _ s _ _ t.0 (sym c.in-Read.is ∙ t.1) in
     record {
-      lists = rw (e.1, e.2) (not_filled line_of _ _ _ _ _ written _
-          (beside (feed_of c.refill.new.stored.items c.refill.new.cursor) c.refill.new.self) _
-          c.in_err-refill-in-Read.ensures.refills);
+      lists = (rw c.in-Some.is at c.in_ok-fault-in-Read.ensures.reads) _ _ asks;
       source = grind (arith, common_steps);
       sink = grind (arith, common_steps);
     }
@@ -114,8 +110,7 @@ events-smaller g c =
     a.wants in
     let t = c.in_ok-turn.ensures.takes in
     let (asks, same) = asked line_of _ _ _ _ _ _ c.events.invariant.progress _ _ s _ _ t.0 (sym c.in-Read.is ∙ t.1) in
-    let written = to_be_written line_of _ _ _ _ _ _ _ asks c.in_ok-write_out-in-Read.ensures.writes.0 in
-    let less = (filled_alike line_of _ _ _ _ _ _ _ written c.in_ok-refill-in-Read.ensures.refills).1 in
+    let less = ((rw c.in_default.is at c.in_ok-fault-in-Read.ensures.reads) _ _ asks).1 in
     rw same at less
 
 pub events-preserved : goal.events-preserved
@@ -125,12 +120,9 @@ events-preserved g c =
     let s = both _ _ _ _ _ _ _ _ _ ready.same ready.enough c.seen.ensures c.deref.ensures.value c.bytes.ensures a.parses a.shows a.finished
     a.wants in
     let t = c.in_ok-turn.ensures.takes in
-    let asks = (asked line_of _ _ _ _ _ _ c.events.invariant.progress _ _ s _ _ t.0 (sym c.in-Read.is ∙ t.1)).0 in
-    let (written, none) = c.in_ok-write_out-in-Read.ensures.writes in
-    let after = (filled_alike line_of _ _ _ _ _ _ _ (to_be_written line_of _ _ _ _ _ _ _ asks written)
-    c.in_ok-refill-in-Read.ensures.refills).0 in
+    let (asks, same) = asked line_of _ _ _ _ _ _ c.events.invariant.progress _ _ s _ _ t.0 (sym c.in-Read.is ∙ t.1) in
     record {
-      progress = rw none after;
+      progress = ((rw c.in_default.is at c.in_ok-fault-in-Read.ensures.reads) _ _ asks).0;
       input = grind (arith, common_steps);
       output = grind (arith, common_steps);
     }

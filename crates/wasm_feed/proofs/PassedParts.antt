@@ -1,20 +1,19 @@
--- Stripping a stream while it is read.
-use Rattle.std.proofs.Common.{◌≡◌, ℕ, ◌+◌, ◌-◌, ◌<◌, Bool, true, false, length, Some, None, List, [], ◌∷◌, ◌++◌, take, drop, Option}
+-- A part that is forwarded or dropped chunk by chunk, after its first fields.
+use Rattle.std.proofs.Common.{◌≡◌, ℕ, ◌+◌, ◌-◌, ◌<◌, Bool, true, false, length, Some, None, List, [], ◌∷◌, ◌++◌, take, drop, Option, Err}
 use Rattle.std.proofs.Common.{refl, sym, ap, subst, ◌∙◌, arith, append-nil, append_assoc, length-append}
 use Rattle.std.proofs.lemmas.List.{take-append-drop}
-use Rattle.std.specs.Io.KnownBytes.{Appends, Consumes, IsAtEnd, Keeps}
+use Rattle.std.specs.Io.KnownBytes.{Appends, Consumes}
 use Rattle.std.proofs.KnownBytes.{Appends-nil, Appends-trans, Consumes-kept, Consumes-nil, Consumes-trans}
-use Rattle.wasm_lines.specs.Calls.{from_to}
 use Rattle.wasm_lines.specs.Page.{IsCut, PutsBytes, WritesHead}
 use Rattle.wasm_lines.specs.declared.devices.ListError.{ListError}
 use Rattle.wasm_lines.specs.declared.devices.ListError.TheVariants.{Input, Output, Memory}
-use Rattle.wasm_feed.specs.StripStream.{IsCutSomewhere, PassesMissing, PassesPart, Settles, TakesSome, WroteSome, if_stays}
+use Rattle.wasm_feed.specs.Passing.{FillsChunk, GivesUp, IsCutSomewhere, PassesMissing, PassesPart, Settles, TakesSome, held_by, if_stays}
 use Rattle.wasm_base.specs.FaultAt.{fault_at, at_offset}
 use Rattle.wasm_base.specs.declared.error.Error.{Error}
 use Rattle.wasm_base.specs.declared.fault.Fault.TheVariants.{UnexpectedEof}
-use Rattle.wasm_feed.specs.Beside.{seen, unseen}
+use Rattle.wasm_feed.specs.Beside.{seen}
 use Rattle.wasm_feed.specs.declared.feeder.Cursor.{Cursor}
-use Rattle.wasm_feed.specs.declared.streaming.Passing.{Passing}
+use Rattle.wasm_feed.specs.declared.passing.Passing.{Passing}
 
 -- ---- bytes that are put
 
@@ -45,13 +44,33 @@ cut_wrote taken written waiting Input w = absurd w
 
 -- ---- bytes that are taken from a chunk
 
-pub kept_some : (source rest taken : Option (List ℕ)) → Keeps source rest → WroteSome (from_to source rest) (from_to taken taken)
-kept_some source rest taken k = record {
+-- the source failed where nothing had been taken
+pub not_filled : (source rest taken : Option (List ℕ)) (stays : Bool) (most : ℕ) (chunk waiting : List ℕ)
+    → FillsChunk source rest chunk [] (Err Input) → 0 < most → GivesUp source rest taken taken stays most chunk waiting Input
+not_filled source rest taken stays most chunk waiting (k, none) some = record {
   given = [];
   some = [];
   gave = Consumes-kept source source rest [] (Consumes-nil source) k;
   wrote = Appends-nil taken;
+  drops = λ s. (refl, λ z. refl, rw none (omega (arith, some)));
 }
+
+-- bytes that stay could not be put
+pub not_put : (source rest taken written : Option (List ℕ)) (stays : Bool) (missing : ℕ) (chunk waiting fetched bytes : List ℕ)
+    (e : ListError) → Consumes source rest fetched → IsCut taken written bytes e → stays ≡ true
+    → GivesUp source rest taken written stays missing chunk waiting e
+not_put source rest taken written stays missing chunk waiting fetched bytes e g w s =
+    let (some, a) = cut_wrote taken written bytes e w in
+    record { given = fetched; some = some; gave = g; wrote = a; drops = λ n. absurd (let no : true ≡ false = sym s ∙ n in cc) }
+
+nil_both : (xs ys : List ℕ) → [] ≡ xs ++ ys → (xs ≡ []) × (ys ≡ [])
+nil_both [] ys e = (refl, sym e)
+nil_both (x ∷ xs) ys e = cc
+
+-- nothing is written for bytes that are dropped
+pub none_put : (taken written : Option (List ℕ)) (stays : Bool) (waiting part page : List ℕ)
+    (p : PutsBytes taken written waiting (if_stays stays part) page) → stays ≡ false → waiting ≡ [] → (p.moved ≡ []) × (page ≡ [])
+none_put taken written stays waiting part page p s z = nil_both p.moved page (rw (s, z) at p.waits)
 
 -- ---- the bytes of a part, chunk by chunk
 
@@ -148,14 +167,26 @@ passed_all source rest taken written stays missing left chunk waiting ahead page
   some = λ e. absurd (let no : true ≡ false = e in cc);
 }
 
-pub passed_wrote : (source rest taken written rest' written' : Option (List ℕ)) (stays : Bool) (missing left : ℕ)
-    (chunk waiting ahead page : List ℕ) → Passed source rest taken written stays missing chunk waiting left ahead page
-    → WroteSome (from_to rest rest') (from_to written written') → WroteSome (from_to source rest') (from_to taken written')
-passed_wrote source rest taken written rest' written' stays missing left chunk waiting ahead page p w = record {
+pub passed_up : (source rest taken written rest' written' : Option (List ℕ)) (stays : Bool) (missing left : ℕ)
+    (chunk waiting ahead page : List ℕ) (e : ListError)
+    → Passed source rest taken written stays missing chunk waiting left ahead page
+    → GivesUp rest rest' written written' stays left ahead page e → GivesUp source rest' taken written' stays missing chunk waiting e
+passed_up source rest taken written rest' written' stays missing left chunk waiting ahead page e p w = record {
   given = p.fetched ++ w.given;
   some = p.puts.moved ++ w.some;
   gave = Consumes-trans source rest rest' p.fetched w.given p.gave w.gave;
   wrote = Appends-trans taken written written' p.puts.moved w.some p.puts.writes w.wrote;
+  drops = λ s.
+      let (is, none, fewer) = w.drops s in
+      let l = ap (λ (x : List ℕ). length x) p.parts in
+      let a = length-append chunk p.fetched in
+      let b = length-append p.part ahead in
+      let n = length-append p.fetched w.given in
+      let k = p.size in (
+        is,
+        λ z. (let (m, g) = none_put taken written stays waiting p.part page p.puts s z in rw m (none g)),
+        omega (arith, l, a, b, n, k, fewer),
+      );
 }
 
 -- ---- a part, whose first bytes are held
@@ -165,7 +196,7 @@ module _ (source rest taken mid written : Option (List ℕ)) (passing : Passing)
     (count : ℕ) (s : Settles taken mid passing.stays c stored chunk waiting count ahead page)
     (whole : Bool) (m : PassesMissing source rest mid written passing.stays (passing.size - count) ahead page whole left new)
     (fewer : length (drop c.mark (seen stored chunk)) < passing.size) where
-  parts_of : (drop c.mark (seen stored chunk) ++ unseen stored chunk) ++ m.fetched ≡ (s.front ++ m.part) ++ left
+  parts_of : held_by c stored chunk ++ m.fetched ≡ (s.front ++ m.part) ++ left
   parts_of =
       ap (λ (l : List ℕ). l ++ m.fetched) s.parts ∙ (append_assoc s.front ahead m.fetched
       ∙ (ap (λ (l : List ℕ). s.front ++ l) m.parts ∙ sym (append_assoc s.front m.part left)))
@@ -205,17 +236,28 @@ module _ (source rest taken mid written : Option (List ℕ)) (passing : Passing)
         (omega (arith, n, z, k, i, fewer), (m.some w).1, (m.some w).2, f);
   }
 
-pub settled_wrote : (source rest taken mid written : Option (List ℕ)) (bytes : List ℕ) → Appends taken mid bytes
-    → WroteSome (from_to source rest) (from_to mid written) → WroteSome (from_to source rest) (from_to taken written)
-settled_wrote source rest taken mid written bytes a w = record {
+pub settled_up : (source rest taken mid written : Option (List ℕ)) (stays : Bool) (c : Cursor) (stored chunk waiting : List ℕ)
+    (count size : ℕ) (ahead page : List ℕ) (e : ListError) (s : Settles taken mid stays c stored chunk waiting count ahead page)
+    → length (drop c.mark (seen stored chunk)) < size → GivesUp source rest mid written stays (size - count) ahead page e
+    → GivesUp source rest taken written stays size (held_by c stored chunk) waiting e
+settled_up source rest taken mid written stays c stored chunk waiting count size ahead page e s few w = record {
   given = w.given;
-  some = bytes ++ w.some;
+  some = s.puts.moved ++ w.some;
   gave = w.gave;
-  wrote = Appends-trans taken mid written bytes w.some a w.wrote;
+  wrote = Appends-trans taken mid written s.puts.moved w.some s.puts.writes w.wrote;
+  drops = λ d.
+      let (is, none, fewer) = w.drops d in
+      let l = ap (λ (x : List ℕ). length x) s.parts in
+      let a = length-append s.front ahead in
+      let z = s.size in
+      let i = s.within in (
+        is,
+        λ y. (let (m, g) = none_put taken mid stays waiting s.front page s.puts d y in rw m (none g)),
+        omega (arith, l, a, z, i, few, fewer),
+      );
 }
 
-pub unsettled_wrote : (source taken written : Option (List ℕ)) (e : ListError) → IsCutSomewhere taken written e
-    → WroteSome (from_to source source) (from_to taken written)
-unsettled_wrote source taken written e (waiting, w) =
-    let (some, a) = cut_wrote taken written waiting e w in
-    record { given = []; some = some; gave = Consumes-nil source; wrote = a }
+pub unsettled_up : (source taken written : Option (List ℕ)) (stays : Bool) (size : ℕ) (held waiting : List ℕ) (e : ListError)
+    → IsCutSomewhere taken written e → stays ≡ true → GivesUp source source taken written stays size held waiting e
+unsettled_up source taken written stays size held waiting e (bytes, w) s =
+    not_put source source taken written stays size held waiting [] bytes e (Consumes-nil source) w s

@@ -1,0 +1,197 @@
+// A part that is forwarded or dropped chunk by chunk, after its first fields.
+ghost use Rattle.std.specs.Prelude.{◌≡◌, ◌<◌, [], true, drop, length, IfErr, IfOk, OnErr, OnOk};
+ghost use Rattle.wasm_lines.specs.Calls.{input_failed, output_failed};
+ghost use Rattle.wasm_feed.specs.Beside.{seen};
+ghost use Rattle.wasm_lines.specs.declared.devices.ListError.TheVariants.{Input};
+ghost use Rattle.wasm_feed.specs.Passing.{FillsChunk, GivesUp, IsCutSomewhere, PassesMissing, PassesPart, PutsAll, Settles, TakesSome, held_by, if_stays};
+
+use crate::ahead::Ahead;
+use crate::buffer::after;
+use crate::feeder::Cursor;
+use std::alloc::Allocator;
+use wasm_lines::{ListError, Page, Sink, Source, write_all};
+use wasm_parser::{Error, Fault};
+
+/// More bytes than this are written at once, and not put on the page.
+const LARGE: usize = 16_384;
+
+/// A part of a stream that is forwarded or dropped before all of it has come.
+#[derive(Clone, Copy)]
+pub(crate) struct Passing {
+    /// The offset of its content.
+    pub(crate) from: u64,
+    /// Its size in bytes.
+    pub(crate) size: u64,
+    /// Whether it stays.
+    pub(crate) stays: bool,
+}
+
+/// Puts bytes on the page, or writes them after those of the page.
+pub(crate) fn put_all<A: Allocator, W: Sink>(
+    page: &mut Page<A>,
+    bytes: &[u8],
+    output: &mut W,
+) -> Result<(), ListError>
+    ensures puts { PutsAll (W.taken output.old) (W.taken output.new)
+        page.old bytes.now page.new result }
+    ensures failed { W.has_failed output.new ≡ output_failed result (W.has_failed output.old) }
+{
+    if bytes.len() <= LARGE {
+        return page.put(bytes, output);
+    }
+    page.write_out(output)?;
+    match write_all(output, bytes) {
+        Ok(()) => Ok(()),
+        Err(_) => Err(ListError::Output),
+    }
+}
+
+// Puts bytes on the page if they stay.
+fn put_if<A: Allocator, W: Sink>(
+    stays: bool,
+    page: &mut Page<A>,
+    bytes: &[u8],
+    output: &mut W,
+) -> Result<(), ListError>
+    ensures puts { PutsAll (W.taken output.old) (W.taken output.new)
+        page.old (if_stays stays bytes.now) page.new result }
+    ensures stays { OnErr result (stays ≡ true) }
+    ensures failed { W.has_failed output.new ≡ output_failed result (W.has_failed output.old) }
+{
+    if stays {
+        put_all(page, bytes, output)
+    } else {
+        Ok(())
+    }
+}
+
+// Reads the next chunk if the chunk is empty.
+fn fill<A: Allocator, R: Source>(ahead: &mut Ahead<A>, input: &mut R) -> Result<(), ListError>
+    ensures fills { FillsChunk (R.remaining input.old) (R.remaining input.new) ahead.old ahead.new result }
+    ensures err { IfErr result (λ e. e ≡ Input) }
+    ensures failed { R.has_failed input.new ≡ input_failed result (R.has_failed input.old) }
+{
+    if ahead.bytes().is_empty() {
+        match ahead.fetch(input) {
+            Ok(()) => Ok(()),
+            Err(_) => Err(ListError::Input),
+        }
+    } else {
+        Ok(())
+    }
+}
+
+// Takes at most `most` bytes from the chunk, and puts them on the page if they stay. An empty chunk is read first.
+// Returns how many bytes it took: none if the source is at its end.
+fn take_some<A: Allocator, R: Source, W: Sink>(
+    most: u64,
+    stays: bool,
+    ahead: &mut Ahead<A>,
+    page: &mut Page<A>,
+    input: &mut R,
+    output: &mut W,
+) -> Result<u64, ListError>
+    requires { 0 < most }
+    ensures takes { IfOk result (λ count. TakesSome (R.remaining input.old) (R.remaining input.new)
+        (W.taken output.old) (W.taken output.new) stays most ahead.old page.old count ahead.new page.new) }
+    ensures cut { IfErr result (λ e. GivesUp (R.remaining input.old) (R.remaining input.new)
+        (W.taken output.old) (W.taken output.new) stays most ahead.old page.old e) }
+    ensures source { R.has_failed input.new ≡ input_failed result (R.has_failed input.old) }
+    ensures sink { W.has_failed output.new ≡ output_failed result (W.has_failed output.old) }
+{
+    fill(ahead, input)?;
+    let count = most.min(ahead.bytes().len() as u64) as usize;
+    put_if(stays, page, &ahead.bytes()[..count], output)?;
+    ahead.pass(count);
+    Ok(count as u64)
+}
+
+// Forwards or drops the missing bytes of a part, and returns whether all of them came before the end of the source.
+fn pass_missing<A: Allocator, R: Source, W: Sink>(
+    missing: u64,
+    stays: bool,
+    ahead: &mut Ahead<A>,
+    page: &mut Page<A>,
+    input: &mut R,
+    output: &mut W,
+) -> Result<bool, ListError>
+    ensures passes { IfOk result (λ whole. PassesMissing (R.remaining input.old) (R.remaining input.new)
+        (W.taken output.old) (W.taken output.new) stays missing ahead.old page.old whole ahead.new page.new) }
+    ensures cut { IfErr result (λ e. GivesUp (R.remaining input.old) (R.remaining input.new)
+        (W.taken output.old) (W.taken output.new) stays missing ahead.old page.old e) }
+    ensures source { R.has_failed input.new ≡ input_failed result (R.has_failed input.old) }
+    ensures sink { W.has_failed output.new ≡ output_failed result (W.has_failed output.old) }
+{
+    let mut left = missing;
+    'chunks: while left > 0 {
+        let count = take_some(left, stays, ahead, page, input, output)?;
+        if count == 0 {
+            return Ok(false);
+        }
+        left -= count;
+    }
+    Ok(true)
+}
+
+// Puts the stored bytes of the part at the cursor on the page if it stays, so that its other bytes are in the chunk.
+// Returns how many bytes it put or dropped.
+fn settle<A: Allocator, W: Sink>(
+    stays: bool,
+    cursor: &mut Cursor,
+    stored: &mut Vec<u8, A>,
+    ahead: &mut Ahead<A>,
+    page: &mut Page<A>,
+    output: &mut W,
+) -> Result<usize, ListError>
+    ensures settles { IfOk result (λ count. Settles (W.taken output.old) (W.taken output.new) stays
+        cursor.old stored.old.items ahead.old page.old count ahead.new page.new) }
+    ensures none { OnOk result (stored.new.items ≡ []) }
+    ensures cursor { OnOk result (cursor.new ≡ record cursor.old { mark = 0 }) }
+    ensures cut { IfErr result (λ e. IsCutSomewhere (W.taken output.old) (W.taken output.new) e) }
+    ensures stays { OnErr result (stays ≡ true) }
+    ensures sink { W.has_failed output.new ≡ output_failed result (W.has_failed output.old) }
+{
+    if stored.is_empty() {
+        ahead.pass(cursor.mark().min(ahead.bytes().len()));
+        cursor.rewind();
+        return Ok(0);
+    }
+    let held = after(stored, cursor.mark());
+    let count = held.len();
+    put_if(stays, page, held, output)?;
+    stored.clear();
+    cursor.rewind();
+    Ok(count)
+}
+
+/// Forwards or drops a part that the cursor has skipped, whose first bytes are held. Returns the fault of a stream that
+/// ends before the part does.
+pub(crate) fn pass_part<A: Allocator, R: Source, W: Sink>(
+    passing: Passing,
+    cursor: &mut Cursor,
+    stored: &mut Vec<u8, A>,
+    ahead: &mut Ahead<A>,
+    page: &mut Page<A>,
+    input: &mut R,
+    output: &mut W,
+) -> Result<Option<Error>, ListError>
+    requires { length (drop cursor.old.mark (seen stored.old.items ahead.old)) < passing.size }
+    ensures passes { IfOk result (λ fault. PassesPart (R.remaining input.old) (R.remaining input.new)
+        (W.taken output.old) (W.taken output.new) passing cursor.old stored.old.items ahead.old page.old
+        fault ahead.new page.new) }
+    ensures none { OnOk result (stored.new.items ≡ []) }
+    ensures cursor { OnOk result (cursor.new ≡ record cursor.old { mark = 0 }) }
+    ensures cut { IfErr result (λ e. GivesUp (R.remaining input.old) (R.remaining input.new)
+        (W.taken output.old) (W.taken output.new) passing.stays passing.size
+        (held_by cursor.old stored.old.items ahead.old) page.old e) }
+    ensures source { R.has_failed input.new ≡ input_failed result (R.has_failed input.old) }
+    ensures sink { W.has_failed output.new ≡ output_failed result (W.has_failed output.old) }
+{
+    let held = settle(passing.stays, cursor, stored, ahead, page, output)?;
+    let missing = passing.size - held as u64;
+    if pass_missing(missing, passing.stays, ahead, page, input, output)? {
+        Ok(None)
+    } else {
+        Ok(Some(Error::new(Fault::UnexpectedEof, passing.from)))
+    }
+}
