@@ -19,6 +19,15 @@ use wasm_feed::{
     Ended, Event, ListError, Sink, SliceSource, Source, fits_pieces, list, read_pieces,
 };
 
+/// A module with parts of 20 bytes and more, one of each kind whose end need not be here for its line: a custom section, a section
+/// with a count, an unknown section, a body, and a data section.
+const PARTS: &[u8] =
+    b"\0asm\x01\0\0\0\0\x16\x01aABCDEFGHIJKLMNOPQRST\x01\x15\x09ABCDEFGHIJKLMNOPQRST\x0e\x14ABCDEFGHIJKLMNOPQRST\x03\x02\x01\0\x0a\x16\x01\x14ABCDEFGHIJKLMNOPQRST\x0b\x15\x05ABCDEFGHIJKLMNOPQRST";
+
+/// Its listing.
+const PARTS_LISTING: &[u8] =
+    b"version 0 8 1 module\ncustom 10 32 12\nsection 1 34 55 9\nunknown 14 57 77\nsection 3 79 81 1\ncode 83 105 1 21\nbody 85 105\nsection 11 107 128 5\nend 128\n";
+
 // An `assert_eq!` takes four times as long to prove as a call of `same`, so tests compare by these two functions. A call with a
 // long contract is in a function without one, here and in the modules, which is cheaper to prove over.
 

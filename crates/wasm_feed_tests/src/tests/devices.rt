@@ -1,7 +1,7 @@
 // A source and a sink that fail or go short at a chosen call.
 ghost use Rattle.std.specs.Prelude.{◌≡◌, false};
 
-use super::{ends, lists, same, same_at};
+use super::{PARTS, PARTS_LISTING, ends, lists, same, same_at};
 use std::alloc::Global;
 use std::io::{self, Write};
 use std::process::Abort;
@@ -59,9 +59,6 @@ impl Source for Failing<'_> {
 
 const MODULE: &[u8] = b"\0asm\x01\0\0\0\0\x02\x01a";
 
-/// A module with one body.
-const BODY: &[u8] = b"\0asm\x01\0\0\0\x03\x02\x01\0\x0a\x04\x01\x02\0\x0b";
-
 const LISTING: &[u8] = b"version 0 8 1 module\ncustom 10 12 12\nend 12\n";
 
 /// A sink that takes one byte a call, and fails at one call.
@@ -100,10 +97,6 @@ impl Sink for Slow {
     }
 }
 
-/// The lines of the module with one body, of which those of its first parts are written where a read fails.
-const BODY_LISTING: &[u8] =
-    b"version 0 8 1 module\nsection 3 10 12 1\ncode 14 18 1 3\nbody 16 18\nend 18\n";
-
 fn sink(rt: &impl Abort, alloc: Global, size: usize) -> BoundedSink {
     BoundedSink::new(alloc, size).expect(rt, "out of memory")
 }
@@ -119,7 +112,7 @@ fn lists_from(
 ) {
     let place = (piece, input.step, input.calls_left);
     let fails = wanted.is_err();
-    let mut output = sink(rt, alloc, 100);
+    let mut output = sink(rt, alloc, 200);
     let ended = ends(alloc, &mut input, &mut output, piece);
     let failed = (input.failed(), output.failed());
     same_at(
@@ -130,24 +123,43 @@ fn lists_from(
     );
 }
 
-/// How many bytes are read at once, and how many bytes of lines are written where each read fails, the last one that says that
-/// it is the end. The lines of the header, a section, a code section's start and a body end after 21, 39, 54 and 65 bytes.
-const WRITTEN: [(usize, &[usize]); 3] = [
-    (3, &[0, 0, 0, 21, 39, 54, 65]),
-    (10, &[0, 21, 65]),
-    (18, &[0, 65]),
+/// Where the header, the sections, the start of the code section and the body of `PARTS` end, and how many bytes of lines are
+/// written up to there.
+const DECIDED: [(usize, usize); 8] = [
+    (8, 21),
+    (32, 37),
+    (55, 55),
+    (77, 72),
+    (81, 90),
+    (84, 107),
+    (105, 119),
+    (128, 140),
 ];
+
+// The lines that the first bytes of `PARTS` decide.
+fn decided(given: usize) -> &'static [u8] {
+    let mut count = 0;
+    for (end, lines) in &DECIDED {
+        if *end <= given {
+            count = *lines;
+        }
+    }
+    &PARTS_LISTING[..count.min(PARTS_LISTING.len())]
+}
+
+/// How many bytes are read at once, and how many reads there are: the last says that it is the end.
+const READS: [(usize, usize); 3] = [(1, 129), (3, 44), (16, 9)];
 
 #[test]
 fn a_source_that_fails_leaves_the_lines_of_what_it_gave(rt: HostRuntime) {
-    for (piece, written) in &WRITTEN {
-        for (calls, count) in written.iter().enumerate() {
-            let input = Failing::after(BODY, *piece, calls);
-            let lines = &BODY_LISTING[..(*count).min(BODY_LISTING.len())];
-            lists_from(&rt, rt.alloc(), input, *piece, Err(ListError::Input), lines);
+    for (piece, reads) in READS {
+        for calls in 0..reads {
+            let input = Failing::after(PARTS, piece, calls);
+            let lines = decided(calls.saturating_mul(piece));
+            lists_from(&rt, rt.alloc(), input, piece, Err(ListError::Input), lines);
         }
-        let input = Failing::after(BODY, *piece, written.len());
-        lists_from(&rt, rt.alloc(), input, *piece, Ok(Ended::End), BODY_LISTING);
+        let input = Failing::after(PARTS, piece, reads);
+        lists_from(&rt, rt.alloc(), input, piece, Ok(Ended::End), PARTS_LISTING);
     }
 }
 
@@ -172,7 +184,7 @@ fn lists_slowly(
 ) -> usize {
     let mut input = SliceSource::new(stream);
     let mut output = Slow {
-        inner: sink(rt, alloc, 100),
+        inner: sink(rt, alloc, 200),
         calls_left: calls,
         failed: false,
     };
@@ -192,17 +204,17 @@ fn lists_slowly(
 fn a_sink_that_fails_at_each_byte_of_a_module(rt: HostRuntime) {
     let failed = Err(ListError::Output);
     for piece in [3, 10, 18] {
-        for calls in 0..BODY_LISTING.len() {
-            let lines = &BODY_LISTING[..calls];
-            lists_slowly(&rt, rt.alloc(), BODY, piece, calls, failed, lines);
+        for calls in 0..PARTS_LISTING.len() {
+            let lines = &PARTS_LISTING[..calls];
+            lists_slowly(&rt, rt.alloc(), PARTS, piece, calls, failed, lines);
         }
     }
 }
 
 #[test]
 fn a_sink_that_takes_one_byte_a_call(rt: HostRuntime) {
-    let (calls, ended) = (BODY_LISTING.len(), Ok(Ended::End));
-    let left = lists_slowly(&rt, rt.alloc(), BODY, 65_536, calls, ended, BODY_LISTING);
+    let (calls, ended) = (PARTS_LISTING.len(), Ok(Ended::End));
+    let left = lists_slowly(&rt, rt.alloc(), PARTS, 65_536, calls, ended, PARTS_LISTING);
     same(&rt, left, 0);
 }
 
@@ -256,7 +268,7 @@ impl Write for Stalling {
 #[test]
 fn a_writer_that_takes_nothing_at_first(rt: HostRuntime) {
     let mut writer = Stalling { calls: 0, taken: 0 };
-    let mut input = SliceSource::new(BODY);
+    let mut input = SliceSource::new(PARTS);
     let mut output = WriteSink::new(&mut writer);
     let ended = ends(rt.alloc(), &mut input, &mut output, 65_536);
     same(

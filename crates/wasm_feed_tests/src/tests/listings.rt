@@ -1,5 +1,5 @@
 // Listings: how they end, and one that is longer than what waits. Tables of rows are in `wasm_rows`.
-use super::{lists, same, same_at};
+use super::{PARTS, PARTS_LISTING, lists, same, same_at};
 use std::alloc::{AllocError, Global};
 use std::process::Abort;
 use std::test::Fail;
@@ -52,13 +52,42 @@ fn says_how_a_stream_ends(rt: HostRuntime) {
     }
 }
 
+/// A prefix of `PARTS` that ends within a part, how many bytes of lines there are before it, and the offset of its content.
+const CUTS: [(usize, usize, u64); 5] = [
+    (20, 21, 10),
+    (54, 37, 34),
+    (60, 55, 57),
+    (100, 107, 85),
+    (127, 119, 107),
+];
+
+// Such a prefix is listed, and its fault.
+fn is_cut(
+    rt: &impl Abort,
+    alloc: Global,
+    size: usize,
+    before: usize,
+    offset: u64,
+    piece: usize,
+) -> Result<(), Fail> {
+    let mut lines = PARTS_LISTING[..before.min(PARTS_LISTING.len())].to_vec(alloc)?;
+    let fault = format!(in alloc; "fault {offset} unexpected end-of-file\n")?;
+    lines.extend_from_slice(fault.as_bytes())?;
+    let ended = Ok(Ended::Fault(Error::new(Fault::UnexpectedEof, offset)));
+    let stream = &PARTS[..size.min(PARTS.len())];
+    is_listed(rt, alloc, stream, piece, ended, &lines);
+    Ok(())
+}
+
 #[test]
-fn list_with_ample_memory(rt: HostRuntime) {
-    let stream = b"\0asm\x01\0\0\0\x03\x02\x01\0\x0a\x04\x01\x02\0\x0b";
-    let lines = b"version 0 8 1 module\nsection 3 10 12 1\ncode 14 18 1 3\nbody 16 18\nend 18\n";
-    for piece in [1, 5, 18, 65_536] {
-        is_listed(&rt, rt.alloc(), stream, piece, Ok(Ended::End), lines);
+fn lists_parts_that_are_larger_than_a_chunk(rt: HostRuntime) -> Result<(), Fail> {
+    for piece in [1, 3, 16, 65_536] {
+        is_listed(&rt, rt.alloc(), PARTS, piece, Ok(Ended::End), PARTS_LISTING);
+        for (size, before, offset) in CUTS {
+            is_cut(&rt, rt.alloc(), size, before, offset, piece)?;
+        }
     }
+    Ok(())
 }
 
 /// How many empty sections of an unknown id the long listing has.

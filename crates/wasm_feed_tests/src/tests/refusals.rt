@@ -1,12 +1,13 @@
 // Listings and sinks whose memory runs out at a chosen growth.
-use super::{lists, same, same_at};
+use super::{PARTS, PARTS_LISTING, lists, same, same_at};
 use std::alloc::Global;
 use std::process::Abort;
 use wasm_feed::{BoundedSink, Ended, ListError, Sink, SliceSource, Source, list_in};
 use wasm_testing::Sparing;
 
 /// A stream, and its listing.
-const LISTINGS: [(&[u8], &[u8]); 5] = [
+const LISTINGS: [(&[u8], &[u8]); 6] = [
+    (PARTS, PARTS_LISTING),
     (
         b"\0asm\x01\0\0\0\x03\x02\x01\0\x0a\x04\x01\x02\0\x0b",
         b"version 0 8 1 module\nsection 3 10 12 1\ncode 14 18 1 3\nbody 16 18\nend 18\n",
