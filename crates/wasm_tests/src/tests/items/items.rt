@@ -60,12 +60,12 @@ fn lists_of_types(rt: HostRuntime) -> Result<(), Fail> {
     same(&rt, (params.len(), results.len()), (6, 7));
     same(&rt, params.is_empty(), false);
     same(&rt, params.get(1), Some(&ValType::I64));
-    assert!(rt; params.as_slice() == &results[..6]);
+    assert!(rt; results.as_slice().starts_with(params.as_slice()));
     assert!(rt; params != results);
-    let mut number = 0;
+    let mut number = 0_usize;
     for ty in &results {
         assert!(rt; params.get(number).unwrap_or(ty) == ty);
-        number += 1;
+        number = number.wrapping_add(1);
     }
     same(&rt, number, 7);
     Ok(())
