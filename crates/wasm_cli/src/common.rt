@@ -70,6 +70,24 @@ fn message(error: ListError) -> &'static [u8]
     }
 }
 
+// Why a file can't be opened. All texts of `Error` would be a twelfth of `wasm_dump`, so the rarer reasons have none.
+fn reason(kind: ErrorKind) -> &'static [u8] {
+    match kind {
+        ErrorKind::NotFound => b": no such file\n",
+        ErrorKind::PermissionDenied => b": permission denied\n",
+        _ => b": can't be opened\n",
+    }
+}
+
+// Says that a file could not be opened, and why, and returns the exit status 3.
+pub(crate) fn refuse_file<E: Sink>(name: &str, error: &Error, errors: &mut E) -> u8
+    ensures { result ≡ 3 }
+{
+    complain(errors, name.as_bytes());
+    complain(errors, reason(error.kind()));
+    3
+}
+
 /// Flushes the output after the status 0 or 1, and returns the exit status of the program.
 ///
 /// # Errors

@@ -5,12 +5,12 @@ ghost use Rattle.wasm_cli.specs.Endings.{status_of};
 use super::command::{Named, Rest, chosen_by};
 use super::options::Options;
 use super::program::{answer, dump_as, refuse_names, show_input};
-use crate::common::{complain, give_up};
+use crate::common::{complain, give_up, refuse_file};
 use crate::streams::Input;
 use std::alloc::Global;
 use std::env::Args;
 use std::fs;
-use std::io::{Error, Write};
+use std::io::Write;
 use wasm_dumper::{Only, collect_names};
 use wasm_feed::{Ended, Failed, ListError, ReadSource, Sink, WriteSink, write_all};
 use wasm_tree::{ItemNames, Objects, Tree};
@@ -57,17 +57,6 @@ fn write_heading<W: Write>(
     match write_name(name, &mut output) {
         Ok(()) => (Ok(()), output),
         Err(_) => (Err(ListError::Output), output),
-    }
-}
-
-// Says that a file could not be opened, and why.
-fn complain_of<R: AllocGlobal, E: Sink>(rt: &R, name: &str, error: &Error, errors: &mut E) -> u8 {
-    match format!(in rt.alloc(); "{name}: {error}\n") {
-        Ok(message) => {
-            complain(errors, message.as_str().as_bytes());
-            3
-        }
-        Err(_) => give_up(errors, ListError::Memory),
     }
 }
 
@@ -125,7 +114,7 @@ fn dump_opened<W: Write, E: Sink>(
             );
             (answer_for(name, how, errors), output)
         }
-        Err(error) => (complain_of(rt, name, &error, errors), output),
+        Err(error) => (refuse_file(name, &error, errors), output),
     }
 }
 
@@ -142,7 +131,7 @@ fn dump_with_names<W: Write, E: Sink>(
             Ok(names) => dump_opened(rt, plan, Some(names), name, output, errors),
             Err(why) => (give_up(errors, why), output),
         },
-        Err(error) => (complain_of(rt, name, &error, errors), output),
+        Err(error) => (refuse_file(name, &error, errors), output),
     }
 }
 

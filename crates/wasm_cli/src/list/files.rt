@@ -2,7 +2,7 @@
 use super::options::{choice_of, rest_after_options};
 use super::stripping::strip_input;
 use super::twice::strip_twice;
-use crate::common::{complain, give_up};
+use crate::common::{give_up, refuse_file};
 use crate::streams::Input;
 use std::fs::{self, File};
 use std::io::Write;
@@ -44,8 +44,9 @@ pub(super) fn strip_file<W: Write, E: Sink>(
     errors: &mut E,
 ) -> u8 {
     let Named { options, name } = named;
-    let Ok(file) = fs::open(rt, name) else {
-        return refuse_file(name, errors);
+    let file = match fs::open(rt, name) {
+        Ok(file) => file,
+        Err(error) => return refuse_file(name, &error, errors),
     };
     let mut first = input_of(file);
     if !Path::new(name).is_file(rt) {
@@ -54,8 +55,9 @@ pub(super) fn strip_file<W: Write, E: Sink>(
     let Ok(choice) = choice_of(rt.alloc(), options) else {
         return give_up(errors, ListError::Memory);
     };
-    let Ok(file) = fs::open(rt, name) else {
-        return refuse_file(name, errors);
+    let file = match fs::open(rt, name) {
+        Ok(file) => file,
+        Err(error) => return refuse_file(name, &error, errors),
     };
     let mut second = input_of(file);
     strip_twice(
@@ -66,11 +68,4 @@ pub(super) fn strip_file<W: Write, E: Sink>(
         output,
         errors,
     )
-}
-
-// Says that a file could not be opened. The system's reason is left out: its table of texts is half as large as the program.
-fn refuse_file<E: Sink>(name: &str, errors: &mut E) -> u8 {
-    complain(errors, name.as_bytes());
-    complain(errors, b": can't be opened\n");
-    3
 }
