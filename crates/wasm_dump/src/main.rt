@@ -1,9 +1,6 @@
 //! Shows every item of the WebAssembly stream on standard input.
 #![tactic(auto)]
 
-#[cfg(test)]
-mod tests;
-
 use std::process::ExitCode;
 use wasm_cli::dump::run_host;
 

@@ -1,9 +1,6 @@
 //! Lists the sections of the WebAssembly stream on standard input, or strips it of its custom sections.
 #![tactic(auto)]
 
-#[cfg(test)]
-mod tests;
-
 use std::process::ExitCode;
 pub use wasm_cli::list::run;
 use wasm_cli::list::run_host;

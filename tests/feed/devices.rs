@@ -1,7 +1,8 @@
 // A source and a sink that fail or go short at a chosen call.
 ghost use Rattle.std.specs.Prelude.{◌≡◌, false};
 
-use super::{PARTS, PARTS_LISTING, ends, lists, same, same_at};
+use super::{PARTS, PARTS_LISTING, ends, lists};
+use crate::tests::{same, same_at};
 use std::alloc::Global;
 use std::io::{self, Write};
 use std::process::Abort;

@@ -1,5 +1,5 @@
 // Feeders of streams that come in chunks.
-use super::same;
+use crate::tests::same;
 use bitflags::Flags;
 use std::alloc::{AllocError, Allocator, Global};
 use std::ops::Range;

@@ -1,6 +1,7 @@
 // Streams that are cut into chunks.
+use super::events;
 use super::feeding::push;
-use super::{events, same};
+use crate::tests::same;
 use bitflags::Flags;
 use std::alloc::{AllocError, Global};
 use std::ops::Range;

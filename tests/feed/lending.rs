@@ -2,7 +2,7 @@
 ghost use Rattle.wasm_feed.specs.Beside.{MayCome};
 
 use super::feeding::{MODULE, Reported, push, say};
-use super::same;
+use crate::tests::same;
 use bitflags::Flags;
 use std::alloc::{AllocError, Allocator, Global};
 use std::process::Abort;

@@ -1,5 +1,6 @@
 // Listings and sinks whose memory runs out at a chosen growth.
-use super::{PARTS, PARTS_LISTING, lists, same, same_at};
+use super::{PARTS, PARTS_LISTING, lists};
+use crate::tests::{same, same_at};
 use std::alloc::Global;
 use std::process::Abort;
 use wasm_feed::{BoundedSink, Ended, ListError, Sink, SliceSource, Source, list_in};

@@ -1,17 +1,21 @@
-// Each public call once, values, iterators that are polled after their end, and allocations that fail. Tables of rows are in `wasm_rows`.
+//! What a row of `wasm_rows` can't show: each public call once, values, `Debug` texts, iterators that are polled after their end, devices and
+//! allocations that fail. Tests use only what is public. This is Rattle; `tools/try_tests` runs it without proofs, and so `rt ci`, which proves
+//! every `.rt` file, leaves it alone.
 ghost use Rattle.std.specs.Prelude.{◌+◌, ◌<◌, ◌^◌, length};
 
 mod base;
 mod custom;
+mod dump;
+mod examples;
+mod feed;
 mod items;
+mod list;
 mod parser;
 
 use std::alloc::Global;
 use std::fmt::Debug;
 use std::process::Abort;
 use wasm_base::{BinaryReader, FromReader, FromReaderIn, fits};
-
-// An `assert_eq!` takes four times as long to prove as a call of `same`, so tests compare by these two functions.
 
 // Asserts that a value is the expected one.
 fn same<T: PartialEq + Debug + Drop>(rt: &impl Abort, found: T, wanted: T) {

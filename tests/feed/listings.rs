@@ -1,5 +1,6 @@
 // Listings: how they end, and one that is longer than what waits. Tables of rows are in `wasm_rows`.
-use super::{PARTS, PARTS_LISTING, lists, same, same_at};
+use super::{PARTS, PARTS_LISTING, lists};
+use crate::tests::{same, same_at};
 use std::alloc::{AllocError, Global};
 use std::process::Abort;
 use std::test::Fail;

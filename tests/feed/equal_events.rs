@@ -1,5 +1,5 @@
 // What equality of events says.
-use super::{same, same_at};
+use crate::tests::{same, same_at};
 use std::alloc::Global;
 use std::ops::Range;
 use std::process::Abort;

@@ -40,8 +40,6 @@ custom 61 75 66
 end 75
 ";
 
-// A call with a long contract is in a function without one, which is cheaper to prove over.
-
 // How the dump of this source ends, and the sink.
 fn dumped<R: Source>(
     alloc: Global,

@@ -2,7 +2,6 @@
 mod devices;
 mod digits;
 mod equal_events;
-mod examples;
 mod feeding;
 mod lending;
 mod listings;
@@ -13,7 +12,6 @@ mod steps;
 mod stripping;
 
 use std::alloc::Global;
-use std::fmt::Debug;
 use std::process::Abort;
 use wasm_feed::{
     Ended, Event, ListError, Sink, SliceSource, Source, fits_pieces, list, read_pieces,
@@ -27,19 +25,6 @@ const PARTS: &[u8] =
 /// Its listing.
 const PARTS_LISTING: &[u8] =
     b"version 0 8 1 module\ncustom 10 32 12\nsection 1 34 55 9\nunknown 14 57 77\nsection 3 79 81 1\ncode 83 105 1 21\nbody 85 105\nsection 11 107 128 5\nend 128\n";
-
-// An `assert_eq!` takes four times as long to prove as a call of `same`, so tests compare by these two functions. A call with a
-// long contract is in a function without one, here and in the modules, which is cheaper to prove over.
-
-// Asserts that a value is the expected one.
-fn same<T: PartialEq + Debug + Drop>(rt: &impl Abort, found: T, wanted: T) {
-    assert!(rt; found == wanted, "{found:?}, and not {wanted:?}");
-}
-
-// Like `same`, in a loop: a failure also prints which turn it is.
-fn same_at<T: PartialEq + Debug + Drop>(rt: &impl Abort, found: T, wanted: T, at: &impl Debug) {
-    assert!(rt; found == wanted, "{found:?}, and not {wanted:?}, at {at:?}");
-}
 
 // How the listing of what this source returns ends.
 fn ends<R: Source, W: Sink>(

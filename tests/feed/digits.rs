@@ -1,5 +1,5 @@
 // Numbers of each length, in decimal digits.
-use super::same_at;
+use crate::tests::same_at;
 use std::process::Abort;
 use wasm_lines::{ShortText, TEXT_BYTES};
 

@@ -1,5 +1,5 @@
 // Dumps in other forms: objects of JSON, lines with bytes, and lines with hexadecimal offsets.
-use crate::tests::runs::{MODULE, USAGE, all_refused, runs};
+use super::runs::{MODULE, USAGE, all_refused, runs};
 use std::alloc::Global;
 use std::process::Abort;
 use std::test::Fail;

@@ -1,6 +1,6 @@
 // Steps of a feeder, by callers of another crate.
 use super::feeding::{Reported, say};
-use super::same;
+use crate::tests::same;
 use bitflags::Flags;
 use std::alloc::Global;
 use std::test::Fail;

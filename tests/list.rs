@@ -1,18 +1,15 @@
 // The statuses and messages of runs.
-use crate::run;
 use std::alloc::Global;
 use std::env::Args;
 use std::io::{self, Read, Write};
 use std::process::{Abort, ExitCode};
 use std::test::Fail;
 use wasm_cli::finish;
-use wasm_cli::list::run_program;
+use wasm_cli::list::{run, run_program};
 use wasm_feed::{BoundedSink, ReadSource, Sink, SliceSource, Source, WriteSink};
 use wasm_testing::Measuring;
 
 const MODULE: &[u8] = b"\0asm\x01\0\0\0\0\x02\x01a";
-
-// A call with a long contract is in a function without one, which is cheaper to prove over.
 
 // These arguments.
 fn words(alloc: Global, words: &[&str]) -> Result<Vec<String>, Fail> {

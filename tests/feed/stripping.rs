@@ -1,5 +1,5 @@
 // Streams without their custom sections.
-use super::same_at;
+use crate::tests::same_at;
 use std::alloc::Global;
 use std::process::Abort;
 use wasm_feed::{

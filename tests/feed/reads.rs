@@ -1,6 +1,6 @@
 // Loops over a source by a feeder.
 use super::feeding::{MODULE, Reported, say};
-use super::same;
+use crate::tests::same;
 use bitflags::Flags;
 use std::alloc::Global;
 use std::process::Abort;

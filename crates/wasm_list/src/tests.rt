@@ -1,2 +1,0 @@
-// Worked examples.
-mod runs;
