@@ -1,12 +1,14 @@
 -- Bytes that say what follows them.
 use Rattle.std.specs.Prelude.{ℕ, ◌-◌, ◌==◌, Bool, true, false, List, [], ◌∷◌, Option, Some, None, Ok, Err}
-use Rattle.std.specs.Prelude.{if◌then◌else◌}
+use Rattle.std.specs.Prelude.{nat_lt, if◌then◌else◌}
 use Rattle.wasm_base.specs.FaultAt.{FaultAt}
 use Rattle.wasm_base.specs.Name.{byte_at}
+use Rattle.wasm_base.specs.Number.{unsigned_at}
 use Rattle.wasm_base.specs.Outcome.{Outcome, ◌>>=◌}
 use Rattle.wasm_base.specs.Window.{Place}
 use Rattle.wasm_base.specs.declared.fault.Fault.TheVariants.{LeadingByte}
 use Rattle.wasm_base.specs.declared.fault.Lead.{Lead}
+use Rattle.wasm_base.specs.declared.fault.NumberKind.TheVariants.{VarU32}
 
 -- the fault that nothing of this kind begins with this byte, which is at this offset
 abbrev pub leading_byte : Lead → ℕ → ℕ → FaultAt
@@ -36,3 +38,9 @@ in_table lead table p = do
 -- a byte that is 0 for no, or 1 for yes
 abbrev pub flag_at : Lead → Place → Outcome Bool
 flag_at lead = in_table lead ((0, false) ∷ (1, true) ∷ [])
+
+-- the flags of a segment, a u32, if they are at most this
+unfoldable pub flags_at : (most : ℕ) → Place → Outcome (Option ℕ)
+flags_at most p = do
+  flags ← unsigned_at VarU32 p
+  if nat_lt most flags.0 then Ok (None, flags.1) else Ok (Some flags.0, flags.1)

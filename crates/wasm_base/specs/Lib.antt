@@ -1,6 +1,8 @@
 pub mod Announced
+pub mod Ascending
 pub mod Bits
 pub mod Comparing
+pub mod Ending
 pub mod FaultAt
 pub mod Features
 pub mod Float

@@ -1,7 +1,9 @@
 // A fault with its place in the stream.
-ghost use Rattle.std.specs.Prelude.{◌≡◌, Some, None};
+ghost use Rattle.std.specs.Prelude.{◌≡◌, Some, None, IfErr, is_err};
 ghost use Rattle.wasm_base.specs.FaultAt.{fault_at, hint_of};
+ghost use Rattle.wasm_base.specs.Hints.{HintsNothing, is_out_of_memory};
 ghost use Rattle.wasm_base.specs.Leading.{leading_byte};
+ghost use Rattle.wasm_base.specs.Owned.{out_of_memory};
 
 use crate::fault::{Fault, Lead};
 use std::alloc::AllocFailed;
@@ -176,6 +178,22 @@ pub fn leading_byte_error(lead: Lead, byte: u8, offset: u64) -> Error
     ensures hint { hint_of result ≡ None }
 {
     Error::new(Fault::LeadingByte(lead), offset).with_number(u64::from(byte))
+}
+
+/// Returns `OutOfMemory` at offset 0 if the error is out of memory, and otherwise nothing.
+///
+/// # Errors
+///
+/// `OutOfMemory` at offset 0, whatever the offset of the error.
+pub fn only_out_of_memory(error: Error) -> Result<()>
+    ensures other { is_out_of_memory (fault_at error).fault ≡ is_err result }
+    ensures refused { IfErr result (λ e. fault_at e ≡ out_of_memory) }
+    ensures hint { HintsNothing result }
+{
+    match error.fault() {
+        Fault::OutOfMemory => Err(Error::new(Fault::OutOfMemory, 0)),
+        _ => Ok(()),
+    }
 }
 
 impl fmt::Display for Error {

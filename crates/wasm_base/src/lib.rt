@@ -6,6 +6,8 @@
 //! crate.
 #![tactic(auto)]
 
+mod ascending;
+mod ending;
 mod error;
 mod fault;
 mod features;
@@ -22,13 +24,15 @@ mod reader;
 mod section;
 mod subsections;
 
-pub use error::{Error, Result, leading_byte_error};
+pub use ascending::in_order;
+pub use ending::expect_end;
+pub use error::{Error, Result, leading_byte_error, only_out_of_memory};
 pub use fault::{CoreStart, Fault, Lead, NumberKind};
 pub use features::WasmFeatures;
 pub use float::{Ieee32, Ieee64};
 pub use inner::{SkipItem, passed_since, read_inner, read_inner_u32s};
 pub use item::FromReader;
-pub use leading::read_flag;
+pub use leading::{read_flag, read_flags};
 pub use limits::{
     _MAX_WASM_TABLE_SIZE, DEFAULT_WASM_PAGE_SIZE, MAX_WASM_BR_TABLE_SIZE, MAX_WASM_CATCHES,
     MAX_WASM_DATA_SEGMENTS, MAX_WASM_ELEMENT_SEGMENTS, MAX_WASM_EXPORTS, MAX_WASM_FUNCTION_LOCALS,

@@ -736,11 +736,11 @@ impl<'a> BinaryReader<'a> {
         ensures hints { Hints (missing_of_sized (place self.old)) result }
         ensures memory { NotOutOfMemory result }
     {
-        let size = self.read_var_u32()? as usize;
-        if size > MAX_WASM_STRING_SIZE {
+        let len = self.read_var_u32()? as usize;
+        if len > MAX_WASM_STRING_SIZE {
             return Err(Error::new(Fault::StringSize, self.last_offset()));
         }
-        self.read_bytes(size)?;
+        self.read_bytes(len)?;
         Ok(())
     }
 

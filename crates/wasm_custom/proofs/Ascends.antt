@@ -4,12 +4,12 @@ use Rattle.std.proofs.Common.{Err, refl, sym, ap, subst, arith, ◌∙◌}
 use Rattle.std.specs.Prelude.{map}
 use Rattle.std.specs.Iterator.{Yields, Drains}
 use Rattle.std.proofs.lemmas.Bool.{ltb-true, lt-ltb}
+use Rattle.wasm_base.specs.Ascending.{Ascending, none_given, is_above, Refuses, NextAscending, NextAt, is_above_all, in_order}
+use Rattle.wasm_base.specs.Ascending.{AscendsFrom, GivesAscending}
 use Rattle.wasm_base.specs.FaultAt.{fault_at}
 use Rattle.wasm_base.specs.Section.{item_or_fault}
 use Rattle.wasm_base.specs.declared.error.Error.{Error}
 use Rattle.wasm_base.specs.declared.fault.Fault.{Fault}
-use Rattle.wasm_custom.specs.Ascending.{Ascending, none_given, is_above, Refuses, NextAscending, NextAt, is_above_all, in_order}
-use Rattle.wasm_custom.specs.Ascending.{AscendsFrom, GivesAscending}
 
 is_true : (b : Bool) → IsTrue b → b ≡ true
 is_true b h = h

@@ -1,5 +1,6 @@
 -- Core dumps. Tool conventions, Coredump.
-use Rattle.std.specs.Prelude.{ℕ, ◌==◌, ℤ, List, [], ◌∷◌, length, None, Result, Ok, Err, map, if◌then◌else◌}
+use Rattle.std.specs.Prelude.{ℕ, ◌==◌, ℤ, List, [], ◌∷◌, None, Result, Ok, Err, map, if◌then◌else◌}
+use Rattle.wasm_base.specs.Ending.{end_at}
 use Rattle.wasm_base.specs.FaultAt.{FaultAt, at_offset}
 use Rattle.wasm_base.specs.Float.{bits_of_32, bits_of_64, u64_at}
 use Rattle.wasm_base.specs.Leading.{lookup_or}
@@ -27,16 +28,12 @@ start_at what offset p = do
   byte ← byte_at p
   if byte.0 == 0 then Ok (tt, byte.1) else Err (at_offset (CoreStartByte what) offset)
 
--- the end of the data; trailing bytes are a fault at the first of them
-unfoldable pub end_at : Place → Result (Unit {0}) FaultAt
-end_at p = if length p.rest == 0 then Ok tt else Err (at_offset CustomTrailing p.offset)
-
 -- the process that was dumped: its name (Process Information)
 unfoldable pub name_section_in : Place → Result (List ℕ) FaultAt
 name_section_in p = do
   begin ← start_at Starts.Name p.offset p
   name ← text_at None begin.1
-  end ← end_at name.1
+  end ← end_at CustomTrailing name.1
   Ok name.0
 
 -- the name of a module; a wrong first byte is a fault at the start of the list (Modules and Instances)
@@ -52,7 +49,7 @@ modules_parts section = map (λ name. name.now) section.modules.items
 unfoldable pub modules_in : Place → Result (List (List ℕ)) FaultAt
 modules_in p = do
   modules ← list_at (module_at p.offset) p
-  end ← end_at modules.1
+  end ← end_at CustomTrailing modules.1
   Ok modules.0
 
 -- an instance with its lists
@@ -84,7 +81,7 @@ instances_parts section = map instance_parts section.instances.items
 unfoldable pub instances_in : Place → Result (List InstanceParts) FaultAt
 instances_in p = do
   instances ← list_at instance_at p
-  end ← end_at instances.1
+  end ← end_at CustomTrailing instances.1
   Ok instances.0
 
 -- a value: one that is missing, a number, or the bits of a float
@@ -163,5 +160,5 @@ stack_in p = do
   begin ← start_at Starts.StackName p.offset p
   name ← text_at None begin.1
   frames ← list_at frame_at name.1
-  end ← end_at frames.1
+  end ← end_at CustomTrailing frames.1
   Ok (record { name = name.0; frames = frames.0 })

@@ -3,12 +3,12 @@
 use Rattle.std.specs.Prelude.{◌≡◌, ℕ, Bool, ◌||◌, List, [], ◌∷◌, Result, Ok, Err, codes, bytes_eq, nat_eq}
 use Rattle.std.specs.Prelude.{if◌then◌else◌}
 use Rattle.std.specs.List.{starts_with}
+use Rattle.wasm_base.specs.Ascending.{Ascending, none_given}
 use Rattle.wasm_base.specs.FaultAt.{FaultAt, fault_at}
 use Rattle.wasm_base.specs.Owned.{out_of_memory}
 use Rattle.wasm_base.specs.Section.{Section, section_in}
 use Rattle.wasm_base.specs.Window.{Window, place, whole_window}
 use Rattle.wasm_base.specs.declared.error.Error.{Error}
-use Rattle.wasm_custom.specs.Ascending.{Ascending, none_given}
 use Rattle.wasm_custom.specs.Coredumps.{InstanceParts, StackParts, name_section_in, modules_parts, modules_in}
 use Rattle.wasm_custom.specs.Coredumps.{instances_parts, instances_in, stack_parts, stack_in}
 use Rattle.wasm_custom.specs.Custom.{Custom}

@@ -1,4 +1,3 @@
-pub mod Ascending
 pub mod BranchHinting
 pub mod Coredumps
 pub mod Custom

@@ -2,8 +2,10 @@
 -- functions, locals, types, fields and tags. Those of labels, tables, memories, globals, element and data segments are
 -- of the extended name section proposal; those of parameters are this project's profile.
 use Rattle.std.specs.declared.ops.Range.{Range}
-use Rattle.std.specs.Prelude.{ℕ, ◌≤◌, List, [], ◌∷◌, length, Some, None, Result, Ok, Err, nat_lt, if◌then◌else◌}
-use Rattle.wasm_base.specs.FaultAt.{FaultAt, at_offset}
+use Rattle.std.specs.Prelude.{ℕ, ◌≤◌, List, [], ◌∷◌, length, Some, None, Result, Ok}
+use Rattle.wasm_base.specs.Ascending.{Ascending, none_given}
+use Rattle.wasm_base.specs.Ending.{end_at}
+use Rattle.wasm_base.specs.FaultAt.{FaultAt}
 use Rattle.wasm_base.specs.Inner.{inner_section_at}
 use Rattle.wasm_base.specs.Leading.{lookup_or}
 use Rattle.wasm_base.specs.Name.{name_limit, text_at}
@@ -14,7 +16,6 @@ use Rattle.wasm_base.specs.Skip.{skipped_name_at}
 use Rattle.wasm_base.specs.Window.{Window, Place, place, rest_range}
 use Rattle.wasm_base.specs.declared.fault.Fault.TheVariants.{NameTrailing}
 use Rattle.wasm_base.specs.declared.fault.NumberKind.TheVariants.{VarU32}
-use Rattle.wasm_custom.specs.Ascending.{Ascending, none_given}
 use Rattle.wasm_custom.specs.declared.names.IndirectNaming.{IndirectNaming}
 use Rattle.wasm_custom.specs.declared.names.Name.{Name}
 use Rattle.wasm_custom.specs.declared.names.Name.TheVariants as Names
@@ -109,8 +110,8 @@ id_of name = id_of_parts (name_parts name)
 unfoldable pub module_name_in : Window → Result NameParts FaultAt
 module_name_in w = do
   name ← text_at (Some name_limit) (place w)
-  if nat_lt 0 (length name.1.rest) then Err (at_offset NameTrailing name.1.offset) else
-      Ok (module_name name.0 (rest_range w))
+  end ← end_at NameTrailing name.1
+  Ok (module_name name.0 (rest_range w))
 
 abbrev pub direct_in : (id : ℕ) → Window → Result NameParts FaultAt
 direct_in id w = do

@@ -7,12 +7,12 @@ ghost use Rattle.wasm_base.specs.Outcome.{Outcome, GivesBy, GivesResult};
 ghost use Rattle.wasm_base.specs.Owned.{MeansAs, UnlessMemory, InTurn, ListOf, GivesUnlessMemory, GivesResultUnlessMemory, list_at};
 ghost use Rattle.wasm_base.specs.Window.{Place, place, KeepsWindow};
 ghost use Rattle.wasm_base.specs.declared.fault.NumberKind.TheVariants.{VarU32};
-ghost use Rattle.wasm_custom.specs.Coredumps.{start_at, end_at, module_at, value_parts, value_at, instance_parts, instance_at, frame_parts, frame_at, name_section_in, modules_in, modules_parts, instances_in, instances_parts, stack_in, stack_parts};
+ghost use Rattle.wasm_custom.specs.Coredumps.{start_at, module_at, value_parts, value_at, instance_parts, instance_at, frame_parts, frame_at, name_section_in, modules_in, modules_parts, instances_in, instances_parts, stack_in, stack_parts};
 
 use std::alloc::{Allocator, Global};
 use wasm_base::{
     BinaryReader, CoreStart, Error, Fault, FromReader, FromReaderIn, Ieee32, Ieee64, Result,
-    read_list,
+    expect_end, read_list,
 };
 
 /// The section `core`: the process that was dumped.
@@ -169,18 +169,6 @@ fn read_start(what: CoreStart, offset: u64, reader: &mut BinaryReader<'_>) -> Re
 {
     if reader.read_u8()? != 0 {
         return Err(Error::new(Fault::CoreStartByte(what), offset));
-    }
-    Ok(())
-}
-
-// Returns an error if bytes remain.
-#[tactic(auto, unfolding(crate::specs::Coredumps::end_at))]
-fn read_end(reader: &BinaryReader<'_>) -> Result<()>
-    ensures gives { GivesResult (λ nothing. nothing) result (end_at (place reader.now)) }
-    ensures memory { NotOutOfMemory result }
-{
-    if !reader.eof() {
-        return Err(Error::new(Fault::CustomTrailing, reader.original_position()));
     }
     Ok(())
 }
@@ -382,7 +370,7 @@ impl<'a> CoreDumpSection<'a> {
         let start = reader.original_position();
         read_start(CoreStart::Name, start, &mut reader)?;
         let name = reader.read_unlimited_string()?;
-        read_end(&reader)?;
+        expect_end(Fault::CustomTrailing, &reader)?;
         Ok(CoreDumpSection { name })
     }
 }
@@ -453,7 +441,7 @@ impl<'a, A: Allocator + Copy> CoreDumpModulesSection<'a, A> {
     {
         let start = reader.original_position();
         let modules = read_modules(alloc, start, &mut reader)?;
-        read_end(&reader)?;
+        expect_end(Fault::CustomTrailing, &reader)?;
         Ok(CoreDumpModulesSection { modules })
     }
 }
@@ -484,7 +472,7 @@ impl<A: Allocator + Copy> CoreDumpInstancesSection<A> {
         ensures gives { GivesResultUnlessMemory instances_parts result (instances_in (place reader.entry)) }
     {
         let instances = read_instances(alloc, &mut reader)?;
-        read_end(&reader)?;
+        expect_end(Fault::CustomTrailing, &reader)?;
         Ok(CoreDumpInstancesSection { instances })
     }
 }
@@ -521,7 +509,7 @@ impl<'a, A: Allocator + Copy> CoreDumpStackSection<'a, A> {
         read_start(CoreStart::StackName, start, &mut reader)?;
         let name = reader.read_unlimited_string()?;
         let frames = read_frames(alloc, &mut reader)?;
-        read_end(&reader)?;
+        expect_end(Fault::CustomTrailing, &reader)?;
         Ok(CoreDumpStackSection { name, frames })
     }
 }

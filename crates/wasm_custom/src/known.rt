@@ -18,7 +18,7 @@ use crate::names::NameSectionReader;
 use crate::producers::ProducersSectionReader;
 use crate::reloc::RelocSectionReader;
 use std::alloc::{Allocator, Global};
-use wasm_base::{BinaryReader, Error, Fault, Result, SectionLimited, Subsections};
+use wasm_base::{BinaryReader, Error, Result, SectionLimited, Subsections, only_out_of_memory};
 
 /// The data of a custom section, read as the name of the section says.
 ///
@@ -155,10 +155,8 @@ fn unknown_but_for_memory<'a, A: Allocator>(error: Error) -> Result<KnownCustom<
     ensures other { is_out_of_memory (fault_at error).fault ≡ is_err result }
     ensures refused { IfErr result (λ e. fault_at e ≡ out_of_memory) }
 {
-    match error.fault() {
-        Fault::OutOfMemory => Err(Error::new(Fault::OutOfMemory, 0)),
-        _ => Ok(KnownCustom::Unknown),
-    }
+    only_out_of_memory(error)?;
+    Ok(KnownCustom::Unknown)
 }
 
 impl<'a> CustomSectionReader<'a> {

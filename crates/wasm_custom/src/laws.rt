@@ -3,6 +3,7 @@
 ghost use Rattle.std.specs.Hash as hashed;
 ghost use Rattle.std.specs.Ordering.{nat_cmp};
 ghost use Rattle.std.specs.Prelude.{◌≡◌, Ok, Some, false};
+ghost use Rattle.wasm_base.specs.Ascending.{GivesAscending};
 ghost use Rattle.wasm_base.specs.Announced.{GivesAnnounced};
 ghost use Rattle.wasm_base.specs.Comparing.{DecidesSame, IsCopy};
 ghost use Rattle.wasm_base.specs.Inner.{SkipsAsRead, SkipsIfSuch};
@@ -10,7 +11,6 @@ ghost use Rattle.wasm_base.specs.Item.{AllowsOne, Determines};
 ghost use Rattle.wasm_base.specs.Subsections.{GivesSubsections, UnlessTaken};
 ghost use Rattle.wasm_base.specs.Window.{Place, Window};
 ghost use Rattle.wasm_base.specs.declared.fault.Fault.TheVariants.{IndirectOrder, NameSectionOrder, NamesOrder};
-ghost use Rattle.wasm_custom.specs.Ascending.{GivesAscending};
 ghost use Rattle.wasm_custom.specs.Flags.{segment_bits, symbol_bits};
 ghost use Rattle.wasm_custom.specs.Hashed.{hash_of_addend, hash_of_relocation, hash_of_symbol_kind};
 ghost use Rattle.wasm_custom.specs.Names.{IsShortNaming, id_of, index_of, index_of_indirect, offset_of_entry, offset_of_subsection};

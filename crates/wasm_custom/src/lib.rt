@@ -28,7 +28,6 @@
 //! ```
 #![tactic(auto)]
 
-mod ascending;
 mod branch_hinting;
 mod coredumps;
 mod custom;

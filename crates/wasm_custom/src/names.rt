@@ -1,23 +1,22 @@
 // Names.
 ghost use Rattle.std.specs.Prelude.{⊤, ◌≡◌, ℕ, false, length, refl};
 ghost use Rattle.std.specs.Iterator.{at_most};
+ghost use Rattle.wasm_base.specs.Ascending.{NextAscending, none_given};
 ghost use Rattle.wasm_base.specs.Hints.{Hints, NotOutOfMemory, is_out_of_memory};
 ghost use Rattle.wasm_base.specs.Item.{ReadsAs};
 ghost use Rattle.wasm_base.specs.Outcome.{GivesResult};
 ghost use Rattle.wasm_base.specs.Section.{NextItem, all_items, most_items};
 ghost use Rattle.wasm_base.specs.Subsections.{NextSubsection, ReadsWindowAs};
 ghost use Rattle.wasm_base.specs.Window.{place};
-ghost use Rattle.wasm_custom.specs.Ascending.{NextAscending, none_given};
 ghost use Rattle.wasm_custom.specs.Names.{naming_parts, naming_at, skipped_naming_at, indirect_naming_at, entries_in, name_parts, name_in, module_name_in, id_of, index_of, index_of_indirect, offset_of_entry, offset_of_subsection};
 
-use crate::ascending::in_order;
 use std::alloc::{AllocError, Global};
 use std::fmt;
 use std::marker::Model;
 use std::ops::Range;
 use wasm_base::{
     BinaryReader, Error, Fault, FromReader, NeverAllocates, Result, SectionLimited,
-    SectionLimitedIntoIter, SkipItem, Subsection, Subsections, read_inner,
+    SectionLimitedIntoIter, SkipItem, Subsection, Subsections, expect_end, in_order, read_inner,
 };
 
 /// An entry of a name map: an index and a name.
@@ -181,7 +180,7 @@ pub type IndirectNameMap<'a> = IndexedMap<'a, IndirectNaming<'a>>;
 
 impl<'a, T> Model for IndexedMap<'a, T> {
     ghost use Rattle.wasm_base.specs.Section.{Items};
-    ghost use Rattle.wasm_custom.specs.Ascending.{Ascending};
+    ghost use Rattle.wasm_base.specs.Ascending.{Ascending};
 
     ghost Value = { Ascending Items };
 
@@ -381,9 +380,7 @@ fn module_name<'a>(mut reader: BinaryReader<'a>) -> Result<Name<'a>>
 {
     let name_range = reader.remaining_range();
     let name = reader.read_string()?;
-    if !reader.eof() {
-        return Err(Error::new(Fault::NameTrailing, reader.original_position()));
-    }
+    expect_end(Fault::NameTrailing, &reader)?;
     Ok(Name::Module { name, name_range })
 }
 
@@ -481,7 +478,7 @@ pub struct NameSectionReader<'a> {
 
 impl<'a> Model for NameSectionReader<'a> {
     ghost use Rattle.wasm_base.specs.Window.{Window};
-    ghost use Rattle.wasm_custom.specs.Ascending.{Ascending};
+    ghost use Rattle.wasm_base.specs.Ascending.{Ascending};
 
     ghost Value = { Ascending Window };
 

@@ -5,6 +5,7 @@ use Rattle.std.proofs.lemmas.Bool.{lt-ltb}
 use Rattle.std.proofs.lemmas.List.{length-map, map-set}
 use Rattle.std.specs.Borrow.{Bor}
 use Rattle.std.specs.Prelude.{◌⊎◌}
+use Rattle.wasm_base.specs.Ascending.{Ascending, is_above, NextAscending, Refuses, none_given}
 use Rattle.wasm_base.specs.FaultAt.{FaultAt, fault_at}
 use Rattle.wasm_base.specs.Item.{ReadsAs}
 use Rattle.wasm_base.specs.Outcome.{Outcome}
@@ -13,7 +14,6 @@ use Rattle.wasm_base.specs.Subsections.{subsection_at, after_refused, NextSubsec
 use Rattle.wasm_base.specs.Window.{Window, Place, place, KeepsWindow}
 use Rattle.wasm_base.specs.declared.error.Error.{Error}
 use Rattle.wasm_base.specs.declared.fault.Fault.TheVariants.{NamesOrder, NameSectionOrder}
-use Rattle.wasm_custom.specs.Ascending.{Ascending, is_above, NextAscending, Refuses, none_given}
 use Rattle.wasm_custom.specs.Names.{NamingParts, naming_parts, naming_at, NameParts, name_parts, id_of_parts, id_of, name_in, index_of}
 use Rattle.wasm_custom.specs.Names.{offset_of_entry, offset_of_subsection}
 use Rattle.wasm_custom.specs.declared.names.Name.{Name}

@@ -2,6 +2,7 @@
 use Rattle.std.specs.Borrow.{Bor}
 use Rattle.std.specs.Prelude.{◌≡◌, ◌⊎◌, ℕ, zero, suc, List, [], ◌∷◌, ◌++◌, length, map, set, nat_lt, nat_eq, Vec}
 use Rattle.std.specs.Prelude.{Option, Some, None, Result, Ok, Err, codes, bytes_eq, if◌then◌else◌}
+use Rattle.wasm_base.specs.Ascending.{Ascending, is_above}
 use Rattle.wasm_base.specs.FaultAt.{FaultAt, fault_at}
 use Rattle.wasm_base.specs.Outcome.{Outcome}
 use Rattle.wasm_base.specs.Owned.{out_of_memory}
@@ -9,7 +10,6 @@ use Rattle.wasm_base.specs.Section.{Items}
 use Rattle.wasm_base.specs.Subsections.{subsection_at, after_refused}
 use Rattle.wasm_base.specs.Window.{Window, Place, place}
 use Rattle.wasm_base.specs.declared.error.Error.{Error}
-use Rattle.wasm_custom.specs.Ascending.{Ascending, is_above}
 use Rattle.wasm_custom.specs.Names.{NamingParts, naming_at, NameParts, module_name, direct, indirect, unknown}
 use Rattle.wasm_custom.specs.Names.{id_of_parts, name_in}
 use Rattle.wasm_items.specs.Flattened.{flattened, import_alone}

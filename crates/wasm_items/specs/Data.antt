@@ -1,6 +1,7 @@
 -- Data segments. Core specification, Binary format, Modules, Data Section.
-use Rattle.std.specs.Prelude.{ℕ, List, Ok, Err, ◌==◌, if◌then◌else◌}
+use Rattle.std.specs.Prelude.{ℕ, List, Option, Some, None, Ok, Err, ◌==◌, if◌then◌else◌}
 use Rattle.wasm_base.specs.FaultAt.{at_offset}
+use Rattle.wasm_base.specs.Leading.{flags_at}
 use Rattle.wasm_base.specs.Name.{bytes_at}
 use Rattle.wasm_base.specs.Number.{unsigned_at}
 use Rattle.wasm_base.specs.Outcome.{Outcome, ◌>>=◌}
@@ -41,17 +42,17 @@ indexed_data_at p = do
 
 -- The kind of a segment, by its flags: 0 for memory 0, 1 for a passive segment, 2 for a memory whose index follows.
 -- Other flags are a fault at the start of the segment.
-abbrev pub data_kind_after : (start flags : ℕ) → Place → Outcome DataKind
-data_kind_after start flags p =
+abbrev pub data_kind_after : (start : ℕ) (flags : Option ℕ) → Place → Outcome DataKind
+data_kind_after start None p = Err (at_offset DataFlags start)
+data_kind_after start (Some flags) p =
     if flags == 0 then active_data_at 0 p
     else if flags == 1 then Ok (Passive, p)
-    else if flags == 2 then indexed_data_at p
-    else Err (at_offset DataFlags start)
+    else indexed_data_at p
 
 -- flags, and the kind of the segment
 unfoldable pub data_kind_at : Place → Outcome DataKind
 data_kind_at p = do
-  flags ← unsigned_at VarU32 p
+  flags ← flags_at 2 p
   data_kind_after p.offset flags.0 flags.1
 
 -- a data segment: its kind, a size, and as many bytes

@@ -1,7 +1,8 @@
 -- Element segments. Core specification, Binary format, Modules, Element Section.
-use Rattle.std.specs.Prelude.{ℕ, ◌-◌, Bool, true, ◌||◌, Option, Some, None, Ok, Err, nat_lt, if◌then◌else◌}
+use Rattle.std.specs.Prelude.{ℕ, ◌-◌, Bool, true, ◌||◌, Option, Some, None, Ok, Err, if◌then◌else◌}
 use Rattle.wasm_base.specs.Bits.{has_bit}
 use Rattle.wasm_base.specs.FaultAt.{at_offset}
+use Rattle.wasm_base.specs.Leading.{flags_at}
 use Rattle.wasm_base.specs.Number.{unsigned_at}
 use Rattle.wasm_base.specs.Outcome.{Outcome, ◌>>=◌}
 use Rattle.wasm_base.specs.Window.{Place}
@@ -21,11 +22,16 @@ use Rattle.wasm_items.specs.declared.exports.ExternalKind.TheVariants.{Func}
 use Rattle.wasm_items.specs.declared.types.HeapType.TheVariants as Heaps
 use Rattle.wasm_items.specs.declared.types.RefType.{RefType}
 
+-- flags that were read, or a fault at their last byte
+abbrev pub or_element_flags : Option ℕ → Place → Outcome ℕ
+or_element_flags None p = Err (at_offset ElementFlags (p.offset - 1))
+or_element_flags (Some flags) p = Ok (flags, p)
+
 -- flags below 8; other flags are a fault at their last byte
 unfoldable pub element_flags_at : Place → Outcome ℕ
 element_flags_at p = do
-  flags ← unsigned_at VarU32 p
-  if nat_lt 7 flags.0 then Err (at_offset ElementFlags (flags.1.offset - 1)) else Ok flags
+  flags ← flags_at 7 p
+  or_element_flags flags.0 flags.1
 
 -- an active segment: the expression of its offset in the table
 abbrev pub active_element_at : (table : Option ℕ) → Place → Outcome ElementKind

@@ -8,7 +8,7 @@ ghost use Rattle.wasm_items.specs.Data.{active_data_at, data_kind_at};
 
 use crate::init::ConstExpr;
 use std::ops::Range;
-use wasm_base::{BinaryReader, Error, Fault, FromReader, Result, SectionLimited};
+use wasm_base::{BinaryReader, Error, Fault, FromReader, Result, SectionLimited, read_flags};
 
 /// The data section, whose items are data segments.
 ///
@@ -89,14 +89,14 @@ fn read_kind<'a>(reader: &mut BinaryReader<'a>) -> Result<DataKind<'a>>
     ensures memory { NotOutOfMemory result }
 {
     let start = reader.original_position();
-    match reader.read_var_u32()? {
-        0 => read_active(0, reader),
-        1 => Ok(DataKind::Passive),
-        2 => {
+    match read_flags(2, reader)? {
+        Some(0) => read_active(0, reader),
+        Some(1) => Ok(DataKind::Passive),
+        Some(_) => {
             let memory_index = reader.read_var_u32()?;
             read_active(memory_index, reader)
         }
-        _ => Err(Error::new(Fault::DataFlags, start)),
+        None => Err(Error::new(Fault::DataFlags, start)),
     }
 }
 

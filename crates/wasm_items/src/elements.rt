@@ -12,7 +12,8 @@ use crate::limits::has_flag;
 use crate::types::RefType;
 use std::ops::Range;
 use wasm_base::{
-    BinaryReader, Error, Fault, FromReader, Result, SectionLimited, read_inner, read_inner_u32s,
+    BinaryReader, Error, Fault, FromReader, Result, SectionLimited, read_flags, read_inner,
+    read_inner_u32s,
 };
 
 /// The element section, whose items are element segments.
@@ -113,16 +114,15 @@ const HAS_EXPRESSIONS: u8 = 4;
 
 // Reads the flags of a segment.
 #[tactic(auto, unfolding(crate::specs::Elements::element_flags_at))]
-fn read_flags(reader: &mut BinaryReader<'_>) -> Result<u8>
+fn read_element_flags(reader: &mut BinaryReader<'_>) -> Result<u8>
     ensures gives { GivesBy (λ flags. flags) result reader.old reader.new element_flags_at }
     ensures keeps { KeepsWindow reader.old reader.new }
     ensures memory { NotOutOfMemory result }
 {
-    let flags = reader.read_var_u32()?;
-    if flags > 7 {
-        return Err(Error::new(Fault::ElementFlags, reader.original_position() - 1));
+    match read_flags(7, reader)? {
+        Some(flags) => Ok(flags),
+        None => Err(Error::new(Fault::ElementFlags, reader.original_position() - 1)),
     }
-    Ok(flags as u8)
 }
 
 // Reads an active segment after its table index.
@@ -251,7 +251,7 @@ impl<'a> FromReader<'a> for Element<'a> {
     #[tactic(auto, unfolding(crate::specs::Elements::element_at))]
     fn from_reader(reader: &mut BinaryReader<'a>) -> Result<Self> {
         let start = reader.original_position();
-        let flags = read_flags(reader)?;
+        let flags = read_element_flags(reader)?;
         let kind = read_kind(flags, reader)?;
         let items = read_items(flags, reader)?;
         Ok(Element {

@@ -1,11 +1,13 @@
 // Entries whose indices ascend.
 ghost use Rattle.std.specs.Prelude.{◌≡◌, false};
+ghost use Rattle.wasm_base.specs.Ascending.{InOrder, is_above};
 ghost use Rattle.wasm_base.specs.Hints.{NotOutOfMemory, is_out_of_memory};
-ghost use Rattle.wasm_custom.specs.Ascending.{InOrder, is_above};
 
-use wasm_base::{Error, Fault, Result};
+use crate::error::{Error, Result};
+use crate::fault::Fault;
 
 // Whether an index is above the last one returned, if any.
+#[inline(always)]
 fn is_above(last: Option<u32>, index: u32) -> bool
     ensures { result ≡ is_above last index }
 {
@@ -15,9 +17,13 @@ fn is_above(last: Option<u32>, index: u32) -> bool
     }
 }
 
-/// Returns an entry that was read if its index is above the last one returned, and records the index. Otherwise returns
-/// this fault at the start of the entry.
-pub(crate) fn in_order<T: Drop>(
+/// Returns an entry that was read if its index is above the last one returned, and records the index.
+///
+/// # Errors
+///
+/// `fault` at `start`, the offset of the entry, if its index is not above the last one, which then stays.
+#[inline(always)]
+pub fn in_order<T: Drop>(
     last: &mut Option<u32>,
     index: u32,
     entry: T,
