@@ -1,20 +1,21 @@
 -- What a parser reads at its offset, and what it then returns.
 use Rattle.std.proofs.Common.{◌≡◌, ℕ, ◌+◌, ◌-◌, ◌^◌, ◌<◌, Bool, true, false, not, List, length, Result, Ok, Err, nat_eq, refl}
-use Rattle.std.proofs.Common.{subst, arith, add-zero}
+use Rattle.std.proofs.Common.{subst, sym, arith, add-zero}
 use Rattle.wasm_base.specs.Window.{Window, Place, place, window_over}
 use Rattle.wasm_base.specs.declared.error.Error.{Error}
 use Rattle.wasm_grammar.specs.Content.{fault, ended}
-use Rattle.wasm_grammar.specs.Grammar.{Verdict, tile, final, Grammar, body_grammar, verdict}
+use Rattle.wasm_grammar.specs.Grammar.{Tile, Verdict, tile, final, Grammar, body_grammar, verdict}
 use Rattle.wasm_parser.specs.ParseAnswer.{IsPayload, MatchesVerdict, MatchesGrammar, Advances, ParseAnswer, report_of}
-use Rattle.wasm_parser.specs.ParserState.{ParserState, grammar_of}
+use Rattle.wasm_parser.specs.ParserState.{ParserState, grammar_of, is_at_section}
 use Rattle.wasm_parser.specs.ReadsPart.{IsBegun, Refuses, ReadsHeader, ReadsBody, ReadsNext}
 use Rattle.wasm_grammar.specs.Reading.{tile_report}
-use Rattle.wasm_parser.specs.StateAfter.{missing_bytes, state_after_tile}
+use Rattle.wasm_parser.specs.StateAfter.{implies_nothing, missing_bytes, state_after_tile}
 use Rattle.wasm_parser.specs.declared.payload.Chunk.{Chunk}
 use Rattle.wasm_parser.specs.declared.payload.Chunk.TheVariants.{Parsed}
 use Rattle.wasm_parser.specs.declared.payload.Payload.{Payload}
 use Rattle.wasm_parser.proofs.CodeFits.{tile_fits}
 use Rattle.wasm_parser.proofs.Parsing.{answers_tile}
+use Rattle.wasm_grammar.proofs.parts.Placed.{headed, bodied}
 
 -- ---- by what the parser expects
 
@@ -47,6 +48,21 @@ pub advance_fits : (p : ParserState) (here after : Place) (payload : Payload) (e
     ≡ p.offset → end ≡ after.offset → end < 2 ^ 64 → p.offset + p.code_bytes < 2 ^ 64
     → end + missing_bytes (report_of payload) (end - p.offset) p.code_bytes < 2 ^ 64
 advance_fits p here after payload end m o at l k = fits_at p here after payload end (verdict (grammar_of p) here.rest) refl m.0 o at l k
+
+-- a header is at the start of the stream, and a body in an open code section
+section_at : (p : ParserState) (features from to : ℕ) (xs : List ℕ) (t : Tile) (h b : Bool) → p.expects_header ≡ h
+    → nat_eq (p.bodies + p.code_bytes) 0 ≡ b → verdict (grammar_of p) xs ≡ tile t
+    → implies_nothing (tile_report features from to t.shape) ≡ true → is_at_section p ≡ true
+section_at p features from to xs t true b e f v n = grind (arith, headed)
+section_at p features from to xs t false true e f v n = rw (e, f) refl
+section_at p features from to xs t false false e f v n = grind (arith, bodied)
+
+section_of : (p : ParserState) (here after : Place) (payload : Payload) (v : Verdict) → verdict (grammar_of p) here.rest ≡ v
+    → MatchesVerdict p.offset here v (Ok payload) after → implies_nothing (report_of payload) ≡ true → is_at_section p ≡ true
+section_of p here after payload (tile t) e m n =
+    section_at p here.features p.offset (here.offset + length t.bytes) here.rest t _ _ refl refl e (rw (sym m.1.0) n)
+section_of p here after payload (final (fault x)) e m n = absurd m
+section_of p here after payload (final (ended x)) e m n = absurd m
 
 answers_at : (p q : ParserState) (eof : Bool) (here after : Place) (payload : Payload) (end : ℕ) (v : Verdict)
     → verdict (grammar_of p) here.rest ≡ v → MatchesVerdict p.offset here v (Ok payload) after → p.offset + length here.rest < 2 ^ 64
@@ -81,6 +97,12 @@ pub window_fits : (p : ParserState) (w : Window) (bytes : List ℕ) (after : Pla
 window_fits p w bytes after payload end e m at l k =
     advance_fits p (place (window_over p.features p.offset bytes)) after payload end (at_window p w bytes (Ok payload) after e m)
     (add-zero p.offset) at l k
+
+pub window_section : (p : ParserState) (w : Window) (bytes : List ℕ) (after : Place) (payload : Payload)
+    → w ≡ window_over p.features p.offset bytes → ReadsNext p (place w) (Ok payload) after
+    → implies_nothing (report_of payload) ≡ true → is_at_section p ≡ true
+window_section p w bytes after payload e m n =
+    section_of p (place (window_over p.features p.offset bytes)) after payload _ refl (at_window p w bytes (Ok payload) after e m).0 n
 
 pub window_answered : (p q : ParserState) (eof : Bool) (w : Window) (bytes : List ℕ) (after : Place) (payload : Payload) (start end : ℕ) → w
     ≡ window_over p.features p.offset bytes → start ≡ p.offset → ReadsNext p (place w) (Ok payload) after → p.offset + length bytes < 2 ^ 64

@@ -3,7 +3,7 @@ use Rattle.std.specs.Prelude.{ℕ, zero, suc, ◌+◌, ◌-◌, Bool, true, fals
 use Rattle.std.specs.Prelude.{if◌then◌else◌}
 use Rattle.wasm_grammar.specs.Grammar.{Tile}
 use Rattle.wasm_grammar.specs.Reading.{Report, version, counted, start_section, data_count_section, code_start}
-use Rattle.wasm_grammar.specs.Reading.{code_entry, tile_report}
+use Rattle.wasm_grammar.specs.Reading.{code_entry, custom_section, unknown_section, tile_report}
 use Rattle.wasm_grammar.specs.Sections.{count_report}
 use Rattle.wasm_parser.specs.ParserState.{ParserState}
 use Rattle.wasm_grammar.specs.declared.encoding.Encoding.{Encoding}
@@ -60,6 +60,12 @@ knowing p report = record p {
   datas = known_count data_id (count_report report) p.datas;
   data_counts = known_count data_count_id (count_report report) p.data_counts;
 }
+
+-- whether it is a section that implies nothing for later parts
+abbrev pub implies_nothing : Report → Bool
+implies_nothing (custom_section name at window) = true
+implies_nothing (unknown_section id contents from to) = true
+implies_nothing other = false
 
 -- the same after a section that implies nothing for later parts, which ends at this offset
 abbrev pub state_after_section : ParserState → (to : ℕ) → ParserState

@@ -14,7 +14,7 @@ ghost use Rattle.wasm_parser.specs.ParserState.{initial_state, is_at_section as 
 ghost use Rattle.wasm_parser.specs.ReadsPart.{HasSection, IsBegun, ReadsAfterId, ReadsAfterLength, ReadsBody, ReadsContent, ReadsNext, ReadsNextSection, Refuses};
 ghost use Rattle.wasm_parser.specs.Skipped.{SkipsSection};
 ghost use Rattle.wasm_parser.specs.Stored.{numbers_of, parser_of};
-ghost use Rattle.wasm_parser.specs.StateAfter.{knowing, missing_bytes, state_after, state_after_section};
+ghost use Rattle.wasm_parser.specs.StateAfter.{implies_nothing, knowing, missing_bytes, state_after, state_after_section};
 ghost use Rattle.wasm_parser.specs.AsksWhereOpen.{AsksWhereOpen};
 ghost use Rattle.wasm_grammar.specs.declared.encoding.Encoding.TheVariants.{Module, Component};
 
@@ -541,6 +541,8 @@ impl StoredParser {
     // Sections that imply nothing for later parts are distinguished first, so that their kind is looked at only once.
     fn advance(&mut self, payload: &Payload, end: u64)
         requires after { self.old.offset ≤ end }
+        requires section { implies_nothing (report_of payload.now) ≡ true
+            → at_section (numbers_of self.old) ≡ true }
         requires fits { end + missing_bytes (report_of payload.now)
             (end - self.old.offset) self.old.code_bytes < 2 ^ 64 }
         ensures advances { Advances (numbers_of self.old) payload.now end (numbers_of self.new) }
@@ -553,15 +555,13 @@ impl StoredParser {
         }
     }
 
-    // Moves to the end of a section that implies nothing for later parts.
+    // Moves to the end of a section that implies nothing for later parts. No code section is open where a section is.
     fn pass_section(&mut self, end: u64)
+        requires { at_section (numbers_of self.old) ≡ true }
         ensures state { numbers_of self.new ≡ state_after_section (numbers_of self.old) end }
         ensures room { self.new.offset + self.new.code_bytes < 2 ^ 64 }
     {
         self.offset = end;
-        self.is_begun = 1;
-        self.bodies = 0;
-        self.code_bytes = 0;
         self.in_code = 0;
     }
 

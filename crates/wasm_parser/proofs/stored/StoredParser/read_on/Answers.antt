@@ -1,6 +1,6 @@
 use Rattle.std.proofs.Common.{arith, refl}
 use Rattle.wasm_base.specs.Window.{place}
-use Rattle.wasm_parser.proofs.NextParts.{window_fits, window_answered, window_refused}
+use Rattle.wasm_parser.proofs.NextParts.{window_fits, window_section, window_answered, window_refused}
 use Rattle.wasm_parser.specs.Stored.{numbers_of}
 use Rattle.wasm_parser.proofs.stored.StoredParser.read_on.Goals as goal
 
@@ -10,6 +10,11 @@ advance-requires-clause-fits c =
     window_fits (numbers_of c.args.self.now) c.reader-reader.result c.args.bytes.now (place c.read.new.reader) c.in-Ok.payload
     c.original_position-end.result c.reader-reader.ensures c.in-Ok.ensures c.original_position-end.ensures.offset
     c.original_position-end.type_inv (omega (arith, room))
+
+pub advance-requires-clause-section : goal.advance-requires-clause-section
+advance-requires-clause-section c =
+    window_section (numbers_of c.args.self.now) c.reader-reader.result c.args.bytes.now (place c.read.new.reader) c.in-Ok.payload
+    c.reader-reader.ensures c.in-Ok.ensures
 
 pub returns-in-Ok-clause-answers : goal.returns-in-Ok-clause-answers
 returns-in-Ok-clause-answers c =
