@@ -59,17 +59,23 @@ fn push_pieces(alloc: Global, bytes: &[u8], size: usize) -> Result<Tally> {
         if tally_step(feeder.open().step()?, &mut tally) {
             break;
         }
-        if feeder.wants_more() {
-            if rest.is_empty() {
-                feeder.finish();
-            } else {
-                let (piece, later) = rest.split_at(size.min(rest.len()));
-                feeder.push(piece)?;
-                rest = later;
-            }
-        }
+        rest = push_next(&mut feeder, rest, size)?;
     }
     Ok(tally)
+}
+
+// Pushes the next chunk, or after the last one the end of input, if the feeder wants more. Returns the remaining bytes.
+fn push_next<'a>(feeder: &mut Feeder, rest: &'a [u8], size: usize) -> Result<&'a [u8]> {
+    if !feeder.wants_more() {
+        return Ok(rest);
+    }
+    if rest.is_empty() {
+        feeder.finish();
+        return Ok(rest);
+    }
+    let (piece, later) = rest.split_at(size.min(rest.len()));
+    feeder.push(piece)?;
+    Ok(later)
 }
 
 fn borrow_pieces(alloc: Global, bytes: &[u8], size: usize) -> Result<Tally> {
@@ -126,6 +132,10 @@ fn tally_step(step: Step<'_>, tally: &mut Tally) -> bool {
 // Whether this was the last payload.
 fn tally_payload(payload: Payload<'_>, tally: &mut Tally) -> bool {
     tally.add(see(&payload));
+    is_end(&payload)
+}
+
+fn is_end(payload: &Payload<'_>) -> bool {
     match payload {
         Payload::End(_) => true,
         _other => false,

@@ -4,9 +4,13 @@ use bitflags::Flags;
 use std::alloc::Global;
 use std::ops::Range;
 use wasm_base::Result;
-use wasm_custom::{CustomSectionReader, KnownCustom, Linking, Name, SymbolInfo};
+use wasm_custom::{
+    CustomSectionReader, KnownCustom, Linking, LinkingSectionReader, Name, NameSectionReader,
+    Naming, RelocationEntry, SymbolInfo,
+};
 use wasm_items::{
-    Data, Element, ElementItems, ElementSectionReader, Import, ImportSection, TypeRef,
+    ConstExpr, Data, Element, ElementItems, ElementSectionReader, Export, Global as GlobalItem,
+    Import, ImportSection, RecGroup, TypeRef,
 };
 use wasm_parser::{Parser, Payload};
 
@@ -23,23 +27,28 @@ pub(crate) fn walk_items(alloc: Global, bytes: &[u8], lists: bool) -> Result<Tal
 
 fn walk_payload(alloc: Global, payload: Payload<'_>, lists: bool, tally: &mut Tally) -> Result<()> {
     match payload {
-        Payload::TypeSection(types) => {
-            tally.walk(types.into_iter_in(alloc), |group| group.types.len() as u64)
-        }
+        Payload::TypeSection(types) => tally.walk(types.into_iter_in(alloc), see_group),
         Payload::ImportSection(imports) => tally.walk(imports.into_imports(), see_import),
         Payload::FunctionSection(functions) => tally.walk(functions.into_iter(), u64::from),
-        Payload::GlobalSection(globals) => tally.walk(globals.into_iter(), |global| {
-            u64::from(global.ty.mutable) ^ ends(global.init_expr.range())
-        }),
-        Payload::ExportSection(exports) => tally.walk(exports.into_iter(), |export| {
-            u64::from(export.index) ^ export.name.len() as u64
-        }),
-        Payload::ElementSection(segments) if lists => walk_lists(segments, tally),
-        Payload::ElementSection(segments) => tally.walk(segments.into_iter(), see_element),
+        Payload::GlobalSection(globals) => tally.walk(globals.into_iter(), see_global),
+        Payload::ExportSection(exports) => tally.walk(exports.into_iter(), see_export),
+        Payload::ElementSection(segments) => walk_segments(segments, lists, tally),
         Payload::DataSection(segments) => tally.walk(segments.into_iter(), see_data),
         Payload::CustomSection(section) => walk_custom(alloc, section, tally),
         _other => Ok(()),
     }
+}
+
+fn see_group(group: RecGroup) -> u64 {
+    group.types.len() as u64
+}
+
+fn see_global(global: GlobalItem<'_>) -> u64 {
+    u64::from(global.ty.mutable) ^ ends(global.init_expr.range())
+}
+
+fn see_export(export: Export<'_>) -> u64 {
+    u64::from(export.index) ^ export.name.len() as u64
 }
 
 fn ends(range: Range<u64>) -> u64 {
@@ -62,44 +71,76 @@ fn see_import(import: Import<'_>) -> u64 {
     }
 }
 
+fn walk_segments(segments: ElementSectionReader<'_>, lists: bool, tally: &mut Tally) -> Result<()> {
+    if lists {
+        walk_lists(segments, tally)
+    } else {
+        tally.walk(segments.into_iter(), see_element)
+    }
+}
+
 fn walk_lists(segments: ElementSectionReader<'_>, tally: &mut Tally) -> Result<()> {
     for segment in segments {
-        match segment?.items {
-            ElementItems::Functions(indices) => tally.walk(indices.into_iter(), u64::from)?,
-            ElementItems::Expressions(_, list) => {
-                tally.walk(list.into_iter(), |expression| ends(expression.range()))?
-            }
-        }
+        walk_list(segment?.items, tally)?;
     }
     Ok(())
+}
+
+fn walk_list(items: ElementItems<'_>, tally: &mut Tally) -> Result<()> {
+    match items {
+        ElementItems::Functions(indices) => tally.walk(indices.into_iter(), u64::from),
+        ElementItems::Expressions(_, list) => tally.walk(list.into_iter(), see_expression),
+    }
+}
+
+fn see_expression(expression: ConstExpr<'_>) -> u64 {
+    ends(expression.range())
 }
 
 // Walks over the names of functions, symbols, or relocations.
 fn walk_custom(alloc: Global, section: CustomSectionReader<'_>, tally: &mut Tally) -> Result<()> {
     match section.as_known(alloc)? {
-        KnownCustom::Name(names) => {
-            for name in names {
-                if let Name::Function(names) = name? {
-                    tally.walk(names.into_iter(), |naming| {
-                        u64::from(naming.index) ^ naming.name.len() as u64
-                    })?;
-                }
-            }
-            Ok(())
-        }
-        KnownCustom::Linking(section) => {
-            for subsection in section.subsections() {
-                if let Linking::SymbolTable(symbols) = subsection? {
-                    tally.walk(symbols.into_iter(), see_symbol)?;
-                }
-            }
-            Ok(())
-        }
-        KnownCustom::Reloc(section) => tally.walk(section.entries().into_iter(), |entry| {
-            u64::from(entry.offset ^ entry.index) ^ u64::from(entry.ty as u8)
-        }),
+        KnownCustom::Name(names) => walk_names(names, tally),
+        KnownCustom::Linking(section) => walk_linking(section, tally),
+        KnownCustom::Reloc(section) => tally.walk(section.entries().into_iter(), see_relocation),
         _other => Ok(()),
     }
+}
+
+fn walk_names(names: NameSectionReader<'_>, tally: &mut Tally) -> Result<()> {
+    for name in names {
+        walk_name(name?, tally)?;
+    }
+    Ok(())
+}
+
+fn walk_name(name: Name<'_>, tally: &mut Tally) -> Result<()> {
+    match name {
+        Name::Function(names) => tally.walk(names.into_iter(), see_naming),
+        _other => Ok(()),
+    }
+}
+
+fn see_naming(naming: Naming<'_>) -> u64 {
+    u64::from(naming.index) ^ naming.name.len() as u64
+}
+
+fn walk_linking(section: LinkingSectionReader<'_>, tally: &mut Tally) -> Result<()> {
+    for subsection in section.subsections() {
+        walk_subsection(subsection?, tally)?;
+    }
+    Ok(())
+}
+
+fn walk_subsection(subsection: Linking<'_>, tally: &mut Tally) -> Result<()> {
+    match subsection {
+        Linking::SymbolTable(symbols) => tally.walk(symbols.into_iter(), see_symbol),
+        _other => Ok(()),
+    }
+}
+
+fn see_relocation(entry: RelocationEntry) -> u64 {
+    u64::from(entry.offset ^ entry.index) ^ u64::from(entry.ty as u8)
 }
 
 fn see_symbol(symbol: SymbolInfo<'_>) -> u64 {

@@ -22,7 +22,7 @@ const ENOUGH: u64 = 1;
 const WAYS: [&'static str; 6] = ["parse", "parse_all", "65536", "1", "items", "indices"];
 
 /// The stream has a fault, an argument names no way, or memory, input, output or the clock failed.
-#[derive(Debug, Drop)]
+#[derive(Drop)]
 struct Failed;
 
 impl From<wasm_base::Error> for Failed {
@@ -57,7 +57,7 @@ fn run(rt: &HostRuntime) -> Result<(), Failed> {
     let mut bytes = Vec::new(rt.alloc());
     rt.stdin().read_to_end(&mut bytes)?;
     if names.is_empty() {
-        for name in WAYS {
+        for name in &WAYS {
             let Tally { count, sum } = read(rt.alloc(), name, &bytes)?;
             writeln!(rt.stdout(), "{name} {count} {sum}")?;
         }

@@ -18,7 +18,7 @@ use wasm_parser::{BinaryReader, CoreDumpValue, CoreStart, Error, Fault, FromRead
 
 /// The name of the process of a core dump, or a fault.
 #[repr(C)]
-#[derive(Clone, Copy, Debug, PartialEq, Eq)]
+#[derive(Clone, Copy)]
 pub struct PlainCoreProcess {
     /// The fault of the item, of kind 0 if there is none.
     pub fault: PlainFault,
@@ -30,7 +30,7 @@ pub struct PlainCoreProcess {
 
 /// The name of a module of a core dump, or a fault.
 #[repr(C)]
-#[derive(Clone, Copy, Debug, PartialEq, Eq)]
+#[derive(Clone, Copy)]
 pub struct PlainCoreModule {
     /// The fault of the item, of kind 0 if there is none.
     pub fault: PlainFault,
@@ -42,7 +42,7 @@ pub struct PlainCoreModule {
 
 /// The head of an instance of a core dump, or a fault. The indices of its memories and globals follow.
 #[repr(C)]
-#[derive(Clone, Copy, Debug, PartialEq, Eq)]
+#[derive(Clone, Copy)]
 pub struct PlainCoreInstance {
     /// The fault of the item, of kind 0 if there is none.
     pub fault: PlainFault,
@@ -54,7 +54,7 @@ pub struct PlainCoreInstance {
 
 /// The name of a thread of a core dump, or a fault.
 #[repr(C)]
-#[derive(Clone, Copy, Debug, PartialEq, Eq)]
+#[derive(Clone, Copy)]
 pub struct PlainCoreThread {
     /// The fault of the item, of kind 0 if there is none.
     pub fault: PlainFault,
@@ -66,7 +66,7 @@ pub struct PlainCoreThread {
 
 /// The head of a frame of a core dump, or a fault. The values of its locals and stack follow.
 #[repr(C)]
-#[derive(Clone, Copy, Debug, PartialEq, Eq)]
+#[derive(Clone, Copy)]
 pub struct PlainCoreFrame {
     /// The fault of the item, of kind 0 if there is none.
     pub fault: PlainFault,
@@ -82,7 +82,7 @@ pub struct PlainCoreFrame {
 
 /// A value of a local or on the stack of a frame, or a fault.
 #[repr(C)]
-#[derive(Clone, Copy, Debug, PartialEq, Eq)]
+#[derive(Clone, Copy)]
 pub struct PlainCoreValue {
     /// The fault of the item, of kind 0 if there is none.
     pub fault: PlainFault,

@@ -13,7 +13,7 @@ use wasm_parser::{Error, Fault, fits};
 /// A cursor over the items of a list. It keeps no pointer: pass the bytes of the list to each call. Any bytes are a
 /// valid cursor.
 #[repr(C)]
-#[derive(Clone, Copy, Debug)]
+#[derive(Clone, Copy)]
 pub struct StoredItems {
     /// The offset of the next item, in bytes from the start of the stream.
     pub offset: u64,

@@ -15,7 +15,7 @@ use wasm_parser::{BinaryReader, Error, ExportInfo, FromReader, ImportInfo, MemIn
 
 /// The memory and table space that a library needs, or a fault.
 #[repr(C)]
-#[derive(Clone, Copy, Debug, PartialEq, Eq)]
+#[derive(Clone, Copy)]
 pub struct PlainDylinkMemory {
     /// The fault of the item, of kind 0 if there is none.
     pub fault: PlainFault,
@@ -33,7 +33,7 @@ pub struct PlainDylinkMemory {
 
 /// The flags of an export's symbol, or a fault.
 #[repr(C)]
-#[derive(Clone, Copy, Debug, PartialEq, Eq)]
+#[derive(Clone, Copy)]
 pub struct PlainDylinkExport {
     /// The fault of the item, of kind 0 if there is none.
     pub fault: PlainFault,
@@ -47,7 +47,7 @@ pub struct PlainDylinkExport {
 
 /// The flags of an import's symbol, or a fault.
 #[repr(C)]
-#[derive(Clone, Copy, Debug, PartialEq, Eq)]
+#[derive(Clone, Copy)]
 pub struct PlainDylinkImport {
     /// The fault of the item, of kind 0 if there is none.
     pub fault: PlainFault,

@@ -23,7 +23,7 @@ use wasm_parser::{
 ///
 /// (Core specification, Binary format, Modules.)
 #[repr(C)]
-#[derive(Clone, Copy, Debug, PartialEq, Eq)]
+#[derive(Clone, Copy)]
 pub struct PlainEvent {
     /// The kind of the event, a `pulleynavy_event_kind`: 0 a request for more input, 1 a header, 2 a section that
     /// begins with a count of items, 3 the start section, 4 the data count section, 5 the start of a code section, 6 a

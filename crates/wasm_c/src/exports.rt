@@ -13,7 +13,7 @@ use wasm_parser::{BinaryReader, Error, Export, ExternalKind, FromReader, Result}
 
 /// An export, or a fault.
 #[repr(C)]
-#[derive(Clone, Copy, Debug, PartialEq, Eq)]
+#[derive(Clone, Copy)]
 pub struct PlainExport {
     /// The fault of the item, of kind 0 if there is none.
     pub fault: PlainFault,

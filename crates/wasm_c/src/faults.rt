@@ -14,7 +14,7 @@ use wasm_parser::{CoreStart, Error, Fault, Lead, NumberKind};
 /// assert(number.fault.offset == 101);
 /// ```
 #[repr(C)]
-#[derive(Clone, Copy, Debug, PartialEq, Eq)]
+#[derive(Clone, Copy)]
 pub struct PlainFault {
     /// The code of the fault, or 0 if there is none.
     ///

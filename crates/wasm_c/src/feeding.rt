@@ -14,7 +14,7 @@ use wasm_parser::StoredParser;
 /// Any bytes are a valid feeder. Between calls leave the storage alone, or move it as a whole (`realloc`): the next
 /// call reads its bytes from `mark` to `end`.
 #[repr(C)]
-#[derive(Clone, Copy, Debug)]
+#[derive(Clone, Copy)]
 pub struct StoredFeed {
     /// The parser of the stream.
     pub parser: StoredParser,

@@ -16,7 +16,7 @@ use crate::spans::after;
 /// A cursor over all imports of a section, including those of bundles one by one. It keeps no pointer. Any bytes are a
 /// valid cursor.
 #[repr(C)]
-#[derive(Clone, Copy, Debug)]
+#[derive(Clone, Copy)]
 pub struct StoredImports {
     /// The cursor over the items of the section, imports and bundles.
     pub items: StoredItems,

@@ -15,7 +15,7 @@ use wasm_parser::{BinaryReader, BranchHint, BranchHintFunction, Error, FromReade
 
 /// A function with branch hints, or a fault.
 #[repr(C)]
-#[derive(Clone, Copy, Debug, PartialEq, Eq)]
+#[derive(Clone, Copy)]
 pub struct PlainHintedFunction {
     /// The fault of the item, of kind 0 if there is none.
     pub fault: PlainFault,
@@ -31,7 +31,7 @@ pub struct PlainHintedFunction {
 
 /// A branch hint, or a fault.
 #[repr(C)]
-#[derive(Clone, Copy, Debug, PartialEq, Eq)]
+#[derive(Clone, Copy)]
 pub struct PlainBranchHint {
     /// The fault of the item, of kind 0 if there is none.
     pub fault: PlainFault,

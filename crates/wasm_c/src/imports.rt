@@ -24,7 +24,7 @@ use wasm_parser::{
 
 /// The kind and type of an import. The fields of other kinds are 0.
 #[repr(C)]
-#[derive(Clone, Copy, Debug, PartialEq, Eq)]
+#[derive(Clone, Copy)]
 pub struct PlainImportType {
     /// The kind, a `pulleynavy_external_kind`: 0 a function, 1 a table, 2 a memory, 3 a global, 4 a tag, 5 a function
     /// of exactly the given type.
@@ -41,7 +41,7 @@ pub struct PlainImportType {
 
 /// An item of an import section: an import, or a bundle of imports from one module; or a fault.
 #[repr(C)]
-#[derive(Clone, Copy, Debug, PartialEq, Eq)]
+#[derive(Clone, Copy)]
 pub struct PlainImport {
     /// The fault of the item, of kind 0 if there is none.
     pub fault: PlainFault,
@@ -64,7 +64,7 @@ pub struct PlainImport {
 
 /// An import of a bundle, or a fault.
 #[repr(C)]
-#[derive(Clone, Copy, Debug, PartialEq, Eq)]
+#[derive(Clone, Copy)]
 pub struct PlainImportItem {
     /// The fault of the item, of kind 0 if there is none.
     pub fault: PlainFault,
@@ -78,7 +78,7 @@ pub struct PlainImportItem {
 
 /// A name or text, or a fault.
 #[repr(C)]
-#[derive(Clone, Copy, Debug, PartialEq, Eq)]
+#[derive(Clone, Copy)]
 pub struct PlainName {
     /// The fault of the item, of kind 0 if there is none.
     pub fault: PlainFault,

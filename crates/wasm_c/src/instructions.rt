@@ -14,7 +14,7 @@ use wasm_parser::{BinaryReader, ConstOperator, Error, HeapType, Result};
 
 /// An instruction of a constant expression, or a fault.
 #[repr(C)]
-#[derive(Clone, Copy, Debug, PartialEq, Eq)]
+#[derive(Clone, Copy)]
 pub struct PlainInstruction {
     /// The fault of the item, of kind 0 if there is none.
     pub fault: PlainFault,

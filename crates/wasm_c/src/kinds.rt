@@ -29,7 +29,7 @@ use wasm_parser::{
 
 /// The type of a table (core specification, Binary format, Types, Table Types).
 #[repr(C)]
-#[derive(Clone, Copy, Debug, PartialEq, Eq)]
+#[derive(Clone, Copy)]
 pub struct PlainTableType {
     /// The type of the elements.
     pub element: PlainType,
@@ -47,7 +47,7 @@ pub struct PlainTableType {
 
 /// The type of a memory (core specification, Binary format, Types, Memory Types).
 #[repr(C)]
-#[derive(Clone, Copy, Debug, PartialEq, Eq)]
+#[derive(Clone, Copy)]
 pub struct PlainMemoryType {
     /// 1 if addresses have 64 bits, or 0.
     pub memory64: u32,
@@ -67,7 +67,7 @@ pub struct PlainMemoryType {
 
 /// The type of a global (core specification, Binary format, Types, Global Types).
 #[repr(C)]
-#[derive(Clone, Copy, Debug, PartialEq, Eq)]
+#[derive(Clone, Copy)]
 pub struct PlainGlobalType {
     /// The type of the value.
     pub content: PlainType,
@@ -79,7 +79,7 @@ pub struct PlainGlobalType {
 
 /// A table, or a fault.
 #[repr(C)]
-#[derive(Clone, Copy, Debug, PartialEq, Eq)]
+#[derive(Clone, Copy)]
 pub struct PlainTable {
     /// The fault of the item, of kind 0 if there is none.
     pub fault: PlainFault,
@@ -95,7 +95,7 @@ pub struct PlainTable {
 
 /// A memory, or a fault.
 #[repr(C)]
-#[derive(Clone, Copy, Debug, PartialEq, Eq)]
+#[derive(Clone, Copy)]
 pub struct PlainMemory {
     /// The fault of the item, of kind 0 if there is none.
     pub fault: PlainFault,
@@ -107,7 +107,7 @@ pub struct PlainMemory {
 
 /// A tag of exceptions, or a fault.
 #[repr(C)]
-#[derive(Clone, Copy, Debug, PartialEq, Eq)]
+#[derive(Clone, Copy)]
 pub struct PlainTag {
     /// The fault of the item, of kind 0 if there is none.
     pub fault: PlainFault,
@@ -119,7 +119,7 @@ pub struct PlainTag {
 
 /// A global, or a fault.
 #[repr(C)]
-#[derive(Clone, Copy, Debug, PartialEq, Eq)]
+#[derive(Clone, Copy)]
 pub struct PlainGlobal {
     /// The fault of the item, of kind 0 if there is none.
     pub fault: PlainFault,

@@ -19,7 +19,7 @@ use wasm_parser::{
 
 /// The name, alignment and flags of a data segment, or a fault.
 #[repr(C)]
-#[derive(Clone, Copy, Debug, PartialEq, Eq)]
+#[derive(Clone, Copy)]
 pub struct PlainLinkingSegment {
     /// The fault of the item, of kind 0 if there is none.
     pub fault: PlainFault,
@@ -35,7 +35,7 @@ pub struct PlainLinkingSegment {
 
 /// A function to call at startup, or a fault.
 #[repr(C)]
-#[derive(Clone, Copy, Debug, PartialEq, Eq)]
+#[derive(Clone, Copy)]
 pub struct PlainInitFunction {
     /// The fault of the item, of kind 0 if there is none.
     pub fault: PlainFault,
@@ -49,7 +49,7 @@ pub struct PlainInitFunction {
 
 /// A comdat, or a fault.
 #[repr(C)]
-#[derive(Clone, Copy, Debug, PartialEq, Eq)]
+#[derive(Clone, Copy)]
 pub struct PlainComdat {
     /// The fault of the item, of kind 0 if there is none.
     pub fault: PlainFault,
@@ -67,7 +67,7 @@ pub struct PlainComdat {
 
 /// A symbol of a comdat, or a fault.
 #[repr(C)]
-#[derive(Clone, Copy, Debug, PartialEq, Eq)]
+#[derive(Clone, Copy)]
 pub struct PlainComdatSymbol {
     /// The fault of the item, of kind 0 if there is none.
     pub fault: PlainFault,

@@ -27,7 +27,7 @@ use wasm_parser::{
 
 /// A subsection, or a fault.
 #[repr(C)]
-#[derive(Clone, Copy, Debug, PartialEq, Eq)]
+#[derive(Clone, Copy)]
 pub struct PlainSubsection {
     /// The fault of the item, of kind 0 if there is none.
     pub fault: PlainFault,
@@ -42,7 +42,7 @@ pub struct PlainSubsection {
 
 /// An index and a name, or a fault.
 #[repr(C)]
-#[derive(Clone, Copy, Debug, PartialEq, Eq)]
+#[derive(Clone, Copy)]
 pub struct PlainNaming {
     /// The fault of the item, of kind 0 if there is none.
     pub fault: PlainFault,
@@ -56,7 +56,7 @@ pub struct PlainNaming {
 
 /// An index and a name map, or a fault.
 #[repr(C)]
-#[derive(Clone, Copy, Debug, PartialEq, Eq)]
+#[derive(Clone, Copy)]
 pub struct PlainIndirectNaming {
     /// The fault of the item, of kind 0 if there is none.
     pub fault: PlainFault,

@@ -17,7 +17,7 @@ use wasm_parser::{BinaryReader, Error, Result};
 
 /// An unsigned number, or a fault.
 #[repr(C)]
-#[derive(Clone, Copy, Debug, PartialEq, Eq)]
+#[derive(Clone, Copy)]
 pub struct PlainNumber {
     /// The fault of the item, of kind 0 if there is none.
     pub fault: PlainFault,
@@ -29,7 +29,7 @@ pub struct PlainNumber {
 
 /// A signed number, or a fault.
 #[repr(C)]
-#[derive(Clone, Copy, Debug, PartialEq, Eq)]
+#[derive(Clone, Copy)]
 pub struct PlainSigned {
     /// The fault of the item, of kind 0 if there is none.
     pub fault: PlainFault,

@@ -13,7 +13,7 @@ use wasm_parser::{BinaryReader, Error, FromReader, ProducersField, ProducersFiel
 
 /// A field of the producers section, or a fault.
 #[repr(C)]
-#[derive(Clone, Copy, Debug, PartialEq, Eq)]
+#[derive(Clone, Copy)]
 pub struct PlainProducersField {
     /// The fault of the item, of kind 0 if there is none.
     pub fault: PlainFault,
@@ -29,7 +29,7 @@ pub struct PlainProducersField {
 
 /// A value of a field of the producers section, or a fault.
 #[repr(C)]
-#[derive(Clone, Copy, Debug, PartialEq, Eq)]
+#[derive(Clone, Copy)]
 pub struct PlainProducersValue {
     /// The fault of the item, of kind 0 if there is none.
     pub fault: PlainFault,

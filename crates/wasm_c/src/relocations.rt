@@ -14,7 +14,7 @@ use wasm_parser::{BinaryReader, Error, FromReader, RelocationEntry, RelocationTy
 
 /// A relocation, or a fault.
 #[repr(C)]
-#[derive(Clone, Copy, Debug, PartialEq, Eq)]
+#[derive(Clone, Copy)]
 pub struct PlainRelocation {
     /// The fault of the item, of kind 0 if there is none.
     pub fault: PlainFault,

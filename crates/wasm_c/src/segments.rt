@@ -23,7 +23,7 @@ use wasm_parser::{
 
 /// A constant expression, or a fault.
 #[repr(C)]
-#[derive(Clone, Copy, Debug, PartialEq, Eq)]
+#[derive(Clone, Copy)]
 pub struct PlainExpression {
     /// The fault of the item, of kind 0 if there is none.
     pub fault: PlainFault,
@@ -33,7 +33,7 @@ pub struct PlainExpression {
 
 /// An element segment, or a fault.
 #[repr(C)]
-#[derive(Clone, Copy, Debug, PartialEq, Eq)]
+#[derive(Clone, Copy)]
 pub struct PlainElement {
     /// The fault of the item, of kind 0 if there is none.
     pub fault: PlainFault,
@@ -59,7 +59,7 @@ pub struct PlainElement {
 
 /// A data segment, or a fault.
 #[repr(C)]
-#[derive(Clone, Copy, Debug, PartialEq, Eq)]
+#[derive(Clone, Copy)]
 pub struct PlainData {
     /// The fault of the item, of kind 0 if there is none.
     pub fault: PlainFault,

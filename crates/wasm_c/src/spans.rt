@@ -13,7 +13,7 @@ use wasm_parser::{BinaryReader, Error, Fault, SectionLimited, WasmFeatures};
 
 /// A run of the bytes that a call was passed: a name, an expression or a list.
 #[repr(C)]
-#[derive(Clone, Copy, Debug, PartialEq, Eq)]
+#[derive(Clone, Copy)]
 pub struct PlainSpan {
     /// The position of the first byte, counted from the first byte that the call was passed.
     pub at: usize,

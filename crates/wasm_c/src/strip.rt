@@ -6,7 +6,7 @@ use wasm_feed::{Keep, strip_to_front};
 
 /// The result of stripping a stream: its size, or a fault.
 #[repr(C)]
-#[derive(Clone, Copy, Debug)]
+#[derive(Clone, Copy)]
 pub struct PlainStripped {
     /// The fault at which the stream stops, of kind 0 if there is none.
     pub fault: PlainFault,

@@ -22,7 +22,7 @@ use wasm_parser::{
 
 /// A symbol of the symbol table, or a fault.
 #[repr(C)]
-#[derive(Clone, Copy, Debug, PartialEq, Eq)]
+#[derive(Clone, Copy)]
 pub struct PlainSymbol {
     /// The fault of the item, of kind 0 if there is none.
     pub fault: PlainFault,

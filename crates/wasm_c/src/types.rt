@@ -17,7 +17,7 @@ use wasm_parser::{BinaryReader, Error, Fault, Lead, Result};
 
 /// The head of a recursive group of types, or a fault. The subtypes of the group follow.
 #[repr(C)]
-#[derive(Clone, Copy, Debug, PartialEq, Eq)]
+#[derive(Clone, Copy)]
 pub struct PlainTypeGroup {
     /// The fault of the item, of kind 0 if there is none.
     pub fault: PlainFault,
@@ -31,7 +31,7 @@ pub struct PlainTypeGroup {
 
 /// The head of a subtype, or a fault. The parameters and results, or the fields, follow.
 #[repr(C)]
-#[derive(Clone, Copy, Debug, PartialEq, Eq)]
+#[derive(Clone, Copy)]
 pub struct PlainSubtype {
     /// The fault of the item, of kind 0 if there is none.
     pub fault: PlainFault,

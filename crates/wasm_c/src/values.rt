@@ -20,7 +20,7 @@ use wasm_parser::{
 
 /// The type of a value, or of what a field stores (core specification, Binary format, Types).
 #[repr(C)]
-#[derive(Clone, Copy, Debug, PartialEq, Eq)]
+#[derive(Clone, Copy)]
 pub struct PlainType {
     /// The kind of the type, a `pulleynavy_type_kind`: 0 `i32`, 1 `i64`, 2 `f32`, 3 `f64`, 4 `v128`, 5 a reference; in
     /// a field also 6 `i8` and 7 `i16`.
@@ -37,7 +37,7 @@ pub struct PlainType {
 
 /// A value type, or a fault.
 #[repr(C)]
-#[derive(Clone, Copy, Debug, PartialEq, Eq)]
+#[derive(Clone, Copy)]
 pub struct PlainValue {
     /// The fault of the item, of kind 0 if there is none.
     pub fault: PlainFault,
@@ -49,7 +49,7 @@ pub struct PlainValue {
 
 /// A field of a structure or the element of an array, or a fault.
 #[repr(C)]
-#[derive(Clone, Copy, Debug, PartialEq, Eq)]
+#[derive(Clone, Copy)]
 pub struct PlainField {
     /// The fault of the item, of kind 0 if there is none.
     pub fault: PlainFault,

@@ -7,22 +7,21 @@ use wasm_custom::{
     Dylink0SectionReader, IndirectNameMap, KnownCustom, LinkingSectionReader, NameMap,
     NameSectionReader, ProducersField, RelocSectionReader,
 };
-use wasm_feed::Sink;
 use wasm_items::RecGroup;
 use wasm_show::{Items, Show, show_list};
-use wasm_tree::{Lines, Tree};
+use wasm_tree::Tree;
 
 /// Writes the section or the list that this reader reads, or its fault. Returns whether there is such a reader.
-pub(crate) fn show_custom<W: Sink>(
+pub(crate) fn show_custom<O: Tree>(
     alloc: Global,
     name: &str,
     reader: BinaryReader<'_>,
-    out: &mut Lines<W>,
+    out: &mut O,
 ) -> bool {
     match name {
-        "types" => show_counted_in::<RecGroup, W>(alloc, reader, out),
-        "hints" => show_counted::<BranchHintFunction<'_>, W>(reader, out),
-        "producers" => show_counted::<ProducersField<'_>, W>(reader, out),
+        "types" => show_counted_in::<RecGroup, O>(alloc, reader, out),
+        "hints" => show_counted::<BranchHintFunction<'_>, O>(reader, out),
+        "producers" => show_counted::<ProducersField<'_>, O>(reader, out),
         "namemap" => show_section(NameMap::new(reader), out),
         "indirect" => show_section(IndirectNameMap::new(reader), out),
         "names" => show_all(NameSectionReader::new(alloc, reader), out),
@@ -33,8 +32,8 @@ pub(crate) fn show_custom<W: Sink>(
         "coremodules" => show_section(CoreDumpModulesSection::new(alloc, reader), out),
         "coreinstances" => show_section(CoreDumpInstancesSection::new(alloc, reader), out),
         "corestack" => show_section(CoreDumpStackSection::new(alloc, reader), out),
-        "instances" => show_counted_in::<CoreDumpInstance, W>(alloc, reader, out),
-        "frames" => show_counted_in::<CoreDumpStackFrame, W>(alloc, reader, out),
+        "instances" => show_counted_in::<CoreDumpInstance, O>(alloc, reader, out),
+        "frames" => show_counted_in::<CoreDumpStackFrame, O>(alloc, reader, out),
         "known" => show_named(alloc, reader, out),
         _ => return false,
     }
@@ -42,7 +41,7 @@ pub(crate) fn show_custom<W: Sink>(
 }
 
 // Writes what was read, or its fault.
-fn show_section<T: Show, W: Sink>(read: Result<T>, out: &mut Lines<W>) {
+fn show_section<T: Show, O: Tree>(read: Result<T>, out: &mut O) {
     match read {
         Ok(section) => {
             out.line(1, "section");
@@ -53,10 +52,7 @@ fn show_section<T: Show, W: Sink>(read: Result<T>, out: &mut Lines<W>) {
 }
 
 // Writes the items of a section, or the fault of its count.
-fn show_counted<'a, T: FromReader<'a> + Show, W: Sink>(
-    reader: BinaryReader<'a>,
-    out: &mut Lines<W>,
-) {
+fn show_counted<'a, T: FromReader<'a> + Show, O: Tree>(reader: BinaryReader<'a>, out: &mut O) {
     match SectionLimited::<T>::new(reader) {
         Ok(section) => {
             out.line(1, "section");
@@ -67,10 +63,10 @@ fn show_counted<'a, T: FromReader<'a> + Show, W: Sink>(
 }
 
 // Like `show_counted`, for items that own lists.
-fn show_counted_in<'a, T: FromReaderIn<'a> + Show, W: Sink>(
+fn show_counted_in<'a, T: FromReaderIn<'a> + Show, O: Tree>(
     alloc: Global,
     reader: BinaryReader<'a>,
-    out: &mut Lines<W>,
+    out: &mut O,
 ) {
     match SectionLimited::<T>::new(reader) {
         Ok(section) => show_all(section.into_iter_in(alloc), out),
@@ -79,7 +75,7 @@ fn show_counted_in<'a, T: FromReaderIn<'a> + Show, W: Sink>(
 }
 
 // Writes all that an iterator returns, each on a line. Unlike `show_items`, it writes `OutOfMemory` too, and continues after it.
-fn show_all<I: Items, W: Sink>(mut items: I, out: &mut Lines<W>) {
+fn show_all<I: Items, O: Tree>(mut items: I, out: &mut O) {
     out.line(1, "section");
     for _ in 0..u64::MAX {
         match items.next_item() {
@@ -90,7 +86,7 @@ fn show_all<I: Items, W: Sink>(mut items: I, out: &mut Lines<W>) {
 }
 
 // Writes an item, or its fault.
-fn show_one<T: Show, W: Sink>(item: &Result<(u64, T)>, out: &mut Lines<W>) {
+fn show_one<T: Show, O: Tree>(item: &Result<(u64, T)>, out: &mut O) {
     match item {
         Ok((offset, item)) => {
             out.item(2, *offset);
@@ -101,7 +97,7 @@ fn show_one<T: Show, W: Sink>(item: &Result<(u64, T)>, out: &mut Lines<W>) {
 }
 
 // Writes what a custom section is known as, or its fault.
-fn show_named<W: Sink>(alloc: Global, reader: BinaryReader<'_>, out: &mut Lines<W>) {
+fn show_named<O: Tree>(alloc: Global, reader: BinaryReader<'_>, out: &mut O) {
     match CustomSectionReader::new(reader) {
         Ok(section) => match section.as_known(alloc) {
             Ok(known) => show_known(section.name(), &known, out),
@@ -112,7 +108,7 @@ fn show_named<W: Sink>(alloc: Global, reader: BinaryReader<'_>, out: &mut Lines<
 }
 
 // Writes the name of a custom section, and under it, if its data is known, what that says.
-fn show_known<W: Sink>(name: &str, known: &KnownCustom<'_>, out: &mut Lines<W>) {
+fn show_known<O: Tree>(name: &str, known: &KnownCustom<'_>, out: &mut O) {
     out.line(1, "section");
     out.quoted("name", name);
     match known {

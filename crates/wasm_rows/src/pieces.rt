@@ -1,37 +1,38 @@
 // Streams in chunks: the events that are read, and each step of a feeder.
+ghost use Rattle.std.specs.Prelude.{◌≡◌, false};
+ghost use Rattle.wasm_tree.specs.Tree.{has_line_feed};
+
 use crate::rows::Failed;
 use bitflags::Flags;
-use std::alloc::{AllocError, Global};
-use std::fmt::Write;
-use std::ops::Range;
+use std::alloc::Global;
 use wasm_base::{BinaryReader, Error, WasmFeatures};
-use wasm_feed::{Event, EventKind, Feeder, ListError, Sink, Step, fits_pieces, read_pieces};
+use wasm_feed::{Event, EventKind, Feeder, ListError, Step, fits_pieces, read_pieces};
 use wasm_parser::{Encoding, Payload};
-use wasm_tree::Lines;
+use wasm_tree::{Start, Tree};
 
-// Writes the text of a fault.
-fn show_fault(e: &Error, out: &mut String) -> Result<(), AllocError> {
-    let (offset, message) = (e.offset(), e.message());
-    match e.number() {
-        Some(number) => write!(out, "fault {offset} {message}: {number}"),
-        None => write!(out, "fault {offset} {message}"),
-    }
+/// What is shown of a stream in chunks.
+#[derive(Drop)]
+pub(crate) enum Shown {
+    /// The events that are read.
+    Events,
+    /// The steps of a feeder that receives chunks as it requests them, and one step after the last. Each with the bytes that are then
+    /// held and stored.
+    Steps,
 }
 
-// Writes bytes in hexadecimal.
-fn show_bytes(bytes: &[u8], out: &mut String) -> Result<(), AllocError> {
-    write!(out, "x")?;
-    for byte in bytes {
-        let byte = *byte;
-        write!(out, "{byte:02x}")?;
+/// Writes a line of a stream in chunks that begins at this offset.
+pub(crate) fn show_pieces<O: Tree>(
+    alloc: Global,
+    shown: Shown,
+    mut reader: BinaryReader<'_>,
+    offset: u64,
+    out: &mut O,
+) -> Result<(), Failed> {
+    let pieces = pieces_of(alloc, &mut reader)?;
+    match shown {
+        Shown::Events => show_events(alloc, &pieces, offset, out),
+        Shown::Steps => show_steps(alloc, &pieces, offset, out),
     }
-    Ok(())
-}
-
-// Writes offsets.
-fn show_range(range: Range<u64>, out: &mut String) -> Result<(), AllocError> {
-    let (start, end) = (range.start, range.end);
-    write!(out, "{start}..{end}")
 }
 
 // Pieces: their count, and each after its size.
@@ -46,140 +47,154 @@ fn pieces_of<'a>(alloc: Global, reader: &mut BinaryReader<'a>) -> Result<Vec<&'a
     Ok(pieces)
 }
 
-// Writes a text as a line, which a tree takes if it is no longer than what may wait.
-fn write_line<W: Sink>(mut text: String, out: &mut Lines<W>) -> Result<(), Failed> {
-    writeln!(text, "")?;
-    if text.len() > 65_536 {
-        return Err(Failed::Row("the result is longer than a line may be"));
-    }
-    out.first(text.as_bytes());
-    Ok(())
-}
-
-/// What is shown of a stream in chunks.
-#[derive(Drop)]
-pub(crate) enum Shown {
-    /// The events that are read.
-    Events,
-    /// The steps of a feeder that receives chunks as it requests them, and one step after the last. Each with the bytes that are then
-    /// held and stored.
-    Steps,
-}
-
-/// Writes a line of a stream in chunks that begins at this offset.
-pub(crate) fn show_pieces<W: Sink>(
+fn show_events<O: Tree>(
     alloc: Global,
-    shown: Shown,
-    reader: BinaryReader<'_>,
+    pieces: &[&[u8]],
     offset: u64,
-    out: &mut Lines<W>,
+    out: &mut O,
 ) -> Result<(), Failed> {
-    let mut text = String::from_str(alloc, "  ")?;
-    match shown {
-        Shown::Events => write_events(alloc, reader, offset, &mut text)?,
-        Shown::Steps => write_steps(alloc, reader, offset, &mut text)?,
-    }
-    write_line(text, out)
-}
-
-fn write_events(
-    alloc: Global,
-    mut reader: BinaryReader<'_>,
-    offset: u64,
-    out: &mut String,
-) -> Result<(), Failed> {
-    let pieces = pieces_of(alloc, &mut reader)?;
-    if !fits_pieces(offset, &pieces) {
+    if !fits_pieces(offset, pieces) {
         return Err(Failed::Row("the pieces overrun the largest offset"));
     }
-    for event in &read_pieces(alloc, offset, &pieces)? {
-        show_event(event, out)?;
-        write!(out, "; ")?;
+    let events = read_pieces(alloc, offset, pieces)?;
+    out.begin_line(1, Start::Empty);
+    for event in &events {
+        show_event(event, out);
     }
     Ok(())
 }
 
-fn show_event(event: &Event, out: &mut String) -> Result<(), AllocError> {
-    match &event.kind {
-        EventKind::Version { num, encoding } => {
-            let name = match encoding {
-                Encoding::Module => "module",
-                Encoding::Component => "component",
-            };
-            write!(out, "version {num} {name} ")?;
-        }
-        EventKind::Section { id, count } => write!(out, "section {id} {count} ")?,
-        EventKind::Start { func } => write!(out, "start {func} ")?,
-        EventKind::DataCount { count } => write!(out, "datacount {count} ")?,
-        EventKind::Code { count, size } => write!(out, "code {count} {size} ")?,
-        EventKind::Body => write!(out, "body ")?,
-        EventKind::Custom { data_offset } => write!(out, "custom {data_offset} ")?,
-        EventKind::Unknown { id } => write!(out, "unknown {id} ")?,
-        EventKind::End => write!(out, "end ")?,
-        EventKind::Fault(error) => {
-            show_fault(error, out)?;
-            write!(out, " ")?;
-        }
-    }
-    show_range(event.range.start..event.range.end, out)?;
-    write!(out, " ")?;
-    show_bytes(&event.bytes, out)
+fn show_event<O: Tree>(event: &Event, out: &mut O) {
+    show_kind(&event.kind, out);
+    out.text(" ");
+    out.digits(event.range.start);
+    out.text("..");
+    out.digits(event.range.end);
+    out.text(" x");
+    out.hexadecimals(&event.bytes);
+    out.text("; ");
 }
 
-fn write_steps(
+fn show_kind<O: Tree>(kind: &EventKind, out: &mut O) {
+    match kind {
+        EventKind::Version { num, encoding } => show_version(*num, *encoding, out),
+        EventKind::Section { id, count } => {
+            show_words("section ", u64::from(*id), Some(*count), out);
+        }
+        EventKind::Start { func } => show_words("start ", u64::from(*func), None, out),
+        EventKind::DataCount { count } => show_words("datacount ", u64::from(*count), None, out),
+        EventKind::Code { count, size } => {
+            show_words("code ", u64::from(*count), Some(*size), out);
+        }
+        EventKind::Body => out.text("body"),
+        EventKind::Custom { data_offset } => show_words("custom ", *data_offset, None, out),
+        EventKind::Unknown { id } => show_words("unknown ", u64::from(*id), None, out),
+        EventKind::End => out.text("end"),
+        EventKind::Fault(error) => out.fault_text(error),
+    }
+}
+
+fn show_version<O: Tree>(num: u16, encoding: Encoding, out: &mut O) {
+    show_words("version ", u64::from(num), None, out);
+    match encoding {
+        Encoding::Module => out.text(" module"),
+        Encoding::Component => out.text(" component"),
+    }
+}
+
+// Writes a word and one or two numbers.
+fn show_words<O: Tree>(word: &str, first: u64, second: Option<u32>, out: &mut O)
+    requires one_line { has_line_feed word.now ≡ false }
+{
+    out.text(word);
+    out.digits(first);
+    if let Some(second) = second {
+        out.text(" ");
+        out.digits(u64::from(second));
+    }
+}
+
+fn show_steps<O: Tree>(
     alloc: Global,
-    mut reader: BinaryReader<'_>,
+    pieces: &[&[u8]],
     offset: u64,
-    out: &mut String,
+    out: &mut O,
 ) -> Result<(), Failed> {
-    let features = WasmFeatures::all();
-    let most = reader
-        .remaining_buffer()
-        .len()
-        .saturating_mul(2)
-        .saturating_add(4);
-    let pieces = pieces_of(alloc, &mut reader)?;
-    let mut feeder = Feeder::new(alloc, offset, features);
+    let mut feeder = Feeder::new(alloc, offset, WasmFeatures::all());
     let mut given = 0_usize;
     let mut has_ended = false;
-    for _ in 0..most {
-        let is_last = show_step(feeder.open().step(), out)?;
-        let (held, stored) = (feeder.held(), feeder.stored());
-        write!(out, " {held} {stored}; ")?;
+    out.begin_line(1, Start::Empty);
+    for _ in 0..u64::MAX {
+        let is_last = show_step(&mut feeder, out);
         if is_last && has_ended {
             break;
         }
         has_ended = is_last;
-        if feeder.wants_more() {
-            match pieces.get(given) {
-                Some(piece) => feeder.push(piece)?,
-                None => feeder.finish(),
-            }
-            given = given.saturating_add(1);
-        }
+        given = push_next(&mut feeder, pieces, given, out)?;
     }
     Ok(())
 }
 
-// Writes the result of a step. Returns whether it is the last.
-fn show_step(step: wasm_base::Result<Step<'_>>, out: &mut String) -> Result<bool, AllocError> {
+// Writes the result of a step, and the bytes that are then held and stored. Returns whether it is the last.
+fn show_step<O: Tree>(feeder: &mut Feeder, out: &mut O) -> bool {
+    let is_last = show_result(feeder.open().step(), out);
+    out.text(" ");
+    out.digits(feeder.held() as u64);
+    out.text(" ");
+    out.digits(feeder.stored() as u64);
+    out.text("; ");
+    is_last
+}
+
+fn show_result<O: Tree>(step: wasm_base::Result<Step<'_>>, out: &mut O) -> bool {
     match step {
         Ok(Step::NeedMoreData(hint)) => {
-            write!(out, "need {hint}")?;
-            Ok(false)
+            show_words("need ", hint as u64, None, out);
+            false
         }
         Ok(Step::Parsed { bytes, payload }) => {
-            let len = bytes.len();
-            let is_last = match payload {
-                Payload::End(_) => true,
-                _ => false,
-            };
-            write!(out, "part {len}")?;
-            Ok(is_last)
+            show_words("part ", bytes.len() as u64, None, out);
+            is_end(&payload)
         }
         Err(error) => {
-            show_fault(&error, out)?;
-            Ok(true)
+            out.fault_text(&error);
+            true
         }
     }
+}
+
+fn is_end(payload: &Payload<'_>) -> bool {
+    match payload {
+        Payload::End(_) => true,
+        _other => false,
+    }
+}
+
+// Pushes the next chunk, or after the last one the end of input, if the feeder wants more. Returns how many chunks it was given.
+fn push_next<O: Tree>(
+    feeder: &mut Feeder,
+    pieces: &[&[u8]],
+    given: usize,
+    out: &mut O,
+) -> Result<usize, Failed> {
+    if !feeder.wants_more() {
+        return Ok(given);
+    }
+    let Some(piece) = pieces.get(given) else {
+        feeder.finish();
+        return Ok(given);
+    };
+    match feeder.push(piece) {
+        Ok(()) => Ok(given.saturating_add(1)),
+        Err(error) => Err(stopped(error, out)),
+    }
+}
+
+// Why a chunk was refused. Where memory ran out, the line that is begun stays out of the output.
+fn stopped<O: Tree>(error: Error, out: &mut O) -> Failed {
+    let why = Failed::from(error);
+    if let Failed::System(_) = why {
+        out.out_of_memory();
+    }
+    why
 }

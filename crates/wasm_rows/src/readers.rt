@@ -3,12 +3,12 @@ use crate::customs::show_custom;
 use crate::pieces::{Shown, show_pieces};
 use crate::readings::Stream;
 use crate::rows::{Failed, Row, is_prose, parse_row, write_bytes};
-use crate::streams::{show_prefix, show_stream};
+use crate::streams::{lines_of_prefix, lines_of_stream};
 use crate::subsections::show_subsections;
 use crate::values::show_value;
 use std::alloc::Global;
 use std::io::Read;
-use wasm_base::{BinaryReader, FromReader, FromReaderIn, WasmFeatures, fits};
+use wasm_base::{BinaryReader, FromReader, FromReaderIn, fits};
 use wasm_custom::{
     Comdat, CoreDumpInstance, CoreDumpStackFrame, CoreDumpValue, ProducersFieldValue,
     RelocationEntry, SymbolInfo,
@@ -68,99 +68,96 @@ fn show_result<W: Sink>(alloc: Global, line: &str, out: &mut Lines<W>) -> Result
     if is_prose(line) {
         return Ok(());
     }
-    show_row(alloc, parse_row(alloc, line)?, out)
+    let row = parse_row(alloc, line)?;
+    show_row(alloc, &row, out)
 }
 
-fn show_row<W: Sink>(alloc: Global, row: Row<'_>, out: &mut Lines<W>) -> Result<(), Failed> {
-    let Row {
-        reader: name,
-        features,
-        offset,
-        bytes,
-    } = row;
+fn show_row<W: Sink>(alloc: Global, row: &Row<'_>, out: &mut Lines<W>) -> Result<(), Failed> {
     let stream = Stream {
-        bytes: &bytes,
-        offset,
-        features,
+        bytes: &row.bytes,
+        offset: row.offset,
+        features: row.features,
     };
-    match name {
-        "stream" => show_stream(alloc, &stream, out),
-        "prefix" => show_prefix(alloc, &stream, out),
-        _ => show_window(alloc, name, features, offset, &bytes, out),
-    }
-}
-
-// Writes what the reader with this name reads of these bytes.
-fn show_window<W: Sink>(
-    alloc: Global,
-    name: &str,
-    features: WasmFeatures,
-    offset: u64,
-    bytes: &[u8],
-    out: &mut Lines<W>,
-) -> Result<(), Failed> {
-    if !fits(offset, bytes.len()) {
-        return Err(Failed::Row("the bytes overrun the largest offset"));
-    }
-    let mut reader = BinaryReader::new_features(bytes, offset, features);
-    if show_value(name, &mut reader, out) {
-        return Ok(());
-    }
-    show_read_by(alloc, name, reader, offset, out)
-}
-
-// Writes what the reader with this name reads.
-fn show_read_by<W: Sink>(
-    alloc: Global,
-    name: &str,
-    mut reader: BinaryReader<'_>,
-    offset: u64,
-    out: &mut Lines<W>,
-) -> Result<(), Failed> {
-    match name {
-        "kind" => show_read::<ExternalKind, W>(&mut reader, out),
-        "typeref" => show_read::<TypeRef, W>(&mut reader, out),
-        "import" => show_read::<Import<'_>, W>(&mut reader, out),
-        "imports" => show_read::<Imports<'_>, W>(&mut reader, out),
-        "valtype" => show_read::<ValType, W>(&mut reader, out),
-        "reftype" => show_read::<RefType, W>(&mut reader, out),
-        "heaptype" => show_read::<HeapType, W>(&mut reader, out),
-        "table" => show_read::<Table<'_>, W>(&mut reader, out),
-        "memory" => show_read::<MemoryType, W>(&mut reader, out),
-        "tag" => show_read::<TagType, W>(&mut reader, out),
-        "global" => show_read::<GlobalItem<'_>, W>(&mut reader, out),
-        "export" => show_read::<Export<'_>, W>(&mut reader, out),
-        "constexpr" => show_read::<ConstExpr<'_>, W>(&mut reader, out),
-        "element" => show_read::<Element<'_>, W>(&mut reader, out),
-        "data" => show_read::<Data<'_>, W>(&mut reader, out),
-        "recgroup" => show_read_in::<RecGroup, W>(alloc, &mut reader, out),
-        "flatimports" => show_flattened(reader, out),
-        "subsections" => show_subsections(alloc, reader, out),
-        "events" => show_pieces(alloc, Shown::Events, reader, offset, out)?,
-        "steps" => show_pieces(alloc, Shown::Steps, reader, offset, out)?,
-        "compactitem" => show_read::<ImportItemCompact<'_>, W>(&mut reader, out),
-        "producersvalue" => show_read::<ProducersFieldValue<'_>, W>(&mut reader, out),
-        "relocation" => show_read::<RelocationEntry, W>(&mut reader, out),
-        "symbol" => show_read::<SymbolInfo<'_>, W>(&mut reader, out),
-        "comdat" => show_read::<Comdat<'_>, W>(&mut reader, out),
-        "corevalue" => show_read::<CoreDumpValue, W>(&mut reader, out),
-        "instance" => show_read_in::<CoreDumpInstance, W>(alloc, &mut reader, out),
-        "frame" => show_read_in::<CoreDumpStackFrame, W>(alloc, &mut reader, out),
-        _ => {
-            if !show_custom(alloc, name, reader, out) {
-                return Err(Failed::Row("unknown reader"));
-            }
-        }
-    }
+    let lines = match row.reader {
+        "stream" => lines_of_stream(alloc, &stream)?,
+        "prefix" => lines_of_prefix(alloc, &stream)?,
+        name => return show_window(alloc, name, &stream, out),
+    };
+    write_bytes(&lines, out);
     Ok(())
 }
 
+// Writes what the reader with this name reads of these bytes.
+fn show_window<O: Tree>(
+    alloc: Global,
+    name: &str,
+    stream: &Stream<'_>,
+    out: &mut O,
+) -> Result<(), Failed> {
+    let offset = stream.offset;
+    if !fits(offset, stream.bytes.len()) {
+        return Err(Failed::Row("the bytes overrun the largest offset"));
+    }
+    let mut reader = BinaryReader::new_features(stream.bytes, offset, stream.features);
+    match name {
+        "events" => return show_pieces(alloc, Shown::Events, reader, offset, out),
+        "steps" => return show_pieces(alloc, Shown::Steps, reader, offset, out),
+        _ => {}
+    }
+    if show_value(name, &mut reader, out) {
+        return Ok(());
+    }
+    if show_read_by(alloc, name, reader, out) {
+        return Ok(());
+    }
+    Err(Failed::Row("unknown reader"))
+}
+
+// Writes what the reader with this name reads. Returns whether there is such a reader.
+fn show_read_by<O: Tree>(
+    alloc: Global,
+    name: &str,
+    mut reader: BinaryReader<'_>,
+    out: &mut O,
+) -> bool {
+    match name {
+        "kind" => show_read::<ExternalKind, O>(&mut reader, out),
+        "typeref" => show_read::<TypeRef, O>(&mut reader, out),
+        "import" => show_read::<Import<'_>, O>(&mut reader, out),
+        "imports" => show_read::<Imports<'_>, O>(&mut reader, out),
+        "valtype" => show_read::<ValType, O>(&mut reader, out),
+        "reftype" => show_read::<RefType, O>(&mut reader, out),
+        "heaptype" => show_read::<HeapType, O>(&mut reader, out),
+        "table" => show_read::<Table<'_>, O>(&mut reader, out),
+        "memory" => show_read::<MemoryType, O>(&mut reader, out),
+        "tag" => show_read::<TagType, O>(&mut reader, out),
+        "global" => show_read::<GlobalItem<'_>, O>(&mut reader, out),
+        "export" => show_read::<Export<'_>, O>(&mut reader, out),
+        "constexpr" => show_read::<ConstExpr<'_>, O>(&mut reader, out),
+        "element" => show_read::<Element<'_>, O>(&mut reader, out),
+        "data" => show_read::<Data<'_>, O>(&mut reader, out),
+        "recgroup" => show_read_in::<RecGroup, O>(alloc, &mut reader, out),
+        "flatimports" => show_flattened(reader, out),
+        "subsections" => show_subsections(alloc, reader, out),
+        "compactitem" => show_read::<ImportItemCompact<'_>, O>(&mut reader, out),
+        "producersvalue" => show_read::<ProducersFieldValue<'_>, O>(&mut reader, out),
+        "relocation" => show_read::<RelocationEntry, O>(&mut reader, out),
+        "symbol" => show_read::<SymbolInfo<'_>, O>(&mut reader, out),
+        "comdat" => show_read::<Comdat<'_>, O>(&mut reader, out),
+        "corevalue" => show_read::<CoreDumpValue, O>(&mut reader, out),
+        "instance" => show_read_in::<CoreDumpInstance, O>(alloc, &mut reader, out),
+        "frame" => show_read_in::<CoreDumpStackFrame, O>(alloc, &mut reader, out),
+        _ => return show_custom(alloc, name, reader, out),
+    }
+    true
+}
+
 // Writes an item that was read at this offset and how many bytes it takes, or its fault.
-fn show_outcome<T: Show, W: Sink>(
+fn show_outcome<T: Show, O: Tree>(
     offset: u64,
     item: &wasm_base::Result<T>,
     used: usize,
-    out: &mut Lines<W>,
+    out: &mut O,
 ) {
     match item {
         Ok(item) => {
@@ -173,19 +170,16 @@ fn show_outcome<T: Show, W: Sink>(
     }
 }
 
-fn show_read<'a, T: FromReader<'a> + Show, W: Sink>(
-    reader: &mut BinaryReader<'a>,
-    out: &mut Lines<W>,
-) {
+fn show_read<'a, T: FromReader<'a> + Show, O: Tree>(reader: &mut BinaryReader<'a>, out: &mut O) {
     let offset = reader.original_position();
     let item = T::from_reader(reader);
     show_outcome(offset, &item, reader.current_position(), out);
 }
 
-fn show_read_in<'a, T: FromReaderIn<'a> + Show, W: Sink>(
+fn show_read_in<'a, T: FromReaderIn<'a> + Show, O: Tree>(
     alloc: Global,
     reader: &mut BinaryReader<'a>,
-    out: &mut Lines<W>,
+    out: &mut O,
 ) {
     let offset = reader.original_position();
     let item = T::from_reader(alloc, reader);
@@ -193,7 +187,7 @@ fn show_read_in<'a, T: FromReaderIn<'a> + Show, W: Sink>(
 }
 
 // Writes the imports of a section, each with its offset, or the fault of its count.
-fn show_flattened<W: Sink>(reader: BinaryReader<'_>, out: &mut Lines<W>) {
+fn show_flattened<O: Tree>(reader: BinaryReader<'_>, out: &mut O) {
     match ImportSectionReader::new(reader) {
         Ok(section) => show_items(1, section.into_imports_with_offsets(), out),
         Err(e) => out.fault(1, &e),

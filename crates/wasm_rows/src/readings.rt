@@ -1,7 +1,7 @@
 // The ways to read a stream, each as the lines of its events.
 use crate::rows::Failed;
-use std::alloc::{AllocError, Global};
-use wasm_base::{Error, Fault, WasmFeatures};
+use std::alloc::Global;
+use wasm_base::{Error, Fault, Result as Read, WasmFeatures};
 use wasm_feed::{BoundedSink, Ended, Feeder, ListError, SliceSource, Step, list};
 use wasm_lines::{Base, ShortText, write_number, write_payload};
 use wasm_parser::{Chunk, Parser, Payload};
@@ -37,20 +37,79 @@ pub(crate) enum Next {
     More(usize),
 }
 
-/// Adds the lines of the events that a walk over the whole stream returns. That of a fault has its hint, or not.
-pub(crate) fn add_walk(
-    stream: &Stream<'_>,
-    hints: bool,
-    lines: &mut Vec<u8>,
-) -> Result<(), AllocError> {
-    for event in stream.parser().parse_all(stream.bytes) {
-        match event {
-            Ok(payload) => add_event(&payload, lines)?,
-            Err(error) => add_fault(&shown(error, hints), lines)?,
+/// Lines that are gathered. Only `finish` says whether an allocation failed, so that no line has to.
+#[derive(Drop)]
+pub(crate) struct Gathered {
+    lines: Vec<u8>,
+    has_failed: bool,
+}
+
+impl Gathered {
+    /// No lines yet.
+    pub(crate) fn new(alloc: Global) -> Gathered {
+        Gathered {
+            lines: Vec::new(alloc),
+            has_failed: false,
         }
-        lines.extend_from_slice(b"\n")?;
     }
-    Ok(())
+
+    /// Adds bytes.
+    pub(crate) fn add(&mut self, bytes: &[u8]) {
+        if self.lines.extend_from_slice(bytes).is_err() {
+            self.has_failed = true;
+        }
+    }
+
+    /// Adds a word and a number.
+    pub(crate) fn add_number(&mut self, word: &str, number: u64) {
+        let mut digits = [0u8; 20];
+        let end = write_number(&mut digits, 0, number);
+        self.add(word.as_bytes());
+        self.add(&digits[..end]);
+    }
+
+    // Adds the text of an event in a listing.
+    fn add_event(&mut self, payload: &Payload<'_>) {
+        let mut text = [b' '; 102];
+        let end = write_payload(&mut text, 2, Base::Decimal, payload);
+        self.add(&text[..end]);
+    }
+
+    // Adds the text of a fault in a listing and, if it has a hint, how many bytes are missing.
+    fn add_fault(&mut self, error: &Error) {
+        let mut text = [b' '; 161];
+        let end = error.write_at(&mut text, 2);
+        self.add(&text[..end]);
+        if let Some(missing) = error.needed_hint() {
+            self.add_number(" missing=", missing as u64);
+        }
+    }
+
+    /// Returns all lines, or that an allocation failed.
+    pub(crate) fn finish(self) -> Result<Vec<u8>, Failed> {
+        if self.has_failed {
+            return Err(Failed::System(ListError::Memory));
+        }
+        let Gathered { lines, .. } = self;
+        Ok(lines)
+    }
+}
+
+/// Returns the lines of the events that a walk over the whole stream returns. That of a fault has its hint, or not.
+pub(crate) fn walked(alloc: Global, stream: &Stream<'_>, hints: bool) -> Result<Vec<u8>, Failed> {
+    let mut lines = Gathered::new(alloc);
+    for event in stream.parser().parse_all(stream.bytes) {
+        add_walked(event, hints, &mut lines);
+    }
+    lines.finish()
+}
+
+fn add_walked(event: Read<Payload<'_>>, hints: bool, lines: &mut Gathered) {
+    match event {
+        Ok(payload) => lines.add_event(&payload),
+        Err(error) => lines.add_fault(&shown(error, hints)),
+    }
+    lines.add(b"\n");
 }
 
 // A fault with its hint, or without.
@@ -62,16 +121,17 @@ fn shown(error: Error, hints: bool) -> Error {
     }
 }
 
-/// Adds the lines of a stream of which the parser sees one more byte at a time. Each event is read as soon as it is complete.
-pub(crate) fn add_bytewise(stream: &Stream<'_>, lines: &mut Vec<u8>) -> Result<(), AllocError> {
+/// Returns the lines of a stream of which the parser sees one more byte at a time. Each event is read as soon as it is complete.
+pub(crate) fn read_bytewise(alloc: Global, stream: &Stream<'_>) -> Result<Vec<u8>, Failed> {
+    let mut lines = Gathered::new(alloc);
     let mut parser = stream.parser();
     let mut from = 0_usize;
     for to in 0..=stream.bytes.len() {
-        if add_to(&mut parser, stream.bytes, &mut from, to, lines)? {
+        if add_to(&mut parser, stream.bytes, &mut from, to, &mut lines) {
             break;
         }
     }
-    Ok(())
+    lines.finish()
 }
 
 // Adds the lines of the events that are complete in the bytes between these places. Returns whether one is the last.
@@ -80,189 +140,148 @@ fn add_to(
     bytes: &[u8],
     from: &mut usize,
     to: usize,
-    lines: &mut Vec<u8>,
-) -> Result<bool, AllocError> {
+    lines: &mut Gathered,
+) -> bool {
     let (come, _) = bytes.split_at(to.min(bytes.len()));
     for _ in 0..=bytes.len() {
         let held = come.split_at((*from).min(come.len())).1;
-        match add_next(parser, held, to == bytes.len(), lines)? {
+        match add_next(parser, held, to == bytes.len(), lines) {
             Next::Event(consumed) => *from = (*from).saturating_add(consumed),
             Next::Last => {
-                lines.extend_from_slice(b"\n")?;
-                return Ok(true);
+                lines.add(b"\n");
+                return true;
             }
             Next::More(_) => break,
         }
-        lines.extend_from_slice(b"\n")?;
+        lines.add(b"\n");
     }
-    Ok(false)
+    false
 }
 
 /// Parses the next event of these bytes, and adds its text, or that of the fault.
-pub(crate) fn add_next(
-    parser: &mut Parser,
-    bytes: &[u8],
-    eof: bool,
-    lines: &mut Vec<u8>,
-) -> Result<Next, AllocError> {
+pub(crate) fn add_next(parser: &mut Parser, bytes: &[u8], eof: bool, lines: &mut Gathered) -> Next {
     match parser.parse(bytes, eof) {
-        Ok(Chunk::NeedMoreData(count)) => Ok(Next::More(count)),
+        Ok(Chunk::NeedMoreData(count)) => Next::More(count),
         Ok(Chunk::Parsed { consumed, payload }) => add_payload(&payload, consumed, lines),
         Err(error) => {
-            add_fault(&error, lines)?;
-            Ok(Next::Last)
+            lines.add_fault(&error);
+            Next::Last
         }
     }
 }
 
 // Adds the text of an event, of which this many bytes were consumed.
-fn add_payload(
-    payload: &Payload<'_>,
-    consumed: usize,
-    lines: &mut Vec<u8>,
-) -> Result<Next, AllocError> {
-    add_event(payload, lines)?;
-    Ok(match payload {
+fn add_payload(payload: &Payload<'_>, consumed: usize, lines: &mut Gathered) -> Next {
+    lines.add_event(payload);
+    match payload {
         Payload::End(_) => Next::Last,
         _other => Next::Event(consumed),
-    })
+    }
 }
 
-/// Adds the lines of a stream that a feeder receives in chunks of this many bytes.
-pub(crate) fn add_fed(
-    alloc: Global,
-    stream: &Stream<'_>,
-    size: usize,
-    lines: &mut Vec<u8>,
-) -> Result<(), Failed> {
+/// Returns the lines of a stream that a feeder receives in chunks of this many bytes.
+pub(crate) fn feed(alloc: Global, stream: &Stream<'_>, size: usize) -> Result<Vec<u8>, Failed> {
+    let mut lines = Gathered::new(alloc);
     let mut feeder = Feeder::new(alloc, stream.offset, stream.features);
     for chunk in stream.bytes.chunks(size.max(1)) {
         if !feeder.wants_more() {
             break;
         }
         match feeder.push(chunk) {
-            Ok(()) => add_steps(&mut feeder, lines)?,
-            Err(error) => return add_last(&error, lines),
+            Ok(()) => add_steps(&mut feeder, &mut lines),
+            Err(error) => return with_last(lines, &error),
         }
     }
     if feeder.wants_more() {
         feeder.finish();
-        add_steps(&mut feeder, lines)?;
+        add_steps(&mut feeder, &mut lines);
     }
-    Ok(())
+    lines.finish()
 }
 
-// Adds the line of a fault that is none of the bytes, or fails when an allocation failed.
-fn add_last(error: &Error, lines: &mut Vec<u8>) -> Result<(), Failed> {
+// These lines and that of a fault that is none of the bytes, or why there are none: an allocation failed.
+fn with_last(mut lines: Gathered, error: &Error) -> Result<Vec<u8>, Failed> {
     match error.fault() {
         Fault::OutOfMemory => Err(Failed::System(ListError::Memory)),
         _ => {
-            add_fault(error, lines)?;
-            lines.extend_from_slice(b"\n")?;
-            Ok(())
+            lines.add_fault(error);
+            lines.add(b"\n");
+            lines.finish()
         }
     }
 }
 
 // Adds the lines of the next steps of a feeder, up to a request, a fault or the end.
-fn add_steps(feeder: &mut Feeder, lines: &mut Vec<u8>) -> Result<(), AllocError> {
+fn add_steps(feeder: &mut Feeder, lines: &mut Gathered) {
     for _ in 0..u64::MAX {
-        match add_step(feeder.step(), lines)? {
-            Next::Event(_) => lines.extend_from_slice(b"\n")?,
-            Next::Last => return lines.extend_from_slice(b"\n"),
-            Next::More(_) => break,
+        let next = add_step(feeder.step(), lines);
+        if let Next::More(_) = next {
+            break;
+        }
+        lines.add(b"\n");
+        if let Next::Last = next {
+            break;
         }
     }
-    Ok(())
 }
 
 // Adds the text of what a step returned. That of a fault has no hint.
-fn add_step(step: wasm_base::Result<Step<'_>>, lines: &mut Vec<u8>) -> Result<Next, AllocError> {
+fn add_step(step: Read<Step<'_>>, lines: &mut Gathered) -> Next {
     match step {
-        Ok(Step::NeedMoreData(count)) => Ok(Next::More(count)),
+        Ok(Step::NeedMoreData(count)) => Next::More(count),
         Ok(Step::Parsed { bytes, payload }) => add_payload(&payload, bytes.len(), lines),
         Err(error) => {
-            add_fault(&error.without_needed_hint(), lines)?;
-            Ok(Next::Last)
+            lines.add_fault(&error.without_needed_hint());
+            Next::Last
         }
     }
 }
 
-/// Adds the lines of the listing of a stream that is read in chunks of this many bytes.
-pub(crate) fn add_listed(
+/// Returns the lines of the listing of a stream that is read in chunks of this many bytes.
+pub(crate) fn list_chunked(
     alloc: Global,
     stream: &Stream<'_>,
     size: usize,
-    lines: &mut Vec<u8>,
-) -> Result<(), Failed> {
+) -> Result<Vec<u8>, Failed> {
     // A line has at most 160 bytes, and each event but the end at least one byte of the stream.
-    let mut output = BoundedSink::new(
-        alloc,
-        stream.bytes.len().saturating_add(2).saturating_mul(160),
-    )?;
-    match list(
-        alloc,
-        &mut SliceSource::new(stream.bytes),
-        &mut output,
-        size.max(1),
-    ) {
-        Ok(ended) => {
-            add_indented(output.written(), lines)?;
-            if ended != end_of(stream) {
-                lines.extend_from_slice(b"  the end is another\n")?;
-            }
-            Ok(())
-        }
+    let most = stream.bytes.len().saturating_add(2).saturating_mul(160);
+    let mut output = BoundedSink::new(alloc, most)?;
+    let mut source = SliceSource::new(stream.bytes);
+    match list(alloc, &mut source, &mut output, size.max(1)) {
+        Ok(ended) => indented(alloc, output.written(), is_end_of(&ended, stream)),
         Err(why) => Err(Failed::System(why)),
     }
 }
 
-// How a walk over the whole stream ends.
-fn end_of(stream: &Stream<'_>) -> Ended {
-    let mut ended = Ended::End;
+// Whether a walk over the whole stream ends so too.
+fn is_end_of(ended: &Ended, stream: &Stream<'_>) -> bool {
+    let mut end = Ended::End;
     for event in stream.parser().parse_all(stream.bytes) {
-        if let Err(error) = event {
-            ended = Ended::Fault(error);
-        }
+        end = end_after(event);
     }
-    ended
+    *ended == end
 }
 
-// Adds lines with two blanks before each.
-fn add_indented(text: &[u8], lines: &mut Vec<u8>) -> Result<(), AllocError> {
+fn end_after(event: Read<Payload<'_>>) -> Ended {
+    match event {
+        Ok(_) => Ended::End,
+        Err(error) => Ended::Fault(error),
+    }
+}
+
+// Lines with two blanks before each, and one more if the end is another.
+fn indented(alloc: Global, text: &[u8], is_same_end: bool) -> Result<Vec<u8>, Failed> {
+    let mut lines = Gathered::new(alloc);
     let mut is_start = true;
     for byte in text {
         if is_start {
-            lines.extend_from_slice(b"  ")?;
+            lines.add(b"  ");
         }
-        lines.extend_from_slice(&[*byte])?;
+        lines.add(&[*byte]);
         is_start = *byte == b'\n';
     }
-    Ok(())
-}
-
-// Adds the text of an event in a listing.
-fn add_event(payload: &Payload<'_>, lines: &mut Vec<u8>) -> Result<(), AllocError> {
-    let mut text = [b' '; 102];
-    let end = write_payload(&mut text, 2, Base::Decimal, payload);
-    lines.extend_from_slice(&text[..end])
-}
-
-// Adds the text of a fault in a listing and, if it has a hint, how many bytes are missing.
-fn add_fault(error: &Error, lines: &mut Vec<u8>) -> Result<(), AllocError> {
-    let mut text = [b' '; 161];
-    let end = error.write_at(&mut text, 2);
-    lines.extend_from_slice(&text[..end])?;
-    match error.needed_hint() {
-        Some(missing) => add_number(" missing=", missing as u64, lines),
-        None => Ok(()),
+    if !is_same_end {
+        lines.add(b"  the end is another\n");
     }
-}
-
-/// Adds a word and a number.
-pub(crate) fn add_number(word: &str, number: u64, lines: &mut Vec<u8>) -> Result<(), AllocError> {
-    let mut digits = [0u8; 20];
-    let end = write_number(&mut digits, 0, number);
-    lines.extend_from_slice(word.as_bytes())?;
-    lines.extend_from_slice(&digits[..end])
+    lines.finish()
 }

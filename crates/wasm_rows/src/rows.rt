@@ -10,7 +10,7 @@ use wasm_tree::Lines;
 const PART: usize = 65_536;
 
 /// Why the lines of a row could not be written.
-#[derive(Debug, Drop)]
+#[derive(Drop)]
 pub(crate) enum Failed {
     /// The line is not a row, for this reason.
     Row(&'static str),

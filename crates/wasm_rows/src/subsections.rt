@@ -3,8 +3,7 @@ ghost use Rattle.std.specs.Prelude.{⊤};
 
 use std::alloc::Global;
 use wasm_base::{BinaryReader, NeverAllocates, Result, Subsection, Subsections};
-use wasm_feed::Sink;
-use wasm_tree::{Lines, Tree};
+use wasm_tree::Tree;
 
 /// An id, the number that the subsection begins with, and the offset after it.
 #[derive(Drop)]
@@ -30,11 +29,7 @@ impl<'a> Subsection<'a> for Numbered {
 }
 
 /// Writes the subsections of a window, each with the offset at which the next one begins.
-pub(crate) fn show_subsections<W: Sink>(
-    alloc: Global,
-    window: BinaryReader<'_>,
-    out: &mut Lines<W>,
-) {
+pub(crate) fn show_subsections<O: Tree>(alloc: Global, window: BinaryReader<'_>, out: &mut O) {
     let mut subsections = Subsections::<Numbered>::new(alloc, window);
     for _ in 0..u64::MAX {
         match subsections.next() {
@@ -45,7 +40,7 @@ pub(crate) fn show_subsections<W: Sink>(
     }
 }
 
-fn show_one<W: Sink>(subsection: &Result<Numbered>, out: &mut Lines<W>) {
+fn show_one<O: Tree>(subsection: &Result<Numbered>, out: &mut O) {
     match subsection {
         Ok(Numbered { id, number, after }) => {
             out.line(1, "subsection");

@@ -3,75 +3,74 @@ use wasm_base::{
     BinaryReader, Error, FromReader, Ieee32, Ieee64, Result, SectionLimited,
     SectionLimitedIntoIterWithOffsets,
 };
-use wasm_feed::Sink;
-use wasm_tree::{Lines, Tree};
+use wasm_tree::Tree;
 
 /// What a call returns, as fields of a line.
 trait Value: Drop {
     /// Writes the fields.
-    fn write<W: Sink>(&self, out: &mut Lines<W>);
+    fn write<O: Tree>(&self, out: &mut O);
 }
 
 impl Value for () {
-    fn write<W: Sink>(&self, _out: &mut Lines<W>) {}
+    fn write<O: Tree>(&self, _out: &mut O) {}
 }
 
 impl Value for bool {
-    fn write<W: Sink>(&self, out: &mut Lines<W>) {
+    fn write<O: Tree>(&self, out: &mut O) {
         out.word_field("bool", if *self { "true" } else { "false" });
     }
 }
 
 impl Value for u8 {
-    fn write<W: Sink>(&self, out: &mut Lines<W>) {
+    fn write<O: Tree>(&self, out: &mut O) {
         out.number("number", u64::from(*self));
     }
 }
 
 impl Value for u32 {
-    fn write<W: Sink>(&self, out: &mut Lines<W>) {
+    fn write<O: Tree>(&self, out: &mut O) {
         out.number("number", u64::from(*self));
     }
 }
 
 impl Value for u64 {
-    fn write<W: Sink>(&self, out: &mut Lines<W>) {
+    fn write<O: Tree>(&self, out: &mut O) {
         out.number("number", *self);
     }
 }
 
 impl Value for i32 {
-    fn write<W: Sink>(&self, out: &mut Lines<W>) {
+    fn write<O: Tree>(&self, out: &mut O) {
         out.signed("number", i64::from(*self));
     }
 }
 
 impl Value for i64 {
-    fn write<W: Sink>(&self, out: &mut Lines<W>) {
+    fn write<O: Tree>(&self, out: &mut O) {
         out.signed("number", *self);
     }
 }
 
 impl Value for Ieee32 {
-    fn write<W: Sink>(&self, out: &mut Lines<W>) {
+    fn write<O: Tree>(&self, out: &mut O) {
         out.number("bits", u64::from((*self).bits()));
     }
 }
 
 impl Value for Ieee64 {
-    fn write<W: Sink>(&self, out: &mut Lines<W>) {
+    fn write<O: Tree>(&self, out: &mut O) {
         out.number("bits", (*self).bits());
     }
 }
 
 impl Value for &str {
-    fn write<W: Sink>(&self, out: &mut Lines<W>) {
+    fn write<O: Tree>(&self, out: &mut O) {
         out.quoted("text", self);
     }
 }
 
 impl Value for BinaryReader<'_> {
-    fn write<W: Sink>(&self, out: &mut Lines<W>) {
+    fn write<O: Tree>(&self, out: &mut O) {
         let range = self.range();
         out.range("range", range.start, range.end);
         out.raw("bytes", self.remaining_buffer());
@@ -79,25 +78,21 @@ impl Value for BinaryReader<'_> {
 }
 
 impl Value for (u32, bool) {
-    fn write<W: Sink>(&self, out: &mut Lines<W>) {
+    fn write<O: Tree>(&self, out: &mut O) {
         self.0.write(out);
         self.1.write(out);
     }
 }
 
 impl Value for (&str, &str) {
-    fn write<W: Sink>(&self, out: &mut Lines<W>) {
+    fn write<O: Tree>(&self, out: &mut O) {
         self.0.write(out);
         self.1.write(out);
     }
 }
 
 /// Writes what a call with this name reads, and how many bytes it consumes. Returns whether there is such a call.
-pub(crate) fn show_value<W: Sink>(
-    name: &str,
-    reader: &mut BinaryReader<'_>,
-    out: &mut Lines<W>,
-) -> bool {
+pub(crate) fn show_value<O: Tree>(name: &str, reader: &mut BinaryReader<'_>, out: &mut O) -> bool {
     match name {
         "u8" => show_call(reader.read_u8(), reader, out),
         "u7" => show_call(reader.read_u7(), reader, out),
@@ -115,7 +110,7 @@ pub(crate) fn show_value<W: Sink>(
 }
 
 // Like `show_value`, for what is longer than a number.
-fn show_text<W: Sink>(name: &str, reader: &mut BinaryReader<'_>, out: &mut Lines<W>) -> bool {
+fn show_text<O: Tree>(name: &str, reader: &mut BinaryReader<'_>, out: &mut O) -> bool {
     match name {
         "bool" => show_call(reader.read::<bool>(), reader, out),
         "string" => show_call(reader.read_string(), reader, out),
@@ -132,13 +127,13 @@ fn show_text<W: Sink>(name: &str, reader: &mut BinaryReader<'_>, out: &mut Lines
 }
 
 // Like `show_text`, for sections.
-fn show_section<W: Sink>(name: &str, reader: &mut BinaryReader<'_>, out: &mut Lines<W>) -> bool {
+fn show_section<O: Tree>(name: &str, reader: &mut BinaryReader<'_>, out: &mut O) -> bool {
     let window = reader.shrink();
     match name {
-        "bools" => show_items::<bool, W>(window, out),
-        "u32s" => show_items::<u32, W>(window, out),
-        "strings" => show_items::<&str, W>(window, out),
-        "pairs" => show_items::<(u32, bool), W>(window, out),
+        "bools" => show_items::<bool, O>(window, out),
+        "u32s" => show_items::<u32, O>(window, out),
+        "strings" => show_items::<&str, O>(window, out),
+        "pairs" => show_items::<(u32, bool), O>(window, out),
         _ => return false,
     }
     true
@@ -151,11 +146,7 @@ fn skip_counted(reader: &mut BinaryReader<'_>) -> Result<()> {
 }
 
 // Writes what a call returned, and how many bytes the reader has consumed after it.
-fn show_call<T: Value, W: Sink>(
-    returned: Result<T>,
-    reader: &BinaryReader<'_>,
-    out: &mut Lines<W>,
-) {
+fn show_call<T: Value, O: Tree>(returned: Result<T>, reader: &BinaryReader<'_>, out: &mut O) {
     match returned {
         Ok(value) => {
             out.line(1, "read");
@@ -167,7 +158,7 @@ fn show_call<T: Value, W: Sink>(
 }
 
 // Writes a fault and, if it has a hint, how many bytes are missing.
-fn show_fault<W: Sink>(level: usize, error: &Error, out: &mut Lines<W>) {
+fn show_fault<O: Tree>(level: usize, error: &Error, out: &mut O) {
     out.fault(level, error);
     if let Some(missing) = error.needed_hint() {
         out.number("missing", missing as u64);
@@ -175,10 +166,7 @@ fn show_fault<W: Sink>(level: usize, error: &Error, out: &mut Lines<W>) {
 }
 
 // Writes the items of a section with their offsets, or the fault of its count.
-fn show_items<'a, T: FromReader<'a> + Value, W: Sink>(
-    window: BinaryReader<'a>,
-    out: &mut Lines<W>,
-) {
+fn show_items<'a, T: FromReader<'a> + Value, O: Tree>(window: BinaryReader<'a>, out: &mut O) {
     match SectionLimited::<T>::new(window) {
         Ok(section) => {
             let range = section.range();
@@ -191,9 +179,9 @@ fn show_items<'a, T: FromReader<'a> + Value, W: Sink>(
     }
 }
 
-fn show_each<'a, T: FromReader<'a> + Value, W: Sink>(
+fn show_each<'a, T: FromReader<'a> + Value, O: Tree>(
     mut items: SectionLimitedIntoIterWithOffsets<'a, T>,
-    out: &mut Lines<W>,
+    out: &mut O,
 ) {
     for _ in 0..u64::MAX {
         match items.next() {
