@@ -23,7 +23,9 @@ fn flags_up_to_a_bound(rt: HostRuntime) {
 }
 
 #[test]
-fn trailing_bytes_at_the_top_of_the_offsets(rt: HostRuntime) -> std::result::Result<(), std::test::Fail> {
+fn trailing_bytes_at_the_top_of_the_offsets(
+    rt: HostRuntime,
+) -> std::result::Result<(), std::test::Fail> {
     let mut reader = window(b"ab", u64::MAX - 2);
     for offset in [u64::MAX - 2, u64::MAX - 1] {
         let trailing = Error::new(Fault::NameTrailing, offset);
@@ -53,7 +55,11 @@ fn a_refused_index_is_not_the_last_one(rt: HostRuntime) {
         let refused = Error::new(Fault::NamesOrder, 12);
         let wanted = if is_above { Ok('a') } else { Err(refused) };
         let before = last;
-        same(&rt, in_order(&mut last, index, 'a', Fault::NamesOrder, 12), wanted);
+        same(
+            &rt,
+            in_order(&mut last, index, 'a', Fault::NamesOrder, 12),
+            wanted,
+        );
         same(&rt, last, if is_above { Some(index) } else { before });
     }
 }
@@ -61,6 +67,14 @@ fn a_refused_index_is_not_the_last_one(rt: HostRuntime) {
 #[test]
 fn only_an_error_of_memory_is_kept(rt: HostRuntime) {
     let refused = Error::new(Fault::OutOfMemory, 0);
-    same(&rt, only_out_of_memory(Error::new(Fault::OutOfMemory, 7)), Err(refused));
-    same(&rt, only_out_of_memory(Error::new(Fault::UnexpectedEof, 7)), Ok(()));
+    same(
+        &rt,
+        only_out_of_memory(Error::new(Fault::OutOfMemory, 7)),
+        Err(refused),
+    );
+    same(
+        &rt,
+        only_out_of_memory(Error::new(Fault::UnexpectedEof, 7)),
+        Ok(()),
+    );
 }
