@@ -5,7 +5,8 @@ use Rattle.std.specs.Io.KnownBytes.{Appends, Keeps}
 use Rattle.wasm_feed.specs.Lists.{Lists}
 use Rattle.wasm_lines.specs.Calls.{Device, from_to}
 use Rattle.wasm_cli.proofs.ForCallers.{appends_kept}
-use Rattle.wasm_cli.specs.Devices.{over, Follows, IsUntouched, Says}
+use Rattle.wasm_cli.specs.Devices.{over, Follows, IsUntouched}
+use Rattle.wasm_lines.specs.Messages.{Says}
 use Rattle.wasm_cli.specs.Endings.{RunsUsage, Flushes, FailsToFlush, LeavesAlone, Finishes, status_of}
 use Rattle.wasm_cli.specs.ListCommands.{Asked}
 use Rattle.wasm_cli.specs.ListRuns.{RunsListingAs, Runs, EndsAs, ListsAll, RunsThenFlushes, RunsWhole, usage}

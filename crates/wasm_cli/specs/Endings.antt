@@ -6,7 +6,8 @@ use Rattle.wasm_feed.specs.declared.listing.Ended.{Ended}
 use Rattle.wasm_feed.specs.declared.listing.Ended.TheVariants.{End, Fault}
 use Rattle.wasm_lines.specs.declared.devices.ListError.{ListError}
 use Rattle.wasm_lines.specs.declared.devices.ListError.TheVariants.{Output, Memory}
-use Rattle.wasm_cli.specs.Devices.{IsUntouched, Says, complaint_of}
+use Rattle.wasm_cli.specs.Devices.{IsUntouched}
+use Rattle.wasm_lines.specs.Messages.{Says, complaint_of}
 
 -- the exit status of a run that went along a stream
 abbrev pub status_of : Result Ended ListError → ℕ

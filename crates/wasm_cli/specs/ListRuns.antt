@@ -5,7 +5,8 @@ use Rattle.wasm_lines.specs.Calls.{Device, bytes_of, input_failed, output_failed
 use Rattle.wasm_feed.specs.Lists.{Lists, ListsSource}
 use Rattle.wasm_feed.specs.declared.listing.Ended.{Ended}
 use Rattle.wasm_lines.specs.declared.devices.ListError.{ListError}
-use Rattle.wasm_cli.specs.Devices.{over, Follows, IsUntouched, Says, complaint_of}
+use Rattle.wasm_cli.specs.Devices.{over, Follows, IsUntouched}
+use Rattle.wasm_lines.specs.Messages.{Says, complaint_of}
 use Rattle.wasm_cli.specs.Endings.{status_of, Reports, RunsUsage, CannotBegin, WritesAll, WritesSome, Flushes}
 use Rattle.wasm_cli.specs.Endings.{FailsToFlush, Finishes}
 use Rattle.wasm_cli.specs.declared.list.command.Given.{Given}

@@ -12,7 +12,8 @@ use Rattle.wasm_feed.specs.declared.stripping.Keep.{Keep}
 use Rattle.wasm_cli.specs.StripOptions.{KeepsAs}
 use Rattle.wasm_lines.specs.declared.devices.ListError.{ListError}
 use Rattle.wasm_lines.specs.declared.devices.ListError.TheVariants.{Input, Output, Memory}
-use Rattle.wasm_cli.specs.Devices.{IsUntouched, Says}
+use Rattle.wasm_cli.specs.Devices.{IsUntouched}
+use Rattle.wasm_lines.specs.Messages.{Says}
 use Rattle.wasm_cli.specs.Endings.{GivesUpAs, WritesAll, WritesSome}
 
 -- what one read gave, which was put after the bytes before; nothing at the end of the source

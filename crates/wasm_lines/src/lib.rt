@@ -8,6 +8,7 @@
 mod devices;
 mod digits;
 mod lines;
+mod messages;
 mod page;
 mod short_text;
 
@@ -17,5 +18,6 @@ pub use devices::{
 };
 pub use digits::{Base, write_number, write_offset};
 pub use lines::{encoding_name, write_fault, write_payload};
+pub use messages::{complain, give_up};
 pub use page::Page;
 pub use short_text::{ShortText, TEXT_BYTES, write_word};

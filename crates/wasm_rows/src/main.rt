@@ -20,8 +20,8 @@ mod values;
 use readers::run;
 use rows::Failed;
 use std::process::ExitCode;
-use wasm_cli::{complain, give_up};
 use wasm_feed::{ListError, WriteSink};
+use wasm_lines::{complain, give_up};
 
 fn main(rt: HostRuntime) -> ExitCode {
     match run(&rt) {

@@ -5,7 +5,7 @@ ghost use Rattle.wasm_cli.specs.Endings.{status_of};
 use super::command::{Named, Rest, chosen_by};
 use super::options::Options;
 use super::program::{answer, dump_as, refuse_names, show_input};
-use crate::common::{complain, give_up, refuse_file};
+use crate::common::refuse_file;
 use crate::streams::Input;
 use std::alloc::Global;
 use std::env::Args;
@@ -13,6 +13,7 @@ use std::fs;
 use std::io::Write;
 use wasm_dumper::{Only, collect_names};
 use wasm_feed::{Ended, Failed, ListError, ReadSource, Sink, WriteSink, write_all};
+use wasm_lines::{complain, give_up};
 use wasm_tree::{ItemNames, Objects, Tree};
 
 /// What is shown of each file, and how.

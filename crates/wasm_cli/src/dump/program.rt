@@ -4,7 +4,7 @@ ghost use Rattle.std.specs.Io.KnownBytes.{Appends, Keeps};
 ghost use Rattle.std.specs.Process.{exit_status};
 ghost use Rattle.std.specs.Vec.Iter.{into_iter_items};
 ghost use Rattle.wasm_lines.specs.Calls.{device_of, writer_device};
-ghost use Rattle.wasm_cli.specs.Devices.{Says};
+ghost use Rattle.wasm_lines.specs.Messages.{Says};
 ghost use Rattle.wasm_cli.specs.Endings.{Reports, status_of};
 ghost use Rattle.wasm_cli.specs.Colors.{seen_as};
 ghost use Rattle.wasm_cli.specs.Options.{has_colors};
@@ -15,7 +15,7 @@ use super::colored::Colored;
 use super::command::{Command, chosen_by, command_asked};
 use super::files::run_files;
 use super::options::Options;
-use crate::common::{PIECE, complain, give_up};
+use crate::common::PIECE;
 use crate::streams::{Input, Messages, Piped};
 use std::alloc::Global;
 use std::cell::Cell;
@@ -24,6 +24,7 @@ use std::io::{self, Write};
 use std::process::ExitCode;
 use wasm_dumper::{Only, dump};
 use wasm_feed::{Ended, Failed, ListError, ReadSource, Sink, Source, WriteSink, write_all};
+use wasm_lines::{complain, give_up};
 use wasm_tree::{ItemNames, Lines, Objects};
 
 /// What `--help` says.

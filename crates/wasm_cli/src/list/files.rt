@@ -2,12 +2,13 @@
 use super::options::{choice_of, rest_after_options};
 use super::stripping::strip_input;
 use super::twice::strip_twice;
-use crate::common::{give_up, refuse_file};
+use crate::common::refuse_file;
 use crate::streams::Input;
 use std::fs::{self, File};
 use std::io::Write;
 use std::path::Path;
 use wasm_feed::{ListError, ReadSource, Sink, WriteSink};
+use wasm_lines::give_up;
 
 /// A file to strip, and the options before its name.
 #[derive(Clone, Copy)]

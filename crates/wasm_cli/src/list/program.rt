@@ -10,7 +10,7 @@ ghost use Rattle.wasm_cli.specs.ListRuns.{help_text, version_text};
 use super::command::{Command, Given, command_of, words_given};
 use super::files::{file_of, strip_file};
 use super::stripping::strip_input;
-use crate::common::{PIECE, complain, finish, give_up};
+use crate::common::{PIECE, finish};
 use crate::streams::{Input, Messages, Piped};
 use std::alloc::Global;
 use std::cell::Cell;
@@ -18,6 +18,7 @@ use std::env::{self, Args};
 use std::io::{self, Write};
 use std::process::ExitCode;
 use wasm_feed::{Ended, ListError, ReadSource, Sink, Source, WriteSink, list, write_all};
+use wasm_lines::{complain, give_up};
 
 /// What `--help` prints.
 const HELP: &[u8] = b"usage: wasm_list

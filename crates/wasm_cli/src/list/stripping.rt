@@ -4,9 +4,10 @@ ghost use Rattle.wasm_cli.specs.Strips.{ReadsAll, ReadsPiece, Refuses, RunsStrip
 ghost use Rattle.std.specs.Prelude.{◌≡◌, ◌<◌, length, map, string_bytes};
 
 use super::options::choice_of;
-use crate::common::{complain, give_up, read_buffer};
+use crate::common::read_buffer;
 use std::alloc::Global;
 use wasm_feed::{Keep, ListError, Sink, Source, strip_in_place, write_all};
+use wasm_lines::{complain, give_up};
 use wasm_parser::Error;
 
 // Performs one read, and appends the result to these bytes. Returns whether there were any.

@@ -5,9 +5,10 @@ ghost use Rattle.wasm_feed.specs.Stripped.{stays_by};
 ghost use Rattle.wasm_lines.specs.Calls.{device_of};
 
 use super::stripping::tell_fault;
-use crate::common::{PIECE, give_up};
+use crate::common::PIECE;
 use std::alloc::Global;
 use wasm_feed::{Ended, Failed, Keep, ListError, Sink, Source, strip_stream};
+use wasm_lines::give_up;
 
 // A sink that drops its bytes.
 #[derive(Drop)]

@@ -2,9 +2,9 @@ use Rattle.std.proofs.Common.{◌≡◌, ℕ, true, List, length, take, Result, 
 use Rattle.std.proofs.Common.{take_all}
 use Rattle.std.specs.Io.KnownBytes.{Appends}
 use Rattle.wasm_lines.specs.Calls.{Device}
-use Rattle.wasm_cli.specs.Devices.{Says}
+use Rattle.wasm_lines.specs.Messages.{Says}
 use Rattle.wasm_lines.specs.declared.devices.Failed.{Failed}
-use Rattle.wasm_cli.proofs.common.complain.Goals as goal
+use Rattle.wasm_lines.proofs.messages.complain.Goals as goal
 
 says : (r : Result (Unit {0}) Failed) (device : Device) (message : List ℕ) → OnOk r (Appends device.before device.after message)
     → OnErr r ((n : ℕ) × Appends device.before device.after (take n message)) → device.has_failed
