@@ -1,6 +1,6 @@
 """Which proofs of other crates a crate cites.
 
-Crates from wasm_feed upwards may cite of another crate's proofs only what its callers may lean on, the module ForCallers, and
+Crates from wasm_feeder upwards may cite of another crate's proofs only what its callers may lean on, the module ForCallers, and
 lemmas of plain lists, the module PlainLists. What the toolchain writes of a type (TheLaws) is no proof of ours.
 """
 import os
@@ -10,7 +10,7 @@ import common
 
 CITES = re.compile(r"Rattle\.(wasm_\w+)\.proofs\.([^\s{;]+)")
 MAY_BE_CITED = {"ForCallers", "PlainLists"}
-LOWEST = "wasm_feed"
+LOWEST = "wasm_feeder"
 
 
 def cites(crate, line):

@@ -5,7 +5,7 @@ use crate::tally::Tally;
 use bitflags::Flags;
 use std::alloc::Global;
 use wasm_base::{Error, Result, WasmFeatures};
-use wasm_feed::{Feeder, Step};
+use wasm_feeder::{Feeder, Step};
 use wasm_parser::{Chunk, Parser, Payload};
 
 /// Pieces of at most this many bytes are pushed.

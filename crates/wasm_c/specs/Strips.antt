@@ -2,7 +2,8 @@
 use Rattle.std.specs.Prelude.{◌≡◌, ℕ, Bool, List, Result, Ok, Err}
 use Rattle.wasm_base.specs.FaultAt.{fault_at}
 use Rattle.wasm_base.specs.declared.error.Error.{Error}
-use Rattle.wasm_feed.specs.Stripped.{custom_stays, StripsToFront}
+use Rattle.wasm_feeder.specs.Fates.{custom_stays}
+use Rattle.wasm_feed.specs.Stripped.{StripsToFront}
 use Rattle.wasm_c.specs.Faults.{no_fault, plain_fault}
 use Rattle.wasm_c.specs.declared.strip.PlainStripped.{PlainStripped}
 

@@ -2,8 +2,8 @@
 use Rattle.std.specs.Prelude.{◌≡◌, ◌⊎◌, ℕ, Bool, List, ◌++◌, codes, map, string_bytes, Option, Some, None, Result, Ok}
 use Rattle.std.specs.Prelude.{Err}
 use Rattle.wasm_lines.specs.Calls.{Device, bytes_of, input_failed, output_failed}
-use Rattle.wasm_feed.specs.Lists.{Lists, ListsSource}
-use Rattle.wasm_feed.specs.declared.listing.Ended.{Ended}
+use Rattle.wasm_feeder.specs.Lists.{Lists, ListsSource}
+use Rattle.wasm_feeder.specs.declared.turns.Ended.{Ended}
 use Rattle.wasm_lines.specs.declared.devices.ListError.{ListError}
 use Rattle.wasm_cli.specs.Devices.{over, Follows, IsUntouched}
 use Rattle.wasm_lines.specs.Messages.{Says, complaint_of}

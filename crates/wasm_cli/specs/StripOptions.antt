@@ -2,7 +2,7 @@
 use Rattle.std.specs.Prelude.{◌≡◌, ℕ, ◌<◌, Bool, true, false, ◌||◌, List, [], ◌∷◌, ◌++◌, length, bytes_eq, codes, map}
 use Rattle.std.specs.Prelude.{string_bytes, if◌then◌else◌}
 use Rattle.std.specs.Borrow.{Bor}
-use Rattle.wasm_feed.specs.declared.stripping.Keep.{Keep}
+use Rattle.wasm_feeder.specs.declared.fates.Keep.{Keep}
 use Rattle.wasm_cli.specs.declared.list.options.Choice.{Choice}
 use Rattle.wasm_cli.specs.declared.list.options.Split.{Split}
 use Rattle.wasm_cli.specs.declared.list.options.StripOption.{StripOption}

@@ -7,8 +7,9 @@ use Rattle.wasm_base.specs.Message.{error_text}
 use Rattle.wasm_base.specs.declared.error.Error.{Error}
 use Rattle.wasm_grammar.specs.Accepted.{IsAccepted}
 use Rattle.wasm_lines.specs.Calls.{input_failed, Device}
-use Rattle.wasm_feed.specs.Stripped.{stays_by, IsStripped, EndsWithFault}
-use Rattle.wasm_feed.specs.declared.stripping.Keep.{Keep}
+use Rattle.wasm_feeder.specs.Fates.{stays_by}
+use Rattle.wasm_feed.specs.Stripped.{IsStripped, EndsWithFault}
+use Rattle.wasm_feeder.specs.declared.fates.Keep.{Keep}
 use Rattle.wasm_cli.specs.StripOptions.{KeepsAs}
 use Rattle.wasm_lines.specs.declared.devices.ListError.{ListError}
 use Rattle.wasm_lines.specs.declared.devices.ListError.TheVariants.{Input, Output, Memory}

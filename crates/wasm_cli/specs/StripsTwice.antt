@@ -3,8 +3,8 @@ use Rattle.std.specs.Prelude.{◌≡◌, ℕ, Bool, false, List, None, Result, O
 use Rattle.wasm_lines.specs.Calls.{Device}
 use Rattle.wasm_lines.specs.declared.devices.ListError.{ListError}
 use Rattle.wasm_feed.specs.StripStream.{StripsSource}
-use Rattle.wasm_feed.specs.declared.listing.Ended.{Ended}
-use Rattle.wasm_feed.specs.declared.listing.Ended.TheVariants.{End, Fault}
+use Rattle.wasm_feeder.specs.declared.turns.Ended.{Ended}
+use Rattle.wasm_feeder.specs.declared.turns.Ended.TheVariants.{End, Fault}
 use Rattle.wasm_cli.specs.Devices.{IsUntouched}
 use Rattle.wasm_cli.specs.Endings.{GivesUpAs}
 use Rattle.wasm_cli.specs.Strips.{Refuses}

@@ -6,34 +6,34 @@ use Rattle.std.proofs.Common.{nat_eq}
 use Rattle.std.specs.Io.KnownBytes.{Appends, Consumes}
 use Rattle.std.proofs.KnownBytes.{Appends-nil, Consumes-nil, Consumes-trans, Consumes-kept}
 use Rattle.wasm_lines.specs.Calls.{Change, Device, bytes_of, from_to, input_failed, output_failed}
-use Rattle.wasm_feed.specs.Feed.{Feed, new_feed}
-use Rattle.wasm_feed.specs.Beside.{beside, lending, seen, FillsAlike, IsAlike, ReadsEnough}
-use Rattle.wasm_feed.specs.Cursors.{feed_of}
-use Rattle.wasm_feed.specs.Lists.{IsHead, ListsBy, Refills}
-use Rattle.wasm_feed.specs.declared.feeder.Cursor.{Cursor}
-use Rattle.wasm_feed.specs.FeedersLaws.{IsAlong}
+use Rattle.wasm_feeder.specs.Feed.{Feed, new_feed}
+use Rattle.wasm_feeder.specs.Beside.{beside, lending, seen, FillsAlike, IsAlike, ReadsEnough}
+use Rattle.wasm_feeder.specs.Cursors.{feed_of}
+use Rattle.wasm_feeder.specs.Lists.{IsHead, ListsBy, Refills}
+use Rattle.wasm_feeder.specs.declared.feeder.Cursor.{Cursor}
+use Rattle.wasm_feeder.specs.FeedersLaws.{IsAlong}
 use Rattle.wasm_parser.specs.Along.{Came}
 use Rattle.wasm_parser.specs.declared.payload.Payload.{Payload}
 use Rattle.wasm_parser.proofs.ForCallers.{answers_go_along, end_consumes_all}
 use Rattle.wasm_parser.specs.GivesNextEvent.{MayBe}
 use Rattle.wasm_grammar.specs.EventRanges.{consumed_by}
 use Rattle.wasm_grammar.specs.Reading.{Report, Event, Reading}
-use Rattle.wasm_feed.proofs.ForCallers.{feeders_go_along}
+use Rattle.wasm_feeder.proofs.ForCallers.{feeders_go_along}
 use Rattle.wasm_lines.specs.Page.{WritesHead, PutsBytes}
 use Rattle.wasm_base.specs.declared.error.Error.{Error}
 use Rattle.wasm_parser.specs.ParseAnswer.{report_of, is_end, ParseAnswer}
-use Rattle.wasm_feed.specs.Step.{answer_of, chunk_of, is_request, shown, Steps}
-use Rattle.wasm_feed.specs.Turns.{text_after, turn_after}
-use Rattle.wasm_feed.specs.declared.feeder.Step.{Step}
-use Rattle.wasm_feed.specs.declared.feeder.Step.TheVariants.{NeedMoreData, Parsed}
-use Rattle.wasm_feed.specs.declared.listing.Ended.{Ended}
-use Rattle.wasm_feed.specs.declared.listing.Ended.TheVariants.{End, Fault}
+use Rattle.wasm_feeder.specs.Step.{answer_of, chunk_of, is_request, shown, Steps}
+use Rattle.wasm_feeder.specs.Turns.{text_after, turn_after}
+use Rattle.wasm_feeder.specs.declared.feeder.Step.{Step}
+use Rattle.wasm_feeder.specs.declared.feeder.Step.TheVariants.{NeedMoreData, Parsed}
+use Rattle.wasm_feeder.specs.declared.turns.Ended.{Ended}
+use Rattle.wasm_feeder.specs.declared.turns.Ended.TheVariants.{End, Fault}
 use Rattle.wasm_lines.specs.declared.devices.ListError.{ListError}
 use Rattle.wasm_lines.specs.declared.devices.ListError.TheVariants.{Input, Output, Memory}
-use Rattle.wasm_feed.specs.declared.listing.Turn.{Turn}
-use Rattle.wasm_feed.specs.declared.listing.Turn.TheVariants as turn
-use Rattle.wasm_feed.specs.Progress.{weight, Progress, Wants}
-use Rattle.wasm_feed.proofs.ForCallers as progress
+use Rattle.wasm_feeder.specs.declared.turns.Turn.{Turn}
+use Rattle.wasm_feeder.specs.declared.turns.Turn.TheVariants as turn
+use Rattle.wasm_feeder.specs.Progress.{weight, Progress, Wants}
+use Rattle.wasm_feeder.proofs.ForCallers as progress
 use Rattle.wasm_dumper.specs.Chosen.{chosen_line, is_chosen}
 use Rattle.wasm_tree.specs.Numbers.{Number, after, after_all, no_counts}
 use Rattle.wasm_tree.specs.declared.numbers.Counts.{Counts}

@@ -19,11 +19,11 @@ use Rattle.wasm_parser.specs.declared.payload.Payload.TheVariants.{MemorySection
 use Rattle.wasm_parser.specs.declared.payload.Payload.TheVariants.{ElementSection, DataSection}
 use Rattle.wasm_lines.specs.Listing.{line_in}
 use Rattle.wasm_lines.specs.declared.digits.Base.{Base}
-use Rattle.wasm_feed.specs.declared.feeder.Step.{Step}
-use Rattle.wasm_feed.specs.declared.feeder.Step.TheVariants.{NeedMoreData, Parsed}
-use Rattle.wasm_feed.specs.Turns.{turn_after}
-use Rattle.wasm_feed.specs.declared.listing.Ended.TheVariants.{End}
-use Rattle.wasm_feed.specs.declared.listing.Turn.TheVariants as turn
+use Rattle.wasm_feeder.specs.declared.feeder.Step.{Step}
+use Rattle.wasm_feeder.specs.declared.feeder.Step.TheVariants.{NeedMoreData, Parsed}
+use Rattle.wasm_feeder.specs.Turns.{turn_after}
+use Rattle.wasm_feeder.specs.declared.turns.Ended.TheVariants.{End}
+use Rattle.wasm_feeder.specs.declared.turns.Turn.TheVariants as turn
 use Rattle.wasm_items.specs.Flattened.{NextImport, found_at}
 use Rattle.wasm_items.specs.declared.imports.Import.{Import}
 use Rattle.wasm_tree.specs.Numbers.{Number, Found, more, with_import, import_number}

@@ -9,12 +9,12 @@ use Rattle.wasm_grammar.specs.Reading.{Report, Event}
 use Rattle.wasm_parser.specs.Along.{ReadingBegins}
 use Rattle.wasm_parser.specs.ParseAnswer.{report_of}
 use Rattle.wasm_lines.specs.Calls.{Change, Device, bytes_of, from_to, input_failed, output_failed}
-use Rattle.wasm_feed.specs.Lists.{ListsBy}
-use Rattle.wasm_feed.specs.Turns.{text_after}
-use Rattle.wasm_feed.specs.declared.feeder.Step.{Step}
-use Rattle.wasm_feed.specs.declared.feeder.Step.TheVariants.{NeedMoreData, Parsed}
-use Rattle.wasm_feed.specs.declared.listing.Ended.{Ended}
-use Rattle.wasm_feed.specs.declared.listing.Ended.TheVariants.{End}
+use Rattle.wasm_feeder.specs.Lists.{ListsBy}
+use Rattle.wasm_feeder.specs.Turns.{text_after}
+use Rattle.wasm_feeder.specs.declared.feeder.Step.{Step}
+use Rattle.wasm_feeder.specs.declared.feeder.Step.TheVariants.{NeedMoreData, Parsed}
+use Rattle.wasm_feeder.specs.declared.turns.Ended.{Ended}
+use Rattle.wasm_feeder.specs.declared.turns.Ended.TheVariants.{End}
 use Rattle.wasm_lines.specs.declared.devices.ListError.{ListError}
 use Rattle.wasm_lines.specs.declared.devices.ListError.TheVariants.{Input, Output, Memory}
 use Rattle.wasm_dumper.specs.Chosen.{is_chosen, chosen_line}

@@ -5,7 +5,7 @@ ghost use Rattle.wasm_tree.specs.ItemNames.{KeepsNames};
 
 use std::alloc::Global;
 use wasm_custom::{CustomSectionReader, Name, NameMap, NameSectionReader};
-use wasm_feed::{Feeder, Step};
+use wasm_feeder::{Feeder, Step};
 use wasm_lines::{ListError, Source};
 use wasm_parser::{Parser, Payload, Result as ParserResult};
 use wasm_tree::{ItemNames, Space};

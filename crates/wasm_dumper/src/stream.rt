@@ -1,18 +1,18 @@
 // The dump of a stream.
 ghost use Rattle.std.specs.Prelude.{◌≡◌, ◌≤◌, ◌<◌, ◌+◌, [], length, vec_len, vec_capacity, Some, None, OnOk, IfErr, if◌then◌else◌};
-ghost use Rattle.wasm_feed.specs.Beside.{beside, lending, ReadsEnough};
-ghost use Rattle.wasm_feed.specs.Cursors.{feed_of};
+ghost use Rattle.wasm_feeder.specs.Beside.{beside, lending, ReadsEnough};
+ghost use Rattle.wasm_feeder.specs.Cursors.{feed_of};
 ghost use Rattle.wasm_parser.specs.ParseAnswer.{AnswerBegins, ItemsBegin, report_of};
 ghost use Rattle.wasm_lines.specs.Calls.{device_of};
-ghost use Rattle.wasm_feed.specs.Step.{answer_of};
-ghost use Rattle.wasm_feed.specs.Turns.{turn_after};
+ghost use Rattle.wasm_feeder.specs.Step.{answer_of};
+ghost use Rattle.wasm_feeder.specs.Turns.{turn_after};
 ghost use Rattle.wasm_dumper.specs.Dump.{DumpsByTree, DumpsInto, ShowsAnswer, ShowsReport, after_answer};
 ghost use Rattle.wasm_tree.specs.Tree.{Adds, AddsBytes};
 
 use crate::events::{Shown, chooses, show_event, show_last_fault};
 use crate::payload::{offsets_of_items, show_payload};
 use std::alloc::Global;
-use wasm_feed::{Ahead, Cursor, Ended, Step, Turn, parse_next, seen};
+use wasm_feeder::{Ahead, Cursor, Ended, Step, Turn, parse_next, seen};
 use wasm_lines::{ListError, Source};
 use wasm_parser::{Parser, Payload, Result as ParserResult};
 use wasm_tree::{Counts, Tree};

@@ -13,11 +13,11 @@ use Rattle.wasm_parser.specs.ParserState.{ParserState, grammar_of}
 use Rattle.wasm_grammar.specs.Reading.{Event, last_event}
 use Rattle.wasm_grammar.specs.Waiting.{wants, waiting}
 use Rattle.wasm_parser.specs.declared.payload.Payload.{Payload}
-use Rattle.wasm_feed.specs.Feed.{Feed}
-use Rattle.wasm_feed.specs.FeedersLaws.{IsAlong}
-use Rattle.wasm_feed.specs.Pieces.{joined}
-use Rattle.wasm_feed.specs.declared.listing.Turn.{Turn}
-use Rattle.wasm_feed.specs.declared.listing.Turn.TheVariants.{Advance, Read, End}
+use Rattle.wasm_feeder.specs.Feed.{Feed}
+use Rattle.wasm_feeder.specs.FeedersLaws.{IsAlong}
+use Rattle.wasm_feeder.specs.Pieces.{joined}
+use Rattle.wasm_feeder.specs.declared.turns.Turn.{Turn}
+use Rattle.wasm_feeder.specs.declared.turns.Turn.TheVariants.{Advance, Read, End}
 
 -- a part as an event of a reading
 abbrev pub part : (bytes : List ℕ) → Payload → Event

@@ -4,9 +4,9 @@ use Rattle.std.proofs.Common.{length-append, append_assoc}
 use Rattle.std.specs.List.{copy_within}
 use Rattle.std.proofs.lemmas.List.{take_at, drop-drop, length-drop, take-append-drop}
 use Rattle.std.proofs.lemmas.List.Edits.{take-paste, drop-paste}
-use Rattle.wasm_feed.specs.Cursors.{feed_of}
+use Rattle.wasm_feeder.specs.Cursors.{feed_of}
 use Rattle.wasm_feed.specs.Strips.{HasKept, EndsAtMark}
-use Rattle.wasm_feed.specs.declared.feeder.Cursor.{Cursor}
+use Rattle.wasm_feeder.specs.declared.feeder.Cursor.{Cursor}
 
 -- a part that is moved down, after what is at the front, changes nothing of what comes after it
 module _ (bytes part : List ℕ) (kept start end : ℕ) (order : kept ≤ start) (within : start ≤ length bytes)

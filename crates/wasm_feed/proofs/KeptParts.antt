@@ -10,14 +10,15 @@ use Rattle.wasm_parser.specs.declared.payload.Payload.{Payload}
 use Rattle.wasm_parser.proofs.ForCallers.{answers_go_along}
 use Rattle.wasm_parser.specs.ParserState.{ParserState, initial_state}
 use Rattle.wasm_parser.specs.Along.{Along, Came}
-use Rattle.wasm_feed.specs.Feed.{Feed}
-use Rattle.wasm_feed.specs.Step.{answer_of, Steps}
+use Rattle.wasm_feeder.specs.Feed.{Feed}
+use Rattle.wasm_feeder.specs.Step.{answer_of, Steps}
 use Rattle.wasm_feed.specs.Stripped.{kept_bytes, EndsWithFault}
-use Rattle.wasm_feed.specs.Strips.{IsFateOf, FateComes, IsFewer, HasKept, ReadsKept}
-use Rattle.wasm_feed.specs.declared.feeder.Step.TheVariants.{Parsed}
-use Rattle.wasm_feed.specs.declared.stripping.Fate.{Fate}
-use Rattle.wasm_feed.specs.declared.stripping.Fate.TheVariants.{Stays, Goes, End}
-use Rattle.wasm_feed.proofs.Stepping.{stepped}
+use Rattle.wasm_feeder.specs.Fates.{IsFateOf}
+use Rattle.wasm_feed.specs.Strips.{FateComes, IsFewer, HasKept, ReadsKept}
+use Rattle.wasm_feeder.specs.declared.feeder.Step.TheVariants.{Parsed}
+use Rattle.wasm_feeder.specs.declared.fates.Fate.{Fate}
+use Rattle.wasm_feeder.specs.declared.fates.Fate.TheVariants.{Stays, Goes, End}
+use Rattle.wasm_feeder.proofs.ForCallers.{stepped}
 use Rattle.wasm_feed.proofs.KeptFrames.{kept_more}
 use Rattle.wasm_base.specs.Features.{all_features}
 

@@ -1,17 +1,8 @@
-pub mod Adding
-pub mod Beside
-pub mod ByHand
-pub mod ForCallers
-pub mod Joining
 pub mod KeptFrames
 pub mod KeptInPlace
 pub mod KeptParts
 pub mod PassedParts
-pub mod Progress
-pub mod Resting
-pub mod Stepping
 pub mod SkipList
 pub mod Skipping
 pub mod StripLaws
 pub mod StripProgress
-pub mod Waits

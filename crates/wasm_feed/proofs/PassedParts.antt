@@ -11,8 +11,8 @@ use Rattle.wasm_feed.specs.Passing.{FillsChunk, GivesUp, IsCutSomewhere, PassesM
 use Rattle.wasm_base.specs.FaultAt.{fault_at, at_offset}
 use Rattle.wasm_base.specs.declared.error.Error.{Error}
 use Rattle.wasm_base.specs.declared.fault.Fault.TheVariants.{UnexpectedEof}
-use Rattle.wasm_feed.specs.Beside.{seen}
-use Rattle.wasm_feed.specs.declared.feeder.Cursor.{Cursor}
+use Rattle.wasm_feeder.specs.Beside.{seen}
+use Rattle.wasm_feeder.specs.declared.feeder.Cursor.{Cursor}
 use Rattle.wasm_feed.specs.declared.passing.Passing.{Passing}
 
 -- ---- bytes that are put

@@ -8,11 +8,11 @@ use Rattle.wasm_grammar.specs.Reading.{Event, last_event, Reading}
 use Rattle.wasm_parser.specs.Along.{Along}
 use Rattle.wasm_parser.specs.SkipNext.{Head, SkipCame}
 use Rattle.wasm_parser.proofs.ForCallers.{answers_go_along, skipping_goes_along}
-use Rattle.wasm_feed.specs.Beside.{seen, unseen, lending}
-use Rattle.wasm_feed.specs.Feed.{Feed}
+use Rattle.wasm_feeder.specs.Beside.{seen, unseen, lending}
+use Rattle.wasm_feeder.specs.Feed.{Feed}
 use Rattle.wasm_feed.specs.Passing.{SkipsHere, held_by}
-use Rattle.wasm_feed.specs.Progress.{weight}
-use Rattle.wasm_feed.specs.declared.feeder.Cursor.{Cursor}
+use Rattle.wasm_feeder.specs.Progress.{weight}
+use Rattle.wasm_feeder.specs.declared.feeder.Cursor.{Cursor}
 use Rattle.wasm_feed.specs.declared.passing.Passing.{Passing}
 
 module _ (stays_if : Head → Bool) (given : List ℕ) (events : List Event) (c : Cursor) (stored chunk : List ℕ)

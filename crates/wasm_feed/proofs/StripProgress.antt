@@ -21,24 +21,26 @@ use Rattle.wasm_parser.specs.ParseAnswer.{report_of, is_end}
 use Rattle.wasm_parser.specs.SkipNext.{Skip, SkipCame, skip_in}
 use Rattle.wasm_parser.specs.declared.payload.Payload.{Payload}
 use Rattle.wasm_parser.proofs.ForCallers.{answers_go_along}
-use Rattle.wasm_feed.specs.Beside.{beside, lending, IsAlike, FillsAlike}
-use Rattle.wasm_feed.specs.Cursors.{feed_of}
-use Rattle.wasm_feed.specs.Feed.{Feed, new_feed, pushed, finished}
-use Rattle.wasm_feed.specs.Lists.{IsEndedBy, IsWhole}
+use Rattle.wasm_feeder.specs.Beside.{beside, lending, IsAlike, FillsAlike}
+use Rattle.wasm_feeder.specs.Cursors.{feed_of}
+use Rattle.wasm_feeder.specs.Feed.{Feed, new_feed, pushed, finished}
+use Rattle.wasm_feeder.specs.Lists.{IsEndedBy, IsWhole}
 use Rattle.wasm_feed.specs.Passing.{GivesUp, held_by, if_stays}
-use Rattle.wasm_feed.specs.Progress.{weight}
-use Rattle.wasm_feed.specs.Step.{chunk_of, Stepped, Steps}
-use Rattle.wasm_feed.specs.StripStream.{IsStreamed, PassesHere, ReadsOrPasses, WroteSome, head_stays, piece_after}
-use Rattle.wasm_feed.specs.Stripped.{event_stays, kept_bytes, report_stays}
-use Rattle.wasm_feed.specs.Turns.{turn_after}
-use Rattle.wasm_feed.specs.declared.feeder.Cursor.{Cursor}
-use Rattle.wasm_feed.specs.declared.feeder.Step.{Step}
-use Rattle.wasm_feed.specs.declared.feeder.Step.TheVariants.{NeedMoreData, Parsed}
-use Rattle.wasm_feed.specs.declared.listing.Ended.{Ended}
-use Rattle.wasm_feed.specs.declared.listing.Ended.TheVariants.{End, Fault}
-use Rattle.wasm_feed.specs.declared.listing.Turn.TheVariants as turn
+use Rattle.wasm_feeder.specs.Progress.{weight}
+use Rattle.wasm_feeder.specs.Step.{chunk_of, Stepped, Steps}
+use Rattle.wasm_feed.specs.StripStream.{IsStreamed, PassesHere, ReadsOrPasses, WroteSome, piece_after}
+use Rattle.wasm_feeder.specs.Fates.{head_stays}
+use Rattle.wasm_feed.specs.Stripped.{event_stays, kept_bytes}
+use Rattle.wasm_feeder.specs.Fates.{report_stays}
+use Rattle.wasm_feeder.specs.Turns.{turn_after}
+use Rattle.wasm_feeder.specs.declared.feeder.Cursor.{Cursor}
+use Rattle.wasm_feeder.specs.declared.feeder.Step.{Step}
+use Rattle.wasm_feeder.specs.declared.feeder.Step.TheVariants.{NeedMoreData, Parsed}
+use Rattle.wasm_feeder.specs.declared.turns.Ended.{Ended}
+use Rattle.wasm_feeder.specs.declared.turns.Ended.TheVariants.{End, Fault}
+use Rattle.wasm_feeder.specs.declared.turns.Turn.TheVariants as turn
 use Rattle.wasm_feed.proofs.KeptFrames.{kept_more}
-use Rattle.wasm_feed.proofs.Stepping.{stepped as step_along}
+use Rattle.wasm_feeder.proofs.ForCallers.{stepped as step_along}
 use Rattle.wasm_feed.proofs.StripLaws.{strips_so}
 use Rattle.wasm_feed.proofs.PassedParts.{cut_wrote}
 use Rattle.wasm_feed.proofs.Skipping.{came, is_along, is_below, is_short, lighter as lighter_after, reads_short, same_held}

@@ -9,8 +9,8 @@ use Rattle.wasm_lines.specs.Page.{IsCut, PutsBytes}
 use Rattle.wasm_lines.specs.declared.devices.ListError.{ListError}
 use Rattle.wasm_lines.specs.declared.devices.ListError.TheVariants.{Input}
 use Rattle.wasm_parser.specs.SkipNext.{Head, Skip, SkipsPart}
-use Rattle.wasm_feed.specs.Beside.{seen, unseen}
-use Rattle.wasm_feed.specs.declared.feeder.Cursor.{Cursor}
+use Rattle.wasm_feeder.specs.Beside.{seen, unseen}
+use Rattle.wasm_feeder.specs.declared.feeder.Cursor.{Cursor}
 use Rattle.wasm_feed.specs.declared.passing.Passing.{Passing}
 
 -- All bytes were put after those that waited; or the device or an allocation failed, and a prefix of both was written.

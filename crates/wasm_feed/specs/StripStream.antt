@@ -12,18 +12,19 @@ use Rattle.wasm_lines.specs.Page.{IsCut, PutsBytes}
 use Rattle.wasm_lines.specs.declared.devices.ListError.{ListError}
 use Rattle.wasm_parser.specs.ParseAnswer.{report_of, is_end}
 use Rattle.wasm_parser.specs.SkipNext.{Head, custom}
-use Rattle.wasm_feed.specs.Beside.{seen, lending, FillsAlike}
-use Rattle.wasm_feed.specs.Feed.{Feed}
-use Rattle.wasm_feed.specs.Lists.{IsEndedBy, IsWhole, PassesTop}
+use Rattle.wasm_feeder.specs.Beside.{seen, lending, FillsAlike}
+use Rattle.wasm_feeder.specs.Feed.{Feed}
+use Rattle.wasm_feeder.specs.Lists.{IsEndedBy, IsWhole, PassesTop}
 use Rattle.wasm_feed.specs.Passing.{PassesPart, SkipsHere, if_stays}
-use Rattle.wasm_feed.specs.Stripped.{IsStripped, kept_bytes, report_stays}
-use Rattle.wasm_feed.specs.Turns.{turn_after}
-use Rattle.wasm_feed.specs.declared.feeder.Cursor.{Cursor}
-use Rattle.wasm_feed.specs.declared.feeder.Step.{Step}
-use Rattle.wasm_feed.specs.declared.feeder.Step.TheVariants.{NeedMoreData, Parsed}
-use Rattle.wasm_feed.specs.declared.listing.Ended.{Ended}
-use Rattle.wasm_feed.specs.declared.listing.Ended.TheVariants.{End}
-use Rattle.wasm_feed.specs.declared.listing.Turn.{Turn}
+use Rattle.wasm_feed.specs.Stripped.{IsStripped, kept_bytes}
+use Rattle.wasm_feeder.specs.Fates.{report_stays}
+use Rattle.wasm_feeder.specs.Turns.{turn_after}
+use Rattle.wasm_feeder.specs.declared.feeder.Cursor.{Cursor}
+use Rattle.wasm_feeder.specs.declared.feeder.Step.{Step}
+use Rattle.wasm_feeder.specs.declared.feeder.Step.TheVariants.{NeedMoreData, Parsed}
+use Rattle.wasm_feeder.specs.declared.turns.Ended.{Ended}
+use Rattle.wasm_feeder.specs.declared.turns.Ended.TheVariants.{End}
+use Rattle.wasm_feeder.specs.declared.turns.Turn.{Turn}
 use Rattle.wasm_feed.specs.declared.passing.Passing.{Passing}
 
 -- ---- bytes that are forwarded
@@ -43,11 +44,6 @@ TakesPiece keeps taken written waiting new answer (Ok next) =
 TakesPiece keeps taken written waiting new answer (Err e) = IsCut taken written (waiting ++ piece_after keeps answer) e
 
 -- ---- a part that is skipped
-
--- whether a part with these first fields stays
-abbrev pub head_stays : (keeps : List ℕ → Bool) → Head → Bool
-head_stays keeps (custom text data_offset) = keeps text
-head_stays keeps other = true
 
 abbrev pub SkipsIfAny : (keeps : List ℕ → Bool) → Cursor → (bytes : List ℕ) → Option Passing → Cursor → Type 0
 SkipsIfAny keeps old bytes (Some passing) new = SkipsHere (head_stays keeps) old bytes passing new

@@ -16,26 +16,7 @@ use Rattle.wasm_grammar.specs.Shifted.{shifted_event}
 use Rattle.wasm_grammar.specs.declared.encoding.Encoding.{Encoding}
 use Rattle.wasm_base.specs.Features.{all_features}
 use Rattle.wasm_grammar.specs.Ids.{custom_id}
-use Rattle.wasm_feed.specs.declared.stripping.Keep.{Keep}
-
--- whether a custom section with this name stays where the one named `name` is kept, or none is
-abbrev pub custom_stays : (keep_names : Bool) → (text : List ℕ) → Bool
-custom_stays keep_names text = keep_names && bytes_eq text (codes "name")
-
--- whether a text is one of these
-abbrev pub is_among : (text : List ℕ) → List (Bor (List ℕ)) → Bool
-is_among text names = list_any (λ name. bytes_eq text name.now) names
-
--- whether a custom section with a name that these choose between stays: there are none, and others do if there are some
-abbrev pub others_stay : List (Bor (List ℕ)) → (text : List ℕ) → Bool
-others_stay [] text = false
-others_stay (name ∷ names) text = not (is_among text (name ∷ names))
-
--- whether a custom section with this name stays by such a choice: one that is kept does, and if some are to be removed,
--- each other one
-abbrev pub stays_by : Keep → (text : List ℕ) → Bool
-stays_by keep text =
-    is_among text keep.kept.now || (others_stay keep.removed.now text || custom_stays keep.names text)
+use Rattle.wasm_feeder.specs.declared.fates.Keep.{Keep}
 
 -- a section without a name would go, but an accepted stream has none
 abbrev pub name_stays : (keeps : List ℕ → Bool) → Name → Bool
@@ -50,11 +31,6 @@ frame_stays keeps f = not (nat_eq f.id custom_id) || name_stays keeps (name (Som
 -- these are the bytes of the events that stay follows, because sections determine events
 abbrev pub stripped : (keeps : List ℕ → Bool) → Encoding → List SectionFrame → List ℕ
 stripped keeps encoding frames = header_bytes encoding ++ flat_map frame_bytes (filter (frame_stays keeps) frames)
-
--- whether what is reported stays
-abbrev pub report_stays : (keeps : List ℕ → Bool) → Report → Bool
-report_stays keeps (custom_section text data_offset window) = keeps text
-report_stays keeps other = true
 
 abbrev pub event_stays : (keeps : List ℕ → Bool) → Event → Bool
 event_stays keeps e = report_stays keeps e.report

@@ -9,22 +9,13 @@ use Rattle.wasm_grammar.specs.Content.{ended}
 use Rattle.wasm_parser.specs.ParseAnswer.{is_end}
 use Rattle.wasm_grammar.specs.Reading.{Report, Event, last_event, Reading}
 use Rattle.wasm_parser.specs.Along.{Along}
-use Rattle.wasm_feed.specs.Feed.{Feed}
-use Rattle.wasm_feed.specs.Stripped.{event_stays, report_stays, kept_bytes, EndsWithFault}
-use Rattle.wasm_feed.specs.declared.stripping.Fate.{Fate}
-use Rattle.wasm_feed.specs.declared.stripping.Fate.TheVariants.{Stays, Goes, End}
+use Rattle.wasm_feeder.specs.Feed.{Feed}
+use Rattle.wasm_feed.specs.Stripped.{event_stays, kept_bytes, EndsWithFault}
+use Rattle.wasm_feeder.specs.Fates.{report_stays}
+use Rattle.wasm_feeder.specs.declared.fates.Fate.{Fate}
+use Rattle.wasm_feeder.specs.declared.fates.Fate.TheVariants.{Stays, Goes, End}
 use Rattle.wasm_feed.specs.declared.stripping.Part.{Part}
 use Rattle.wasm_base.specs.Features.{all_features}
-
--- what becomes of a custom section that stays, or doesn't
-abbrev pub custom_fate : (stays : Bool) → Fate
-custom_fate stays = if stays then Stays else Goes
-
--- This becomes of what is reported.
-abbrev pub IsFateOf : (keeps : List ℕ → Bool) → Report → Fate → Type 0
-IsFateOf keeps report Stays = (is_end report ≡ false) × (report_stays keeps report ≡ true)
-IsFateOf keeps report Goes = (is_end report ≡ false) × (report_stays keeps report ≡ false)
-IsFateOf keeps report End = is_end report ≡ true
 
 -- An event arrived after these, and this is whether it stays.
 abbrev pub Comes : (keeps : List ℕ → Bool) (stream : List ℕ) → List Event → (stays : Bool) → Event → Feed → Type 0

@@ -4,48 +4,18 @@ ghost use Rattle.wasm_lines.specs.Calls.{change_of, device_of, input_failed, out
 ghost use Rattle.wasm_lines.specs.Listing.{line_of, skip_text};
 ghost use Rattle.wasm_lines.specs.declared.digits.Base.TheVariants.{Decimal};
 ghost use Rattle.wasm_parser.specs.SkipNext.{skip_is};
-ghost use Rattle.wasm_feed.specs.Beside.{beside, lending};
-ghost use Rattle.wasm_feed.specs.Cursors.{feed_of};
-ghost use Rattle.wasm_feed.specs.Lists.{ListsSource};
-ghost use Rattle.wasm_feed.specs.Progress.{ReadsOn};
-ghost use Rattle.wasm_feed.specs.Turns.{DropsIfAny, TakesTurn};
+ghost use Rattle.wasm_feeder.specs.Beside.{beside, lending};
+ghost use Rattle.wasm_feeder.specs.Cursors.{feed_of};
+ghost use Rattle.wasm_feeder.specs.Lists.{ListsSource};
+ghost use Rattle.wasm_feeder.specs.Progress.{ReadsOn};
+ghost use Rattle.wasm_feed.specs.Dropping.{DropsIfAny};
+ghost use Rattle.wasm_feeder.specs.Turns.{TakesTurn};
 
-use crate::ahead::Ahead;
-use crate::feeder::{Cursor, Step, parse_next, seen};
 use crate::passing::{Passing, pass_part};
 use std::alloc::{Allocator, Global};
+use wasm_feeder::{Ahead, Cursor, Ended, Step, Turn, parse_next, seen};
 use wasm_lines::{ListError, Page, Sink, Source};
 use wasm_parser::{Error, Parser, PartHead, Payload, Result as ParserResult, SkippedPart};
-
-/// The end of a stream that was listed or dumped: without a fault, or at the first fault.
-///
-/// ```rattle
-/// // The function section announces a function, but there is no code section.
-/// let mut input = SliceSource::new(b"\0asm\x01\0\0\0\x03\x02\x01\0");
-/// let mut output = BoundedSink::new(alloc, 1000)?;
-/// match list(alloc, &mut input, &mut output, 4096)? {
-///     Ended::Fault(error) => assert_eq!(rt; error.fault(), Fault::FunctionWithoutCode),
-///     Ended::End => assert!(rt; false),
-/// }
-/// ```
-#[derive(Clone, Copy, Debug, PartialEq, Eq)]
-pub enum Ended {
-    /// The stream ended without a fault.
-    End,
-    /// The stream stopped at this fault. The offset is in bytes from the start of the stream.
-    Fault(Error),
-}
-
-/// The next action of a loop over a stream, after a step. Use it in loops of your own, as `wasm_dumper` does.
-#[derive(Clone, Copy)]
-pub enum Turn {
-    /// Perform another step over the bytes so far.
-    Advance,
-    /// Read more input.
-    Read,
-    /// Stop: the stream has ended.
-    End(Ended),
-}
 
 // Puts the line of a result on the page, and returns what to do next.
 fn put_answer<A: Allocator, W: Sink>(

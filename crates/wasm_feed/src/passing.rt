@@ -1,14 +1,12 @@
 // A part that is forwarded or dropped chunk by chunk, after its first fields.
 ghost use Rattle.std.specs.Prelude.{◌≡◌, ◌<◌, [], true, drop, length, IfErr, IfOk, OnErr, OnOk};
 ghost use Rattle.wasm_lines.specs.Calls.{input_failed, output_failed};
-ghost use Rattle.wasm_feed.specs.Beside.{seen};
+ghost use Rattle.wasm_feeder.specs.Beside.{seen};
 ghost use Rattle.wasm_lines.specs.declared.devices.ListError.TheVariants.{Input};
 ghost use Rattle.wasm_feed.specs.Passing.{FillsChunk, GivesUp, IsCutSomewhere, PassesMissing, PassesPart, PutsAll, Settles, TakesSome, held_by, if_stays};
 
-use crate::ahead::Ahead;
-use crate::buffer::after;
-use crate::feeder::Cursor;
 use std::alloc::Allocator;
+use wasm_feeder::{Ahead, Cursor};
 use wasm_lines::{ListError, Page, Sink, Source, write_all};
 use wasm_parser::{Error, Fault};
 
@@ -156,7 +154,7 @@ fn settle<A: Allocator, W: Sink>(
         cursor.rewind();
         return Ok(0);
     }
-    let held = after(stored, cursor.mark());
+    let held = cursor.remaining(stored);
     let count = held.len();
     put_if(stays, page, held, output)?;
     stored.clear();

@@ -1,20 +1,18 @@
 // Stripping a stream that need not fit in memory.
 ghost use Rattle.std.specs.Prelude.{◌≡◌, ◌+◌, ◌≤◌, length, IfOk, OnErr, vec_len, vec_capacity};
 ghost use Rattle.wasm_lines.specs.Calls.{device_of, from_to, input_failed, output_failed};
-ghost use Rattle.wasm_feed.specs.Beside.{beside};
-ghost use Rattle.wasm_feed.specs.Cursors.{feed_of};
-ghost use Rattle.wasm_feed.specs.StripStream.{ReadsOrPasses, SkipsIfAny, StripsSource, TakesPiece, WroteSome, head_stays};
-ghost use Rattle.wasm_feed.specs.Stripped.{stays_by};
-ghost use Rattle.wasm_parser.specs.SkipNext.{head_is};
+ghost use Rattle.wasm_feeder.specs.Beside.{beside};
+ghost use Rattle.wasm_feeder.specs.Cursors.{feed_of};
+ghost use Rattle.wasm_feed.specs.StripStream.{ReadsOrPasses, SkipsIfAny, StripsSource, TakesPiece, WroteSome};
+ghost use Rattle.wasm_feeder.specs.Fates.{stays_by};
 
-use crate::ahead::Ahead;
-use crate::feeder::{Cursor, Step, parse_next, seen};
-use crate::listing::{Ended, Turn};
 use crate::passing::{Passing, pass_part, put_all};
-use crate::stripping::{Fate, Keep, fate_of, stays};
 use std::alloc::Allocator;
+use wasm_feeder::{
+    Ahead, Cursor, Ended, Fate, Keep, Step, Turn, fate_of, head_stays, parse_next, seen,
+};
 use wasm_lines::{ListError, Page, Sink, Source};
-use wasm_parser::{Error, Parser, PartHead, Result as ParserResult};
+use wasm_parser::{Error, Parser, Result as ParserResult};
 
 // Puts a part that stays on the page, and returns what to do next.
 fn put_part<A: Allocator, W: Sink>(
@@ -38,16 +36,6 @@ fn put_part<A: Allocator, W: Sink>(
             Fate::End => Ok(Turn::End(Ended::End)),
         },
         Err(error) => Ok(Turn::End(Ended::Fault(*error))),
-    }
-}
-
-// Whether a part with these first fields stays.
-fn head_stays(head: &PartHead<'_>, keep: Keep<'_>) -> bool
-    ensures { result ≡ head_stays (stays_by keep.entry) (head_is head.now) }
-{
-    match head {
-        PartHead::Custom { name, .. } => stays(name, keep),
-        _ => true,
     }
 }
 

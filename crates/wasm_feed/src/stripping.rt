@@ -1,119 +1,22 @@
 // A stream without its custom sections.
 ghost use Rattle.std.specs.Prelude.{◌≡◌, ◌+◌, ◌<◌, ◌≤◌, ◌^◌, true, length};
 ghost use Rattle.std.specs.List.{copy_within};
-ghost use Rattle.wasm_feed.specs.Cursors.{feed_of};
-ghost use Rattle.wasm_feed.specs.Stripped.{custom_stays, is_among as is_one_of, others_stay, stays_by, Strips, StripsInPlace, StripsToFront};
-ghost use Rattle.wasm_feed.specs.Strips.{CountsKept, CopiesKept, custom_fate, GoesOn, IsFateOf, MovesKept, Passes, PassesKept, TakesKept, TakesPart};
-ghost use Rattle.wasm_parser.specs.ParseAnswer.{report_of};
+ghost use Rattle.wasm_feeder.specs.Cursors.{feed_of};
+ghost use Rattle.wasm_feeder.specs.Fates.{custom_stays, stays_by};
+ghost use Rattle.wasm_feed.specs.Stripped.{Strips, StripsInPlace, StripsToFront};
+ghost use Rattle.wasm_feed.specs.Strips.{CountsKept, CopiesKept, GoesOn, MovesKept, Passes, PassesKept, TakesKept, TakesPart};
 ghost use Rattle.wasm_grammar.specs.Reading.{Stream};
 
-use crate::feeder::{Cursor, Step, parse_next};
 use std::alloc::{Allocator, Global};
+use wasm_feeder::{Cursor, Fate, Keep, Step, fate_of, parse_next};
 use wasm_lines::list_of_capacity;
-use wasm_parser::{Error, Fault, Parser, Payload, Result};
-
-/// The choice of custom sections that stay in a stripped stream.
-///
-/// A custom section stays if its name is in `kept`; or if `removed` has names, and its name is not among them; or if it
-/// is `name` and `names` is true. The other custom sections are removed.
-///
-/// ```rattle
-/// // Two custom sections without data, "a" and "b".
-/// let bytes = b"\0asm\x01\0\0\0\0\x02\x01a\0\x02\x01b";
-/// let keep = Keep { names: false, kept: &["b"], removed: &[] };
-/// let stripped = strip_in(alloc, bytes, keep)?;
-/// assert_eq!(rt; stripped.as_slice(), b"\0asm\x01\0\0\0\0\x02\x01b".as_slice());
-/// ```
-///
-/// (Core specification, Binary format, Modules, Custom Section.)
-#[derive(Clone, Copy)]
-pub struct Keep<'a> {
-    /// Whether the sections named `name` stay, which have the names of functions and other items.
-    pub names: bool,
-    /// The names of sections that stay.
-    pub kept: &'a [&'a str],
-    /// The names of sections that are removed. If there are any, the sections with other names stay.
-    pub removed: &'a [&'a str],
-}
-
-impl Keep<'_> {
-    /// Returns the choice that keeps no custom section, or, if `names` is true, only those named `name`.
-    pub fn names(names: bool) -> Keep<'static>
-        ensures { stays_by result ≡ custom_stays names }
-    {
-        Keep {
-            names,
-            kept: &[],
-            removed: &[],
-        }
-    }
-}
-
-/// What becomes of a part of a stream that is stripped.
-#[derive(Clone, Copy)]
-pub(crate) enum Fate {
-    /// It stays.
-    Stays,
-    /// It is dropped.
-    Goes,
-    /// It is the end of the stream.
-    End,
-}
+use wasm_parser::{Error, Fault, Parser, Result};
 
 /// A part of a stream that is stripped.
 #[derive(Clone, Copy)]
 pub(crate) struct Part<'a> {
     bytes: &'a [u8],
     fate: Fate,
-}
-
-// Whether a name is one of these.
-#[tactic(auto, using(std::proofs::lemmas::List::Folds::list_any_more, std::proofs::lemmas::List::Folds::list_any_at))]
-fn is_among(name: &str, names: &[&str]) -> bool
-    ensures { result ≡ is_one_of name.now names.now }
-{
-    for one in names {
-        if name == *one {
-            return true;
-        }
-    }
-    false
-}
-
-// Whether a custom section stays because others are to be removed.
-fn is_other(name: &str, removed: &[&str]) -> bool
-    ensures { result ≡ others_stay removed.now name.now }
-{
-    !removed.is_empty() && !is_among(name, removed)
-}
-
-/// Whether a custom section with this name stays.
-pub(crate) fn stays(name: &str, keep: Keep<'_>) -> bool
-    ensures { result ≡ stays_by keep.entry name.now }
-{
-    is_among(name, keep.kept) || is_other(name, keep.removed) || keep.names && name == "name"
-}
-
-// What becomes of a custom section with this name.
-fn fate_of_custom(name: &str, keep: Keep<'_>) -> Fate
-    ensures { result ≡ custom_fate (stays_by keep.entry name.now) }
-{
-    if stays(name, keep) {
-        Fate::Stays
-    } else {
-        Fate::Goes
-    }
-}
-
-/// What becomes of a part that is read as this.
-pub(crate) fn fate_of(payload: &Payload, keep: Keep<'_>) -> Fate
-    ensures { IsFateOf (stays_by keep.entry) (report_of payload.now) result }
-{
-    match payload {
-        Payload::End(_) => Fate::End,
-        Payload::CustomSection(section) => fate_of_custom(section.name(), keep),
-        _ => Fate::Stays,
-    }
 }
 
 // The next part of these bytes, which are all of the stream.

@@ -1,7 +1,7 @@
 // Stripping a file, which is read twice: memory then does not grow with the file.
 ghost use Rattle.std.specs.Prelude.{None, false};
 ghost use Rattle.wasm_cli.specs.StripsTwice.{AnswersAs, StripsTwice};
-ghost use Rattle.wasm_feed.specs.Stripped.{stays_by};
+ghost use Rattle.wasm_feeder.specs.Fates.{stays_by};
 ghost use Rattle.wasm_lines.specs.Calls.{device_of};
 
 use super::stripping::tell_fault;

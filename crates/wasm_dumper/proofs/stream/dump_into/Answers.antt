@@ -1,8 +1,8 @@
 use Rattle.std.proofs.Common.{ap, ◌∙◌, ◌≡◌, refl, subst, List, ℕ}
 use Rattle.std.proofs.lemmas.Result.{err_from_is_err_and}
-use Rattle.wasm_feed.specs.Beside.{beside, lending}
-use Rattle.wasm_feed.specs.Cursors.{feed_of}
-use Rattle.wasm_feed.specs.Feed.{empty_feed}
+use Rattle.wasm_feeder.specs.Beside.{beside, lending}
+use Rattle.wasm_feeder.specs.Cursors.{feed_of}
+use Rattle.wasm_feeder.specs.Feed.{empty_feed}
 use Rattle.wasm_dumper.proofs.Dumping.{starts_beside, shows_step, advanced, asked, same_going, stopped, stopped_at_last, stopped_before}
 use Rattle.wasm_dumper.proofs.Dumping.{ended, filled, not_filled}
 use Rattle.wasm_dumper.proofs.stream.dump_into.Goals as goal

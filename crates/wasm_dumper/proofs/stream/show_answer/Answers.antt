@@ -1,6 +1,6 @@
 use Rattle.std.proofs.Common.{rules, ◌≡◌}
-use Rattle.wasm_feed.specs.Turns.{turn_after}
-use Rattle.wasm_feed.specs.declared.listing.Turn.TheVariants as turn
+use Rattle.wasm_feeder.specs.Turns.{turn_after}
+use Rattle.wasm_feeder.specs.declared.turns.Turn.TheVariants as turn
 use Rattle.wasm_dumper.proofs.Numbering.{shows_fault, shows_request}
 use Rattle.wasm_dumper.proofs.stream.show_answer.Goals as goal
 

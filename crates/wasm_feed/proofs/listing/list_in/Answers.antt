@@ -2,13 +2,13 @@ use Rattle.std.proofs.Common.{refl, sym, ap, ◌∙◌, arith}
 use Rattle.std.proofs.lemmas.Grind.{common_steps}
 use Rattle.std.proofs.lemmas.Result.{err_from_is_err_and}
 use Rattle.std.proofs.KnownBytes.{Consumes-nil}
-use Rattle.wasm_feed.specs.Beside.{beside}
-use Rattle.wasm_feed.specs.Cursors.{feed_of}
-use Rattle.wasm_feed.specs.Feed.{empty_feed}
+use Rattle.wasm_feeder.specs.Beside.{beside}
+use Rattle.wasm_feeder.specs.Cursors.{feed_of}
+use Rattle.wasm_feeder.specs.Feed.{empty_feed}
 use Rattle.wasm_lines.specs.Listing.{line_of}
-use Rattle.wasm_feed.proofs.Beside.{both, begun_beside, same_lighter}
+use Rattle.wasm_feeder.proofs.ForCallers.{both, begun_beside, same_lighter}
 use Rattle.wasm_lines.proofs.ForCallers.{cut_of}
-use Rattle.wasm_feed.proofs.Progress.{begun, no_memory, cut, advanced, asked, listed_all, end_cut}
+use Rattle.wasm_feeder.proofs.ForCallers.{begun, no_memory, cut, advanced, asked, listed_all, end_cut}
 use Rattle.wasm_feed.proofs.listing.list_in.Goals as goal
 
 pub returns-in_err-vec : goal.returns-in_err-vec

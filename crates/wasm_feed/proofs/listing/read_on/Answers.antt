@@ -2,11 +2,11 @@ use Rattle.std.proofs.Common.{◌≡◌, ◌++◌, ap, drop}
 use Rattle.std.proofs.lemmas.Result.{err_from_is_err_and}
 use Rattle.wasm_lines.specs.Listing.{line_of}
 use Rattle.wasm_lines.proofs.ForCallers.{cut_of}
-use Rattle.wasm_feed.specs.Beside.{beside}
-use Rattle.wasm_feed.specs.Cursors.{feed_of}
-use Rattle.wasm_feed.specs.declared.feeder.Cursor.{Cursor}
-use Rattle.wasm_feed.proofs.Beside.{filled_alike}
-use Rattle.wasm_feed.proofs.Progress.{cut, not_filled, to_be_written}
+use Rattle.wasm_feeder.specs.Beside.{beside}
+use Rattle.wasm_feeder.specs.Cursors.{feed_of}
+use Rattle.wasm_feeder.specs.declared.feeder.Cursor.{Cursor}
+use Rattle.wasm_feeder.proofs.ForCallers.{filled_alike}
+use Rattle.wasm_feeder.proofs.ForCallers.{cut, not_filled, to_be_written}
 use Rattle.wasm_feed.proofs.SkipList.{dropped_here, given_up, line_cut, line_put, listed_short, short_cut}
 use Rattle.wasm_feed.proofs.listing.read_on.Goals as goal
 

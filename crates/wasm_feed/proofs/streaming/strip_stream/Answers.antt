@@ -1,10 +1,10 @@
 use Rattle.std.proofs.Common.{refl, sym, ap, ◌∙◌, arith}
 use Rattle.std.proofs.lemmas.Grind.{common_steps}
 use Rattle.std.proofs.lemmas.Result.{err_from_is_err_and}
-use Rattle.wasm_feed.specs.Beside.{beside}
-use Rattle.wasm_feed.specs.Cursors.{feed_of}
-use Rattle.wasm_feed.specs.Feed.{empty_feed}
-use Rattle.wasm_feed.proofs.Beside.{both}
+use Rattle.wasm_feeder.specs.Beside.{beside}
+use Rattle.wasm_feeder.specs.Cursors.{feed_of}
+use Rattle.wasm_feeder.specs.Feed.{empty_feed}
+use Rattle.wasm_feeder.proofs.ForCallers.{both}
 use Rattle.wasm_feed.proofs.StripProgress.{begun_beside, advanced, asked, cut, cut_page, gave_up, same_lighter, streamed}
 use Rattle.wasm_feed.proofs.StripProgress.{was_cut, went_past, went_wrote, wrote_more}
 use Rattle.wasm_lines.proofs.ForCallers.{cut_of}

@@ -1,8 +1,8 @@
 use Rattle.std.proofs.Common.{◌≡◌}
-use Rattle.wasm_feed.specs.Beside.{beside}
-use Rattle.wasm_feed.specs.Cursors.{feed_of}
-use Rattle.wasm_feed.specs.Progress.{weight}
-use Rattle.wasm_feed.specs.Stripped.{stays_by}
+use Rattle.wasm_feeder.specs.Beside.{beside}
+use Rattle.wasm_feeder.specs.Cursors.{feed_of}
+use Rattle.wasm_feeder.specs.Progress.{weight}
+use Rattle.wasm_feeder.specs.Fates.{stays_by}
 use Rattle.wasm_feed.proofs.StripProgress.{StripProgress}
 use Rattle.wasm_feed.proofs.streaming.strip_stream.Given as goal
 

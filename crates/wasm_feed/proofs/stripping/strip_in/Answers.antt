@@ -1,6 +1,6 @@
 use Rattle.std.proofs.Common.{◌≡◌, ◌∙◌, List, ◌++◌, ℕ, ap}
 use Rattle.std.proofs.lemmas.Result.{err_from_is_err_and}
-use Rattle.wasm_feed.specs.Stripped.{stays_by}
+use Rattle.wasm_feeder.specs.Fates.{stays_by}
 use Rattle.wasm_feed.proofs.StripLaws.{refused_fault, refused_memory, refused_copy, strips_so}
 use Rattle.wasm_feed.proofs.stripping.strip_in.Goals as goal
 

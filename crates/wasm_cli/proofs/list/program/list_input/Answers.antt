@@ -1,5 +1,5 @@
 use Rattle.std.proofs.Common.{Ok, refl}
-use Rattle.wasm_feed.specs.declared.listing.Ended.TheVariants.{End, Fault}
+use Rattle.wasm_feeder.specs.declared.turns.Ended.TheVariants.{End, Fault}
 use Rattle.wasm_cli.proofs.list.program.list_input.Goals as goal
 
 pub returns-in-Ok-End : goal.returns-in-Ok-End

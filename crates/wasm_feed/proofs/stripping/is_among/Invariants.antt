@@ -1,6 +1,0 @@
-use Rattle.std.proofs.Common.{◌≡◌, false, take}
-use Rattle.wasm_feed.specs.Stripped.{is_among}
-use Rattle.wasm_feed.proofs.stripping.is_among.Given as goal
-
-abbrev pub invariant-loop-one : goal.invariant-loop-one
-invariant-loop-one l = is_among l.name (take l.one-index l.names) ≡ false

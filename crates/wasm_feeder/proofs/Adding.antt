@@ -1,0 +1,151 @@
+-- What a step adds to the events so far.
+use Rattle.std.proofs.Common.{◌≡◌, ℕ, ◌+◌, ◌^◌, ◌<◌, Bool, true, false, List, [], ◌∷◌, ◌++◌, length, take, drop, slice_index_or, Bor, Some}
+use Rattle.std.proofs.Common.{None, Result, Ok, Err, refl, sym, ap, subst₂, ◌∙◌, arith, length-append}
+use Rattle.std.proofs.lemmas.Bool.Decides.{nat_tests}
+use Rattle.std.specs.List.{AllZip}
+use Rattle.wasm_base.specs.FaultAt.{fault_at}
+use Rattle.wasm_base.specs.declared.error.Error.{Error}
+use Rattle.wasm_grammar.specs.Content.{fault}
+use Rattle.wasm_parser.specs.ParseAnswer.{report_of, is_end, ParseAnswer}
+use Rattle.wasm_grammar.specs.Reading as reading
+use Rattle.wasm_grammar.specs.Reading.{last_event}
+use Rattle.wasm_parser.specs.declared.payload.Payload.{Payload}
+use Rattle.wasm_parser.proofs.ForCallers.{answers_go_along}
+use Rattle.wasm_parser.specs.Along.{Came}
+use Rattle.wasm_feeder.specs.Cursors.{feed_of}
+use Rattle.wasm_feeder.specs.Events.{IsKindOf, IsEvent, is_last, IsEventOfStep}
+use Rattle.wasm_feeder.specs.Feed.{Feed, new_feed, pushed, finished}
+use Rattle.wasm_feeder.specs.Pieces.{joined, IsReading, HasCome, HasEnded, GivenTo, ReadsHeld}
+use Rattle.wasm_feeder.specs.Step.{answer_of, shown, is_request, Steps}
+use Rattle.wasm_feeder.specs.declared.events.Event.{Event}
+use Rattle.wasm_feeder.specs.declared.events.EventKind.{EventKind}
+use Rattle.wasm_feeder.specs.declared.feeder.Cursor.{Cursor}
+use Rattle.wasm_feeder.specs.declared.feeder.Step.{Step}
+use Rattle.wasm_feeder.specs.declared.feeder.Step.TheVariants.{NeedMoreData, Parsed}
+use Rattle.wasm_feeder.proofs.Stepping.{stepped}
+use Rattle.wasm_feeder.proofs.Joining.{joined_more, joined_parts}
+
+-- the end alone is the last payload
+last_is_end : (payload : Payload) (kind : EventKind) → IsKindOf (report_of payload) kind → is_last kind ≡ is_end (report_of payload)
+last_is_end payload kind h = grind arith
+
+fault_is_last : (e : Error) (kind : EventKind) → IsKindOf (last_event (fault (fault_at e))).report kind → is_last kind ≡ true
+fault_is_last e kind h = grind arith
+
+-- the event that a step gave
+came_is : {A : Type 0} (start features : ℕ) (eof : Bool) (given : List ℕ) (events : List reading.Event) (bytes : List ℕ) (payload : Payload)
+    (f : Feed) (value : Event A)
+    → (c : Came start features eof given events bytes payload f.state f.held)
+    → IsEvent (record { report = report_of payload; consumed = bytes }) value → IsEvent c.event value
+came_is start features eof given events bytes payload f value c i = grind arith
+
+-- one event more
+all_more : {X Y : Type 0} (R : X → Y → Type 0) (xs : List X) (ys : List Y) (x : X) (y : Y) → AllZip R xs ys → R x y
+    → AllZip R (xs ++ x ∷ []) (ys ++ y ∷ [])
+all_more R [] [] x y h r = (r, tt)
+all_more R (a ∷ xs) (b ∷ ys) x y h r = (h.0, all_more R xs ys x y h.1 r)
+all_more R _ _ x y h r = absurd h
+
+-- ---- a step, by what is made of it
+
+module _ {A : Type 0} (start features : ℕ) (given : List ℕ) (f g : Feed) (values : List (Event A))
+    (h : HasCome start features given f values) (l : start + length given < 2 ^ 64) where
+  -- more is asked for
+  pub asks : (x : Result Step Error) → Steps f x g → IsEventOfStep {A = A} x None → HasCome start features given g values × (f.eof ≡ false)
+  asks x s i = grind (arith, stepped)
+
+  -- an event arrived, and is not the last one
+  pub adds : (x : Result Step Error) (value : Event A) → Steps f x g → IsEventOfStep x (Some value) → is_last value.kind ≡ false
+      → HasCome start features given g (values ++ value ∷ [])
+  adds (Ok (NeedMoreData hint)) value s i n = absurd i
+  adds (Ok (Parsed bytes payload)) value s i n =
+      let u : Came start features f.eof given h.0 bytes.now payload g.state g.held =
+      stepped start features given f.state f.held h.0 h.1 f.eof (Ok (Parsed bytes payload)) g.state g.held l s.parses s.shows in
+      grind (arith, last_is_end, all_more, came_is)
+  adds (Err e) value s i n = let no : true ≡ false = sym (fault_is_last e value.kind i.kind) ∙ n in cc
+
+  -- the last event arrived
+  pub ends : (x : Result Step Error) (value : Event A) → Steps f x g → IsEventOfStep x (Some value) → is_last value.kind ≡ true
+      → HasEnded start features f.eof given (values ++ value ∷ [])
+  ends (Ok (NeedMoreData hint)) value s i n = absurd i
+  ends (Ok (Parsed bytes payload)) value s i n =
+      let u : Came start features f.eof given h.0 bytes.now payload g.state g.held =
+      stepped start features given f.state f.held h.0 h.1 f.eof (Ok (Parsed bytes payload)) g.state g.held l s.parses s.shows in
+      let over : is_end (report_of payload) ≡ true = grind (arith, last_is_end) in (
+        h.0 ++ u.event ∷ [],
+        u.ends over,
+        search (all_more, came_is),
+      )
+  ends (Err e) value s i n =
+      let u = stepped start features given f.state f.held h.0 h.1 f.eof (Err e) g.state g.held l s.parses s.shows in
+      (search all_more)
+
+-- there is less to read after an event that is not the last one
+pub fewer : {A : Type 0} (f g : Feed) (x : Result Step Error) (value : Event A) → Steps f x g → IsEventOfStep x (Some value)
+    → is_last value.kind ≡ false → length g.held < length f.held
+fewer f g (Ok (NeedMoreData hint)) value s i n = absurd i
+fewer f g (Ok (Parsed bytes payload)) value s i n =
+    let c = answers_go_along.consumes f.state g.state f.eof f.held (answer_of (Ok (Parsed bytes payload))) s.parses in
+    grind (arith, length-append, nat_tests)
+fewer f g (Err e) value s i n = let no : true ≡ false = sym (fault_is_last e value.kind i.kind) ∙ n in cc
+
+-- what is known of a step in these bytes
+pub steps_in : (bytes : List ℕ) (old new : Cursor) (x : Result Step Error)
+    → ParseAnswer old.parser old.is_finished (drop old.mark bytes) (answer_of x) new.parser → drop old.mark bytes ≡ shown x
+    ++ drop new.mark bytes
+    → new.is_finished ≡ old.is_finished → new.wants_more ≡ is_request x → Steps (feed_of bytes old) x (feed_of bytes new)
+steps_in bytes old new x parses shows finished wants = grind arith
+
+-- ---- the chunks
+
+pub come_begins : {A : Type 0} (start features : ℕ) → HasCome {A = A} start features [] (new_feed start features) []
+come_begins start features = ([], answers_go_along.begins start features, tt)
+
+pub come_pushed : {A : Type 0} (start features : ℕ) (given : List ℕ) (f : Feed) (values : List (Event A)) (piece : List ℕ)
+    → HasCome start features given f values → HasCome start features (given ++ piece) (pushed f piece) values
+come_pushed start features given f values piece h = (h.0, answers_go_along.more start features given f.state f.held h.0 piece h.1, h.2)
+
+pub come_finished : {A : Type 0} (start features : ℕ) (given : List ℕ) (f g : Feed) (values : List (Event A)) → g ≡ finished f
+    → HasCome start features given f values → HasCome start features given g values
+come_finished start features given f g values e h = rw e (h.0, h.1, h.2)
+
+module _ {A : Type 0} (start features : ℕ) (pieces : List (Bor (List ℕ))) (i : ℕ) (d : Bor (List ℕ)) (f mid new : Feed)
+    (before after : List (Event A)) (b : i < length pieces) (l : start + length (joined pieces) < 2 ^ 64)
+    (h : HasCome start features (joined (take i pieces)) f before) (e : mid ≡ pushed f (slice_index_or pieces i d).now) where
+  -- one more chunk was given
+  given : HasCome start features (joined (take (i + 1) pieces)) mid before
+  given =
+      subst₂ (λ (x : List ℕ) (y : Feed). HasCome start features x y before) (sym (joined_more pieces i d b)) (sym e)
+      (search come_pushed)
+
+  within : start + length (joined (take (i + 1) pieces)) < 2 ^ 64
+  within =
+      let n : length (joined pieces) ≡ length (joined (take (i + 1) pieces)) + length (joined (drop (i + 1) pieces)) =
+      ap (λ (x : List ℕ). length x) (joined_parts pieces (i + 1))
+      ∙ length-append (joined (take (i + 1) pieces)) (joined (drop (i + 1) pieces)) in
+      omega (arith, n, l)
+
+  abbrev is_given : GivenTo mid before
+  is_given = record { start = start; features = features; given = joined (take (i + 1) pieces); has_come = given; below = within }
+
+  -- and more are wanted
+  pub next_piece : ReadsHeld mid before (Ok false) new after → HasCome start features (joined (take (i + 1) pieces)) new after
+  next_piece r = (r is_given).0
+
+  -- and the last event arrived
+  pub last_piece : mid.eof ≡ false → ReadsHeld mid before (Ok true) new after → IsReading (joined pieces) start features after
+  last_piece goes r =
+      let z : HasEnded start features false (joined (take (i + 1) pieces)) after =
+      rw goes at (r is_given) in
+      (z.0, z.1 (joined pieces) (joined (drop (i + 1) pieces), joined_parts pieces (i + 1)), z.2)
+
+-- all was given
+pub ended_last : {A : Type 0} (start features : ℕ) (given : List ℕ) (old new : Feed) (before after : List (Event A)) (over : Bool)
+    → HasCome start features given old before → start + length given < 2 ^ 64 → old.eof ≡ true
+    → ReadsHeld old before (Ok over) new after → IsReading given start features after
+ended_last start features given old new before after true h l e r =
+    let z : HasEnded start features true given after =
+    rw e at (r (record { start = start; features = features; given = given; has_come = h; below = l })) in
+    (z.0, z.1 given refl, z.2)
+ended_last start features given old new before after false h l e r = let no : true ≡ false = sym e
+    ∙ (r (grind (arith, given))).1 in cc

@@ -1,0 +1,191 @@
+-- That what a step returns beside a chunk is what it returns on all of the chunk.
+use Rattle.std.proofs.Common.{◌≡◌, ℕ, ◌+◌, ◌-◌, ◌<◌, ◌≤◌, Bool, true, false, List, [], ◌∷◌, ◌++◌, length, drop, Result, Ok, Err}
+use Rattle.std.proofs.Common.{refl, sym, ap, subst₂, ◌∙◌, arith, append_assoc, append-nil, length-append, inl, inr, Option}
+use Rattle.std.proofs.lemmas.List.{append_cancel_right, length-drop, drop-drop}
+use Rattle.wasm_base.specs.declared.error.Error.{Error}
+use Rattle.wasm_base.specs.Features.{all_features}
+use Rattle.wasm_grammar.specs.Reading.{Report}
+use Rattle.wasm_grammar.specs.Waiting.{enough as decides_all, waiting}
+use Rattle.wasm_parser.specs.Along.{is_last, SaysTheSame}
+use Rattle.wasm_parser.specs.ParseAnswer.{IsRequest, ParseAnswer}
+use Rattle.wasm_parser.specs.ParserLaws.{AnswersLast}
+use Rattle.wasm_parser.specs.ParserState.{ParserState, grammar_of}
+use Rattle.wasm_parser.specs.declared.payload.Chunk.{Chunk}
+use Rattle.wasm_parser.specs.declared.payload.Chunk.TheVariants as chunk
+use Rattle.wasm_parser.proofs.ForCallers.{answers_go_along}
+use Rattle.wasm_feeder.specs.Beside.{beside, seen, lending, SeesEnough, AreEnough, ReadsEnough, MakesReady, IsAlike, FillsAlike}
+use Rattle.wasm_feeder.specs.Beside.{Bounds, HasDecided, StaysIdle, StepsOver}
+use Rattle.wasm_lines.specs.Calls.{Change, from_to}
+use Rattle.wasm_feeder.specs.Cursors.{feed_of}
+use Rattle.wasm_feeder.specs.Feed.{Feed, new_feed, pushed, finished}
+use Rattle.wasm_feeder.specs.Progress.{weight, Progress, Wants}
+use Rattle.wasm_feeder.specs.Step.{answer_of, shown, is_request, Steps}
+use Rattle.wasm_feeder.specs.declared.feeder.Cursor.{Cursor}
+use Rattle.wasm_feeder.specs.declared.feeder.Step.{Step}
+use Rattle.wasm_feeder.proofs.Progress.{begun, filled}
+use Rattle.wasm_feeder.proofs.Stepping.{none_passed, steps_from}
+
+-- ---- enough bytes
+
+-- bytes for which one result is no request are enough
+pub enough : (law : AnswersLast) (p : ParserState) (bytes : List ℕ) (one : Result Chunk Error) (new : ParserState)
+    → ParseAnswer p false bytes one new → (IsRequest one → ⊥) → AreEnough p bytes
+enough law p bytes one new a decided more l other last b = law p last bytes more other b
+    (grind (arith, decides, answers_go_along.once)) l false
+  where
+    decides : (x y : Result Chunk Error) → SaysTheSame x y → (IsRequest x → ⊥) → IsRequest y → ⊥
+    decides (Ok (chunk.NeedMoreData hint)) y e goes r = goes tt
+    decides (Ok (chunk.Parsed consumed payload)) (Ok (chunk.NeedMoreData hint)) e goes r = cc
+    decides (Ok (chunk.Parsed consumed payload)) (Ok (chunk.Parsed other_consumed other)) e goes r = r
+    decides (Ok (chunk.Parsed consumed payload)) (Err x) e goes r = r
+    decides (Err x) (Ok (chunk.NeedMoreData hint)) e goes r = cc
+    decides (Err x) (Ok (chunk.Parsed consumed payload)) e goes r = r
+    decides (Err x) (Err y) e goes r = r
+
+-- no bytes more change nothing
+pub nothing_more : (p : ParserState) (eof : Bool) (bytes more : List ℕ) → more ≡ [] → SeesEnough p eof bytes more
+nothing_more p eof bytes more e answer new a = rw (ap (λ (l : List ℕ). bytes ++ l) e ∙ append-nil bytes) a
+
+-- ---- bytes that were stored
+
+bounded_by : (old : Feed) (piece stored : List ℕ) (count : ℕ) → count ≤ length piece → stored ++ drop count piece ≡ old.held ++ piece
+    → length old.held ≤ old.stored → Bounds old piece (length stored + (length piece - count))
+bounded_by old piece stored count within same stores =
+    let sizes = ap (λ (l : List ℕ). length l) same in
+    grind (arith, length-append, length-drop)
+
+idle_by : (old : Feed) (piece stored : List ℕ) (count : ℕ) (c : Cursor) → c.mark ≡ 0 → stored ++ drop count piece ≡ old.held ++ piece
+    → length old.held ≤ old.stored → (HasDecided old piece → count ≡ 0) → HasDecided old piece → StaysIdle old count stored c
+idle_by old piece stored count c first same stores idle h = grind (arith, append_cancel_right)
+
+-- a cursor at the first stored byte, where the stored bytes and the rest of the chunk are the held bytes and the chunk
+pub ready : (old : Feed) (piece stored : List ℕ) (count : ℕ) (c : Cursor) → count ≤ length piece → c.mark ≡ 0
+    → stored ++ drop count piece ≡ old.held ++ piece → c.parser ≡ old.state → c.is_finished ≡ old.eof → c.wants_more ≡ old.wants_more
+    → SeesEnough c.parser c.is_finished stored (drop count piece) → length old.held ≤ old.stored → (HasDecided old piece → count ≡ 0)
+    → MakesReady old piece count stored c
+ready old piece [] count c within first same state eof wants sees stores idle = record {
+  bounded = search bounded_by;
+  within = within;
+  same = grind (arith, append-nil);
+  enough = search nothing_more;
+  starts = λ e. first;
+  idle = search idle_by;
+}
+ready old piece (x ∷ xs) count c within first same state eof wants sees stores idle = record {
+  bounded = search bounded_by;
+  within = within;
+  same = cc;
+  enough = rw first sees;
+  starts = λ e. first;
+  idle = search idle_by;
+}
+
+-- ---- a step
+
+-- what the cursor says of a step is what the feeder beside the chunk does
+pub both : (f : Feed) (stored piece items rest bytes : List ℕ) (old new : Cursor) (x : Result Step Error) → lending stored piece old ≡ f
+    → ReadsEnough stored piece old → bytes ≡ seen items rest → items ≡ stored → rest ≡ piece
+    → ParseAnswer old.parser old.is_finished (drop old.mark bytes) (answer_of x) new.parser
+    → drop old.mark bytes ≡ shown x ++ drop new.mark bytes → new.is_finished ≡ old.is_finished → new.wants_more ≡ is_request x
+    → Steps f x (lending stored piece new)
+both f stored piece items rest bytes old new x from sees read items_are rest_is parses shows finished wants =
+    steps_from (lending stored piece old) f x (lending stored piece new) from (grind (arith, same, append_assoc))
+  where
+    same : bytes ≡ seen stored piece
+    same = cc
+
+-- ---- a listing
+
+-- progress depends only on the feeder's position, the bytes it holds, and whether the end was reported
+pub alike : (text_of : Report → List ℕ) (input output : Change) (f g : Feed) (page : List ℕ) → IsAlike f g
+    → Progress text_of input output f page → Progress text_of input output g page
+alike text_of input output f g page a p = grind arith
+
+pub begun_beside : (text_of : Report → List ℕ) (source taken : Option (List ℕ)) (stored piece : List ℕ) (c : Cursor) → stored ≡ []
+    → piece ≡ [] → feed_of [] c ≡ new_feed 0 all_features
+    → Progress text_of (from_to source source) (from_to taken taken) (beside (feed_of stored c) piece) []
+begun_beside text_of source taken stored piece c none no_piece new = grind (arith, alike, append-nil, begun)
+
+alike_lighter : (text_of : Report → List ℕ) (input output : Change) (e f g : Feed) (page : List ℕ) → IsAlike f g
+    → Progress text_of input output f page × (weight f < weight e) → Progress text_of input output g page × (weight g < weight e)
+alike_lighter text_of input output e f g page a (p, less) = grind (arith, alike)
+
+pub same_lighter : (text_of : Report → List ℕ) (input output : Change) (e f g : Feed) (page : List ℕ) → g ≡ f
+    → Progress text_of input output f page × (weight f < weight e) → Progress text_of input output g page × (weight g < weight e)
+same_lighter text_of input output e f g page same p = rw same p
+
+-- what comes next was read, or the source ended
+pub filled_alike : (text_of : Report → List ℕ) (source rest taken written rest' : Option (List ℕ)) (f g : Feed)
+    → Wants text_of (from_to source rest) (from_to taken written) f [] → FillsAlike rest rest' f g
+    → Progress text_of (from_to source rest') (from_to taken written) g [] × (weight g < weight f)
+filled_alike text_of source rest taken written rest' f g w (inl (none, at_end, a)) = grind (arith, alike_lighter, filled)
+filled_alike text_of source rest taken written rest' f g w (inr (piece, gave, some, a)) =
+    alike_lighter text_of (from_to source rest') (from_to taken written) f (pushed f piece) g [] a
+    (filled text_of source rest taken written f w rest' (pushed f piece) (inr (piece, gave, some, refl)))
+
+-- ---- a step over a chunk
+
+-- where more bytes are asked for, those that are there don't decide
+pub undecided : (p new : ParserState) (bytes : List ℕ) (one : Result Chunk Error) (hint : ℕ) → ParseAnswer p false bytes one new
+    → one ≡ Ok (chunk.NeedMoreData hint) → waiting (grammar_of p) bytes ≡ decides_all → ⊥
+undecided p new bytes one hint a is e = grind (arith, answers_go_along.asks)
+
+-- bytes that decide are no request
+decided : (p new : ParserState) (bytes : List ℕ) (x : Result Step Error) → ParseAnswer p false bytes (answer_of x) new
+    → waiting (grammar_of p) bytes ≡ decides_all → is_request x ≡ false
+decided p new bytes x a e = grind (arith, undecided)
+
+last_is_no_request : (x : Result Step Error) → is_last (answer_of x) ≡ true → is_request x ≡ false
+last_is_no_request x l = grind arith
+
+-- A step over a chunk: `old` is the cursor once this many bytes of the chunk are stored, and `new` the cursor after the step.
+module _ (f : Feed) (piece rest stored items bytes : List ℕ) (count : ℕ) (old new : Cursor) (x : Result Step Error)
+    (r : MakesReady f piece count stored old) (left : rest ≡ drop count piece) (read : bytes ≡ seen items rest) (items_are : items ≡ stored)
+    (parses : ParseAnswer old.parser old.is_finished (drop old.mark bytes) (answer_of x) new.parser)
+    (shows : drop old.mark bytes ≡ shown x ++ drop new.mark bytes) (finished : new.is_finished ≡ old.is_finished)
+    (wants : new.wants_more ≡ is_request x) (moves : new.mark ≡ old.mark + length (shown x)) where
+  stepped : Steps (beside f piece) x (lending stored (drop count piece) new)
+  stepped = search both
+
+  reads : bytes ≡ seen stored rest
+  reads = read ∙ ap (λ (l : List ℕ). seen l rest) items_are
+
+  -- the feeder is where the parser was, and at the end of input if it was
+  state : old.parser ≡ f.state
+  state = ap (λ (g : Feed). g.state) r.same
+
+  eof : old.is_finished ≡ f.eof
+  eof = ap (λ (g : Feed). g.eof) r.same
+
+  -- this many bytes of the rest were taken, and this is stored then
+  pub over : (taken : ℕ) (kept : List ℕ) (last : Cursor) → beside (feed_of kept last) (drop taken rest) ≡ lending stored rest new
+      → taken ≤ length rest → (new.wants_more ≡ true → taken ≡ length rest) → length kept ≤ length stored + length rest
+      → (new.wants_more ≡ false → (stored ≡ [] → new.mark ≡ 0) → drop last.mark kept ≡ drop new.mark (seen stored rest))
+      → (new.wants_more ≡ false → 0 < length stored → (taken ≡ 0) × (length kept ≡ length stored))
+      → StepsOver f piece x (count + taken) (feed_of kept last)
+  over taken kept last takes within asks bounded stays idle = record {
+    steps = rw same stepped;
+    asks = λ e. let all = asks (wants ∙ e) in omega (arith, all, size, sizes, r.within);
+    stays = λ l. subst₂ (λ (p q : ParserState). ParseAnswer p f.eof (drop last.mark kept) (answer_of x) q) state
+        (sym (ap (λ (g : Feed). g.state) takes))
+        (grind (arith, held, eof));
+    stores = omega (arith, length-drop last.mark kept);
+    bounded = grind (arith, size, sizes);
+    idle = grind arith;
+  }
+    where
+      size : length rest ≡ length (drop count piece)
+      size = rw left refl
+
+      sizes : length (drop count piece) ≡ length piece - count
+      sizes = length-drop count piece
+
+      same : beside (feed_of kept last) (drop (count + taken) piece) ≡ lending stored (drop count piece) new
+      same = grind (arith, drop-drop)
+
+      held : is_last (answer_of x) ≡ true → drop last.mark kept ≡ drop old.mark bytes
+      held l =
+          grind (arith, none_passed, last_is_no_request, reads)
+
+      no_request : HasDecided f piece → StaysIdle f count stored old → is_request x ≡ false
+      no_request h i = grind (arith, decided, state, eof, reads)

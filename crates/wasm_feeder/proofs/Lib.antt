@@ -1,0 +1,9 @@
+pub mod Adding
+pub mod Beside
+pub mod ByHand
+pub mod ForCallers
+pub mod Joining
+pub mod Progress
+pub mod Resting
+pub mod Stepping
+pub mod Waits

@@ -1,0 +1,18 @@
+use Rattle.std.proofs.Common.{◌≡◌, ℕ, ◌+◌, ◌-◌, ◌≤◌, List, take, drop, length, min, sym, ap, ◌∙◌, arith}
+use Rattle.std.proofs.lemmas.List.{drop-drop, drop-take, length-take}
+use Rattle.wasm_feeder.proofs.ahead.Ahead.pass.Goals as goal
+
+passed : (b : List ℕ) (start end count : ℕ) → count ≤ length (take (end - start) (drop start b))
+    → take (end - (start + count)) (drop (start + count) b) ≡ drop count (take (end - start) (drop start b))
+passed b start end count l =
+    let rest = end - (start + count) in
+    let n : length (take (end - start) (drop start b)) ≡ min (end - start) (length (drop start b)) =
+    length-take (end - start) (drop start b) in
+    let size : count + rest ≡ end - start = omega (arith, l, n) in
+    ap (take rest) (sym (drop-drop count start b)) ∙ (sym (drop-take count rest (drop start b))
+    ∙ ap (λ (k : ℕ). drop count (take k (drop start b))) size)
+
+pub returns : goal.returns
+returns g c = let s = c.self.inside in
+    let l = c.requires in
+    rw (sym c.self.view_is) (passed s.buffer.items s.start s.end c.args.count (rw (sym c.self.view_is) at l))

@@ -1,0 +1,33 @@
+use Rattle.std.proofs.Common.{◌≡◌, ℕ, ◌+◌, ◌-◌, List, ◌++◌, arith, ap, ◌∙◌, length, take, drop, append_assoc, append-nil, sym}
+use Rattle.std.proofs.lemmas.List.{length-take, length-drop}
+use Rattle.std.proofs.Math.Seq.{take-add}
+use Rattle.wasm_grammar.specs.Waiting.{waiting}
+use Rattle.wasm_parser.specs.ParserState.{grammar_of}
+use Rattle.wasm_feeder.proofs.feeder.lending.gather.Goals as goal
+
+more_put : (old held new part piece : List ℕ) (n m : ℕ) → held ≡ old ++ take n piece → new ≡ held ++ part
+    → part ≡ take m (drop n piece) → new ≡ old ++ take (n + m) piece
+more_put old held new part piece n m was put is = put ∙ (ap (λ (l : List ℕ). l ++ part) was
+    ∙ (append_assoc old (take n piece) part ∙ ap (λ (l : List ℕ). old ++ l)
+    (ap (λ (l : List ℕ). take n piece ++ l) is ∙ sym (take-add n m piece))))
+
+nothing_put : (old held piece : List ℕ) (n : ℕ) → held ≡ old ++ take n piece → n ≡ 0 → held ≡ old
+nothing_put old held piece n was none = was ∙ (ap (λ (k : ℕ). old ++ take k piece) none ∙ append-nil old)
+
+pub parts-preserved : goal.parts-preserved
+parts-preserved g c =
+    let within = c.parts.invariant.within in
+    let size : c.parts.count + c.min.result - c.parts.count ≡ c.min.result = omega arith in
+    let sizes = length-take c.min.result (drop c.parts.count c.args.piece.now) in
+    let put = ap (λ (k : ℕ). length (take k (drop c.parts.count c.args.piece.now))) size in
+    let left = length-drop c.parts.count c.args.piece.now in
+    record {
+      within = omega (arith, c.min.ensures);
+      idle = λ e. absurd (c.if-missing-eq0.false (c.missing-missing.ensures.decided
+          (ap (λ (l : List ℕ). waiting (grammar_of c.args.parser.now) l) (c.deref.ensures.value
+          ∙ nothing_put c.args.held.now.items c.parts.held.items c.args.piece.now c.parts.count c.parts.invariant.put
+          (c.parts.invariant.idle e)) ∙ e)));
+      put = more_put c.args.held.now.items c.parts.held.items c.put.new.bytes.items _ c.args.piece.now c.parts.count c.min.result
+          c.parts.invariant.put c.put.ensures.items (ap (λ (k : ℕ). take k (drop c.parts.count c.args.piece.now)) size);
+      room = omega (arith, c.put.ensures.len, c.put.ensures.capacity, c.parts.invariant.room, c.min.ensures, sizes, left, put);
+    }

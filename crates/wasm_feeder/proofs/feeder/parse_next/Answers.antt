@@ -1,0 +1,25 @@
+use Rattle.std.proofs.Common.{◌++◌, List, ℕ, take, drop, Ok, sym, ap, subst₂, ◌∙◌}
+use Rattle.std.proofs.lemmas.List.{drop-drop, length-take-le, take-append-drop}
+use Rattle.wasm_parser.specs.ParseAnswer.{Consumes, ParseAnswer}
+use Rattle.wasm_parser.specs.declared.payload.Chunk.TheVariants.{Parsed}
+use Rattle.wasm_feeder.proofs.feeder.parse_next.Goals as goal
+
+pub returns-in-Ok-Parsed-clause-shows : goal.returns-in-Ok-Parsed-clause-shows
+returns-in-Ok-Parsed-clause-shows c =
+    let m = c.args.cursor.now.mark in
+    let k = c.in-Ok-Parsed.consumed in
+    let xs = c.args.bytes.now in
+    rw c.after-rest.ensures (sym (take-append-drop k (drop m xs)) ∙ ap (λ (l : List ℕ). take k (drop m xs) ++ l) (drop-drop k m xs))
+
+pub returns-in-Ok-Parsed-clause-parses : goal.returns-in-Ok-Parsed-clause-parses
+returns-in-Ok-Parsed-clause-parses c =
+    let rest = c.after-rest.result.now in
+    let read = c.in-Ok-Parsed in
+    let fits : Consumes rest (Ok (Parsed read.consumed read.payload)) =
+    rw read.field-0-is at read.ensures.consumes in
+    let answers : ParseAnswer c.args.cursor.now.parser c.args.cursor.now.is_finished rest
+    (Ok (Parsed read.consumed read.payload)) c.parse.new.self =
+    rw read.field-0-is at read.ensures.answers in
+    subst₂ (λ (xs : List ℕ) (n : ℕ). ParseAnswer c.args.cursor.now.parser c.args.cursor.now.is_finished xs
+    (Ok (Parsed n read.payload)) c.parse.new.self)
+    c.after-rest.ensures (sym (length-take-le read.consumed rest fits.0)) answers

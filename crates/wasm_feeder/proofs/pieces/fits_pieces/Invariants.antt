@@ -1,0 +1,9 @@
+use Rattle.std.proofs.Common.{◌≡◌, ◌+◌, ◌<◌, ◌^◌, length, take}
+use Rattle.wasm_feeder.specs.Pieces.{joined}
+use Rattle.wasm_feeder.proofs.pieces.fits_pieces.Given as goal
+
+abbrev pub invariant-pieces : goal.invariant-pieces
+invariant-pieces l = record {
+  end : l.end ≡ l.offset + length (joined (take l.piece-index l.pieces));
+  within : l.end < 2 ^ 64;
+}

@@ -1,0 +1,12 @@
+use Rattle.std.proofs.Common.{◌≡◌, false, take}
+use Rattle.wasm_feeder.specs.Cursors.{feed_of}
+use Rattle.wasm_feeder.specs.Pieces.{joined, HasCome}
+use Rattle.wasm_feeder.proofs.pieces.read_pieces_in.Given as goal
+use Rattle.wasm_base.specs.Features.{all_features}
+
+-- the first chunks were given, and the last event has not arrived
+abbrev pub invariant-pieces : goal.invariant-pieces
+invariant-pieces g l = record {
+  comes : HasCome l.offset all_features (joined (take l.piece-index l.pieces)) (feed_of l.bytes.items l.cursor) l.events.items;
+  goes_on : l.cursor.is_finished ≡ false;
+}

@@ -1,0 +1,14 @@
+pub mod Beside
+pub mod Cursors
+pub mod Ends
+pub mod Events
+pub mod Fates
+pub mod Feed
+pub mod FeedersLaws
+pub mod Lists
+pub mod Opened
+pub mod Pieces
+pub mod Progress
+pub mod Rows
+pub mod Step
+pub mod Turns

@@ -1,0 +1,52 @@
+-- The progress of a listing that reads a stream by a feeder and writes a text for what each event reports.
+use Rattle.std.specs.Prelude.{◌≡◌, ℕ, ◌+◌, ◌-◌, ◌<◌, ◌^◌, true, List, ◌++◌, length, if◌then◌else◌, Option, Some, None}
+use Rattle.std.specs.Prelude.{Result, Ok, Err}
+use Rattle.std.specs.Io.KnownBytes.{Consumes, Appends, IsAtEnd}
+use Rattle.wasm_parser.specs.Along.{Along}
+use Rattle.wasm_parser.specs.GivesNextEvent.{IsUndecided}
+use Rattle.wasm_grammar.specs.Reading.{Report, Event}
+use Rattle.wasm_base.specs.declared.error.Error.{Error}
+use Rattle.wasm_lines.specs.Calls.{Change, from_to}
+use Rattle.wasm_lines.specs.declared.devices.ListError.{ListError}
+use Rattle.wasm_feeder.specs.Feed.{Feed}
+use Rattle.wasm_feeder.specs.Lists.{IsListed, ListsBy}
+use Rattle.wasm_feeder.specs.declared.turns.Ended.TheVariants.{Fault}
+use Rattle.wasm_lines.specs.Listing.{listing_by}
+use Rattle.wasm_base.specs.Features.{all_features}
+
+-- a bound on the remaining work: bytes to consume, bytes to read, and the end to report
+abbrev pub weight : Feed → ℕ
+weight f = (2 ^ 64 - f.state.offset) + ((2 ^ 64 - (f.state.offset + length f.held)) + (if f.eof then 0 else 1))
+
+-- The lines of what the feeder has passed are written, or wait on the page.
+pub record Progress (text_of : Report → List ℕ) (input output : Change) (f : Feed) (page : List ℕ) : Type 0 where
+  pub given : List ℕ
+  pub events : List Event
+  pub is_along : Along 0 all_features given f.state f.held events
+  pub gave : Consumes input.before input.after given
+  pub at_end : f.eof ≡ true → IsAtEnd input.after
+  pub lines : List ℕ
+  pub listed : Appends output.before output.after lines
+  pub parts : listing_by text_of events ≡ lines ++ page
+
+-- More may come, the parser is undecided on the held bytes, and the bytes so far are below the largest offset.
+pub record Wants (text_of : Report → List ℕ) (input output : Change) (f : Feed) (page : List ℕ) : Type 0 where
+  pub progress : Progress text_of input output f page
+  pub hint : ℕ
+  pub undecided : IsUndecided f.state f.eof f.held hint
+  pub below : length progress.given < 2 ^ 64
+
+-- A caller that wanted more read on: it is further along; or the stream ended within a part that was skipped, and all
+-- of it is listed; or the call was given up.
+abbrev pub ReadOn : (text_of : Report → List ℕ) (input output : Change) (old new : Feed) (page : List ℕ)
+    → Result (Option Error) ListError → Type 0
+ReadOn text_of input output old new page (Ok None) = Progress text_of input output new page × (weight new < weight old)
+ReadOn text_of input output old new page (Ok (Some e)) = IsListed text_of input output (Fault e)
+ReadOn text_of input output old new page (Err e) = ListsBy text_of input output (Err e)
+
+-- the same wherever the caller was in its stream
+abbrev pub ReadsOn : (text_of : Report → List ℕ) (input output : Change) (old : Feed) (waiting : List ℕ) (new : Feed)
+    (page : List ℕ) → Result (Option Error) ListError → Type 0
+ReadsOn text_of input output old waiting new page result = (source taken : Option (List ℕ))
+    → Wants text_of (from_to source input.before) (from_to taken output.before) old waiting
+    → ReadOn text_of (from_to source input.after) (from_to taken output.after) old new page result

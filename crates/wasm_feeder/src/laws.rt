@@ -1,0 +1,43 @@
+//! Laws of feeders and of the ends of streams, each the contract of a function that does nothing.
+ghost use Rattle.wasm_base.specs.Comparing.{DecidesWhether, DecidesSame, IsCopy};
+ghost use Rattle.std.specs.Prelude.{◌≡◌};
+ghost use Rattle.wasm_feeder.specs.Ends.{fault_at_end};
+ghost use Rattle.wasm_feeder.specs.FeedersLaws.{FeedersGoAlong, FeedersWait};
+
+use crate::turns::Ended;
+use wasm_lines::{Failed, ListError};
+
+/// A feeder's place in the stream follows from the bytes it received, whatever calls are made and in any order. A new
+/// one has received nothing, and a chunk adds to what it received. A step, over a chunk too, is the next event of every
+/// stream that begins with these bytes, its last event, or a request. Each payload except the end shows some bytes, so
+/// a loop over steps ends. The parser's state afterwards follows from the step. After the end or a fault each later
+/// step reports the same, whatever bytes come, and after `finish` too.
+pub fn feeders_go_along()
+    ensures { FeedersGoAlong }
+{}
+
+/// A feeder wants more only if its parser is undecided on the held bytes, and more may come. After bytes arrived, by a
+/// push, a read or a step over a chunk, it stores fewer bytes than the bound on undecided bytes plus the size of the
+/// chunk. If the held bytes decide, a step over a chunk takes and stores nothing. All of this holds below the largest
+/// offset; a step past it is the fault `OffsetRange`.
+pub fn feeders_wait_where_undecided()
+    ensures { FeedersWait }
+{}
+
+/// Two ends of listings are equal exactly if both are the end of a stream, or both a fault with the same kind, offset
+/// and number. Two `ListError`s are equal exactly if they are the same.
+pub fn equal_ends_are_the_same()
+    ensures ended { DecidesWhether (λ one other. fault_at_end one ≡ fault_at_end other)
+        ⟦<Ended as PartialEq>⟧.eq }
+    ensures list_error { DecidesSame ⟦<ListError as PartialEq>⟧.eq }
+    ensures failed { DecidesSame ⟦<Failed as PartialEq>⟧.eq }
+{}
+
+/// A copy of an end of a listing, or of a `ListError`, is the same, and copying never fails.
+pub fn copies_of_ends_are_the_same()
+    ensures ended { IsCopy ⟦<Ended as Clone>⟧.is_clone ⟦<Ended as Clone>⟧.is_infallible }
+    ensures list_error { IsCopy
+        ⟦<ListError as Clone>⟧.is_clone
+        ⟦<ListError as Clone>⟧.is_infallible }
+    ensures failed { IsCopy ⟦<Failed as Clone>⟧.is_clone ⟦<Failed as Clone>⟧.is_infallible }
+{}
