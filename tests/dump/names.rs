@@ -4,7 +4,7 @@ use std::test::Fail;
 use wasm_cli::dump::{Options, dump_as};
 use wasm_dumper::{Only, Shown, collect_names, dump};
 use wasm_feed::{BoundedSink, Ended, ListError, Sink, SliceSource, WriteSink};
-use wasm_lines::Base;
+use wasm_text::Base;
 use wasm_tree::{ItemNames, Lines};
 
 // The linked module of docs/DUMP.md, whose bodies are filled with a byte.

@@ -3,16 +3,16 @@ use Rattle.std.proofs.Common.{◌≡◌, ◌⊎◌, ℕ, ◌<◌, Bool, List, Op
 use Rattle.std.proofs.Common.{inr}
 use Rattle.std.specs.Io.KnownBytes.{Appends, Keeps}
 use Rattle.wasm_feeder.specs.Lists.{Lists}
-use Rattle.wasm_lines.specs.Calls.{Device, from_to}
+use Rattle.wasm_text.specs.Calls.{Device, from_to}
 use Rattle.wasm_cli.proofs.ForCallers.{appends_kept}
 use Rattle.wasm_cli.specs.Devices.{over, Follows, IsUntouched}
-use Rattle.wasm_lines.specs.Messages.{Says}
+use Rattle.wasm_text.specs.Messages.{Says}
 use Rattle.wasm_cli.specs.Endings.{RunsUsage, Flushes, FailsToFlush, LeavesAlone, Finishes, status_of}
 use Rattle.wasm_cli.specs.ListCommands.{Asked}
 use Rattle.wasm_cli.specs.ListRuns.{RunsListingAs, Runs, EndsAs, ListsAll, RunsThenFlushes, RunsWhole, usage}
 use Rattle.wasm_feeder.specs.declared.turns.Ended.{Ended}
 use Rattle.wasm_feeder.specs.declared.turns.Ended.TheVariants.{End, Fault}
-use Rattle.wasm_lines.specs.declared.devices.ListError.{ListError}
+use Rattle.wasm_text.specs.declared.devices.ListError.{ListError}
 
 lists_kept : (source rest taken written kept : Option (List ℕ)) (how : Ended) → Lists (from_to source rest) (from_to taken written) (Ok how)
     → Keeps written kept

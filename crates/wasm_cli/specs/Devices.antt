@@ -1,6 +1,6 @@
 -- Calls that leave a device alone, and calls that follow one another.
 use Rattle.std.specs.Prelude.{◌≡◌}
-use Rattle.wasm_lines.specs.Calls.{Device}
+use Rattle.wasm_text.specs.Calls.{Device}
 
 -- the call left the device alone
 pub record IsUntouched (device : Device) : Type 0 where

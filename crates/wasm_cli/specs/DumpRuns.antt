@@ -1,9 +1,9 @@
 -- What a run of the program does.
 use Rattle.std.specs.Prelude.{◌≡◌, ◌⊎◌, ℕ, Bool, true, List, [], ◌∷◌, ◌++◌, codes, Option, Some, None, Result, Ok, Err}
-use Rattle.wasm_lines.specs.Calls.{Device, bytes_of, input_failed, output_failed}
+use Rattle.wasm_text.specs.Calls.{Device, bytes_of, input_failed, output_failed}
 use Rattle.wasm_feeder.specs.declared.turns.Ended.{Ended}
-use Rattle.wasm_lines.specs.declared.devices.ListError.{ListError}
-use Rattle.wasm_lines.specs.declared.devices.ListError.TheVariants.{Output}
+use Rattle.wasm_text.specs.declared.devices.ListError.{ListError}
+use Rattle.wasm_text.specs.declared.devices.ListError.TheVariants.{Output}
 use Rattle.wasm_dumper.specs.Dump.{Dumps}
 use Rattle.wasm_dumper.specs.declared.events.Only.{Only}
 use Rattle.wasm_dumper.specs.declared.events.Only.TheVariants.{All}

@@ -1,13 +1,13 @@
 -- How a run of a program ends, and what it says.
 use Rattle.std.specs.Prelude.{◌≡◌, ◌⊎◌, ℕ, ◌<◌, ◌≤◌, Bool, true, List, take, Result, Ok, Err}
 use Rattle.std.specs.Io.KnownBytes.{Appends, Keeps}
-use Rattle.wasm_lines.specs.Calls.{Device}
+use Rattle.wasm_text.specs.Calls.{Device}
 use Rattle.wasm_feeder.specs.declared.turns.Ended.{Ended}
 use Rattle.wasm_feeder.specs.declared.turns.Ended.TheVariants.{End, Fault}
-use Rattle.wasm_lines.specs.declared.devices.ListError.{ListError}
-use Rattle.wasm_lines.specs.declared.devices.ListError.TheVariants.{Output, Memory}
+use Rattle.wasm_text.specs.declared.devices.ListError.{ListError}
+use Rattle.wasm_text.specs.declared.devices.ListError.TheVariants.{Output, Memory}
 use Rattle.wasm_cli.specs.Devices.{IsUntouched}
-use Rattle.wasm_lines.specs.Messages.{Says, complaint_of}
+use Rattle.wasm_text.specs.Messages.{Says, complaint_of}
 
 -- the exit status of a run that went along a stream
 abbrev pub status_of : Result Ended ListError → ℕ

@@ -1,12 +1,12 @@
 -- What a run of the program does.
 use Rattle.std.specs.Prelude.{◌≡◌, ◌⊎◌, ℕ, Bool, List, ◌++◌, codes, map, string_bytes, Option, Some, None, Result, Ok}
 use Rattle.std.specs.Prelude.{Err}
-use Rattle.wasm_lines.specs.Calls.{Device, bytes_of, input_failed, output_failed}
+use Rattle.wasm_text.specs.Calls.{Device, bytes_of, input_failed, output_failed}
 use Rattle.wasm_feeder.specs.Lists.{Lists, ListsSource}
 use Rattle.wasm_feeder.specs.declared.turns.Ended.{Ended}
-use Rattle.wasm_lines.specs.declared.devices.ListError.{ListError}
+use Rattle.wasm_text.specs.declared.devices.ListError.{ListError}
 use Rattle.wasm_cli.specs.Devices.{over, Follows, IsUntouched}
-use Rattle.wasm_lines.specs.Messages.{Says, complaint_of}
+use Rattle.wasm_text.specs.Messages.{Says, complaint_of}
 use Rattle.wasm_cli.specs.Endings.{status_of, Reports, RunsUsage, CannotBegin, WritesAll, WritesSome, Flushes}
 use Rattle.wasm_cli.specs.Endings.{FailsToFlush, Finishes}
 use Rattle.wasm_cli.specs.declared.list.command.Given.{Given}

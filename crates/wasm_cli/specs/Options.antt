@@ -1,8 +1,8 @@
 -- The options of the program, besides those that choose sections.
 use Rattle.std.specs.Prelude.{ℕ, Bool, true, false, ◌&&◌, ◌||◌, List, [], ◌∷◌, codes, bytes_eq, Option, Some, None}
 use Rattle.std.specs.Prelude.{not, if◌then◌else◌}
-use Rattle.wasm_lines.specs.declared.digits.Base.{Base}
-use Rattle.wasm_lines.specs.declared.digits.Base.TheVariants.{Decimal, Hexadecimal}
+use Rattle.wasm_text.specs.declared.digits.Base.{Base}
+use Rattle.wasm_text.specs.declared.digits.Base.TheVariants.{Decimal, Hexadecimal}
 use Rattle.wasm_tree.specs.declared.tree.Style.{Style}
 use Rattle.wasm_tree.specs.declared.tree.Style.TheVariants.{Lines, Objects}
 use Rattle.wasm_cli.specs.declared.dump.options.Mark.{Mark}

@@ -6,15 +6,15 @@ use Rattle.wasm_base.specs.FaultAt.{FaultAt, fault_at}
 use Rattle.wasm_base.specs.Message.{error_text}
 use Rattle.wasm_base.specs.declared.error.Error.{Error}
 use Rattle.wasm_grammar.specs.Accepted.{IsAccepted}
-use Rattle.wasm_lines.specs.Calls.{input_failed, Device}
+use Rattle.wasm_text.specs.Calls.{input_failed, Device}
 use Rattle.wasm_feeder.specs.Fates.{stays_by}
 use Rattle.wasm_feed.specs.Stripped.{IsStripped, EndsWithFault}
 use Rattle.wasm_feeder.specs.declared.fates.Keep.{Keep}
 use Rattle.wasm_cli.specs.StripOptions.{KeepsAs}
-use Rattle.wasm_lines.specs.declared.devices.ListError.{ListError}
-use Rattle.wasm_lines.specs.declared.devices.ListError.TheVariants.{Input, Output, Memory}
+use Rattle.wasm_text.specs.declared.devices.ListError.{ListError}
+use Rattle.wasm_text.specs.declared.devices.ListError.TheVariants.{Input, Output, Memory}
 use Rattle.wasm_cli.specs.Devices.{IsUntouched}
-use Rattle.wasm_lines.specs.Messages.{Says}
+use Rattle.wasm_text.specs.Messages.{Says}
 use Rattle.wasm_cli.specs.Endings.{GivesUpAs, WritesAll, WritesSome}
 
 -- what one read gave, which was put after the bytes before; nothing at the end of the source

@@ -1,7 +1,7 @@
 -- What a run does that strips a file: it reads the file once to check it, and again to write it.
 use Rattle.std.specs.Prelude.{◌≡◌, ℕ, Bool, false, List, None, Result, Ok, Err}
-use Rattle.wasm_lines.specs.Calls.{Device}
-use Rattle.wasm_lines.specs.declared.devices.ListError.{ListError}
+use Rattle.wasm_text.specs.Calls.{Device}
+use Rattle.wasm_text.specs.declared.devices.ListError.{ListError}
 use Rattle.wasm_feed.specs.StripStream.{StripsSource}
 use Rattle.wasm_feeder.specs.declared.turns.Ended.{Ended}
 use Rattle.wasm_feeder.specs.declared.turns.Ended.TheVariants.{End, Fault}

@@ -3,12 +3,12 @@ ghost use Rattle.std.specs.Prelude.{◌≡◌, IfOk, vec_len};
 ghost use Rattle.std.specs.IoError.{error_kind};
 ghost use Rattle.wasm_cli.specs.Arguments.{is_no_text as is_no_text_of};
 ghost use Rattle.wasm_cli.specs.Endings.{Finishes};
-ghost use Rattle.wasm_lines.specs.Calls.{device_of, writer_device};
+ghost use Rattle.wasm_text.specs.Calls.{device_of, writer_device};
 
 use std::alloc::{AllocError, Global};
 use std::io::{Error, ErrorKind, Write};
 use wasm_feed::{ListError, Sink, WriteSink};
-use wasm_lines::{complain, give_up};
+use wasm_text::{complain, give_up};
 
 /// The number of bytes of the input that are read at once, at most.
 pub const PIECE: usize = 65_536;

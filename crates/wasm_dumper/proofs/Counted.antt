@@ -8,7 +8,9 @@ use Rattle.wasm_base.specs.Outcome.{Outcome}
 use Rattle.wasm_base.specs.Section.{Section, Items, all_items, NextItem, AtItsOffset}
 use Rattle.wasm_base.specs.Window.{Place, place}
 use Rattle.wasm_base.specs.declared.error.Error.{Error}
-use Rattle.wasm_tree.specs.Numbers.{Number, more, numbers_from, numbers_read, with_later, one_number, number_found, after_found}
+use Rattle.wasm_dumper.specs.Counting.{one_number}
+use Rattle.wasm_tree.specs.Numbers.{Number, more, numbers_from, numbers_read, with_later}
+use Rattle.wasm_dumper.specs.Counting.{number_found, after_found}
 use Rattle.wasm_tree.specs.Tree.{Writing, IsWritten, with_numbers, AddsThese, AddsNumbers, AddsItems}
 use Rattle.wasm_tree.specs.declared.numbers.Space.{Space}
 use Rattle.wasm_dumper.proofs.Numbering.{joined, no_numbers, more_none, more_more, numbers_more, begin_shown, all_are}

@@ -5,7 +5,7 @@ use Rattle.std.proofs.Common.{◌∷◌, ◌^◌, ap, subst, subst₂, ◌∙◌
 use Rattle.std.proofs.Common.{nat_eq}
 use Rattle.std.specs.Io.KnownBytes.{Appends, Consumes}
 use Rattle.std.proofs.KnownBytes.{Appends-nil, Consumes-nil, Consumes-trans, Consumes-kept}
-use Rattle.wasm_lines.specs.Calls.{Change, Device, bytes_of, from_to, input_failed, output_failed}
+use Rattle.wasm_text.specs.Calls.{Change, Device, bytes_of, from_to, input_failed, output_failed}
 use Rattle.wasm_feeder.specs.Feed.{Feed, new_feed}
 use Rattle.wasm_feeder.specs.Beside.{beside, lending, seen, FillsAlike, IsAlike, ReadsEnough}
 use Rattle.wasm_feeder.specs.Cursors.{feed_of}
@@ -19,7 +19,7 @@ use Rattle.wasm_parser.specs.GivesNextEvent.{MayBe}
 use Rattle.wasm_grammar.specs.EventRanges.{consumed_by}
 use Rattle.wasm_grammar.specs.Reading.{Report, Event, Reading}
 use Rattle.wasm_feeder.proofs.ForCallers.{feeders_go_along}
-use Rattle.wasm_lines.specs.Page.{WritesHead, PutsBytes}
+use Rattle.wasm_text.specs.Page.{WritesHead, PutsBytes}
 use Rattle.wasm_base.specs.declared.error.Error.{Error}
 use Rattle.wasm_parser.specs.ParseAnswer.{report_of, is_end, ParseAnswer}
 use Rattle.wasm_feeder.specs.Step.{answer_of, chunk_of, is_request, shown, Steps}
@@ -28,15 +28,16 @@ use Rattle.wasm_feeder.specs.declared.feeder.Step.{Step}
 use Rattle.wasm_feeder.specs.declared.feeder.Step.TheVariants.{NeedMoreData, Parsed}
 use Rattle.wasm_feeder.specs.declared.turns.Ended.{Ended}
 use Rattle.wasm_feeder.specs.declared.turns.Ended.TheVariants.{End, Fault}
-use Rattle.wasm_lines.specs.declared.devices.ListError.{ListError}
-use Rattle.wasm_lines.specs.declared.devices.ListError.TheVariants.{Input, Output, Memory}
+use Rattle.wasm_text.specs.declared.devices.ListError.{ListError}
+use Rattle.wasm_text.specs.declared.devices.ListError.TheVariants.{Input, Output, Memory}
 use Rattle.wasm_feeder.specs.declared.turns.Turn.{Turn}
 use Rattle.wasm_feeder.specs.declared.turns.Turn.TheVariants as turn
 use Rattle.wasm_feeder.specs.Progress.{weight, Progress, Wants}
 use Rattle.wasm_feeder.proofs.ForCallers as progress
 use Rattle.wasm_dumper.specs.Chosen.{chosen_line, is_chosen}
-use Rattle.wasm_tree.specs.Numbers.{Number, after, after_all, no_counts}
-use Rattle.wasm_tree.specs.declared.numbers.Counts.{Counts}
+use Rattle.wasm_tree.specs.Numbers.{Number}
+use Rattle.wasm_dumper.specs.Counting.{after, after_all, no_counts}
+use Rattle.wasm_dumper.specs.declared.counts.Counts.{Counts}
 use Rattle.wasm_dumper.proofs.Numbering.{all_more, events_begin, events_more, end_none}
 use Rattle.wasm_dumper.specs.Dump.{AreOf, AreOfEvents, AreOfSource, bytes_of_answer, bytes_of_event, bytes_of_events, shown_bytes, is_whole}
 use Rattle.std.specs.Prelude.{flat_map}
@@ -47,7 +48,7 @@ use Rattle.wasm_dumper.specs.Dump.{DumpsByTree, Writes, stopped_by}
 use Rattle.wasm_tree.specs.Tree as Tree
 use Rattle.wasm_tree.specs.Tree.{IsOutlined, Part, Writing, Origin, begun, begun_numbers, IsGoingIn, IsCutShort, IsWritten, Adds, IsOut}
 use Rattle.wasm_tree.specs.Tree.{IsShaped, are_lines}
-use Rattle.wasm_lines.specs.declared.digits.Base.{Base}
+use Rattle.wasm_text.specs.declared.digits.Base.{Base}
 use Rattle.wasm_tree.specs.Json.{IsAt}
 use Rattle.wasm_tree.specs.Json as json
 use Rattle.wasm_tree.specs.declared.objects.Spot.{Spot}

@@ -4,12 +4,12 @@ use Rattle.std.proofs.Common.{Option, Some, None, refl, sym, ap, ◌∙◌, appe
 use Rattle.wasm_grammar.specs.Ids.{names, name_of}
 use Rattle.wasm_grammar.specs.Reading.{Report}
 use Rattle.wasm_lines.specs.Listing.{report_text}
-use Rattle.wasm_lines.specs.declared.digits.Base.{Base}
+use Rattle.wasm_text.specs.declared.digits.Base.{Base}
 use Rattle.wasm_tree.specs.Numbers.{blank_numbers}
 use Rattle.wasm_dumper.specs.Chosen.{numbered_line, numbered_text, section_words, shown_line, BeginAlike}
-use Rattle.wasm_tree.specs.Numbers.{numbers_in_line}
+use Rattle.wasm_dumper.specs.Counting.{numbers_in_line}
 use Rattle.wasm_tree.specs.Tree.{IsFirst}
-use Rattle.wasm_tree.specs.declared.numbers.Counts.{Counts}
+use Rattle.wasm_dumper.specs.declared.counts.Counts.{Counts}
 use Rattle.wasm_tree.proofs.ForCallers.{blank_before}
 
 -- ---- the text of a line, and what comes after it

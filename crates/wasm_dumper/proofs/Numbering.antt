@@ -4,7 +4,7 @@ use Rattle.std.proofs.Common.{Result, Ok, Err, refl, sym, ap, subst, subst₂, �
 use Rattle.std.proofs.Common.{append_assoc, append-nil, if◌then◌else◌, add-zero, add-one, add-suc, arith}
 use Rattle.std.proofs.Math.Nat.{min-eq_left}
 use Rattle.std.specs.Option.{is_some}
-use Rattle.wasm_lines.specs.declared.devices.ListError.{ListError}
+use Rattle.wasm_text.specs.declared.devices.ListError.{ListError}
 use Rattle.wasm_base.specs.Window.{Window, Place, place}
 use Rattle.wasm_base.specs.declared.error.Error.{Error}
 use Rattle.wasm_grammar.specs.Ids.{import_id}
@@ -18,7 +18,7 @@ use Rattle.wasm_parser.specs.declared.payload.Payload.TheVariants.{TypeSection, 
 use Rattle.wasm_parser.specs.declared.payload.Payload.TheVariants.{MemorySection, TagSection, GlobalSection}
 use Rattle.wasm_parser.specs.declared.payload.Payload.TheVariants.{ElementSection, DataSection}
 use Rattle.wasm_lines.specs.Listing.{line_in}
-use Rattle.wasm_lines.specs.declared.digits.Base.{Base}
+use Rattle.wasm_text.specs.declared.digits.Base.{Base}
 use Rattle.wasm_feeder.specs.declared.feeder.Step.{Step}
 use Rattle.wasm_feeder.specs.declared.feeder.Step.TheVariants.{NeedMoreData, Parsed}
 use Rattle.wasm_feeder.specs.Turns.{turn_after}
@@ -26,10 +26,12 @@ use Rattle.wasm_feeder.specs.declared.turns.Ended.TheVariants.{End}
 use Rattle.wasm_feeder.specs.declared.turns.Turn.TheVariants as turn
 use Rattle.wasm_items.specs.Flattened.{NextImport, found_at}
 use Rattle.wasm_items.specs.declared.imports.Import.{Import}
-use Rattle.wasm_tree.specs.Numbers.{Number, Found, more, with_import, import_number}
-use Rattle.wasm_tree.specs.Numbers.{import_numbers}
-use Rattle.wasm_tree.specs.Numbers.{numbers_from, imports_in, space_defined, AreShown, AreNext, AreOfSection, AreOfItems}
-use Rattle.wasm_tree.specs.Numbers.{numbers_in_line, after, after_all}
+use Rattle.wasm_tree.specs.Numbers.{Number, more}
+use Rattle.wasm_dumper.specs.Counting.{Found, with_import, import_number}
+use Rattle.wasm_dumper.specs.Counting.{import_numbers}
+use Rattle.wasm_tree.specs.Numbers.{numbers_from, AreShown}
+use Rattle.wasm_dumper.specs.Counting.{imports_in, space_defined, AreNext, AreOfSection, AreOfItems}
+use Rattle.wasm_dumper.specs.Counting.{numbers_in_line, after, after_all}
 use Rattle.wasm_dumper.specs.Chosen.{is_chosen, shown_line, numbered_line}
 use Rattle.wasm_dumper.specs.Dump.{AreOfShown, AreOf, AreOfEvents, ShowsItems, ShowsReport, ShowsAnswer, shown_bytes}
 use Rattle.wasm_dumper.specs.declared.events.Only.{Only}
@@ -43,8 +45,10 @@ use Rattle.wasm_base.specs.Number.{unsigned_at}
 use Rattle.wasm_base.specs.Outcome.{Outcome}
 use Rattle.wasm_base.specs.Section.{Section}
 use Rattle.wasm_base.specs.declared.fault.NumberKind.TheVariants.{VarU32}
-use Rattle.wasm_tree.specs.Numbers.{after_number, count_of, item_at, numbers_in, numbers_read, one_at, one_number}
-use Rattle.wasm_tree.specs.declared.numbers.Counts.{Counts}
+use Rattle.wasm_dumper.specs.Counting.{after_number, count_of, item_at, numbers_in, one_at}
+use Rattle.wasm_dumper.specs.Counting.{one_number}
+use Rattle.wasm_tree.specs.Numbers.{numbers_read}
+use Rattle.wasm_dumper.specs.declared.counts.Counts.{Counts}
 
 -- ---- numbers that are shown one after the other
 

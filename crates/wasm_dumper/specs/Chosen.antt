@@ -7,11 +7,12 @@ use Rattle.wasm_grammar.specs.Ids.{code_id}
 use Rattle.wasm_grammar.specs.Ids.{name_of as section_name}
 use Rattle.wasm_grammar.specs.Sections.{section_of}
 use Rattle.wasm_lines.specs.Listing.{line_of, report_text}
-use Rattle.wasm_lines.specs.declared.digits.Base.{Base}
-use Rattle.wasm_lines.specs.declared.digits.Base.TheVariants.{Decimal}
-use Rattle.wasm_tree.specs.Numbers.{blank_numbers, numbers_in_line}
+use Rattle.wasm_text.specs.declared.digits.Base.{Base}
+use Rattle.wasm_text.specs.declared.digits.Base.TheVariants.{Decimal}
+use Rattle.wasm_tree.specs.Numbers.{blank_numbers}
+use Rattle.wasm_dumper.specs.Counting.{numbers_in_line}
 use Rattle.wasm_tree.specs.Tree.{base_of}
-use Rattle.wasm_tree.specs.declared.numbers.Counts.{Counts}
+use Rattle.wasm_dumper.specs.declared.counts.Counts.{Counts}
 use Rattle.wasm_tree.specs.declared.tree.Style.{Style}
 use Rattle.wasm_dumper.specs.declared.events.Only.{Only}
 use Rattle.wasm_dumper.specs.declared.events.Only.TheVariants.{All, Id, Name}

@@ -8,21 +8,22 @@ use Rattle.wasm_grammar.specs.EventRanges.{consumed_by}
 use Rattle.wasm_grammar.specs.Reading.{Report, Event}
 use Rattle.wasm_parser.specs.Along.{ReadingBegins}
 use Rattle.wasm_parser.specs.ParseAnswer.{report_of}
-use Rattle.wasm_lines.specs.Calls.{Change, Device, bytes_of, from_to, input_failed, output_failed}
+use Rattle.wasm_text.specs.Calls.{Change, Device, bytes_of, from_to, input_failed, output_failed}
 use Rattle.wasm_feeder.specs.Lists.{ListsBy}
 use Rattle.wasm_feeder.specs.Turns.{text_after}
 use Rattle.wasm_feeder.specs.declared.feeder.Step.{Step}
 use Rattle.wasm_feeder.specs.declared.feeder.Step.TheVariants.{NeedMoreData, Parsed}
 use Rattle.wasm_feeder.specs.declared.turns.Ended.{Ended}
 use Rattle.wasm_feeder.specs.declared.turns.Ended.TheVariants.{End}
-use Rattle.wasm_lines.specs.declared.devices.ListError.{ListError}
-use Rattle.wasm_lines.specs.declared.devices.ListError.TheVariants.{Input, Output, Memory}
+use Rattle.wasm_text.specs.declared.devices.ListError.{ListError}
+use Rattle.wasm_text.specs.declared.devices.ListError.TheVariants.{Input, Output, Memory}
 use Rattle.wasm_dumper.specs.Chosen.{is_chosen, chosen_line}
-use Rattle.wasm_tree.specs.Numbers.{Number, after, no_counts, numbers_in_line, AreOfItems}
+use Rattle.wasm_tree.specs.Numbers.{Number}
+use Rattle.wasm_dumper.specs.Counting.{after, no_counts, numbers_in_line, AreOfItems}
 use Rattle.wasm_tree.specs.Tree.{IsShaped, Writing, Origin, IsWritten, AddsNumbers, with_bytes, with_line, with_numbers}
 use Rattle.wasm_tree.specs.Tree.{starts_in}
 use Rattle.wasm_tree.specs.declared.tree.Style.{Style}
-use Rattle.wasm_tree.specs.declared.numbers.Counts.{Counts}
+use Rattle.wasm_dumper.specs.declared.counts.Counts.{Counts}
 use Rattle.wasm_dumper.specs.declared.events.Only.{Only}
 
 -- The numbers are those of what is reported, of its line and its items, if it is shown; otherwise there are none.

@@ -1,2 +1,3 @@
 pub mod Chosen
+pub mod Counting
 pub mod Dump

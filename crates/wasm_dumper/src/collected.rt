@@ -1,13 +1,13 @@
 // The names of items that the custom sections `name` of a stream have.
 ghost use Rattle.std.specs.Prelude.{◌≡◌, IfErr};
-ghost use Rattle.wasm_lines.specs.declared.devices.ListError.TheVariants.{Memory};
+ghost use Rattle.wasm_text.specs.declared.devices.ListError.TheVariants.{Memory};
 ghost use Rattle.wasm_tree.specs.ItemNames.{KeepsNames};
 
 use std::alloc::Global;
 use wasm_custom::{CustomSectionReader, Name, NameMap, NameSectionReader};
 use wasm_feeder::{Feeder, Step};
-use wasm_lines::{ListError, Source};
 use wasm_parser::{Parser, Payload, Result as ParserResult};
+use wasm_text::{ListError, Source};
 use wasm_tree::{ItemNames, Space};
 
 /// How many bytes are read at once at most.

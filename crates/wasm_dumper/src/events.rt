@@ -10,13 +10,15 @@ ghost use Rattle.wasm_lines.specs.Listing.{line_in};
 ghost use Rattle.wasm_parser.specs.ParseAnswer.{report_of};
 ghost use Rattle.wasm_tree.specs.Tree.{Adds, AddsFirst, base_of, has_line_feed};
 
+use crate::counts::Counts;
 use std::ops::Range;
 use wasm_base::Error;
 use wasm_grammar::{CODE_SECTION, section_name};
 use wasm_items::FunctionBody;
-use wasm_lines::{Base, ShortText, encoding_name, write_fault, write_payload, write_word};
+use wasm_lines::{FaultLine, encoding_name, write_payload};
 use wasm_parser::{Encoding, Payload};
-use wasm_tree::{Counts, Space, Style, Tree, write_item};
+use wasm_text::{Base, ShortText, write_word};
+use wasm_tree::{Space, Style, Tree, write_item};
 
 /// A choice of events for a dump.
 ///
@@ -174,26 +176,6 @@ impl ShortText for Heading<'_, '_> {
     }
 }
 
-// The text of the line of a fault at which the stream ends, without its line feed.
-#[derive(Drop)]
-struct LastFault<'a> {
-    base: Base,
-    error: &'a Error,
-}
-
-impl ShortText for LastFault<'_> {
-    ghost use Rattle.wasm_base.specs.FaultAt.{fault_at};
-    ghost use Rattle.wasm_grammar.specs.Content.{fault};
-    ghost use Rattle.wasm_grammar.specs.Reading.{stream_end};
-    ghost use Rattle.wasm_lines.specs.Listing.{report_text};
-
-    ghost text = { λ l. report_text l.base (stream_end (fault (fault_at l.error.now))) };
-
-    fn write_at(&self, bytes: &mut [u8], at: usize) -> usize {
-        write_fault(bytes, at, self.base, self.error)
-    }
-}
-
 // Begins the object of an event.
 fn begin_event<O: Tree>(word: &str, out: &mut O)
     requires one_line { has_line_feed word.now ≡ false }
@@ -327,7 +309,7 @@ pub(crate) fn show_last_fault<O: Tree>(error: &Error, out: &mut O)
         (O.writing out.old) (O.writing out.new) }
 {
     match out.style() {
-        Style::Lines(base) => out.first_of_function(&LastFault { base, error }, None),
+        Style::Lines(base) => out.first_of_function(&FaultLine { base, error }, None),
         Style::Objects => fault_object(error, out),
     }
 }

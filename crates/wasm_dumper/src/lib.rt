@@ -1,8 +1,9 @@
 //! The dump of a stream: a line for each event, and under it a line for each item, with its number. Each line can be a
-//! JSON object.
+//! JSON object. `Counts` numbers items in their index spaces.
 #![tactic(auto)]
 
 mod collected;
+mod counts;
 mod events;
 pub mod laws;
 mod numbered;
@@ -10,6 +11,7 @@ mod payload;
 mod stream;
 
 pub use collected::collect_names;
+pub use counts::{Counts, import_space};
 pub use events::{Only, Shown};
 pub use payload::show_payload;
 pub use stream::dump;

@@ -2,17 +2,19 @@
 ghost use Rattle.std.specs.Prelude.{◌≡◌, None, Some};
 ghost use Rattle.wasm_base.specs.Window.{place};
 ghost use Rattle.wasm_items.specs.Flattened.{flattened, found_at};
-ghost use Rattle.wasm_tree.specs.Numbers.{after_found, count_of, number_found, one_number, import_number, import_numbers, with_import};
+ghost use Rattle.wasm_dumper.specs.Counting.{after_found, count_of, number_found, import_number, import_numbers, with_import};
+ghost use Rattle.wasm_dumper.specs.Counting.{one_number};
 ghost use Rattle.wasm_tree.specs.declared.numbers.Space.TheVariants.{Types};
 ghost use Rattle.wasm_tree.specs.Tree.{AddsAll, AddsItems, AddsNext, AddsNumber, AddsThese, AddsUpTo};
 
+use crate::counts::{Counts, import_space};
 use std::alloc::Global;
 use wasm_base::{FromReader, Result, SectionLimited};
 use wasm_items::{
     Import, ImportSection, ImportSectionReader, RecGroup, SubType, TypeSectionReader,
 };
 use wasm_show::{Show, Text, show_fault};
-use wasm_tree::{Counts, Space, Start, Tree, import_space};
+use wasm_tree::{Space, Start, Tree};
 
 // Begins the line of an item with this number.
 fn begin_item<O: Tree>(offset: u64, space: Space, index: u64, out: &mut O)

@@ -2,11 +2,12 @@
 ghost use Rattle.wasm_parser.specs.ParseAnswer.{ItemsBegin, report_of};
 ghost use Rattle.wasm_dumper.specs.Dump.{ShowsItems};
 
+use crate::counts::Counts;
 use crate::numbered::{show_groups, show_imports, show_numbered};
 use std::alloc::Global;
 use wasm_parser::Payload;
 use wasm_show::{show_custom, show_section};
-use wasm_tree::{Counts, Offsets, Space, Tree};
+use wasm_tree::{Offsets, Space, Tree};
 
 /// Writes the items of a payload on lines of level 1, with their numbers in their index spaces.
 ///

@@ -3,19 +3,20 @@ ghost use Rattle.std.specs.Prelude.{◌≡◌, ◌≤◌, ◌<◌, ◌+◌, [], 
 ghost use Rattle.wasm_feeder.specs.Beside.{beside, lending, ReadsEnough};
 ghost use Rattle.wasm_feeder.specs.Cursors.{feed_of};
 ghost use Rattle.wasm_parser.specs.ParseAnswer.{AnswerBegins, ItemsBegin, report_of};
-ghost use Rattle.wasm_lines.specs.Calls.{device_of};
+ghost use Rattle.wasm_text.specs.Calls.{device_of};
 ghost use Rattle.wasm_feeder.specs.Step.{answer_of};
 ghost use Rattle.wasm_feeder.specs.Turns.{turn_after};
 ghost use Rattle.wasm_dumper.specs.Dump.{DumpsByTree, DumpsInto, ShowsAnswer, ShowsReport, after_answer};
 ghost use Rattle.wasm_tree.specs.Tree.{Adds, AddsBytes};
 
+use crate::counts::Counts;
 use crate::events::{Shown, chooses, show_event, show_last_fault};
 use crate::payload::{offsets_of_items, show_payload};
 use std::alloc::Global;
 use wasm_feeder::{Ahead, Cursor, Ended, Step, Turn, parse_next, seen};
-use wasm_lines::{ListError, Source};
 use wasm_parser::{Parser, Payload, Result as ParserResult};
-use wasm_tree::{Counts, Tree};
+use wasm_text::{ListError, Source};
+use wasm_tree::Tree;
 
 // Bytes of the stream that were read together, and the offset in it at which they begin.
 #[derive(Clone, Copy)]

@@ -9,11 +9,11 @@ use Rattle.wasm_base.specs.declared.error.Error.{Error}
 use Rattle.wasm_base.specs.declared.fault.Fault.TheVariants.{UnexpectedEof}
 use Rattle.wasm_grammar.specs.Content.{fault}
 use Rattle.wasm_grammar.specs.Reading.{last_event, stream_end, Reading}
-use Rattle.wasm_lines.specs.Calls.{from_to}
+use Rattle.wasm_text.specs.Calls.{from_to}
 use Rattle.wasm_lines.specs.Listing.{line_of, skip_text}
-use Rattle.wasm_lines.specs.Page.{IsCut, PutsBytes}
-use Rattle.wasm_lines.specs.declared.devices.ListError.{ListError}
-use Rattle.wasm_lines.specs.declared.digits.Base.TheVariants.{Decimal}
+use Rattle.wasm_text.specs.Page.{IsCut, PutsBytes}
+use Rattle.wasm_text.specs.declared.devices.ListError.{ListError}
+use Rattle.wasm_text.specs.declared.digits.Base.TheVariants.{Decimal}
 use Rattle.wasm_lines.proofs.ForCallers.{skipped_text}
 use Rattle.wasm_parser.specs.SkipNext.{Head, skip_is}
 use Rattle.wasm_parser.proofs.ForCallers.{answers_go_along}

@@ -12,9 +12,9 @@ use Rattle.wasm_base.specs.declared.fault.Fault.TheVariants.{UnexpectedEof, Offs
 use Rattle.wasm_grammar.specs.Content.{Ending, fault, ended}
 use Rattle.wasm_grammar.specs.EventRanges.{consumed_by}
 use Rattle.wasm_grammar.specs.Reading.{Report, Event, last_event, Reading, custom_section, counted, unknown_section, code_entry}
-use Rattle.wasm_lines.specs.Calls.{from_to}
-use Rattle.wasm_lines.specs.Page.{IsCut, PutsBytes}
-use Rattle.wasm_lines.specs.declared.devices.ListError.{ListError}
+use Rattle.wasm_text.specs.Calls.{from_to}
+use Rattle.wasm_text.specs.Page.{IsCut, PutsBytes}
+use Rattle.wasm_text.specs.declared.devices.ListError.{ListError}
 use Rattle.wasm_parser.specs.Along.{Along, ReadsEach, Came}
 use Rattle.wasm_parser.specs.GivesNextEvent.{MayBe}
 use Rattle.wasm_parser.specs.ParseAnswer.{report_of, is_end}

@@ -5,9 +5,9 @@ use Rattle.std.specs.Io.KnownBytes.{Consumes, Appends, IsAtEnd, Keeps}
 use Rattle.wasm_base.specs.FaultAt.{fault_at, at_offset}
 use Rattle.wasm_base.specs.declared.error.Error.{Error}
 use Rattle.wasm_base.specs.declared.fault.Fault.TheVariants.{UnexpectedEof}
-use Rattle.wasm_lines.specs.Page.{IsCut, PutsBytes}
-use Rattle.wasm_lines.specs.declared.devices.ListError.{ListError}
-use Rattle.wasm_lines.specs.declared.devices.ListError.TheVariants.{Input}
+use Rattle.wasm_text.specs.Page.{IsCut, PutsBytes}
+use Rattle.wasm_text.specs.declared.devices.ListError.{ListError}
+use Rattle.wasm_text.specs.declared.devices.ListError.TheVariants.{Input}
 use Rattle.wasm_parser.specs.SkipNext.{Head, Skip, SkipsPart}
 use Rattle.wasm_feeder.specs.Beside.{seen, unseen}
 use Rattle.wasm_feeder.specs.declared.feeder.Cursor.{Cursor}

@@ -7,9 +7,9 @@ use Rattle.wasm_base.specs.declared.error.Error.{Error}
 use Rattle.wasm_grammar.specs.Content.{Ending}
 use Rattle.wasm_grammar.specs.EventRanges.{consumed_by}
 use Rattle.wasm_grammar.specs.Reading.{Event, last_event, Stream}
-use Rattle.wasm_lines.specs.Calls.{Change, Device, bytes_of, input_failed, output_failed}
-use Rattle.wasm_lines.specs.Page.{IsCut, PutsBytes}
-use Rattle.wasm_lines.specs.declared.devices.ListError.{ListError}
+use Rattle.wasm_text.specs.Calls.{Change, Device, bytes_of, input_failed, output_failed}
+use Rattle.wasm_text.specs.Page.{IsCut, PutsBytes}
+use Rattle.wasm_text.specs.declared.devices.ListError.{ListError}
 use Rattle.wasm_parser.specs.ParseAnswer.{report_of, is_end}
 use Rattle.wasm_parser.specs.SkipNext.{Head, custom}
 use Rattle.wasm_feeder.specs.Beside.{seen, lending, FillsAlike}

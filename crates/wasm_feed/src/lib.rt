@@ -29,6 +29,6 @@ pub use wasm_feeder::{
     Ahead, Cursor, Ended, Event, EventKind, Feeder, Keep, Opened, Step, Turn, fits_pieces,
     parse_next, read_pieces, read_pieces_in, seen,
 };
-pub use wasm_lines::{
+pub use wasm_text::{
     BoundedSink, Failed, ListError, ReadSource, Sink, SliceSource, Source, WriteSink, write_all,
 };

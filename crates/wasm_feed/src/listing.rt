@@ -1,8 +1,8 @@
 // The listing of a stream.
 ghost use Rattle.std.specs.Prelude.{◌≡◌, ◌+◌, ◌≤◌, length, vec_len, vec_capacity};
-ghost use Rattle.wasm_lines.specs.Calls.{change_of, device_of, input_failed, output_failed};
+ghost use Rattle.wasm_text.specs.Calls.{change_of, device_of, input_failed, output_failed};
 ghost use Rattle.wasm_lines.specs.Listing.{line_of, skip_text};
-ghost use Rattle.wasm_lines.specs.declared.digits.Base.TheVariants.{Decimal};
+ghost use Rattle.wasm_text.specs.declared.digits.Base.TheVariants.{Decimal};
 ghost use Rattle.wasm_parser.specs.SkipNext.{skip_is};
 ghost use Rattle.wasm_feeder.specs.Beside.{beside, lending};
 ghost use Rattle.wasm_feeder.specs.Cursors.{feed_of};
@@ -14,8 +14,9 @@ ghost use Rattle.wasm_feeder.specs.Turns.{TakesTurn};
 use crate::passing::{Passing, pass_part};
 use std::alloc::{Allocator, Global};
 use wasm_feeder::{Ahead, Cursor, Ended, Step, Turn, parse_next, seen};
-use wasm_lines::{ListError, Page, Sink, Source};
+use wasm_lines::{FaultLine, PayloadLine, SkippedLine};
 use wasm_parser::{Error, Parser, PartHead, Payload, Result as ParserResult, SkippedPart};
+use wasm_text::{Base, ListError, Page, Sink, Source};
 
 // Puts the line of a result on the page, and returns what to do next.
 fn put_answer<A: Allocator, W: Sink>(
@@ -34,11 +35,23 @@ fn put_answer<A: Allocator, W: Sink>(
                 Payload::End(_) => Turn::End(Ended::End),
                 _ => Turn::Advance,
             };
-            page.put_line(payload, output)?;
+            page.put_line(
+                &PayloadLine {
+                    base: Base::Decimal,
+                    payload,
+                },
+                output,
+            )?;
             Ok(next)
         }
         Err(error) => {
-            page.put_line(error, output)?;
+            page.put_line(
+                &FaultLine {
+                    base: Base::Decimal,
+                    error,
+                },
+                output,
+            )?;
             Ok(Turn::End(Ended::Fault(*error)))
         }
     }
@@ -112,11 +125,22 @@ fn read_on<A: Allocator, R: Source, W: Sink>(
     };
     match pass_part(dropped.passing, cursor, stored, ahead, page, input, output)? {
         None => {
-            page.put_line(&dropped.part, output)?;
+            let part = &dropped.part;
+            page.put_line(
+                &SkippedLine {
+                    base: Base::Decimal,
+                    part,
+                },
+                output,
+            )?;
             Ok(None)
         }
         Some(error) => {
-            page.put_line(&error, output)?;
+            let error_line = FaultLine {
+                base: Base::Decimal,
+                error: &error,
+            };
+            page.put_line(&error_line, output)?;
             page.write_out(output)?;
             Ok(Some(error))
         }

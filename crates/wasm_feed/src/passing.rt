@@ -1,14 +1,14 @@
 // A part that is forwarded or dropped chunk by chunk, after its first fields.
 ghost use Rattle.std.specs.Prelude.{◌≡◌, ◌<◌, [], true, drop, length, IfErr, IfOk, OnErr, OnOk};
-ghost use Rattle.wasm_lines.specs.Calls.{input_failed, output_failed};
+ghost use Rattle.wasm_text.specs.Calls.{input_failed, output_failed};
 ghost use Rattle.wasm_feeder.specs.Beside.{seen};
-ghost use Rattle.wasm_lines.specs.declared.devices.ListError.TheVariants.{Input};
+ghost use Rattle.wasm_text.specs.declared.devices.ListError.TheVariants.{Input};
 ghost use Rattle.wasm_feed.specs.Passing.{FillsChunk, GivesUp, IsCutSomewhere, PassesMissing, PassesPart, PutsAll, Settles, TakesSome, held_by, if_stays};
 
 use std::alloc::Allocator;
 use wasm_feeder::{Ahead, Cursor};
-use wasm_lines::{ListError, Page, Sink, Source, write_all};
 use wasm_parser::{Error, Fault};
+use wasm_text::{ListError, Page, Sink, Source, write_all};
 
 /// More bytes than this are written at once, and not put on the page.
 const LARGE: usize = 16_384;

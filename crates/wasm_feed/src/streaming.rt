@@ -1,6 +1,6 @@
 // Stripping a stream that need not fit in memory.
 ghost use Rattle.std.specs.Prelude.{◌≡◌, ◌+◌, ◌≤◌, length, IfOk, OnErr, vec_len, vec_capacity};
-ghost use Rattle.wasm_lines.specs.Calls.{device_of, from_to, input_failed, output_failed};
+ghost use Rattle.wasm_text.specs.Calls.{device_of, from_to, input_failed, output_failed};
 ghost use Rattle.wasm_feeder.specs.Beside.{beside};
 ghost use Rattle.wasm_feeder.specs.Cursors.{feed_of};
 ghost use Rattle.wasm_feed.specs.StripStream.{ReadsOrPasses, SkipsIfAny, StripsSource, TakesPiece, WroteSome};
@@ -11,8 +11,8 @@ use std::alloc::Allocator;
 use wasm_feeder::{
     Ahead, Cursor, Ended, Fate, Keep, Step, Turn, fate_of, head_stays, parse_next, seen,
 };
-use wasm_lines::{ListError, Page, Sink, Source};
 use wasm_parser::{Error, Parser, Result as ParserResult};
+use wasm_text::{ListError, Page, Sink, Source};
 
 // Puts a part that stays on the page, and returns what to do next.
 fn put_part<A: Allocator, W: Sink>(

@@ -9,8 +9,8 @@ ghost use Rattle.wasm_grammar.specs.Reading.{Stream};
 
 use std::alloc::{Allocator, Global};
 use wasm_feeder::{Cursor, Fate, Keep, Step, fate_of, parse_next};
-use wasm_lines::list_of_capacity;
 use wasm_parser::{Error, Fault, Parser, Result};
+use wasm_text::list_of_capacity;
 
 /// A part of a stream that is stripped.
 #[derive(Clone, Copy)]

@@ -15,7 +15,7 @@ use Rattle.wasm_parser.specs.declared.payload.Chunk.TheVariants as chunk
 use Rattle.wasm_parser.proofs.ForCallers.{answers_go_along}
 use Rattle.wasm_feeder.specs.Beside.{beside, seen, lending, SeesEnough, AreEnough, ReadsEnough, MakesReady, IsAlike, FillsAlike}
 use Rattle.wasm_feeder.specs.Beside.{Bounds, HasDecided, StaysIdle, StepsOver}
-use Rattle.wasm_lines.specs.Calls.{Change, from_to}
+use Rattle.wasm_text.specs.Calls.{Change, from_to}
 use Rattle.wasm_feeder.specs.Cursors.{feed_of}
 use Rattle.wasm_feeder.specs.Feed.{Feed, new_feed, pushed, finished}
 use Rattle.wasm_feeder.specs.Progress.{weight, Progress, Wants}

@@ -1,6 +1,6 @@
 -- What the crates above may cite of the proofs of this one: the statements of laws, and how a listing goes on, each in the words
 -- of specs/.
-pub use Rattle.wasm_lines.proofs.ForCallers.{cut_of}
+pub use Rattle.wasm_text.proofs.ForCallers.{cut_of}
 pub use Rattle.wasm_feeder.proofs.Adding.{steps_in}
 pub use Rattle.wasm_feeder.proofs.Beside.{alike, filled_alike, both, begun_beside, same_lighter}
 pub use Rattle.wasm_feeder.proofs.Joining.{joined_more, joined_parts}

@@ -14,20 +14,20 @@ use Rattle.wasm_grammar.specs.Reading.{Report, stream_end, Event, last_event, Re
 use Rattle.wasm_parser.specs.declared.payload.Payload.{Payload}
 use Rattle.wasm_parser.specs.Along.{ReadingBegins, BeginsEach, ReadsEach, Came}
 use Rattle.wasm_parser.proofs.ForCallers.{answers_go_along}
-use Rattle.wasm_lines.specs.Calls.{from_to}
+use Rattle.wasm_text.specs.Calls.{from_to}
 use Rattle.wasm_feeder.specs.Feed.{Feed, new_feed, pushed}
 use Rattle.wasm_lines.specs.Listing.{listing_by}
 use Rattle.wasm_feeder.specs.Lists.{IsEndedBy, IsWhole, IsListed, Begins, IsHead, Fills, Refills, ListsBy}
 use Rattle.wasm_feeder.specs.Progress.{weight, Progress, Wants}
-use Rattle.wasm_lines.specs.Page.{WritesHead, IsCut, PutsBytes}
+use Rattle.wasm_text.specs.Page.{WritesHead, IsCut, PutsBytes}
 use Rattle.wasm_feeder.specs.Step.{chunk_of, Stepped, Steps}
 use Rattle.wasm_feeder.specs.Turns.{text_after, turn_after}
 use Rattle.wasm_feeder.specs.declared.feeder.Step.{Step}
 use Rattle.wasm_feeder.specs.declared.feeder.Step.TheVariants.{NeedMoreData, Parsed}
 use Rattle.wasm_feeder.specs.declared.turns.Ended.{Ended}
 use Rattle.wasm_feeder.specs.declared.turns.Ended.TheVariants.{End, Fault}
-use Rattle.wasm_lines.specs.declared.devices.ListError.{ListError}
-use Rattle.wasm_lines.specs.declared.devices.ListError.TheVariants.{Input, Output, Memory}
+use Rattle.wasm_text.specs.declared.devices.ListError.{ListError}
+use Rattle.wasm_text.specs.declared.devices.ListError.TheVariants.{Input, Output, Memory}
 use Rattle.wasm_feeder.specs.declared.turns.Turn.TheVariants as turn
 use Rattle.wasm_feeder.proofs.Stepping.{stepped as step_along}
 use Rattle.wasm_base.specs.Features.{all_features}

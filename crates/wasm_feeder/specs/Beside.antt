@@ -12,8 +12,8 @@ use Rattle.wasm_feeder.specs.Cursors.{feed_of}
 use Rattle.wasm_feeder.specs.Feed.{Feed, pushed, finished, end_of}
 use Rattle.wasm_feeder.specs.Lists.{Refills}
 use Rattle.wasm_feeder.specs.Step.{answer_of, is_request, Steps}
-use Rattle.wasm_lines.specs.declared.devices.Failed.{Failed}
-use Rattle.wasm_lines.specs.declared.devices.ListError.{ListError}
+use Rattle.wasm_text.specs.declared.devices.Failed.{Failed}
+use Rattle.wasm_text.specs.declared.devices.ListError.{ListError}
 use Rattle.wasm_feeder.specs.declared.feeder.Cursor.{Cursor}
 use Rattle.wasm_feeder.specs.declared.feeder.Step.{Step}
 

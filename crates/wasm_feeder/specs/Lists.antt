@@ -8,13 +8,13 @@ use Rattle.wasm_grammar.specs.Content.{Ending, fault, ended}
 use Rattle.wasm_grammar.specs.EventRanges.{consumed_by}
 use Rattle.wasm_grammar.specs.Reading.{Report, Event, last_event, Reading}
 use Rattle.wasm_parser.specs.Along.{ReadingBegins}
-use Rattle.wasm_lines.specs.Calls.{Change, Device, bytes_of, input_failed, output_failed}
+use Rattle.wasm_text.specs.Calls.{Change, Device, bytes_of, input_failed, output_failed}
 use Rattle.wasm_feeder.specs.Feed.{Feed, pushed, finished}
 use Rattle.wasm_lines.specs.Listing.{line_of, listing_by}
 use Rattle.wasm_feeder.specs.declared.turns.Ended.{Ended}
 use Rattle.wasm_feeder.specs.declared.turns.Ended.TheVariants.{End, Fault}
-use Rattle.wasm_lines.specs.declared.devices.ListError.{ListError}
-use Rattle.wasm_lines.specs.declared.devices.ListError.TheVariants.{Input, Output, Memory}
+use Rattle.wasm_text.specs.declared.devices.ListError.{ListError}
+use Rattle.wasm_text.specs.declared.devices.ListError.TheVariants.{Input, Output, Memory}
 use Rattle.wasm_base.specs.Features.{all_features}
 
 -- the run ended as the stream does

@@ -6,8 +6,8 @@ use Rattle.wasm_parser.specs.Along.{Along}
 use Rattle.wasm_parser.specs.GivesNextEvent.{IsUndecided}
 use Rattle.wasm_grammar.specs.Reading.{Report, Event}
 use Rattle.wasm_base.specs.declared.error.Error.{Error}
-use Rattle.wasm_lines.specs.Calls.{Change, from_to}
-use Rattle.wasm_lines.specs.declared.devices.ListError.{ListError}
+use Rattle.wasm_text.specs.Calls.{Change, from_to}
+use Rattle.wasm_text.specs.declared.devices.ListError.{ListError}
 use Rattle.wasm_feeder.specs.Feed.{Feed}
 use Rattle.wasm_feeder.specs.Lists.{IsListed, ListsBy}
 use Rattle.wasm_feeder.specs.declared.turns.Ended.TheVariants.{Fault}

@@ -6,11 +6,11 @@ use Rattle.wasm_grammar.specs.Content.{fault}
 use Rattle.wasm_parser.specs.ParseAnswer.{report_of, is_end}
 use Rattle.wasm_grammar.specs.Reading.{Report, stream_end}
 use Rattle.wasm_lines.specs.Listing.{line_of}
-use Rattle.wasm_lines.specs.Page.{IsCut, PutsBytes}
+use Rattle.wasm_text.specs.Page.{IsCut, PutsBytes}
 use Rattle.wasm_feeder.specs.declared.feeder.Step.{Step}
 use Rattle.wasm_feeder.specs.declared.feeder.Step.TheVariants.{NeedMoreData, Parsed}
 use Rattle.wasm_feeder.specs.declared.turns.Ended.TheVariants as how
-use Rattle.wasm_lines.specs.declared.devices.ListError.{ListError}
+use Rattle.wasm_text.specs.declared.devices.ListError.{ListError}
 use Rattle.wasm_feeder.specs.declared.turns.Turn.{Turn}
 use Rattle.wasm_feeder.specs.declared.turns.Turn.TheVariants as turn
 

@@ -2,13 +2,13 @@
 ghost use Rattle.std.specs.Prelude.{◌≡◌, ◌+◌, ◌<◌, ◌≤◌, [], drop, length, vec_len, vec_capacity, is_ok, true, IfErr, OnErr, OnOk, if◌then◌else◌};
 ghost use Rattle.wasm_feeder.specs.Beside.{beside, lending, Fetches, ReadsEnough, RefillsAlike};
 ghost use Rattle.wasm_feeder.specs.Cursors.{feed_of};
-ghost use Rattle.wasm_lines.specs.Calls.{input_failed};
-ghost use Rattle.wasm_lines.specs.declared.devices.ListError.TheVariants.{Memory};
+ghost use Rattle.wasm_text.specs.Calls.{input_failed};
+ghost use Rattle.wasm_text.specs.declared.devices.ListError.TheVariants.{Memory};
 
 use crate::feeder::{Cursor, keep, make_ready, pass_borrowed};
 use std::alloc::Allocator;
 use std::marker::Model;
-use wasm_lines::{Failed, ListError, Source};
+use wasm_text::{Failed, ListError, Source};
 
 /// The remaining bytes of the last chunk that was read from a source, in the buffer that it was read into.
 ///

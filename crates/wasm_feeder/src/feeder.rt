@@ -9,7 +9,7 @@ ghost use Rattle.wasm_feeder.specs.Beside.{MayCome, StepsOver};
 ghost use Rattle.wasm_feeder.specs.Cursors.{feed_of, finished_cursor};
 ghost use Rattle.wasm_feeder.specs.Feed.{empty_feed, new_feed, pushed, finished, RefusesPush};
 ghost use Rattle.wasm_feeder.specs.Lists.{Refills};
-ghost use Rattle.wasm_lines.specs.Calls.{input_failed};
+ghost use Rattle.wasm_text.specs.Calls.{input_failed};
 ghost use Rattle.wasm_feeder.specs.Step.{answer_of, shown, is_request, GivesStep};
 
 mod lending;
@@ -20,8 +20,8 @@ use lending::take_left;
 pub(crate) use lending::{keep, make_ready, pass_borrowed};
 use std::alloc::{Allocator, Global};
 use std::marker::Model;
-use wasm_lines::{ListError, Source};
 use wasm_parser::{Chunk, Error, Fault, Parser, Payload, Result, SkippedPart, WasmFeatures, fits};
+use wasm_text::{ListError, Source};
 
 /// The result of one step of a feeder: a part of the stream, or a request for more input.
 ///

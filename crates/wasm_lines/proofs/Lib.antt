@@ -1,5 +1,2 @@
-pub mod Cut
-pub mod Decimal
 pub mod ForCallers
-pub mod Hexadecimal
 pub mod Skipped

@@ -1,7 +1,1 @@
-pub mod Calls
-pub mod Devices
-pub mod Digits
 pub mod Listing
-pub mod Messages
-pub mod Offsets
-pub mod Page

@@ -8,10 +8,9 @@ ghost use Rattle.wasm_grammar.specs.Content.{fault};
 ghost use Rattle.wasm_grammar.specs.Reading.{code_start, stream_end};
 ghost use Rattle.wasm_lines.specs.Listing.{encoding_name as name_of, field, fault_number, offset_field, report_text, skip_text};
 
-use crate::digits::{Base, write_number, write_offset};
-use crate::short_text::{ShortText, write_word};
 use std::ops::Range;
 use wasm_parser::{Encoding, Error, PartHead, Payload, SkippedPart};
+use wasm_text::{Base, ShortText, write_number, write_offset, write_word};
 
 /// Returns the name of an encoding in listings: `module` or `component`.
 pub fn encoding_name(encoding: Encoding) -> &'static str
@@ -322,44 +321,72 @@ pub fn write_fault(bytes: &mut [u8], at: usize, base: Base, error: &Error) -> us
     write_fault_number(bytes, at, error.number())
 }
 
-/// The line of a payload in a listing, without a line feed.
-impl ShortText for Payload<'_> {
+/// The line of a payload, without its line feed.
+///
+/// ```rattle
+/// let mut bytes = [0; TEXT_BYTES];
+/// let line = PayloadLine { base: Base::Decimal, payload: &Payload::End(8) };
+/// let end = line.write_at(&mut bytes, 0);
+/// assert_eq!(rt; &bytes[..end], b"end 8".as_slice());
+/// ```
+#[derive(Clone, Copy)]
+pub struct PayloadLine<'a, 'b> {
+    /// The base of the offsets.
+    pub base: Base,
+    /// The payload.
+    pub payload: &'a Payload<'b>,
+}
+
+impl ShortText for PayloadLine<'_, '_> {
     ghost use Rattle.wasm_parser.specs.ParseAnswer.{report_of};
     ghost use Rattle.wasm_lines.specs.Listing.{report_text};
-    ghost use Rattle.wasm_lines.specs.declared.digits.Base.TheVariants.{Decimal};
 
-    ghost text = { λ payload. report_text Decimal (report_of payload) };
+    ghost text = { λ line. report_text line.base (report_of line.payload.now) };
 
     #[inline(always)]
     fn write_at(&self, bytes: &mut [u8], at: usize) -> usize {
-        write_payload(bytes, at, Base::Decimal, self)
+        write_payload(bytes, at, self.base, self.payload)
     }
 }
 
-/// The line of a part that was skipped in a listing, without a line feed: that of the payload that it would have been.
-impl ShortText for SkippedPart<'_> {
+/// The line of a part that was skipped, without its line feed: that of the payload that it would have been.
+#[derive(Clone, Copy)]
+pub struct SkippedLine<'a, 'b> {
+    /// The base of the offsets.
+    pub base: Base,
+    /// The part.
+    pub part: &'a SkippedPart<'b>,
+}
+
+impl ShortText for SkippedLine<'_, '_> {
     ghost use Rattle.wasm_parser.specs.SkipNext.{skip_is};
     ghost use Rattle.wasm_lines.specs.Listing.{skip_text};
-    ghost use Rattle.wasm_lines.specs.declared.digits.Base.TheVariants.{Decimal};
 
-    ghost text = { λ part. skip_text Decimal (skip_is part) };
+    ghost text = { λ line. skip_text line.base (skip_is line.part.now) };
 
     fn write_at(&self, bytes: &mut [u8], at: usize) -> usize {
-        write_skipped(bytes, at, Base::Decimal, self)
+        write_skipped(bytes, at, self.base, self.part)
     }
 }
 
-/// The line of a fault in a listing, without a line feed.
-impl ShortText for Error {
+/// The line of the fault at which a stream ends, without its line feed.
+#[derive(Clone, Copy)]
+pub struct FaultLine<'a> {
+    /// The base of the offset.
+    pub base: Base,
+    /// The fault.
+    pub error: &'a Error,
+}
+
+impl ShortText for FaultLine<'_> {
     ghost use Rattle.wasm_base.specs.FaultAt.{fault_at};
     ghost use Rattle.wasm_grammar.specs.Content.{fault};
     ghost use Rattle.wasm_grammar.specs.Reading.{stream_end};
     ghost use Rattle.wasm_lines.specs.Listing.{report_text};
-    ghost use Rattle.wasm_lines.specs.declared.digits.Base.TheVariants.{Decimal};
 
-    ghost text = { λ error. report_text Decimal (stream_end (fault (fault_at error))) };
+    ghost text = { λ line. report_text line.base (stream_end (fault (fault_at line.error.now))) };
 
     fn write_at(&self, bytes: &mut [u8], at: usize) -> usize {
-        write_fault(bytes, at, Base::Decimal, self)
+        write_fault(bytes, at, self.base, self.error)
     }
 }

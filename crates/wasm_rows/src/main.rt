@@ -21,7 +21,7 @@ use readers::run;
 use rows::Failed;
 use std::process::ExitCode;
 use wasm_feed::{ListError, WriteSink};
-use wasm_lines::{complain, give_up};
+use wasm_text::{complain, give_up};
 
 fn main(rt: HostRuntime) -> ExitCode {
     match run(&rt) {

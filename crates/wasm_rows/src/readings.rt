@@ -3,8 +3,9 @@ use crate::rows::Failed;
 use std::alloc::Global;
 use wasm_base::{Error, Fault, Result as Read, WasmFeatures};
 use wasm_feed::{BoundedSink, Ended, Feeder, ListError, SliceSource, Step, list};
-use wasm_lines::{Base, ShortText, write_number, write_payload};
+use wasm_lines::write_payload;
 use wasm_parser::{Chunk, Parser, Payload};
+use wasm_text::{Base, ShortText, write_number};
 
 /// A stream.
 #[derive(Drop)]

@@ -6,8 +6,8 @@ ghost use Rattle.wasm_tree.specs.Tree.{Adds, has_line_feed};
 
 use crate::lists::write_word;
 use crate::show::Show;
+use wasm_base::Result;
 use wasm_items::{ConstExpr, ConstInstruction, ConstOperator};
-use wasm_parser::Result;
 use wasm_tree::Tree;
 
 // The name of an operator.

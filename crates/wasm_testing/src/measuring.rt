@@ -1,7 +1,7 @@
 // A source that records the sizes of the buffers that it is passed.
 ghost use Rattle.std.specs.Prelude.{◌≡◌};
 
-use wasm_lines::{Failed, SliceSource, Source};
+use wasm_text::{Failed, SliceSource, Source};
 
 /// A source of the bytes of a slice that records the lengths of the smallest and the largest buffer that it was passed.
 #[derive(Drop)]

@@ -13,12 +13,12 @@ use Rattle.std.proofs.lemmas.Grind.{flat_map-append}
 use Rattle.std.proofs.Math.Seq.{take-length}
 use Rattle.std.proofs.lemmas.List.{take_more}
 use Rattle.std.proofs.lemmas.List.Folds.{list_any-append}
-use Rattle.wasm_lines.specs.Page.{IsCut}
-use Rattle.wasm_lines.specs.declared.devices.ListError.{ListError}
-use Rattle.wasm_lines.specs.Offsets.{offset_text}
-use Rattle.wasm_lines.specs.declared.digits.Base.{Base}
-use Rattle.wasm_lines.specs.declared.digits.Base.TheVariants.{Decimal, Hexadecimal}
-use Rattle.wasm_lines.proofs.ForCallers.{no_line_feed}
+use Rattle.wasm_text.specs.Page.{IsCut}
+use Rattle.wasm_text.specs.declared.devices.ListError.{ListError}
+use Rattle.wasm_text.specs.Offsets.{offset_text}
+use Rattle.wasm_text.specs.declared.digits.Base.{Base}
+use Rattle.wasm_text.specs.declared.digits.Base.TheVariants.{Decimal, Hexadecimal}
+use Rattle.wasm_text.proofs.ForCallers.{no_line_feed}
 use Rattle.wasm_tree.specs.Said.{PutsText, HasLine, Says, SaysInBase, SaysSome, SaysWith}
 use Rattle.wasm_tree.specs.Tree.{Writing, PutsAs, Puts, are_lines, base_of, has_line_feed}
 use Rattle.wasm_tree.specs.declared.tree.Style.{Style}

@@ -10,11 +10,11 @@ use Rattle.std.proofs.KnownBytes.{Appends-nil, Appends-trans}
 use Rattle.std.proofs.lemmas.Grind.{flat_map-append}
 use Rattle.std.specs.Option.{is_some, unwrap_or}
 use Rattle.std.proofs.lemmas.List.Folds.{list_all-append}
-use Rattle.wasm_lines.specs.Calls.{output_failed}
-use Rattle.wasm_lines.specs.declared.devices.ListError.{ListError}
-use Rattle.wasm_lines.specs.Page.{WritesHead, IsCut}
-use Rattle.wasm_lines.specs.declared.digits.Base.{Base}
-use Rattle.wasm_lines.specs.declared.devices.ListError.TheVariants.{Input, Output, Memory}
+use Rattle.wasm_text.specs.Calls.{output_failed}
+use Rattle.wasm_text.specs.declared.devices.ListError.{ListError}
+use Rattle.wasm_text.specs.Page.{WritesHead, IsCut}
+use Rattle.wasm_text.specs.declared.digits.Base.{Base}
+use Rattle.wasm_text.specs.declared.devices.ListError.TheVariants.{Input, Output, Memory}
 use Rattle.wasm_tree.specs.Numbers.{Number, blank_numbers, number_text}
 use Rattle.wasm_tree.specs.Said.{PutsText, StopsIn}
 use Rattle.wasm_tree.specs.Tree.{Part, words, number, Line, first, under, row, has_line_feed, is_part, is_line, part_text, text_of}

@@ -1,9 +1,9 @@
 -- What is put on the line that is begun.
 use Rattle.std.specs.Prelude.{◌≡◌, ℕ, true, List, ◌++◌, Option, Some, None, Err}
-use Rattle.wasm_lines.specs.Calls.{output_failed}
-use Rattle.wasm_lines.specs.Page.{IsCut}
-use Rattle.wasm_lines.specs.declared.devices.ListError.{ListError}
-use Rattle.wasm_lines.specs.declared.digits.Base.{Base}
+use Rattle.wasm_text.specs.Calls.{output_failed}
+use Rattle.wasm_text.specs.Page.{IsCut}
+use Rattle.wasm_text.specs.declared.devices.ListError.{ListError}
+use Rattle.wasm_text.specs.declared.digits.Base.{Base}
 use Rattle.wasm_tree.specs.Fields.{Field, with_fields}
 use Rattle.wasm_tree.specs.Tree.{Writing, IsPushed, are_lines, base_of}
 

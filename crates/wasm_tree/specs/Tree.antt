@@ -8,17 +8,17 @@ use Rattle.wasm_base.specs.Item.{ReadsAs}
 use Rattle.wasm_base.specs.Outcome.{Outcome}
 use Rattle.wasm_base.specs.Section.{Section}
 use Rattle.wasm_base.specs.Window.{Place, place}
-use Rattle.wasm_lines.specs.Calls.{output_failed}
-use Rattle.wasm_lines.specs.Offsets.{offset_text}
-use Rattle.wasm_lines.specs.Page.{IsCut, PutsBytes}
-use Rattle.wasm_lines.specs.declared.devices.ListError.{ListError}
-use Rattle.wasm_lines.specs.declared.digits.Base.{Base}
-use Rattle.wasm_lines.specs.declared.digits.Base.TheVariants.{Decimal}
+use Rattle.wasm_text.specs.Calls.{output_failed}
+use Rattle.wasm_text.specs.Offsets.{offset_text}
+use Rattle.wasm_text.specs.Page.{IsCut, PutsBytes}
+use Rattle.wasm_text.specs.declared.devices.ListError.{ListError}
+use Rattle.wasm_text.specs.declared.digits.Base.{Base}
+use Rattle.wasm_text.specs.declared.digits.Base.TheVariants.{Decimal}
 use Rattle.wasm_tree.specs.Fields.{hexadecimal, quoted_text}
 use Rattle.wasm_tree.specs.Numbers.{Number, blank_numbers, number_text, numbers_from, numbers_read}
 use Rattle.wasm_tree.specs.Numbers.{AreShown, AreFrom, AreUpTo}
 use Rattle.wasm_tree.specs.declared.numbers.Space.{Space}
-use Rattle.wasm_lines.specs.declared.devices.ListError.TheVariants.{Input, Memory}
+use Rattle.wasm_text.specs.declared.devices.ListError.TheVariants.{Input, Memory}
 use Rattle.wasm_tree.specs.Json.{AreObjects, IsAt, after_all, start}
 use Rattle.wasm_tree.specs.declared.objects.Spot.{Spot}
 use Rattle.wasm_tree.specs.declared.objects.Spot.TheVariants.{Outside}

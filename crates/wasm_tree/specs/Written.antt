@@ -1,7 +1,7 @@
 -- What each tree has written.
 use Rattle.std.specs.Prelude.{◌≡◌, ℕ, Bool, false, List, [], ◌∷◌, ◌++◌, Option, Some, None, if◌then◌else◌}
-use Rattle.wasm_lines.specs.declared.devices.ListError.TheVariants.{Memory}
-use Rattle.wasm_lines.specs.declared.digits.Base.{Base}
+use Rattle.wasm_text.specs.declared.devices.ListError.TheVariants.{Memory}
+use Rattle.wasm_text.specs.declared.digits.Base.{Base}
 use Rattle.wasm_tree.specs.Tree.{Rest, Writing, with_rest}
 use Rattle.wasm_tree.specs.declared.lines.Lines.{Lines}
 use Rattle.wasm_tree.specs.declared.objects.Objects.{Objects}

@@ -1,14 +1,14 @@
 // Names of items.
 ghost use Rattle.std.specs.Prelude.{◌≡◌, [], IfErr, OnErr, OnOk};
 ghost use Rattle.std.specs.Option.{option_copied};
-ghost use Rattle.wasm_lines.specs.declared.devices.ListError.TheVariants.{Memory};
+ghost use Rattle.wasm_text.specs.declared.devices.ListError.TheVariants.{Memory};
 ghost use Rattle.wasm_tree.specs.ItemNames.{AddsName, KeepsNames, item, named, rank_of as rank};
 
 use crate::numbers::Space;
 use std::alloc::{Allocator, Global};
 use std::collections::BTreeMap;
 use std::marker::Model;
-use wasm_lines::ListError;
+use wasm_text::ListError;
 
 /// The names of items, by index space and index. The first name that was added for an item counts.
 ///

@@ -1,8 +1,7 @@
 //! Trees of lines: text in which lines are indented under others, or one JSON object on each line.
 //!
 //! `Tree` is the trait of what writes such a dump from fields. `Lines` writes text and `Objects` writes JSON to a sink;
-//! `Offsets` only records where items begin. `Counts` numbers items in their index spaces, and `ItemNames` has their
-//! names.
+//! `Offsets` only records where items begin. `ItemNames` has the names of items.
 //!
 //! No call of a tree returns an error. A tree stops when its sink or an allocation fails, and `stopped` returns why.
 #![tactic(auto)]
@@ -24,7 +23,7 @@ mod tree;
 pub use gathered::Gathered;
 pub use known_names::ItemNames;
 pub use lines::Lines;
-pub use numbers::{Counts, Space, import_space, write_item};
+pub use numbers::{Space, write_item};
 pub use objects::Objects;
 pub use offsets::Offsets;
 pub use tree::{Start, Style, Tree, Value};

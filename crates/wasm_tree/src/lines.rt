@@ -2,8 +2,8 @@
 ghost use Rattle.std.specs.Prelude.{◌≡◌, ◌≤◌, ◌++◌, [], None, true, false, codes, length, option_map};
 ghost use Rattle.std.specs.List.{flat_map};
 ghost use Rattle.std.specs.Option.{is_some};
-ghost use Rattle.wasm_lines.specs.Offsets.{offset_text};
-ghost use Rattle.wasm_lines.specs.declared.digits.Base.TheVariants.{Decimal};
+ghost use Rattle.wasm_text.specs.Offsets.{offset_text};
+ghost use Rattle.wasm_text.specs.declared.digits.Base.TheVariants.{Decimal};
 ghost use Rattle.wasm_tree.specs.Fields.{alone, field_start, field_text, named, quoted_byte, quoted_text, value_text, whole_field_text};
 ghost use Rattle.wasm_tree.specs.Said.{Says, SaysInBase, SaysSome};
 ghost use Rattle.wasm_tree.specs.Tree.{Adds, AddsBytes, AddsFirst, IsOut, has_line_feed, name_text, starts};
@@ -19,7 +19,7 @@ use crate::rows::Rows;
 use crate::short::{Offset, flag_word, signed_of};
 use crate::tree::{Start, Style, Tree, Value, is_default};
 use std::alloc::Global;
-use wasm_lines::{Base, ListError, ShortText, Sink};
+use wasm_text::{Base, ListError, ShortText, Sink};
 
 /// A tree that writes lines of text to a sink, indented by two blanks a level. It buffers at most 65,536 bytes.
 ///

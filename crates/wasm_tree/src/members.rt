@@ -6,7 +6,7 @@ ghost use Rattle.wasm_tree.specs.declared.objects.Spot.TheVariants.{InName, Outs
 use crate::numbers::{Space, space_word};
 use crate::objects::Spot;
 use crate::plain::Plain;
-use wasm_lines::{ShortText, write_number, write_word};
+use wasm_text::{ShortText, write_number, write_word};
 
 /// What leads into the name of the next member.
 pub(crate) fn before_name(spot: Spot) -> &'static str

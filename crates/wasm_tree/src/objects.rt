@@ -16,7 +16,7 @@ use crate::plain::Plain;
 use crate::short::{Two, flag_word, signed_of};
 use crate::tree::{Start, Style, Tree, Value};
 use std::alloc::Global;
-use wasm_lines::{ListError, ShortText, Sink};
+use wasm_text::{ListError, ShortText, Sink};
 
 /// Where a tree of objects is.
 #[derive(Clone, Copy)]

@@ -6,7 +6,7 @@ ghost use Rattle.wasm_tree.specs.Written.{Notes, NotesStart, noted_by, offsets};
 use crate::numbers::Space;
 use crate::tree::{Start, Style, Tree, Value};
 use std::alloc::Global;
-use wasm_lines::{ListError, ShortText};
+use wasm_text::{ListError, ShortText};
 
 /// A tree that writes nothing, and records the offsets at which items begin.
 ///

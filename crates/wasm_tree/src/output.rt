@@ -4,7 +4,7 @@ ghost use Rattle.wasm_tree.specs.Tree.{Put, Puts, Rest, stopped_without_memory, 
 
 use std::alloc::Global;
 use std::marker::Model;
-use wasm_lines::{ListError, Page, ShortText, Sink};
+use wasm_text::{ListError, Page, ShortText, Sink};
 
 /// A sink, and the bytes that wait for it until there are many. Where the sink fails, or an allocation does, it stops,
 /// and nothing more is written.

@@ -5,7 +5,7 @@ ghost use Rattle.wasm_tree.specs.Fields.{field_start, is_escaped};
 
 use crate::escapes::plain_count;
 use std::marker::Model;
-use wasm_lines::{ShortText, write_word};
+use wasm_text::{ShortText, write_word};
 
 // Longer texts are put in parts.
 const MOST_BYTES: usize = 128;

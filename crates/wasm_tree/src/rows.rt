@@ -8,7 +8,7 @@ use crate::escapes::hexadecimal_digits;
 use crate::gathered::Gathered;
 use std::alloc::{AllocError, Global};
 use std::marker::Model;
-use wasm_lines::{Base, ShortText, write_offset, write_word};
+use wasm_text::{Base, ShortText, write_offset, write_word};
 
 /// How many bytes of the stream a row shows at most.
 const WIDTH: usize = 16;

@@ -6,7 +6,7 @@ ghost use Rattle.wasm_tree.specs.Json.{Leads};
 ghost use Rattle.wasm_tree.specs.Tree.{has_line_feed};
 ghost use Rattle.wasm_tree.specs.declared.objects.Spot.TheVariants.{AtValue, Ended};
 
-use wasm_lines::{Base, ShortText, write_number, write_offset, write_word};
+use wasm_text::{Base, ShortText, write_number, write_offset, write_word};
 
 /// `true` or `false`, in lines and in JSON.
 pub(crate) fn flag_word(flag: bool) -> &'static str
@@ -56,7 +56,7 @@ pub(crate) struct Offset {
 }
 
 impl ShortText for Offset {
-    ghost use Rattle.wasm_lines.specs.Offsets.{offset_text};
+    ghost use Rattle.wasm_text.specs.Offsets.{offset_text};
 
     ghost text = { λ n. offset_text n.base n.offset };
 

@@ -4,7 +4,7 @@ ghost use Rattle.std.specs.List.{flat_map};
 ghost use Rattle.std.specs.Option.{is_some};
 ghost use Rattle.wasm_tree.specs.Fields.{alone, field_start, field_text, named, number as number_value, word as word_value, quoted, raw};
 ghost use Rattle.wasm_tree.specs.Fields.{range, signed as signed_value, flag as flag_value, number_if_any as optional, hexadecimal, is_default as is_default_value};
-ghost use Rattle.wasm_lines.specs.Offsets.{offset_text};
+ghost use Rattle.wasm_text.specs.Offsets.{offset_text};
 ghost use Rattle.wasm_tree.specs.Said.{Says, SaysInBase, SaysSome};
 ghost use Rattle.wasm_tree.specs.Tree.{Adds, AddsBytes, AddsFirst, AddsNumber, IsOut, Writing, are_lines, has_line_feed};
 ghost use Rattle.wasm_tree.specs.declared.objects.Spot.TheVariants.{Outside};
@@ -15,7 +15,7 @@ use crate::escapes::hexadecimal_digits;
 use crate::numbers::Space;
 use std::alloc::Global;
 use wasm_base::Error;
-use wasm_lines::{Base, ListError, ShortText};
+use wasm_text::{Base, ListError, ShortText};
 
 /// How many bytes of a byte string are shown.
 const SHOWN: usize = 16;

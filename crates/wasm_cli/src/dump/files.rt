@@ -13,7 +13,7 @@ use std::fs;
 use std::io::Write;
 use wasm_dumper::{Only, collect_names};
 use wasm_feed::{Ended, Failed, ListError, ReadSource, Sink, WriteSink, write_all};
-use wasm_lines::{complain, give_up};
+use wasm_text::{complain, give_up};
 use wasm_tree::{ItemNames, Objects, Tree};
 
 /// What is shown of each file, and how.

@@ -3,7 +3,7 @@ ghost use Rattle.std.specs.Prelude.{◌≡◌};
 ghost use Rattle.wasm_cli.specs.Options.{contradict, has_colors, mark_named, no_options, offset_base, say_how, with_mark};
 
 use wasm_dumper::{Only, Shown};
-use wasm_lines::Base;
+use wasm_text::Base;
 
 /// The format of a dump, and what it shows besides the items.
 ///

@@ -3,8 +3,8 @@ ghost use Rattle.std.specs.Prelude.{◌≡◌, map, string_bytes, OnOk, OnErr, �
 ghost use Rattle.std.specs.Io.KnownBytes.{Appends, Keeps};
 ghost use Rattle.std.specs.Process.{exit_status};
 ghost use Rattle.std.specs.Vec.Iter.{into_iter_items};
-ghost use Rattle.wasm_lines.specs.Calls.{device_of, writer_device};
-ghost use Rattle.wasm_lines.specs.Messages.{Says};
+ghost use Rattle.wasm_text.specs.Calls.{device_of, writer_device};
+ghost use Rattle.wasm_text.specs.Messages.{Says};
 ghost use Rattle.wasm_cli.specs.Endings.{Reports, status_of};
 ghost use Rattle.wasm_cli.specs.Colors.{seen_as};
 ghost use Rattle.wasm_cli.specs.Options.{has_colors};
@@ -24,7 +24,7 @@ use std::io::{self, Write};
 use std::process::ExitCode;
 use wasm_dumper::{Only, dump};
 use wasm_feed::{Ended, Failed, ListError, ReadSource, Sink, Source, WriteSink, write_all};
-use wasm_lines::{complain, give_up};
+use wasm_text::{complain, give_up};
 use wasm_tree::{ItemNames, Lines, Objects};
 
 /// What `--help` says.

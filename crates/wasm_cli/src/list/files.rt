@@ -8,7 +8,7 @@ use std::fs::{self, File};
 use std::io::Write;
 use std::path::Path;
 use wasm_feed::{ListError, ReadSource, Sink, WriteSink};
-use wasm_lines::give_up;
+use wasm_text::give_up;
 
 /// A file to strip, and the options before its name.
 #[derive(Clone, Copy)]

@@ -2,7 +2,7 @@
 ghost use Rattle.std.specs.Prelude.{◌≡◌, map, string_bytes};
 ghost use Rattle.std.specs.Process.{exit_status};
 ghost use Rattle.std.specs.Vec.Iter.{into_iter_items};
-ghost use Rattle.wasm_lines.specs.Calls.{device_of, writer_device};
+ghost use Rattle.wasm_text.specs.Calls.{device_of, writer_device};
 ghost use Rattle.wasm_cli.specs.ListCommands.{WantsMemory, asked_by, asked_if_any, asked_of};
 ghost use Rattle.wasm_cli.specs.ListRuns.{Runs, RunsGiven, RunsListing, RunsProgram, RunsWhole, WritesText};
 ghost use Rattle.wasm_cli.specs.ListRuns.{help_text, version_text};
@@ -18,7 +18,7 @@ use std::env::{self, Args};
 use std::io::{self, Write};
 use std::process::ExitCode;
 use wasm_feed::{Ended, ListError, ReadSource, Sink, Source, WriteSink, list, write_all};
-use wasm_lines::{complain, give_up};
+use wasm_text::{complain, give_up};
 
 /// What `--help` prints.
 const HELP: &[u8] = b"usage: wasm_list

@@ -1,5 +1,5 @@
 // The input without its custom sections.
-ghost use Rattle.wasm_lines.specs.Calls.{input_failed, device_of};
+ghost use Rattle.wasm_text.specs.Calls.{input_failed, device_of};
 ghost use Rattle.wasm_cli.specs.Strips.{ReadsAll, ReadsPiece, Refuses, RunsStripping, StripsAs, WritesStripped};
 ghost use Rattle.std.specs.Prelude.{◌≡◌, ◌<◌, length, map, string_bytes};
 
@@ -7,8 +7,8 @@ use super::options::choice_of;
 use crate::common::read_buffer;
 use std::alloc::Global;
 use wasm_feed::{Keep, ListError, Sink, Source, strip_in_place, write_all};
-use wasm_lines::{complain, give_up};
 use wasm_parser::Error;
+use wasm_text::{complain, give_up};
 
 // Performs one read, and appends the result to these bytes. Returns whether there were any.
 fn read_piece<R: Source>(

@@ -2,13 +2,13 @@
 ghost use Rattle.std.specs.Prelude.{None, false};
 ghost use Rattle.wasm_cli.specs.StripsTwice.{AnswersAs, StripsTwice};
 ghost use Rattle.wasm_feeder.specs.Fates.{stays_by};
-ghost use Rattle.wasm_lines.specs.Calls.{device_of};
+ghost use Rattle.wasm_text.specs.Calls.{device_of};
 
 use super::stripping::tell_fault;
 use crate::common::PIECE;
 use std::alloc::Global;
 use wasm_feed::{Ended, Failed, Keep, ListError, Sink, Source, strip_stream};
-use wasm_lines::give_up;
+use wasm_text::give_up;
 
 // A sink that drops its bytes.
 #[derive(Drop)]

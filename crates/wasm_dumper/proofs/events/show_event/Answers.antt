@@ -1,5 +1,5 @@
 use Rattle.std.proofs.Common.{◌≡◌, ap, sym, subst, ◌∙◌}
-use Rattle.wasm_lines.specs.declared.digits.Base.{Base}
+use Rattle.wasm_text.specs.declared.digits.Base.{Base}
 use Rattle.wasm_parser.specs.ParseAnswer.{report_of}
 use Rattle.wasm_dumper.specs.Chosen.{numbered_line}
 use Rattle.wasm_tree.specs.Tree.{AddsFirst, base_of}

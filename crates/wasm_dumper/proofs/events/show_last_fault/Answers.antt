@@ -1,7 +1,7 @@
 use Rattle.std.proofs.Common.{◌≡◌, ap, sym, subst, ◌∙◌}
 use Rattle.wasm_base.specs.FaultAt.{fault_at}
 use Rattle.wasm_lines.specs.Listing.{line_in}
-use Rattle.wasm_lines.specs.declared.digits.Base.{Base}
+use Rattle.wasm_text.specs.declared.digits.Base.{Base}
 use Rattle.wasm_grammar.specs.Content.{fault}
 use Rattle.wasm_grammar.specs.Reading.{stream_end}
 use Rattle.wasm_tree.specs.Tree.{AddsFirst, base_of}

@@ -2,8 +2,8 @@ use Rattle.std.proofs.Common.{List, ap, subst, sym, ◌∙◌}
 use Rattle.wasm_base.specs.Section.{Section}
 use Rattle.wasm_base.specs.Window.{place}
 use Rattle.wasm_items.specs.Flattened.{flattened}
-use Rattle.wasm_tree.specs.Numbers.{Found, import_numbers}
-use Rattle.wasm_tree.specs.declared.numbers.Counts.{Counts}
+use Rattle.wasm_dumper.specs.Counting.{Found, import_numbers}
+use Rattle.wasm_dumper.specs.declared.counts.Counts.{Counts}
 use Rattle.wasm_dumper.proofs.Numbering.{AddsAllBut, none_shown, import_shown, all_shown, some_shown}
 use Rattle.wasm_dumper.proofs.numbered.show_imports.Goals as goal
 use Rattle.wasm_dumper.proofs.numbered.show_imports.Goals.{in-None, in-Some+then-has_stopped}

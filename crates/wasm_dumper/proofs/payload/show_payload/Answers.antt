@@ -9,7 +9,7 @@ use Rattle.wasm_items.specs.Globals.{global_at}
 use Rattle.wasm_items.specs.Memories.{memory_type_at}
 use Rattle.wasm_items.specs.Tables.{table_at}
 use Rattle.wasm_items.specs.Tags.{tag_type_at}
-use Rattle.wasm_tree.specs.Numbers.{item_at}
+use Rattle.wasm_dumper.specs.Counting.{item_at}
 use Rattle.wasm_parser.specs.ParseAnswer.{report_of}
 use Rattle.wasm_dumper.proofs.Numbering.{none_numbered, shows_no_items, shows_defined, sized}
 use Rattle.wasm_dumper.proofs.payload.show_payload.Goals as goal

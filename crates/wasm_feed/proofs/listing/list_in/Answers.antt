@@ -7,7 +7,7 @@ use Rattle.wasm_feeder.specs.Cursors.{feed_of}
 use Rattle.wasm_feeder.specs.Feed.{empty_feed}
 use Rattle.wasm_lines.specs.Listing.{line_of}
 use Rattle.wasm_feeder.proofs.ForCallers.{both, begun_beside, same_lighter}
-use Rattle.wasm_lines.proofs.ForCallers.{cut_of}
+use Rattle.wasm_text.proofs.ForCallers.{cut_of}
 use Rattle.wasm_feeder.proofs.ForCallers.{begun, no_memory, cut, advanced, asked, listed_all, end_cut}
 use Rattle.wasm_feed.proofs.listing.list_in.Goals as goal
 

@@ -1,6 +1,6 @@
 use Rattle.std.proofs.Common.{◌≡◌}
 use Rattle.wasm_feeder.specs.Beside.{beside}
-use Rattle.wasm_lines.specs.Calls.{from_to}
+use Rattle.wasm_text.specs.Calls.{from_to}
 use Rattle.wasm_feeder.specs.Cursors.{feed_of}
 use Rattle.wasm_lines.specs.Listing.{line_of}
 use Rattle.wasm_feeder.specs.Progress.{Progress, weight}

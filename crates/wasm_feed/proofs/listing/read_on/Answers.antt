@@ -1,7 +1,7 @@
 use Rattle.std.proofs.Common.{◌≡◌, ◌++◌, ap, drop}
 use Rattle.std.proofs.lemmas.Result.{err_from_is_err_and}
 use Rattle.wasm_lines.specs.Listing.{line_of}
-use Rattle.wasm_lines.proofs.ForCallers.{cut_of}
+use Rattle.wasm_text.proofs.ForCallers.{cut_of}
 use Rattle.wasm_feeder.specs.Beside.{beside}
 use Rattle.wasm_feeder.specs.Cursors.{feed_of}
 use Rattle.wasm_feeder.specs.declared.feeder.Cursor.{Cursor}

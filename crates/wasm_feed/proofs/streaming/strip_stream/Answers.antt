@@ -7,7 +7,7 @@ use Rattle.wasm_feeder.specs.Feed.{empty_feed}
 use Rattle.wasm_feeder.proofs.ForCallers.{both}
 use Rattle.wasm_feed.proofs.StripProgress.{begun_beside, advanced, asked, cut, cut_page, gave_up, same_lighter, streamed}
 use Rattle.wasm_feed.proofs.StripProgress.{was_cut, went_past, went_wrote, wrote_more}
-use Rattle.wasm_lines.proofs.ForCallers.{cut_of}
+use Rattle.wasm_text.proofs.ForCallers.{cut_of}
 use Rattle.wasm_feed.proofs.streaming.strip_stream.Goals as goal
 
 pub parts-init : goal.parts-init

@@ -51,7 +51,7 @@ step_spec 𝓤 𝓛 𝓜 𝓡 wired =
     qed 𝓛 (raw (G.pre z) ∷ []) ∵ enter ! _ _ _ _ _ $
     alloc_all ! (λ l. pass_all ! refl ((tt, tt), tt) $
     sets ! (addr ! (through ! refl (stop !))) refl (tt, tt) $
-    calls_at ! fm G (open_met 𝓤 𝓛 𝓜 𝓡 (code.calls-wasm_feed::feeder::Feeder::open 𝓡.env wired)) z (and_then ! (get ! refl) (no_more !))
+    calls_at ! fm G (open_met 𝓤 𝓛 𝓜 𝓡 (code.calls-wasm_feeder::feeder::Feeder::open 𝓡.env wired)) z (and_then ! (get ! refl) (no_more !))
     (λ v.
     use1 𝓛 (later (some (λ (t : Opened). (tokens ⊛ ‵ (Tr.own_val t (v ∷ []))) ⊛
     some (λ (ws : Lasts g.ended κs a). ‵ (lasts g.ended κs a ws) ⊛ ‵ (LendsCursor a.0 t) ⊛ raw
@@ -70,7 +70,7 @@ step_spec 𝓤 𝓛 𝓜 𝓡 wired =
     split ! $
     move ! (1 ∷ 2 ∷ []) $ join ! $ move ! (1 ∷ 0 ∷ []) $ join ! $ join ! $
     nothing ! $ move ! (1 ∷ 0 ∷ []) $ use2 𝓛 (raw (K.pre y)) (id⊢ 𝓤 _) $
-    calls_at ! fm K (step_met 𝓤 𝓛 𝓜 𝓡 (code.calls-wasm_feed::feeder::Opened::step 𝓡.env wired)) y (and_then ! (get ! refl) (no_more !))
+    calls_at ! fm K (step_met 𝓤 𝓛 𝓜 𝓡 (code.calls-wasm_feeder::feeder::Opened::step 𝓡.env wired)) y (and_then ! (get ! refl) (no_more !))
     (λ u.
     use1 𝓛 (later (some (λ (x : Result Step Error). ((‵ (flft κ ql) ⊛ ‵ (flft κ qr) ⊛ ‵ ftrue) ⊛ ‵ (Rr.own_val x (u ∷ []))) ⊛
     some (λ (ws' : Lasts h.ended y.0.0 (t, tt)). ‵ (lasts h.ended y.0.0 (t, tt) ws') ⊛ raw

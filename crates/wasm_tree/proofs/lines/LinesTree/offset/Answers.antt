@@ -1,5 +1,5 @@
 use Rattle.std.proofs.Common.{arith, refl}
-use Rattle.wasm_lines.specs.Offsets.{offset_text}
+use Rattle.wasm_text.specs.Offsets.{offset_text}
 use Rattle.wasm_tree.proofs.Saying.{none_in_offset, says_in_base}
 use Rattle.wasm_tree.proofs.lines.LinesTree.offset.Goals as goal
 

@@ -1,0 +1,4 @@
+pub mod Cut
+pub mod Decimal
+pub mod ForCallers
+pub mod Hexadecimal
