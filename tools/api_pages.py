@@ -107,8 +107,8 @@ class Site:
 
     def error_link(self, crate, name):
         """Where the fault with this name is, or the other error of a program that lists or dumps."""
-        errors = [("wasm_base", "Fault"), ("wasm_lines", "ListError")]
-        has_both = api_source.LIBRARIES.index(crate) >= api_source.LIBRARIES.index("wasm_lines")
+        errors = [("wasm_base", "Fault"), ("wasm_text", "ListError")]
+        has_both = api_source.LIBRARIES.index(crate) >= api_source.LIBRARIES.index("wasm_text")
         return next((self.places[(*one, name)] for one in errors[: 1 + has_both] if (*one, name) in self.places), None)
 
     def only_one(self, crate, name):

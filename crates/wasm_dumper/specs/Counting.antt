@@ -1,5 +1,5 @@
--- The items that come before others in their index spaces, and the numbers of those that a dump shows. Core specification,
--- Syntax, Modules, Indices: the imports of a space come before what the module itself defines.
+-- The items that come before others in their index spaces, and the numbers of those that a dump shows. Core
+-- specification, Syntax, Modules, Indices: the imports of a space come before what the module itself defines.
 use Rattle.std.specs.Prelude.{◌≡◌, ℕ, Bool, true, false, List, [], ◌∷◌, ◌++◌}
 use Rattle.std.specs.Prelude.{nat_eq, Option, Some, None, Result, Ok, Err, if◌then◌else◌}
 use Rattle.wasm_base.specs.FaultAt.{FaultAt}

@@ -1,6 +1,8 @@
 use Rattle.wasm_feeder.proofs.ByHand.{[], ◌∷◌, List, Val, refl, ap, subst, proved, leaves, id⊢, ftrue, flft, fres, named, fact, fact_i, emp}
-use Rattle.wasm_feeder.proofs.ByHand.{tables, ‵, raw, ◌⊛◌, some, later, ◌$◌, ◌∵◌, !, qed, by, move, keep, drop, use0, use1, use2, split, join}
-use Rattle.wasm_feeder.proofs.ByHand.{pick, await, rewrite, fjoin, fsplit, enter, addr, stop, no_more, and_then, returns, alloc_all, pass_all}
+use Rattle.wasm_feeder.proofs.ByHand.{tables, ‵, raw, ◌⊛◌, some, later, ◌$◌, ◌∵◌, !, qed}
+use Rattle.wasm_feeder.proofs.ByHand.{by, move, keep, drop, use0, use1, use2, split, join}
+use Rattle.wasm_feeder.proofs.ByHand.{pick, await, rewrite, fjoin, fsplit, enter, addr}
+use Rattle.wasm_feeder.proofs.ByHand.{stop, no_more, and_then, returns, alloc_all, pass_all}
 use Rattle.wasm_feeder.proofs.ByHand.{free_all, look_at, get, through, sets, lands_as, shows, Is, mut_vals, mut_Tells, no, plain, named_lft}
 use Rattle.wasm_feeder.proofs.ByHand.{mut_ref_to, nothing, heard, peeks, only, calls_at, Lasts, lasts, triple_of, Stays, stay_dropped}
 use Rattle.wasm_feeder.proofs.ByHand.{Goes-spent_ref, framed, left, right, followed, ◌≡◌}
