@@ -1,5 +1,5 @@
 -- Stripping a stream while it is read.
-use Rattle.std.specs.Prelude.{◌≡◌, ◌⊎◌, ℕ, ◌<◌, ◌≤◌, ◌^◌, Bool, true, List, [], ◌∷◌, ◌++◌, length}
+use Rattle.std.specs.Prelude.{◌≡◌, ◌⊎◌, ℕ, ◌<◌, ◌≤◌, ◌^◌, Bool, List, [], ◌∷◌, ◌++◌, length}
 use Rattle.std.specs.Prelude.{Option}
 use Rattle.std.specs.Prelude.{Some, None, Result, Ok, Err, if◌then◌else◌}
 use Rattle.std.specs.Io.KnownBytes.{Consumes, Appends}
@@ -11,8 +11,8 @@ use Rattle.wasm_text.specs.Calls.{Change, Device, bytes_of, input_failed, output
 use Rattle.wasm_text.specs.Page.{IsCut, PutsBytes}
 use Rattle.wasm_text.specs.declared.devices.ListError.{ListError}
 use Rattle.wasm_parser.specs.ParseAnswer.{report_of, is_end}
-use Rattle.wasm_parser.specs.SkipNext.{Head, custom}
 use Rattle.wasm_feeder.specs.Beside.{seen, lending, FillsAlike}
+use Rattle.wasm_feeder.specs.Fates.{head_stays}
 use Rattle.wasm_feeder.specs.Feed.{Feed}
 use Rattle.wasm_feeder.specs.Lists.{IsEndedBy, IsWhole, PassesTop}
 use Rattle.wasm_feed.specs.Passing.{PassesPart, SkipsHere, if_stays}

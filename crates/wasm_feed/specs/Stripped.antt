@@ -1,9 +1,8 @@
 -- A stream without its custom sections. Core specification, Binary format, Modules, Custom Section.
-use Rattle.std.specs.Prelude.{◌≡◌, ◌≤◌, ℕ, ◌+◌, Bool, true, false, ◌&&◌, ◌||◌, not, List, [], ◌∷◌, ◌++◌, length, take}
+use Rattle.std.specs.Prelude.{◌≡◌, ◌≤◌, ℕ, ◌+◌, Bool, false, ◌||◌, not, List, [], ◌∷◌, ◌++◌, length, take}
 use Rattle.std.specs.Prelude.{filter}
-use Rattle.std.specs.Prelude.{flat_map, codes, bytes_eq, nat_eq, Vec, Some, Result, Ok, Err, if◌then◌else◌}
-use Rattle.std.specs.Borrow.{Bor}
-use Rattle.std.specs.List.{AllZip, list_any}
+use Rattle.std.specs.Prelude.{flat_map, nat_eq, Vec, Some, Result, Ok, Err, if◌then◌else◌}
+use Rattle.std.specs.List.{AllZip}
 use Rattle.wasm_base.specs.FaultAt.{fault_at}
 use Rattle.wasm_base.specs.Name.{Name, named, refused, name_limit, name}
 use Rattle.wasm_base.specs.Owned.{out_of_memory}
@@ -11,12 +10,12 @@ use Rattle.wasm_base.specs.declared.error.Error.{Error}
 use Rattle.wasm_grammar.specs.Accepted.{header_bytes, SectionFrame, frame_bytes, IsAccepted}
 use Rattle.wasm_grammar.specs.Content.{fault}
 use Rattle.wasm_grammar.specs.EventRanges.{consumed_by}
-use Rattle.wasm_grammar.specs.Reading.{Report, custom_section, Event, last_event, Reading}
+use Rattle.wasm_grammar.specs.Reading.{Event, last_event, Reading}
 use Rattle.wasm_grammar.specs.Shifted.{shifted_event}
 use Rattle.wasm_grammar.specs.declared.encoding.Encoding.{Encoding}
 use Rattle.wasm_base.specs.Features.{all_features}
 use Rattle.wasm_grammar.specs.Ids.{custom_id}
-use Rattle.wasm_feeder.specs.declared.fates.Keep.{Keep}
+use Rattle.wasm_feeder.specs.Fates.{report_stays}
 
 -- a section without a name would go, but an accepted stream has none
 abbrev pub name_stays : (keeps : List ℕ → Bool) → Name → Bool

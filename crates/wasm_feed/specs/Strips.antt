@@ -1,17 +1,15 @@
 -- One step of stripping a stream.
 use Rattle.std.specs.Prelude.{◌≡◌, ◌⊎◌, ℕ, ◌+◌, ◌<◌, ◌≤◌, ◌^◌, Bool, true, false, List, ◌∷◌, [], ◌++◌, length}
-use Rattle.std.specs.Prelude.{take, drop, Option, Some, None, Result, Ok, Err, if◌then◌else◌}
+use Rattle.std.specs.Prelude.{take, drop, Option, Some, None, Result, Ok, Err}
 use Rattle.std.specs.Borrow.{Bor}
 use Rattle.wasm_base.specs.FaultAt.{fault_at}
 use Rattle.wasm_base.specs.Owned.{out_of_memory}
 use Rattle.wasm_base.specs.declared.error.Error.{Error}
 use Rattle.wasm_grammar.specs.Content.{ended}
-use Rattle.wasm_parser.specs.ParseAnswer.{is_end}
-use Rattle.wasm_grammar.specs.Reading.{Report, Event, last_event, Reading}
+use Rattle.wasm_grammar.specs.Reading.{Event, last_event, Reading}
 use Rattle.wasm_parser.specs.Along.{Along}
 use Rattle.wasm_feeder.specs.Feed.{Feed}
 use Rattle.wasm_feed.specs.Stripped.{event_stays, kept_bytes, EndsWithFault}
-use Rattle.wasm_feeder.specs.Fates.{report_stays}
 use Rattle.wasm_feeder.specs.declared.fates.Fate.{Fate}
 use Rattle.wasm_feeder.specs.declared.fates.Fate.TheVariants.{Stays, Goes, End}
 use Rattle.wasm_feed.specs.declared.stripping.Part.{Part}
