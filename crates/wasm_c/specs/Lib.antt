@@ -26,6 +26,4 @@ pub mod Strips
 pub mod Symbols
 pub mod Texts
 pub mod TypeHeads
-pub mod TypeLaws
-pub mod TypeParts
 pub mod Values

@@ -1,19 +1,19 @@
 // The heads of groups of types and of subtypes. Types come in parts, heads and then lists item by item, so that no call
 // allocates.
 ghost use Rattle.std.specs.Prelude.{◌≡◌};
-ghost use Rattle.wasm_base.specs.Outcome.{GivesBy};
-ghost use Rattle.wasm_base.specs.Window.{KeepsWindow};
 ghost use Rattle.wasm_c.specs.Readable.{item_over};
-ghost use Rattle.wasm_c.specs.TypeHeads.{GroupHead, SubtypeHead, composite_head_at, extending_head_at, group_head_at, plain_subtype, plain_type_group, subtype_head_at};
-ghost use Rattle.wasm_c.specs.TypeParts.{composite_parts, group_parts, subtype_parts};
-ghost use Rattle.wasm_items.specs.RecGroups.{supertypes_at};
+ghost use Rattle.wasm_c.specs.TypeHeads.{composite_number as number_of, plain_subtype, plain_type_group};
+ghost use Rattle.wasm_items.specs.TypeHeads.{group_head_at, subtype_head_at};
+ghost use Rattle.wasm_items.specs.declared.type_heads.RecGroupHead.{RecGroupHead};
+ghost use Rattle.wasm_items.specs.declared.type_heads.SubTypeHead.{SubTypeHead};
 
 use crate::faults::{NO_FAULT, PlainFault, plain_fault};
 use crate::kinds::small_parts;
 use crate::readable::{Readable, read_at};
 use crate::spans::{distance, flag};
-use wasm_base::leading_byte_error;
-use wasm_parser::{BinaryReader, Error, Fault, Lead, Result};
+use wasm_base::FromReader;
+use wasm_items::{CompositeKind, RecGroupHead, SubTypeHead};
+use wasm_parser::{BinaryReader, Error, Result};
 
 /// The head of a recursive group of types, or a fault. The subtypes of the group follow.
 #[repr(C)]
@@ -49,114 +49,14 @@ pub struct PlainSubtype {
     pub count: u32,
 }
 
-#[derive(Clone, Copy)]
-struct GroupParts {
-    explicit: bool,
-    count: u32,
-}
-
-#[derive(Clone, Copy)]
-struct CompositeParts {
-    kind: u32,
-    count: u32,
-}
-
-#[derive(Clone, Copy)]
-struct SubtypeParts {
-    is_final: bool,
-    supertype: Option<u32>,
-    composite: CompositeParts,
-}
-
-// The head of a group.
-#[tactic(auto, unfolding(crate::specs::TypeHeads::group_head_at))]
-fn read_group(reader: &mut BinaryReader<'_>) -> Result<GroupParts>
-    ensures gives { GivesBy group_parts result reader.old reader.new group_head_at }
-    ensures keeps { KeepsWindow reader.old reader.new }
+// The number of a kind of composite types.
+fn composite_number(kind: CompositeKind) -> u32
+    ensures { result ≡ number_of kind }
 {
-    if reader.peek()? != 0x4e {
-        return Ok(GroupParts {
-            explicit: false,
-            count: 1,
-        });
-    }
-    reader.read_u8()?;
-    Ok(GroupParts {
-        explicit: true,
-        count: reader.read_var_u32()?,
-    })
-}
-
-// The head of a composite type.
-#[tactic(auto, unfolding(crate::specs::TypeHeads::composite_head_at))]
-fn read_composite(reader: &mut BinaryReader<'_>) -> Result<CompositeParts>
-    ensures gives { GivesBy composite_parts result reader.old reader.new composite_head_at }
-    ensures keeps { KeepsWindow reader.old reader.new }
-{
-    let start = reader.original_position();
-    match reader.read_u8()? {
-        0x60 => Ok(CompositeParts {
-            kind: 0,
-            count: reader.read_var_u32()?,
-        }),
-        0x5f => Ok(CompositeParts {
-            kind: 2,
-            count: reader.read_var_u32()?,
-        }),
-        0x5e => Ok(CompositeParts { kind: 1, count: 1 }),
-        byte => Err(leading_byte_error(Lead::Composite, byte, start)),
-    }
-}
-
-// The supertypes of a subtype, of which there is one at most.
-#[tactic(auto, unfolding(wasm_items::specs::RecGroups::supertypes_at))]
-fn read_supertype(reader: &mut BinaryReader<'_>) -> Result<Option<u32>>
-    ensures gives { GivesBy (λ supertype. supertype) result reader.old reader.new supertypes_at }
-    ensures keeps { KeepsWindow reader.old reader.new }
-{
-    let start = reader.original_position();
-    match reader.read_var_u32()? {
-        0 => Ok(None),
-        1 => Ok(Some(reader.read_var_u32()?)),
-        _ => Err(Error::new(Fault::Supertypes, start)),
-    }
-}
-
-// The head of a subtype after its first byte.
-#[tactic(auto, unfolding(crate::specs::TypeHeads::extending_head_at))]
-fn read_extending(is_final: bool, reader: &mut BinaryReader<'_>) -> Result<SubtypeParts>
-    ensures gives { GivesBy subtype_parts result reader.old reader.new (extending_head_at is_final) }
-    ensures keeps { KeepsWindow reader.old reader.new }
-{
-    let supertype = read_supertype(reader)?;
-    let composite = read_composite(reader)?;
-    Ok(SubtypeParts {
-        is_final,
-        supertype,
-        composite,
-    })
-}
-
-// The head of a subtype.
-#[tactic(auto, unfolding(crate::specs::TypeHeads::subtype_head_at))]
-fn read_subtype(reader: &mut BinaryReader<'_>) -> Result<SubtypeParts>
-    ensures gives { GivesBy subtype_parts result reader.old reader.new subtype_head_at }
-    ensures keeps { KeepsWindow reader.old reader.new }
-{
-    match reader.peek()? {
-        0x50 => {
-            reader.read_u8()?;
-            read_extending(false, reader)
-        }
-        0x4f => {
-            reader.read_u8()?;
-            read_extending(true, reader)
-        }
-        _ => Ok(SubtypeParts {
-            is_final: true,
-            supertype: None,
-            composite: read_composite(reader)?,
-        }),
+    match kind {
+        CompositeKind::Func => 0,
+        CompositeKind::Array => 1,
+        CompositeKind::Struct => 2,
     }
 }
 
@@ -166,7 +66,7 @@ pub(crate) struct TypeGroups;
 impl Readable for TypeGroups {
     type Plain = PlainTypeGroup;
 
-    ghost Item = { GroupHead };
+    ghost Item = { RecGroupHead };
 
     ghost reading = { λ _. group_head_at };
 
@@ -174,7 +74,7 @@ impl Readable for TypeGroups {
 
     fn read(self, reader: &mut BinaryReader<'_>, _from: u64) -> Result<PlainTypeGroup> {
         let start = reader.original_position();
-        let group = read_group(reader)?;
+        let group = RecGroupHead::from_reader(reader)?;
         Ok(PlainTypeGroup {
             fault: NO_FAULT,
             consumed: distance(start, reader.original_position()),
@@ -234,7 +134,7 @@ pub(crate) struct Subtypes;
 impl Readable for Subtypes {
     type Plain = PlainSubtype;
 
-    ghost Item = { SubtypeHead };
+    ghost Item = { SubTypeHead };
 
     ghost reading = { λ _. subtype_head_at };
 
@@ -242,15 +142,15 @@ impl Readable for Subtypes {
 
     fn read(self, reader: &mut BinaryReader<'_>, _from: u64) -> Result<PlainSubtype> {
         let start = reader.original_position();
-        let subtype = read_subtype(reader)?;
+        let subtype = SubTypeHead::from_reader(reader)?;
         Ok(PlainSubtype {
             fault: NO_FAULT,
             consumed: distance(start, reader.original_position()),
             is_final: flag(subtype.is_final),
             has_supertype: small_parts(subtype.supertype).0,
             supertype: small_parts(subtype.supertype).1,
-            kind: subtype.composite.kind,
-            count: subtype.composite.count,
+            kind: composite_number(subtype.kind),
+            count: subtype.count,
         })
     }
 

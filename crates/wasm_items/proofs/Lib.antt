@@ -7,3 +7,4 @@ pub mod Same
 pub mod SameGroup
 pub mod ToCome
 pub mod PassedItems
+pub mod TypeHeads

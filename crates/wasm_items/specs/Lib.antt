@@ -19,3 +19,5 @@ pub mod Tags
 pub mod TypeLists
 pub mod Values
 pub mod Windows
+pub mod TypeHeads
+pub mod TypeLaws

@@ -9,6 +9,7 @@ ghost use Rattle.wasm_items.specs.Flattened.{GivesAll, found_at, found};
 ghost use Rattle.wasm_items.specs.Hashed.{hash_of_value, hash_of_reference, hash_of_heap, hash_of_field, hash_of_storage, hash_of_table, hash_of_memory, hash_of_global, hash_of_tag, hash_of_kind};
 ghost use Rattle.wasm_items.specs.Init.{IsEndOrInstruction};
 ghost use Rattle.wasm_items.specs.Instructions.{GivesItsInstructions};
+ghost use Rattle.wasm_items.specs.TypeLaws.{GroupsHaveHeads, SubtypesHaveHeads};
 ghost use Rattle.wasm_items.specs.Same.{IsSameImport, IsSameItem, IsSameExport, IsSameFunction, IsSameComposite, IsSameSubtype, IsSameGroup};
 
 use crate::code::FunctionBody;
@@ -21,6 +22,7 @@ use crate::imports::{Import, ImportItemCompact, Imports, TypeRef};
 use crate::init::ConstExpr;
 use crate::instructions::ConstInstructions;
 use crate::tables::{Table, TableInit};
+use crate::type_heads::{CompositeKind, RecGroupHead, SubTypeHead};
 use crate::types::{
     CompositeType, FieldType, FuncType, GlobalType, HeapType, MemoryType, RecGroup, RefType,
     StorageType, SubType, TableType, TagKind, TagType, ValType,
@@ -41,6 +43,9 @@ pub fn equal_types_are_the_same()
     ensures tag { DecidesSame ⟦<TagType as PartialEq>⟧.eq }
     ensures tag_kind { DecidesSame ⟦<TagKind as PartialEq>⟧.eq }
     ensures external_kind { DecidesSame ⟦<ExternalKind as PartialEq>⟧.eq }
+    ensures group_head { DecidesSame ⟦<RecGroupHead as PartialEq>⟧.eq }
+    ensures subtype_head { DecidesSame ⟦<SubTypeHead as PartialEq>⟧.eq }
+    ensures composite_kind { DecidesSame ⟦<CompositeKind as PartialEq>⟧.eq }
     ensures external { DecidesSame ⟦<TypeRef as PartialEq>⟧.eq }
 {}
 
@@ -123,6 +128,15 @@ pub fn copies_are_the_same<'a>()
         ⟦<ExternalKind as Clone>⟧.is_clone
         ⟦<ExternalKind as Clone>⟧.is_infallible }
     ensures external { IsCopy ⟦<TypeRef as Clone>⟧.is_clone ⟦<TypeRef as Clone>⟧.is_infallible }
+    ensures group_head { IsCopy
+        ⟦<RecGroupHead as Clone>⟧.is_clone
+        ⟦<RecGroupHead as Clone>⟧.is_infallible }
+    ensures subtype_head { IsCopy
+        ⟦<SubTypeHead as Clone>⟧.is_clone
+        ⟦<SubTypeHead as Clone>⟧.is_infallible }
+    ensures composite_kind { IsCopy
+        ⟦<CompositeKind as Clone>⟧.is_clone
+        ⟦<CompositeKind as Clone>⟧.is_infallible }
     ensures import { IsCopy ⟦<Import<'a> as Clone>⟧.is_clone ⟦<Import<'a> as Clone>⟧.is_infallible }
     ensures item { IsCopy
         ⟦<ImportItemCompact<'a> as Clone>⟧.is_clone
@@ -221,4 +235,13 @@ pub fn instructions_tile_their_expression<'a>()
     ensures { (before after : Place) (expression : ConstExpr) →
         ⟦<ConstExpr<'a> as FromReader<'a>>⟧.meaning before (Ok (expression, after)) →
         GivesItsInstructions ⟦<ConstInstructions<'a> as Iterator>⟧.next_gives expression }
+{}
+
+/// A group of types is its head and this many subtypes, and a subtype its head and what its kind has (core
+/// specification, Binary format, Types, Recursive Types and Composite Types). So reading heads and lists one after the
+/// other reads what `RecGroup` reads.
+#[tactic(auto, using(crate::proofs::TypeHeads::groups, crate::proofs::TypeHeads::subtypes))]
+pub fn types_have_heads()
+    ensures groups { GroupsHaveHeads }
+    ensures subtypes { SubtypesHaveHeads }
 {}

@@ -43,6 +43,7 @@ mod memories;
 mod rec_groups;
 mod tables;
 mod tags;
+mod type_heads;
 mod type_lists;
 mod types;
 mod values;
@@ -60,6 +61,7 @@ pub use instructions::{ConstInstruction, ConstInstructions, read_instruction};
 pub use memories::MemorySectionReader;
 pub use tables::{Table, TableInit, TableSectionReader};
 pub use tags::TagSectionReader;
+pub use type_heads::{CompositeKind, RecGroupHead, SubTypeHead};
 pub use type_lists::{FieldTypes, SubTypes, TypeList, ValTypes};
 pub use types::{
     CompositeType, FieldType, FuncType, GlobalType, HeapType, MemoryType, RecGroup, RefType,

@@ -126,9 +126,9 @@ impl<'a> FromReaderIn<'a> for CompositeType {
     }
 }
 
-// Reads the supertypes of a subtype, at most one.
+/// Reads the supertypes of a subtype, at most one.
 #[tactic(auto, unfolding(crate::specs::RecGroups::supertypes_at))]
-fn read_supertype(reader: &mut BinaryReader<'_>) -> Result<Option<u32>>
+pub(crate) fn read_supertype(reader: &mut BinaryReader<'_>) -> Result<Option<u32>>
     ensures gives { GivesBy (λ supertype. supertype) result reader.old reader.new supertypes_at }
     ensures keeps { KeepsWindow reader.old reader.new }
     ensures memory { NotOutOfMemory result }

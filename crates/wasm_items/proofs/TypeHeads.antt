@@ -10,9 +10,10 @@ use Rattle.wasm_base.specs.declared.fault.NumberKind.TheVariants.{VarU32}
 use Rattle.wasm_items.specs.RecGroups.{CompositeParts, SubtypeParts, composite_type_at, extending_at, func_type_at, functions_at}
 use Rattle.wasm_items.specs.RecGroups.{plain_subtype_at, rec_group_at, structures_at, subtype_at, supertypes_at}
 use Rattle.wasm_items.specs.Values.{val_type_at}
-use Rattle.wasm_c.specs.TypeHeads.{composite_head_at, counted_composite_at, extending_head_at, group_head_at, plain_head_at}
-use Rattle.wasm_c.specs.TypeHeads.{subtype_head_at}
-use Rattle.wasm_c.specs.TypeLaws.{GroupsHaveHeads, SubtypesHaveHeads, composite_after, subtype_after}
+use Rattle.wasm_items.specs.TypeHeads.{composite_head_at, counted_composite_at, extending_head_at, group_head_at, plain_head_at}
+use Rattle.wasm_items.specs.TypeHeads.{subtype_head_at}
+use Rattle.wasm_items.specs.declared.type_heads.CompositeKind.TheVariants.{Func, Struct}
+use Rattle.wasm_items.specs.TypeLaws.{GroupsHaveHeads, SubtypesHaveHeads, composite_after, subtype_after}
 
 -- a reading, and the same in two steps
 same_after : {A B C : Type 0} (o : Result A FaultAt) (f : A → Result C FaultAt) (g : A → Result B FaultAt) (k : B → Result C FaultAt)
@@ -52,13 +53,13 @@ groups p = same_after (peeked_byte_at p) _ _ _ (λ first. by_test (first.0 == 0x
     (two_after (unsigned_at VarU32 (advanced 1 p)) _ _ _ _ (λ count. refl))
     (same_after (subtype_at p) _ _ _ (λ one. refl)))
 
-function : (p : Place) → functions_at p ≡ (counted_composite_at 0 p >>= λ head. composite_after head.0.kind head.0.count head.1)
+function : (p : Place) → functions_at p ≡ (counted_composite_at Func p >>= λ head. composite_after head.0.kind head.0.count head.1)
 unfolding func_type_at
 function p = three_after (unsigned_at VarU32 p) _ _ _ _ _ (λ count.
     sym (same_after (in_turn val_type_at count.0 count.1) _ _ _ (λ params.
     same_after (list_at val_type_at params.1) _ _ _ (λ results. refl))))
 
-structure : (p : Place) → structures_at p ≡ (counted_composite_at 2 p >>= λ head. composite_after head.0.kind head.0.count head.1)
+structure : (p : Place) → structures_at p ≡ (counted_composite_at Struct p >>= λ head. composite_after head.0.kind head.0.count head.1)
 structure p = two_after (unsigned_at VarU32 p) _ _ _ _ (λ count. refl)
 
 composites : (p : Place) → composite_type_at p ≡ (composite_head_at p >>= λ head. composite_after head.0.kind head.0.count head.1)
