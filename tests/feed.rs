@@ -1,4 +1,5 @@
 // Worked examples, devices that fail or go short, and memory that runs out.
+mod cursors;
 mod devices;
 mod digits;
 mod equal_events;

@@ -1,4 +1,5 @@
 // Items by the calls that read them, and as values. Tables of rows are in `wasm_rows`.
+mod heads;
 mod imports;
 mod instructions;
 mod items;

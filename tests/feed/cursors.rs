@@ -1,0 +1,199 @@
+// A cursor and a chunk by their own calls, what becomes of the parts of a stripped stream, and the lines of events.
+use super::PARTS;
+use crate::tests::same;
+use std::process::Abort;
+use std::test::Fail;
+use wasm_feed::{Ahead, Cursor, Failed, Keep, SliceSource, Step, parse_next};
+use wasm_feeder::{Fate, fate_of, head_stays, stays};
+use wasm_lines::{FaultLine, PayloadLine, SkippedLine};
+use wasm_parser::{Error, Fault, Parser, Payload};
+use wasm_text::{Base, ShortText, TEXT_BYTES};
+
+#[test]
+fn a_cursor_over_all_of_a_stream(rt: HostRuntime) -> Result<(), Fail> {
+    let mut cursor = Cursor::over_all(Parser::new(0));
+    same(&rt, (cursor.offset(), cursor.mark()), (0, 0));
+    drop(parse_next(&mut cursor, PARTS)?);
+    same(&rt, (cursor.offset(), cursor.mark()), (8, 8));
+    same(&rt, cursor.remaining(PARTS), &PARTS[8..]);
+    same(&rt, cursor.remaining(&PARTS[..8]), b"".as_slice());
+    same(&rt, cursor.remaining(&PARTS[..3]), b"".as_slice());
+    // Bytes that are cut are at the end of the stream.
+    match parse_next(&mut cursor, &PARTS[..20]) {
+        Ok(_) => assert!(rt; false, "no fault"),
+        Err(error) => same(&rt, error.fault(), Fault::UnexpectedEof),
+    }
+    same(&rt, (cursor.offset(), cursor.mark()), (8, 8));
+    cursor.rewind();
+    cursor.rewind();
+    same(&rt, (cursor.offset(), cursor.mark()), (8, 0));
+    drop(parse_next(&mut cursor, &PARTS[8..])?);
+    same(&rt, (cursor.offset(), cursor.mark()), (32, 24));
+    Ok(())
+}
+
+#[test]
+fn a_part_that_a_cursor_skips(rt: HostRuntime) -> Result<(), Fail> {
+    let mut cursor = Cursor::new(Parser::new(0));
+    assert!(rt; cursor.skip_next(&PARTS[..12]).is_none());
+    drop(parse_next(&mut cursor, PARTS)?);
+    // All of the section is here, or its first fields are not.
+    assert!(rt; cursor.skip_next(PARTS).is_none());
+    assert!(rt; cursor.skip_next(&PARTS[..10]).is_none());
+    same(&rt, cursor.offset(), 8);
+    let part = cursor.skip_next(&PARTS[..20]).ok_or("not skipped")?;
+    same(&rt, (part.range.start, part.range.end), (10, 32));
+    same(&rt, (cursor.offset(), cursor.mark()), (32, 8));
+    Ok(())
+}
+
+#[test]
+fn a_chunk_by_its_calls(rt: HostRuntime) -> Result<(), Fail> {
+    let mut input = SliceSource::new(b"abcde");
+    let mut ahead = Ahead::new(vec![in rt.alloc(); 0_u8; 3]?);
+    same(&rt, ahead.bytes(), b"".as_slice());
+    ahead.pass(0);
+    same(&rt, ahead.fetch(&mut input), Ok(()));
+    same(&rt, ahead.bytes(), b"abc".as_slice());
+    ahead.pass(2);
+    same(&rt, ahead.bytes(), b"c".as_slice());
+    // The next chunk takes the place of what is left.
+    same(&rt, ahead.fetch(&mut input), Ok(()));
+    same(&rt, ahead.bytes(), b"de".as_slice());
+    ahead.pass(2);
+    for _ in 0..2 {
+        same(&rt, ahead.fetch(&mut input), Ok(()));
+        same(&rt, ahead.bytes(), b"".as_slice());
+    }
+    Ok(())
+}
+
+// Whether a part is removed, or is the end.
+fn fate_name(payload: &Payload<'_>, keep: Keep<'_>) -> &'static str {
+    match fate_of(payload, keep) {
+        Fate::Stays => "stays",
+        Fate::Goes => "goes",
+        Fate::End => "end",
+    }
+}
+
+#[test]
+fn parts_that_stay(rt: HostRuntime) -> Result<(), Fail> {
+    let keep_a = Keep {
+        names: false,
+        kept: &["a"],
+        removed: &[],
+    };
+    let all_but_a = Keep {
+        names: false,
+        kept: &[],
+        removed: &["a"],
+    };
+    for (name, of_names, of_a, of_others) in [
+        ("name", true, false, true),
+        ("a", false, true, false),
+        ("", false, false, true),
+    ] {
+        same(&rt, stays(name, Keep::names(true)), of_names);
+        same(&rt, stays(name, Keep::names(false)), false);
+        same(&rt, stays(name, keep_a), of_a);
+        same(&rt, stays(name, all_but_a), of_others);
+    }
+    let mut fates = Vec::new(rt.alloc());
+    for payload in Parser::new(0).parse_all(PARTS) {
+        let payload = payload?;
+        same(&rt, fate_name(&payload, keep_a) == "goes", false);
+        fates.push(fate_name(&payload, Keep::names(false)))?;
+    }
+    same(
+        &rt,
+        (fates.get(1), fates.last()),
+        (Some(&"goes"), Some(&"end")),
+    );
+    same(&rt, fates.iter().filter(|fate| **fate == "goes").count(), 1);
+    Ok(())
+}
+
+#[test]
+fn skipped_parts_that_stay(rt: HostRuntime) -> Result<(), Fail> {
+    let mut parser = Parser::new(0);
+    drop(parser.parse(PARTS, false)?);
+    let custom = parser.skip_next(&PARTS[8..20]).ok_or("no custom section")?;
+    same(&rt, head_stays(&custom.head, Keep::names(true)), false);
+    let kept = Keep {
+        names: false,
+        kept: &["a"],
+        removed: &[],
+    };
+    same(&rt, head_stays(&custom.head, kept), true);
+    let types = parser.skip_next(&PARTS[32..40]).ok_or("no types")?;
+    same(&rt, head_stays(&types.head, Keep::names(false)), true);
+    Ok(())
+}
+
+// A line is written over what is there, from a place on.
+fn is_line<T: ShortText>(rt: &impl Abort, line: &T, text: &[u8]) {
+    let mut room = [b'-'; TEXT_BYTES + 2];
+    let end = line.write_at(&mut room, 2);
+    same(rt, room.get(2..end), Some(text));
+    same(rt, &room[..2], b"--".as_slice());
+}
+
+#[test]
+fn lines_in_both_bases(rt: HostRuntime) -> Result<(), Fail> {
+    let (decimal, hexadecimal) = (Base::Decimal, Base::Hexadecimal);
+    let payload = &Payload::End(20);
+    is_line(
+        &rt,
+        &PayloadLine {
+            base: decimal,
+            payload,
+        },
+        b"end 20",
+    );
+    is_line(
+        &rt,
+        &PayloadLine {
+            base: hexadecimal,
+            payload,
+        },
+        b"end 0x14",
+    );
+    let error = &Error::new(Fault::UnknownVersion, 20).with_number(3);
+    is_line(
+        &rt,
+        &FaultLine {
+            base: decimal,
+            error,
+        },
+        b"fault 20 unknown binary version: 3",
+    );
+    is_line(
+        &rt,
+        &FaultLine {
+            base: hexadecimal,
+            error,
+        },
+        b"fault 0x14 unknown binary version: 3",
+    );
+    let mut parser = Parser::new(0);
+    drop(parser.parse(PARTS, false)?);
+    let part = &parser.skip_next(&PARTS[8..20]).ok_or("no custom section")?;
+    is_line(
+        &rt,
+        &SkippedLine {
+            base: decimal,
+            part,
+        },
+        b"custom 10 32 12",
+    );
+    is_line(
+        &rt,
+        &SkippedLine {
+            base: hexadecimal,
+            part,
+        },
+        b"custom 0xa 0x20 0xc",
+    );
+    Ok(())
+}
