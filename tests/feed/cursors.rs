@@ -57,7 +57,7 @@ fn a_chunk_by_its_calls(rt: HostRuntime) -> Result<(), Fail> {
     same(&rt, ahead.bytes(), b"abc".as_slice());
     ahead.pass(2);
     same(&rt, ahead.bytes(), b"c".as_slice());
-    // The next chunk takes the place of what is left.
+    // The next chunk replaces the remaining bytes.
     same(&rt, ahead.fetch(&mut input), Ok(()));
     same(&rt, ahead.bytes(), b"de".as_slice());
     ahead.pass(2);

@@ -1,28 +1,11 @@
 // Many events by one call.
 ghost use Rattle.wasm_c.specs.EventBatches.{StoresEvents};
-ghost use Rattle.wasm_c.specs.Events.{ParsesPlain};
 ghost use Rattle.wasm_parser.specs.Stored.{parser_of};
 
-use crate::events::{PlainEvent, put_answer};
+use crate::events::PlainEvent;
+use crate::parsing::put_next;
 use crate::spans::after;
 use wasm_parser::StoredParser;
-
-// Stores the next event of a parser.
-#[inline(always)]
-fn put_next(
-    parser: &mut StoredParser,
-    bytes: &[u8],
-    is_all: bool,
-    base: usize,
-    out: &mut PlainEvent,
-)
-    ensures { ParsesPlain base (parser_of parser.old) is_all bytes.now out.new
-        (parser_of parser.new) }
-{
-    let offset = parser.offset;
-    let answer = parser.parse(bytes, is_all);
-    put_answer(out, offset, base, &answer);
-}
 
 /// Stores the next events of a stream in `out`, as calls of `pulleynavy_parse` return them one by one, and returns
 /// their number.

@@ -3,8 +3,8 @@ ghost use Rattle.std.specs.Prelude.{◌≡◌, ◌+◌, ◌++◌, ◌≤◌, ◌
 ghost use Rattle.wasm_parser.specs.ParserState.{initial_state};
 ghost use Rattle.wasm_c.specs.Feeds.{IsFinished, IsNewFeed, PushesPlain, StepsPlain};
 
-use crate::events::PlainEvent;
-use crate::parsing::{parse_at, pulleynavy_parser_init};
+use crate::events::{PlainEvent, SILENT};
+use crate::parsing::{pulleynavy_parser_init, put_next};
 use crate::spans::{after, front};
 use wasm_parser::StoredParser;
 
@@ -65,7 +65,9 @@ pub extern "C" fn pulleynavy_feed_step(feed: &mut StoredFeed, storage: &[u8]) ->
     ensures { StepsPlain feed.old storage.now result feed.new }
 {
     let held = after(front(storage, feed.end), feed.mark);
-    let event = parse_at(&mut feed.parser, held, feed.is_finished != 0, feed.mark);
+    let is_all = feed.is_finished != 0;
+    let mut event = SILENT;
+    put_next(&mut feed.parser, held, is_all, feed.mark, &mut event);
     feed.mark = feed.mark.saturating_add(event.consumed);
     event
 }

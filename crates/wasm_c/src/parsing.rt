@@ -6,8 +6,8 @@ ghost use Rattle.wasm_parser.specs.Stored.{parser_of, skipped_of};
 ghost use Rattle.wasm_c.specs.Texts.{Says, SaysFault};
 
 use crate::events::{
-    Origin, PlainEvent, SILENT, body_event, custom_event, fault_event, put_parsed, request_event,
-    unknown_event,
+    Origin, PlainEvent, SILENT, body_event, custom_event, fault_event, put_answer, put_parsed,
+    request_event, unknown_event,
 };
 use crate::text::write_text;
 use bitflags::Flags;
@@ -23,32 +23,21 @@ pub extern "C" fn pulleynavy_parser_init(offset: u64, features: u32) -> StoredPa
     parser.stored()
 }
 
-// Returns what `pulleynavy_parse` returns, for bytes that begin at `base` of a storage.
+// Stores what `pulleynavy_parse` returns, for bytes that begin at `base` of a storage.
 #[inline(always)]
-pub(crate) fn parse_at(
-    stored: &mut StoredParser,
+pub(crate) fn put_next(
+    parser: &mut StoredParser,
     bytes: &[u8],
     is_all: bool,
     base: usize,
-) -> PlainEvent
-    ensures { ParsesPlain base (parser_of stored.old) is_all bytes.now result
-        (parser_of stored.new) }
+    out: &mut PlainEvent,
+)
+    ensures { ParsesPlain base (parser_of parser.old) is_all bytes.now out.new
+        (parser_of parser.new) }
 {
-    let offset = stored.offset;
-    match stored.parse(bytes, is_all) {
-        Ok(
-            Chunk::Parsed {
-                consumed,
-                ref payload,
-            },
-        ) => {
-            let mut event = SILENT;
-            put_parsed(&mut event, offset, base, consumed, payload);
-            event
-        }
-        Ok(Chunk::NeedMoreData(hint)) => request_event(hint, base),
-        Err(error) => fault_event(error, base),
-    }
+    let offset = parser.offset;
+    let answer = parser.parse(bytes, is_all);
+    put_answer(out, offset, base, &answer);
 }
 
 /// Returns the next event of a stream, a fault, or a request for more input.

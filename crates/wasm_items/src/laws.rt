@@ -221,6 +221,10 @@ pub fn segments_and_types_allow_one_outcome<'a>()
     ensures composite { AllowsOne ⟦<CompositeType as FromReaderIn<'a>>⟧.meaning }
     ensures subtype { AllowsOne ⟦<SubType as FromReaderIn<'a>>⟧.meaning }
     ensures group { AllowsOne ⟦<RecGroup as FromReaderIn<'a>>⟧.meaning }
+    ensures group_head { AllowsOne ⟦<RecGroupHead as FromReader<'a>>⟧.meaning ×
+        Determines ⟦<RecGroupHead as FromReader<'a>>⟧.meaning }
+    ensures subtype_head { AllowsOne ⟦<SubTypeHead as FromReader<'a>>⟧.meaning ×
+        Determines ⟦<SubTypeHead as FromReader<'a>>⟧.meaning }
 {}
 
 /// A constant expression is `end`, or an instruction followed by an expression: its definition counts instructions, but

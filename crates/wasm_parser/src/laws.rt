@@ -56,6 +56,8 @@ pub fn skipping_goes_along()
     ensures { SkippingGoesAlong }
 {}
 
+// It has no premise of room: the events of two lists of bytes differ wherever these start. Only that both are streams
+// needs room, and 2^33 bytes are more than any that decide.
 /// No parser could decide earlier than `parse` does.
 ///
 /// `front` is a prefix of a stream that starts at `offset`: empty, or the bytes of its first parts, without a fault.
@@ -65,8 +67,6 @@ pub fn skipping_goes_along()
 /// the data.
 ///
 /// (Core specification, Binary format, Modules.)
-// It has no premise of room: the events of two lists of bytes differ wherever these start. Only that both are streams
-// needs room, and 2^33 bytes are more than any that decide.
 pub fn short_is_undecided(offset: u64, front: &[u8], data: &[u8])
     ensures next { OneComesNext offset front.now }
     ensures decided { EnoughIsDecided offset front.now «data».now }

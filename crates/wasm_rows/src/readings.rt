@@ -3,9 +3,9 @@ use crate::rows::Failed;
 use std::alloc::Global;
 use wasm_base::{Error, Fault, Result as Read, WasmFeatures};
 use wasm_feed::{BoundedSink, Ended, Feeder, ListError, SliceSource, Step, list};
-use wasm_lines::write_payload;
+use wasm_lines::{write_fault, write_payload};
 use wasm_parser::{Chunk, Parser, Payload};
-use wasm_text::{Base, ShortText, write_number};
+use wasm_text::{Base, write_number};
 
 /// A stream.
 #[derive(Drop)]
@@ -79,7 +79,7 @@ impl Gathered {
     // Adds the text of a fault in a listing and, if it has a hint, how many bytes are missing.
     fn add_fault(&mut self, error: &Error) {
         let mut text = [b' '; 161];
-        let end = error.write_at(&mut text, 2);
+        let end = write_fault(&mut text, 2, Base::Decimal, error);
         self.add(&text[..end]);
         if let Some(missing) = error.needed_hint() {
             self.add_number(" missing=", missing as u64);

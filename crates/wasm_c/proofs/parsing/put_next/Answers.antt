@@ -1,4 +1,4 @@
-use Rattle.wasm_c.proofs.event_batches.put_next.Goals as goal
+use Rattle.wasm_c.proofs.parsing.put_next.Goals as goal
 
 pub returns : goal.returns
 returns c = record {
