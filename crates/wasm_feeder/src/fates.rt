@@ -12,6 +12,7 @@ use wasm_parser::{PartHead, Payload};
 /// is `name` and `names` is true. The other custom sections are removed.
 ///
 /// ```rattle
+/// use wasm_feed::strip_in;
 /// // Two custom sections without data, "a" and "b".
 /// let bytes = b"\0asm\x01\0\0\0\0\x02\x01a\0\x02\x01b";
 /// let keep = Keep { names: false, kept: &["b"], removed: &[] };

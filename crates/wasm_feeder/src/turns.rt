@@ -4,6 +4,7 @@ use wasm_parser::Error;
 /// The end of a stream that was listed or dumped: without a fault, or at the first fault.
 ///
 /// ```rattle
+/// use wasm_feed::list;
 /// // The function section announces a function, but there is no code section.
 /// let mut input = SliceSource::new(b"\0asm\x01\0\0\0\x03\x02\x01\0");
 /// let mut output = BoundedSink::new(alloc, 1000)?;
