@@ -32,6 +32,37 @@ fn a_cursor_over_all_of_a_stream(rt: HostRuntime) -> Result<(), Fail> {
     Ok(())
 }
 
+// The last offsets of a stream: a header that ends there, and one that would end past them.
+#[test]
+fn a_cursor_at_the_largest_offset(rt: HostRuntime) -> Result<(), Fail> {
+    let header = &PARTS[..8];
+    let mut cursor = Cursor::over_all(Parser::new(u64::MAX - 8));
+    drop(parse_next(&mut cursor, header)?);
+    same(&rt, (cursor.offset(), cursor.mark()), (u64::MAX, 8));
+    assert!(rt; cursor.skip_next(header).is_none());
+    let end = parse_next(&mut cursor, header)?;
+    assert!(rt;
+        matches!(
+            end,
+            Step::Parsed {
+                payload: Payload::End(u64::MAX),
+                ..
+            }
+        )
+    );
+    drop(end);
+    let mut cursor = Cursor::over_all(Parser::new(u64::MAX - 7));
+    assert!(rt; cursor.skip_next(header).is_none());
+    for _ in 0..2 {
+        match parse_next(&mut cursor, header) {
+            Ok(_) => assert!(rt; false, "no fault"),
+            Err(error) => same(&rt, error, Error::new(Fault::OffsetRange, u64::MAX - 7)),
+        }
+        same(&rt, (cursor.offset(), cursor.mark()), (u64::MAX - 7, 0));
+    }
+    Ok(())
+}
+
 #[test]
 fn a_part_that_a_cursor_skips(rt: HostRuntime) -> Result<(), Fail> {
     let mut cursor = Cursor::new(Parser::new(0));
