@@ -111,6 +111,11 @@ def files_of(crate):
             yield os.path.join(folder, name)
 
 
+def is_program(crate):
+    """Whether a crate is a program."""
+    return os.path.isfile(os.path.join(TOP, "crates", crate, "src", "main.rt"))
+
+
 def is_older(name):
     """Whether a built program is older than what it is made of."""
     built_at = os.path.getmtime(path_of(name))

@@ -69,6 +69,7 @@ fn write_range(
 }
 
 // Writes a section that begins with a count.
+#[inline(always)]
 fn write_counted(
     bytes: &mut [u8],
     at: usize,
@@ -159,6 +160,7 @@ fn write_data_count(
 }
 
 // Writes a body.
+#[inline(always)]
 fn write_body(bytes: &mut [u8], at: usize, base: Base, range: &Range<u64>) -> usize
     requires { at + 100 ≤ length bytes.old }
     ensures short { result ≤ at + 100 }
@@ -171,6 +173,7 @@ fn write_body(bytes: &mut [u8], at: usize, base: Base, range: &Range<u64>) -> us
 }
 
 // Writes a custom section.
+#[inline(always)]
 fn write_custom(
     bytes: &mut [u8],
     at: usize,
@@ -191,6 +194,7 @@ fn write_custom(
 }
 
 // Writes an unknown section.
+#[inline(always)]
 fn write_unknown(bytes: &mut [u8], at: usize, base: Base, id: u8, range: &Range<u64>) -> usize
     requires { at + 100 ≤ length bytes.old }
     ensures short { result ≤ at + 100 }
@@ -364,6 +368,7 @@ impl ShortText for SkippedLine<'_, '_> {
 
     ghost text = { λ line. skip_text line.base (skip_is line.part.now) };
 
+    #[inline(always)]
     fn write_at(&self, bytes: &mut [u8], at: usize) -> usize {
         write_skipped(bytes, at, self.base, self.part)
     }
@@ -386,6 +391,7 @@ impl ShortText for FaultLine<'_> {
 
     ghost text = { λ line. report_text line.base (stream_end (fault (fault_at line.error.now))) };
 
+    #[inline(always)]
     fn write_at(&self, bytes: &mut [u8], at: usize) -> usize {
         write_fault(bytes, at, self.base, self.error)
     }

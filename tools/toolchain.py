@@ -1,0 +1,61 @@
+"""How the tools call the compiler of the toolchain, over libraries that a checkout proved."""
+import functools
+import os
+import shutil
+import subprocess
+
+import common
+
+LINUX = "x86_64-unknown-linux-gnu"
+
+
+def found(name):
+    """The path of a program. Reports a missing one."""
+    path = shutil.which(name)
+    if not path:
+        print("missing: %s" % name)
+    return path
+
+
+@functools.lru_cache(maxsize=None)
+def folder():
+    """The folder of the toolchain, which has the page that `rt doc` names."""
+    if not found("rt"):
+        common.stop(common.NO_PROGRAM, "rt is not on the path")
+    return os.path.dirname(subprocess.run(["rt", "doc"], stdout=subprocess.PIPE, check=True).stdout.decode().strip())
+
+
+def version():
+    """What the toolchain calls itself."""
+    return subprocess.run(["rt", "version"], stdout=subprocess.PIPE, check=True).stdout.decode().strip()
+
+
+def rlib(crate, built=common.TOP):
+    """Where a checkout has a library that was proved."""
+    return os.path.join(built, "crates", crate, "out", "rlib", crate + ".rlib")
+
+
+def libraries(crate, built):
+    """The options that name the libraries of a crate: those of the checkout, and those of the toolchain."""
+    of_kit = os.path.join(folder(), "rlibs")
+    words = ["--extern", "std=%s/std.rlib" % of_kit, "-L", "dependency=" + of_kit]
+    for name in common.crates()[crate]:
+        path = os.path.join(of_kit, name + ".rlib")
+        if not os.path.isdir(path):
+            path = rlib(name, built)
+        if not os.path.isdir(path):
+            common.stop(common.NO_PROGRAM, "%s is not proved in %s" % (name, built))
+        words += ["--extern", "%s=%s" % (name, path), "-L", "dependency=" + os.path.dirname(path)]
+    return words
+
+
+def build_command(crate, built=common.TOP):
+    """The command that proves and builds a crate, for its folder. What it is built for and where to is still missing."""
+    root = "src/main.rt" if common.is_program(crate) else "src/lib.rt"
+    words = [folder() + "/bin/rattle", "build", "--crate-name", crate, root, *libraries(crate, built), "--links", crate + "="]
+    return words + ["--antt-project", folder() + "/rattle/logic/antt-project.json", "--logic-built", folder() + "/logic_built"]
+
+
+def link_command(triple, path, *objects):
+    """The command that links what was built into the file at this path."""
+    return [folder() + "/bin/rattle-link", "--target", triple, "--toolchain", folder() + "/toolchain", "-o", path, *objects]
