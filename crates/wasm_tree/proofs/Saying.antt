@@ -232,10 +232,10 @@ none_in_plain (x ∷ xs) e =
     let (first, later) = neither (is_escaped x) (list_any is_escaped xs) e in
     rw ((neither (nat_eq x 10) false (none_in_quoted x first)).0, none_in_plain xs later) refl
 
-pub quotes_parts : (rest first later text : List ℕ) (x y z : Writing) → rest ≡ first ++ later → flat_map quoted_byte first ≡ text
-    → Says text x y → Says (flat_map quoted_byte later) y z → Says (flat_map quoted_byte rest) x z
-quotes_parts rest first later text x y z e t p q = says_parts (flat_map quoted_byte rest) text (flat_map quoted_byte later) x y z
-    (ap (flat_map quoted_byte) e ∙ (flat_map-append quoted_byte first later ∙ ap (λ (u : List ℕ). u ++ flat_map quoted_byte later) t)) p q
+pub maps_parts : (f : ℕ → List ℕ) (rest first later text : List ℕ) (x y z : Writing) → rest ≡ first ++ later
+    → flat_map f first ≡ text → Says text x y → Says (flat_map f later) y z → Says (flat_map f rest) x z
+maps_parts f rest first later text x y z e t p q = says_parts (flat_map f rest) text (flat_map f later) x y z
+    (ap (flat_map f) e ∙ (flat_map-append f first later ∙ ap (λ (u : List ℕ). u ++ flat_map f later) t)) p q
 
 -- ---- one more of a list
 

@@ -1,8 +1,10 @@
 // Digits and escapes of bytes.
 ghost use Rattle.std.specs.Prelude.{◌≡◌, ◌≤◌, false, length, take};
-ghost use Rattle.std.specs.List.{list_any};
+ghost use Rattle.std.specs.List.{flat_map, list_any};
 ghost use Rattle.wasm_tree.specs.Fields.{hexadecimal, is_escaped as byte_is_escaped};
 ghost use Rattle.wasm_tree.specs.Tree.{has_line_feed};
+
+use crate::gathered::Gathered;
 
 /// How many bytes are put at once at most.
 pub(crate) const PAGE_BYTES: usize = 65_536;
@@ -45,4 +47,20 @@ pub(crate) fn hexadecimal_digits(byte: u8) -> [u8; 2]
         digits[usize::from(byte / 16)],
         digits[usize::from(byte % 16)],
     ]
+}
+
+/// How many bytes are written as digits at once.
+pub(crate) const GROUP: usize = 16;
+
+/// The hexadecimal digits of at most 16 bytes.
+pub(crate) fn digits_of(bytes: &[u8]) -> Gathered<32>
+    requires { length bytes.now ≤ 16 }
+    ensures digits { result ≡ flat_map hexadecimal bytes.now }
+    ensures one_line { has_line_feed result ≡ false }
+{
+    let mut digits = Gathered::new();
+    for byte in bytes {
+        digits.put(&hexadecimal_digits(*byte));
+    }
+    digits
 }

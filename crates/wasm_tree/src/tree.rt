@@ -11,7 +11,7 @@ ghost use Rattle.wasm_tree.specs.declared.objects.Spot.TheVariants.{Outside};
 ghost use Rattle.wasm_tree.specs.declared.tree.Style.TheVariants.{Objects};
 ghost use Rattle.wasm_tree.specs.Values.{breaks_line, start_breaks_line, value_of};
 
-use crate::escapes::hexadecimal_digits;
+use crate::escapes::{GROUP, digits_of};
 use crate::numbers::Space;
 use std::alloc::Global;
 use wasm_base::Error;
@@ -275,9 +275,13 @@ pub trait Tree {
         ensures says { Says (flat_map hexadecimal bytes.now) (writing self.old) (writing self.new) }
         ensures some { SaysSome (writing self.old) (writing self.new) }
     {
-        for byte in bytes {
-            self.bytes(&hexadecimal_digits(*byte));
+        let mut rest = bytes;
+        'groups: while rest.len() > GROUP {
+            let (first, later) = rest.split_at(GROUP);
+            self.bytes(digits_of(first).as_bytes());
+            rest = later;
         }
+        self.bytes(digits_of(rest).as_bytes());
     }
 
     /// Writes a field with a word as its value.

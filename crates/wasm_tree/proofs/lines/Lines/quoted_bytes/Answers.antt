@@ -1,7 +1,7 @@
 use Rattle.std.proofs.Common.{◌≡◌, List, ℕ, [], ◌∷◌, false, rules, sym, subst, append-nil}
 use Rattle.std.specs.List.{list_any}
 use Rattle.wasm_tree.specs.Fields.{is_escaped, quoted_byte}
-use Rattle.wasm_tree.proofs.Saying.{quotes_parts, plain_quoted, none_in_plain}
+use Rattle.wasm_tree.proofs.Saying.{maps_parts, plain_quoted, none_in_plain}
 use Rattle.wasm_tree.proofs.lines.Lines.quoted_bytes.Goals as goal
 
 pub runs-preserved-then-count-eq0 : goal.runs-preserved-then-count-eq0
@@ -9,7 +9,7 @@ runs-preserved-then-count-eq0 g c =
     let byte = c.in-Some.byte.now in
     record {
       adds = search rules;
-      says = λ w p. c.runs.invariant.says w (quotes_parts c.runs.rest.now (byte ∷ []) c.in-Some.later.now (quoted_byte byte) _ _ w
+      says = λ w p. c.runs.invariant.says w (maps_parts quoted_byte c.runs.rest.now (byte ∷ []) c.in-Some.later.now (quoted_byte byte) _ _ w
           c.in-Some.ensures.cases.0 (append-nil (quoted_byte byte)) c.quoted_byte.ensures.says p);
     }
 
@@ -23,6 +23,6 @@ runs-preserved g c =
     let plain = subst (λ (x : List ℕ). list_any is_escaped x ≡ false) (sym c.split_at.ensures.front) c.plain_count-count.ensures.plain in
     record {
       adds = search rules;
-      says = λ w p. c.runs.invariant.says w (quotes_parts c.runs.rest.now run c.split_at.result.1.now run _ _ w
+      says = λ w p. c.runs.invariant.says w (maps_parts quoted_byte c.runs.rest.now run c.split_at.result.1.now run _ _ w
           c.split_at.ensures.by_index.0 (plain_quoted run plain) c.piece.ensures.says p);
     }

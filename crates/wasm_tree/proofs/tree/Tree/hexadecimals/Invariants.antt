@@ -1,17 +1,20 @@
-use Rattle.std.proofs.Common.{take}
+use Rattle.std.proofs.Common.{length}
 use Rattle.std.specs.List.{flat_map}
 use Rattle.wasm_tree.specs.Fields.{hexadecimal}
 use Rattle.wasm_tree.specs.Said.{Says, SaysSome}
-use Rattle.wasm_tree.specs.Tree.{Adds}
+use Rattle.wasm_tree.specs.Tree.{Adds, Writing}
 use Rattle.wasm_tree.proofs.tree.Tree.hexadecimals.Given as goal
 
-abbrev pub invariant-loop-byte : goal.invariant-loop-byte
-invariant-loop-byte g l =
+-- what says the digits of the rest says all
+abbrev pub invariant-groups : goal.invariant-groups
+invariant-groups g l =
     let writing = g.Self.Tree.writing in
-    let old = writing l.initial.self in
-    let new = writing l.self in
     record {
-      adds : Adds old new;
-      some : SaysSome old new;
-      says : Says (flat_map hexadecimal (take l.byte-index l.bytes)) old new;
+      adds : Adds (writing l.initial.self) (writing l.self);
+      some : SaysSome (writing l.initial.self) (writing l.self);
+      says : (w : Writing) → Says (flat_map hexadecimal l.rest) (writing l.self) w
+          → Says (flat_map hexadecimal l.fn.bytes) (writing l.initial.self) w;
     }
+
+abbrev pub decreases-groups : goal.decreases-groups
+decreases-groups g l = length l.rest

@@ -1,0 +1,12 @@
+use Rattle.std.proofs.Common.{◌≡◌, ◌*◌, false, length, take}
+use Rattle.std.specs.List.{flat_map}
+use Rattle.wasm_tree.specs.Fields.{hexadecimal}
+use Rattle.wasm_tree.specs.Tree.{has_line_feed}
+use Rattle.wasm_tree.proofs.escapes.digits_of.Given as goal
+
+abbrev pub invariant-loop-byte : goal.invariant-loop-byte
+invariant-loop-byte l = record {
+  digits : l.digits ≡ flat_map hexadecimal (take l.byte-index l.bytes);
+  short : length l.digits ≡ 2 * l.byte-index;
+  one_line : has_line_feed l.digits ≡ false;
+}
