@@ -1,40 +1,75 @@
 // Parts of JSON objects that are put at once.
-ghost use Rattle.std.specs.Prelude.{◌≡◌, ◌≤◌, length};
-ghost use Rattle.wasm_tree.specs.Json.{Leads, name_start, object_end};
-ghost use Rattle.wasm_tree.specs.declared.objects.Spot.TheVariants.{InName, Outside};
+ghost use Rattle.std.specs.Prelude.{◌≡◌, ◌≤◌, ◌+◌, ◌++◌, length, take};
+ghost use Rattle.wasm_tree.specs.Json.{name_start, object_end};
 
 use crate::numbers::{Space, space_word};
 use crate::objects::Spot;
 use crate::plain::Plain;
 use wasm_text::{ShortText, write_number, write_word};
 
-/// What leads into the name of the next member.
-pub(crate) fn before_name(spot: Spot) -> &'static str
-    ensures text { result.now ≡ name_start spot }
-    ensures leads { Leads spot result.now InName }
-    ensures short { length result.now ≤ 8 }
+// Writes what leads into the name of the next member. The words have lengths that are known here, so none is copied by a call.
+#[inline(always)]
+fn write_name_start(bytes: &mut [u8], at: usize, spot: Spot) -> usize
+    requires { at + 8 ≤ length bytes.old }
+    ensures short { result ≤ at + 8 }
+    ensures written { take result bytes.new ≡ take at bytes.old ++ name_start spot }
 {
     match spot {
-        Spot::Outside => "{\"",
-        Spot::Ended => ",\"",
-        Spot::InName => "\":null,\"",
-        Spot::AtValue => "null,\"",
-        Spot::InText => "\",\"",
+        Spot::Outside => write_word(bytes, at, "{\""),
+        Spot::Ended => write_word(bytes, at, ",\""),
+        Spot::InName => write_word(bytes, at, "\":null,\""),
+        Spot::AtValue => write_word(bytes, at, "null,\""),
+        Spot::InText => write_word(bytes, at, "\",\""),
+    }
+}
+
+// Writes what ends the line.
+#[inline(always)]
+fn write_object_end(bytes: &mut [u8], at: usize, spot: Spot) -> usize
+    requires { at + 8 ≤ length bytes.old }
+    ensures short { result ≤ at + 8 }
+    ensures written { take result bytes.new ≡ take at bytes.old ++ object_end spot }
+{
+    match spot {
+        Spot::Outside => at,
+        Spot::Ended => write_word(bytes, at, "}\n"),
+        Spot::InName => write_word(bytes, at, "\":null}\n"),
+        Spot::AtValue => write_word(bytes, at, "null}\n"),
+        Spot::InText => write_word(bytes, at, "\"}\n"),
+    }
+}
+
+/// What leads into the name of the next member.
+#[derive(Drop)]
+pub(crate) struct NameStart {
+    pub(crate) spot: Spot,
+}
+
+impl ShortText for NameStart {
+    ghost use Rattle.wasm_tree.specs.Json.{name_start};
+
+    ghost text = { λ s. name_start s.spot };
+
+    #[inline(always)]
+    fn write_at(&self, bytes: &mut [u8], at: usize) -> usize {
+        write_name_start(bytes, at, self.spot)
     }
 }
 
 /// What ends the line.
-pub(crate) fn after_last(spot: Spot) -> &'static str
-    ensures text { result.now ≡ object_end spot }
-    ensures leads { Leads spot result.now Outside }
-    ensures short { length result.now ≤ 8 }
-{
-    match spot {
-        Spot::Outside => "",
-        Spot::Ended => "}\n",
-        Spot::InName => "\":null}\n",
-        Spot::AtValue => "null}\n",
-        Spot::InText => "\"}\n",
+#[derive(Drop)]
+pub(crate) struct ObjectEnd {
+    pub(crate) spot: Spot,
+}
+
+impl ShortText for ObjectEnd {
+    ghost use Rattle.wasm_tree.specs.Json.{object_end};
+
+    ghost text = { λ s. object_end s.spot };
+
+    #[inline(always)]
+    fn write_at(&self, bytes: &mut [u8], at: usize) -> usize {
+        write_object_end(bytes, at, self.spot)
     }
 }
 
@@ -52,7 +87,7 @@ impl ShortText for MemberStart<'_> {
 
     #[inline(always)]
     fn write_at(&self, bytes: &mut [u8], at: usize) -> usize {
-        let at = write_word(bytes, at, before_name(self.spot));
+        let at = write_name_start(bytes, at, self.spot);
         let at = write_word(bytes, at, self.name.as_str());
         write_word(bytes, at, "\":")
     }
@@ -90,7 +125,7 @@ impl ShortText for ItemStart {
     ghost text = { λ s. item_start s.spot s.level s.offset };
 
     fn write_at(&self, bytes: &mut [u8], at: usize) -> usize {
-        let at = write_word(bytes, at, after_last(self.spot));
+        let at = write_object_end(bytes, at, self.spot);
         let at = write_word(bytes, at, "{\"level\":");
         let at = write_number(bytes, at, self.level);
         let at = write_word(bytes, at, ",\"at\":");
@@ -112,7 +147,7 @@ impl ShortText for NumberMembers {
     ghost text = { λ m. number_members m.spot m.space m.index };
 
     fn write_at(&self, bytes: &mut [u8], at: usize) -> usize {
-        let at = write_word(bytes, at, before_name(self.spot));
+        let at = write_name_start(bytes, at, self.spot);
         let at = write_word(bytes, at, "space\":\"");
         let at = write_word(bytes, at, space_word(self.space));
         let at = write_word(bytes, at, "\",\"number\":");

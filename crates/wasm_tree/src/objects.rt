@@ -9,7 +9,7 @@ ghost use Rattle.wasm_tree.specs.declared.objects.Spot.TheVariants.{Outside, End
 
 use crate::escapes::{hexadecimal_digits, plain_count};
 use crate::known_names::{ItemNames, name_in};
-use crate::members::{ItemStart, MemberStart, NumberMembers, TextStart, after_last, before_name};
+use crate::members::{ItemStart, MemberStart, NameStart, NumberMembers, ObjectEnd, TextStart};
 use crate::numbers::Space;
 use crate::output::Output;
 use crate::plain::Plain;
@@ -175,12 +175,13 @@ impl<W: Sink> Objects<W> {
     }
 
     // Begins a member whose name is long or has escapes.
+    #[tactic(auto, using(crate::proofs::MemberTexts::start_leads))]
     fn begin_long_member(&mut self, name: &str)
         ensures adds { Adds (objects self.old) (objects self.new) }
         ensures spot { self.new.spot ≡ AtValue }
     {
-        let before = before_name(self.spot);
-        self.put(before.as_bytes(), Spot::InName);
+        let start = NameStart { spot: self.spot };
+        self.short(&start, Spot::InName);
         self.put_string(name.as_bytes());
         self.put(b"\":", Spot::AtValue);
     }
@@ -309,9 +310,10 @@ impl<W: Sink> Tree for Objects<W> {
         self.output.write_out();
     }
 
+    #[tactic(auto, using(crate::proofs::MemberTexts::end_leads))]
     fn end(&mut self) {
-        let after = after_last(self.spot);
-        self.put(after.as_bytes(), Spot::Outside);
+        let end = ObjectEnd { spot: self.spot };
+        self.short(&end, Spot::Outside);
     }
 
     fn begin_line(&mut self, level: usize, start: Start<'_>) {
