@@ -116,6 +116,7 @@ impl<A: Allocator> Ahead<A> {
     /// # Errors
     ///
     /// `Memory` when an allocation fails. No byte is lost: the call can be repeated.
+    #[inline(always)]
     pub fn make_ready(
         &mut self,
         cursor: &mut Cursor,

@@ -30,6 +30,8 @@ pub fn seen<'a>(stored: &'a [u8], piece: &'a [u8]) -> &'a [u8]
 /// Stores as many bytes of the chunk as the next step needs after the held ones, and returns their number: none if
 /// nothing is held, since the chunk is then read in place. There is room for the others too. A failed allocation
 /// changes nothing.
+// Inlined, since between the cuts of chunks there is nothing to do.
+#[inline(always)]
 pub(crate) fn make_ready<A: Allocator>(
     cursor: &mut Cursor,
     stored: &mut Vec<u8, A>,
@@ -51,6 +53,23 @@ pub(crate) fn make_ready<A: Allocator>(
     if piece.is_empty() {
         return Ok(0);
     }
+    reserve_and_gather(cursor, stored, piece)
+}
+
+// What `make_ready` does if bytes are held, or if there is no room for the chunk yet.
+#[inline(never)]
+fn reserve_and_gather<A: Allocator>(
+    cursor: &mut Cursor,
+    stored: &mut Vec<u8, A>,
+    piece: &[u8],
+) -> Result<usize, AllocError>
+    ensures ok { IfOk result (λ count. MakesReady (feed_of stored.old.items cursor.old) piece.now
+        count stored.new.items cursor.new) }
+    ensures room { IfOk result (λ count. vec_len stored.new + (length piece.now - count)
+        ≤ vec_capacity stored.new) }
+    ensures unchanged { OnErr result (feed_of stored.new.items cursor.new
+        ≡ feed_of stored.old.items cursor.old) }
+{
     make_room(stored, cursor.mark.min(stored.len()), piece.len())?;
     cursor.mark = 0;
     if stored.is_empty() {

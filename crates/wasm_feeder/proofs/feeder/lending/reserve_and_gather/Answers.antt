@@ -5,7 +5,7 @@ use Rattle.wasm_grammar.specs.Waiting.{waiting}
 use Rattle.wasm_parser.specs.ParserState.{grammar_of}
 use Rattle.wasm_feeder.specs.Cursors.{feed_of}
 use Rattle.wasm_feeder.proofs.Beside.{ready}
-use Rattle.wasm_feeder.proofs.feeder.lending.make_ready.Goals as goal
+use Rattle.wasm_feeder.proofs.feeder.lending.reserve_and_gather.Goals as goal
 
 pub returns-clause-ok : goal.returns-clause-ok
 returns-clause-ok g c =
