@@ -178,13 +178,17 @@ PREBUILT = os.path.join(TOP, "prebuilt")
 MADE_OF = ("src", "specs", "proofs", "include")
 
 
+def sources_of(crate):
+    """The files of a crate that its proof and its code are made of."""
+    for path in files_of(crate):
+        if os.path.relpath(path, os.path.join(TOP, "crates", crate)).split(os.sep)[0] in MADE_OF:
+            yield path
+
+
 def sources():
     """The files that the prebuilt artifacts are made of, in order."""
-    crates = sorted({crate for name in ("wasm_c", "wasm_list", "wasm_dump") for crate in crates_of(name)})
-    for crate in crates:
-        for path in files_of(crate):
-            if os.path.relpath(path, os.path.join(TOP, "crates", crate)).split(os.sep)[0] in MADE_OF:
-                yield path
+    for crate in sorted({crate for name in ("wasm_c", "wasm_list", "wasm_dump") for crate in crates_of(name)}):
+        yield from sources_of(crate)
     for folder in ("page", os.path.join("bindings", "js")):
         for name in sorted(os.listdir(os.path.join(TOP, folder))):
             if name.endswith((".js", ".html", ".css")) or name == "pack":

@@ -25,6 +25,7 @@ def folder():
     return os.path.dirname(subprocess.run(["rt", "doc"], stdout=subprocess.PIPE, check=True).stdout.decode().strip())
 
 
+@functools.lru_cache(maxsize=None)
 def version():
     """What the toolchain calls itself."""
     return subprocess.run(["rt", "version"], stdout=subprocess.PIPE, check=True).stdout.decode().strip()

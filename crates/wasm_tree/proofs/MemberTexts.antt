@@ -29,6 +29,12 @@ member_leads spot name plain =
     leads_on spot InName AtValue (name_start spot) (name ++ codes "\":") (start_leads spot)
     (leads_on InName InName AtValue name (codes "\":") (plain_run_stays name plain InName refl) colon_leads)
 
+-- and the number that follows it
+pub number_member_leads : (spot : Spot) (name : List ℕ) (number : ℕ) → list_any is_escaped name ≡ false → number < 2 ^ 64
+    → Leads spot (member_start spot name ++ decimal number) Ended
+number_member_leads spot name number plain h =
+    leads_on spot AtValue Ended (member_start spot name) (decimal number) (member_leads spot name plain) (number_leads number h)
+
 level_leads : Leads Outside (codes "{\"level\":") AtValue
 level_leads s i = rw i refl
 

@@ -1,6 +1,6 @@
 // Parts of JSON objects that are put at once.
 ghost use Rattle.std.specs.Prelude.{◌≡◌, ◌≤◌, ◌+◌, ◌++◌, length, take};
-ghost use Rattle.wasm_tree.specs.Json.{name_start, object_end};
+ghost use Rattle.wasm_tree.specs.Json.{member_start, name_start, object_end};
 
 use crate::numbers::{Space, space_word};
 use crate::objects::Spot;
@@ -73,6 +73,18 @@ impl ShortText for ObjectEnd {
     }
 }
 
+// Writes the name of a member, up to its value.
+#[inline(always)]
+fn write_member_start(bytes: &mut [u8], at: usize, spot: Spot, name: &Plain<'_>) -> usize
+    requires { at + 138 ≤ length bytes.old }
+    ensures short { result ≤ at + 138 }
+    ensures written { take result bytes.new ≡ take at bytes.old ++ member_start spot name.now }
+{
+    let at = write_name_start(bytes, at, spot);
+    let at = write_word(bytes, at, name.as_str());
+    write_word(bytes, at, "\":")
+}
+
 /// The name of a member, up to its value.
 #[derive(Drop)]
 pub(crate) struct MemberStart<'a> {
@@ -87,9 +99,28 @@ impl ShortText for MemberStart<'_> {
 
     #[inline(always)]
     fn write_at(&self, bytes: &mut [u8], at: usize) -> usize {
-        let at = write_name_start(bytes, at, self.spot);
-        let at = write_word(bytes, at, self.name.as_str());
-        write_word(bytes, at, "\":")
+        write_member_start(bytes, at, self.spot, &self.name)
+    }
+}
+
+/// A member whose value is a number.
+#[derive(Drop)]
+pub(crate) struct NumberMember<'a> {
+    pub(crate) spot: Spot,
+    pub(crate) name: Plain<'a>,
+    pub(crate) number: u64,
+}
+
+impl ShortText for NumberMember<'_> {
+    ghost use Rattle.std.specs.Prelude.{◌++◌, decimal};
+    ghost use Rattle.wasm_tree.specs.Json.{member_start};
+
+    ghost text = { λ m. member_start m.spot m.name ++ decimal m.number };
+
+    #[inline(always)]
+    fn write_at(&self, bytes: &mut [u8], at: usize) -> usize {
+        let at = write_member_start(bytes, at, self.spot, &self.name);
+        write_number(bytes, at, self.number)
     }
 }
 

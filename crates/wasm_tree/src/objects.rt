@@ -9,7 +9,9 @@ ghost use Rattle.wasm_tree.specs.declared.objects.Spot.TheVariants.{Outside, End
 
 use crate::escapes::{hexadecimal_digits, plain_count};
 use crate::known_names::{ItemNames, name_in};
-use crate::members::{ItemStart, MemberStart, NameStart, NumberMembers, ObjectEnd, TextStart};
+use crate::members::{
+    ItemStart, MemberStart, NameStart, NumberMember, NumberMembers, ObjectEnd, TextStart,
+};
 use crate::numbers::Space;
 use crate::output::Output;
 use crate::plain::Plain;
@@ -280,10 +282,34 @@ impl<W: Sink> Objects<W> {
         }
     }
 
+    // A member whose value is a number. Most are, so that it is put at once.
+    fn number_member(&mut self, name: &str, number: u64)
+        ensures { Adds (objects self.old) (objects self.new) }
+    {
+        match Plain::of(name) {
+            Some(name) => {
+                let member = NumberMember {
+                    spot: self.spot,
+                    name,
+                    number,
+                };
+                self.short(&member, Spot::Ended);
+            }
+            None => {
+                self.begin_long_member(name);
+                self.decimal(number);
+            }
+        }
+    }
+
     // A member with this value.
     fn member(&mut self, name: &str, value: Value<'_>)
         ensures { Adds (objects self.old) (objects self.new) }
     {
+        if let Value::Number(number) = value {
+            self.number_member(name, number);
+            return;
+        }
         self.begin_member(name);
         self.value(value);
     }
