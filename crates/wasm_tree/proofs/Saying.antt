@@ -3,7 +3,7 @@ use Rattle.std.proofs.Common.{◌≡◌, ℕ, ◌+◌, ◌<◌, ◌^◌, zero, s
 use Rattle.std.proofs.Common.{Option, Some, None, refl, sym}
 use Rattle.std.proofs.Common.{◌%◌}
 use Rattle.std.specs.Prelude.{slice_index, if◌then◌else◌}
-use Rattle.wasm_tree.specs.Fields.{Field, field_text, named, word, with_fields, is_escaped, quoted_byte}
+use Rattle.wasm_tree.specs.Fields.{Field, field_start, field_text, named, word, with_fields, is_escaped, quoted_byte}
 use Rattle.std.proofs.Common.{ap, subst, ◌∙◌, append_assoc, append-nil, ◌||◌, nat_eq, decimal, length, take, get_or, arith}
 use Rattle.std.specs.List.{flat_map, list_any}
 use Rattle.std.proofs.KnownBytes.{Appends-nil, Appends-trans}
@@ -133,6 +133,13 @@ pub says_value : (name : List ℕ) (value : Base → List ℕ) (x y z : Writing)
     → SaysInBase value y z → SaysInBase (λ base. codes " " ++ (name ++ (codes "=" ++ value base))) x z
 says_value name value x y z p q since before h = grind (arith, append_assoc)
 
+-- and one whose value is a number
+pub says_number : (name : List ℕ) (n : ℕ) (x y : Writing) → Says (field_start name ++ decimal n) x y
+    → Says (codes " " ++ (name ++ (codes "=" ++ decimal n))) x y
+says_number name n x y p = says_same (field_start name ++ decimal n) (codes " " ++ (name ++ (codes "=" ++ decimal n))) x y
+    (append_assoc (codes " ") (name ++ codes "=") (decimal n) ∙ ap (λ (t : List ℕ). codes " " ++ t)
+    (append_assoc name (codes "=") (decimal n))) p
+
 -- ---- some text
 
 -- a text is some
@@ -187,6 +194,11 @@ digit_alone n = rw (digit_is_none n) refl
 pub none_in_decimal : (n : ℕ) → n < 2 ^ 64 → has_line_feed (decimal n) ≡ false
 none_in_decimal = decimal_by_steps (λ n ds. has_line_feed ds ≡ false) (λ n h. digit_alone n)
     (λ n ds h k. list_any-append (λ b. nat_eq b 10) ds ((48 + n % 10) ∷ []) ∙ rw k (digit_alone (n % 10)))
+
+pub none_in_number_field : (name : List ℕ) (n : ℕ) → n < 2 ^ 64 → has_line_feed name ≡ false
+    → has_line_feed (field_start name ++ decimal n) ≡ false
+none_in_number_field name n h none = list_any-append (λ b. nat_eq b 10) (field_start name) (decimal n)
+    ∙ rw (list_any-append (λ b. nat_eq b 10) name (codes "="), none, none_in_decimal n h) refl
 
 pub none_in_signed : (negative : Bool) (n : ℕ) → n < 2 ^ 64
     → has_line_feed ((if negative then codes "-" else []) ++ decimal n) ≡ false

@@ -1,5 +1,5 @@
 // Lines of text, some of them under others.
-ghost use Rattle.std.specs.Prelude.{◌≡◌, ◌≤◌, ◌++◌, [], None, true, false, codes, length, option_map};
+ghost use Rattle.std.specs.Prelude.{◌≡◌, ◌≤◌, ◌++◌, [], None, true, false, codes, decimal, length, option_map};
 ghost use Rattle.std.specs.List.{flat_map};
 ghost use Rattle.std.specs.Option.{is_some};
 ghost use Rattle.wasm_text.specs.Offsets.{offset_text};
@@ -14,7 +14,7 @@ use crate::escapes::{PAGE_BYTES, hexadecimal_digits, is_escaped, plain_count};
 use crate::known_names::{ItemNames, function_name, name_in};
 use crate::numbers::{ItemNumber, Space};
 use crate::output::Output;
-use crate::plain::{FieldStart, Plain, Quoted};
+use crate::plain::{FieldStart, NumberField, Plain, Quoted};
 use crate::rows::Rows;
 use crate::short::{Offset, flag_word, signed_of};
 use crate::tree::{Start, Style, Tree, Value, is_default};
@@ -262,6 +262,21 @@ impl<W: Sink> Lines<W> {
         }
     }
 
+    // Writes a field whose value is a number. Most are, so that it is put at once.
+    fn number_field(&mut self, name: &str, number: u64)
+        requires one_line { has_line_feed name.now ≡ false }
+        ensures adds { Adds (lines self.old) (lines self.new) }
+        ensures says { Says (field_start name.now ++ decimal number) (lines self.old) (lines self.new) }
+    {
+        match FieldStart::of(name) {
+            Some(start) => self.short(&NumberField { start, number }),
+            None => {
+                self.begin_long_field(name);
+                self.digits(number);
+            }
+        }
+    }
+
     // Writes a field whatever its value is.
     fn whole_field(&mut self, name: &str, value: Value<'_>)
         requires name_line { has_line_feed name.now ≡ false }
@@ -270,6 +285,10 @@ impl<W: Sink> Lines<W> {
         ensures says { SaysInBase (whole_field_text name.now (value_of value.entry))
             (lines self.old) (lines self.new) }
     {
+        if let Value::Number(number) = value {
+            self.number_field(name, number);
+            return;
+        }
         self.begin_field(name);
         self.value(value);
     }

@@ -1,11 +1,11 @@
 // Short texts without escapes, which are put at once.
 ghost use Rattle.std.specs.List.{list_any};
-ghost use Rattle.std.specs.Prelude.{◌≡◌, ◌≤◌, IfSome, false, length};
+ghost use Rattle.std.specs.Prelude.{◌≡◌, ◌≤◌, ◌+◌, ◌++◌, IfSome, false, length, take};
 ghost use Rattle.wasm_tree.specs.Fields.{field_start, is_escaped};
 
 use crate::escapes::plain_count;
 use std::marker::Model;
-use wasm_text::{ShortText, write_word};
+use wasm_text::{ShortText, write_number, write_word};
 
 // Longer texts are put in parts.
 const MOST_BYTES: usize = 128;
@@ -88,9 +88,38 @@ impl ShortText for FieldStart<'_> {
 
     #[inline(always)]
     fn write_at(&self, bytes: &mut [u8], at: usize) -> usize {
-        let at = write_word(bytes, at, " ");
-        let at = write_word(bytes, at, self.name);
-        write_word(bytes, at, "=")
+        write_field_start(bytes, at, self)
+    }
+}
+
+// Writes the start of a field.
+#[inline(always)]
+fn write_field_start(bytes: &mut [u8], at: usize, start: &FieldStart<'_>) -> usize
+    requires { at + 130 ≤ length bytes.old }
+    ensures short { result ≤ at + 130 }
+    ensures written { take result bytes.new ≡ take at bytes.old ++ start.now }
+{
+    let at = write_word(bytes, at, " ");
+    let at = write_word(bytes, at, start.name);
+    write_word(bytes, at, "=")
+}
+
+/// A field whose value is a number.
+#[derive(Drop)]
+pub(crate) struct NumberField<'a> {
+    pub(crate) start: FieldStart<'a>,
+    pub(crate) number: u64,
+}
+
+impl ShortText for NumberField<'_> {
+    ghost use Rattle.std.specs.Prelude.{◌++◌, decimal};
+
+    ghost text = { λ f. f.start ++ decimal f.number };
+
+    #[inline(always)]
+    fn write_at(&self, bytes: &mut [u8], at: usize) -> usize {
+        let at = write_field_start(bytes, at, &self.start);
+        write_number(bytes, at, self.number)
     }
 }
 
