@@ -1,4 +1,5 @@
 pub mod EscapedBytes
+pub mod FirstBytes
 pub mod ForCallers
 pub mod Json
 pub mod MemberTexts

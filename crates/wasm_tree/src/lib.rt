@@ -15,6 +15,7 @@ mod numbers;
 mod objects;
 mod offsets;
 mod output;
+mod padded;
 mod plain;
 mod rows;
 mod short;

@@ -2,25 +2,51 @@
 ghost use Rattle.std.specs.Prelude.{◌≡◌, ◌≤◌, ◌+◌, ◌++◌, length, take};
 ghost use Rattle.wasm_tree.specs.Json.{member_start, name_start, object_end};
 
-use crate::numbers::{Space, space_word};
+use crate::numbers::{Space, write_space};
 use crate::objects::Spot;
+use crate::padded::write_padded;
 use crate::plain::Plain;
 use wasm_text::{ShortText, write_number, write_word};
 
-// Writes what leads into the name of the next member. The words have lengths that are known here, so none is copied by a call.
+// What leads into the name of the next member, with blanks up to 8 bytes, and its length.
+#[inline(always)]
+fn name_start_of(spot: Spot) -> (&'static str, usize)
+    ensures padded { (length result.0.now ≡ 8) × (result.1 ≤ 8) }
+    ensures text { take result.1 result.0.now ≡ name_start spot }
+{
+    match spot {
+        Spot::Outside => ("{\"      ", 2),
+        Spot::Ended => (",\"      ", 2),
+        Spot::InName => ("\":null,\"", 8),
+        Spot::AtValue => ("null,\"  ", 6),
+        Spot::InText => ("\",\"     ", 3),
+    }
+}
+
+// What ends the line, with blanks up to 8 bytes, and its length.
+#[inline(always)]
+fn object_end_of(spot: Spot) -> (&'static str, usize)
+    ensures padded { (length result.0.now ≡ 8) × (result.1 ≤ 8) }
+    ensures text { take result.1 result.0.now ≡ object_end spot }
+{
+    match spot {
+        Spot::Outside => ("        ", 0),
+        Spot::Ended => ("}\n      ", 2),
+        Spot::InName => ("\":null}\n", 8),
+        Spot::AtValue => ("null}\n  ", 6),
+        Spot::InText => ("\"}\n     ", 3),
+    }
+}
+
+// Writes what leads into the name of the next member.
 #[inline(always)]
 fn write_name_start(bytes: &mut [u8], at: usize, spot: Spot) -> usize
     requires { at + 8 ≤ length bytes.old }
     ensures short { result ≤ at + 8 }
     ensures written { take result bytes.new ≡ take at bytes.old ++ name_start spot }
 {
-    match spot {
-        Spot::Outside => write_word(bytes, at, "{\""),
-        Spot::Ended => write_word(bytes, at, ",\""),
-        Spot::InName => write_word(bytes, at, "\":null,\""),
-        Spot::AtValue => write_word(bytes, at, "null,\""),
-        Spot::InText => write_word(bytes, at, "\",\""),
-    }
+    let (padded, len) = name_start_of(spot);
+    write_padded(bytes, at, padded, len)
 }
 
 // Writes what ends the line.
@@ -30,13 +56,8 @@ fn write_object_end(bytes: &mut [u8], at: usize, spot: Spot) -> usize
     ensures short { result ≤ at + 8 }
     ensures written { take result bytes.new ≡ take at bytes.old ++ object_end spot }
 {
-    match spot {
-        Spot::Outside => at,
-        Spot::Ended => write_word(bytes, at, "}\n"),
-        Spot::InName => write_word(bytes, at, "\":null}\n"),
-        Spot::AtValue => write_word(bytes, at, "null}\n"),
-        Spot::InText => write_word(bytes, at, "\"}\n"),
-    }
+    let (padded, len) = object_end_of(spot);
+    write_padded(bytes, at, padded, len)
 }
 
 /// What leads into the name of the next member.
@@ -180,7 +201,7 @@ impl ShortText for NumberMembers {
     fn write_at(&self, bytes: &mut [u8], at: usize) -> usize {
         let at = write_name_start(bytes, at, self.spot);
         let at = write_word(bytes, at, "space\":\"");
-        let at = write_word(bytes, at, space_word(self.space));
+        let at = write_space(bytes, at, self.space);
         let at = write_word(bytes, at, "\",\"number\":");
         write_number(bytes, at, self.index)
     }

@@ -2,6 +2,7 @@
 ghost use Rattle.std.specs.Prelude.{◌≡◌, ◌≤◌, ◌+◌, ◌++◌, [], length, take};
 ghost use Rattle.wasm_tree.specs.Numbers.{number_text, word_of};
 
+use crate::padded::write_padded;
 use wasm_text::{ShortText, write_number, write_word};
 
 /// An index space (core specification, Binary format, Modules, Indices).
@@ -25,21 +26,33 @@ pub enum Space {
     DataSegments,
 }
 
-/// The word of an index space.
-pub(crate) fn space_word(space: Space) -> &'static str
-    ensures word { result.now ≡ word_of space }
-    ensures short { length result.now ≤ 6 }
+// The word of an index space, with blanks up to 8 bytes, and its length.
+#[inline(always)]
+fn space_word(space: Space) -> (&'static str, usize)
+    ensures padded { (length result.0.now ≡ 8) × (result.1 ≤ 6) }
+    ensures word { take result.1 result.0.now ≡ word_of space }
 {
     match space {
-        Space::Types => "type",
-        Space::Functions => "func",
-        Space::Tables => "table",
-        Space::Memories => "memory",
-        Space::Tags => "tag",
-        Space::Globals => "global",
-        Space::Elements => "elem",
-        Space::DataSegments => "data",
+        Space::Types => ("type    ", 4),
+        Space::Functions => ("func    ", 4),
+        Space::Tables => ("table   ", 5),
+        Space::Memories => ("memory  ", 6),
+        Space::Tags => ("tag     ", 3),
+        Space::Globals => ("global  ", 6),
+        Space::Elements => ("elem    ", 4),
+        Space::DataSegments => ("data    ", 4),
     }
+}
+
+/// Writes the word of an index space.
+#[inline(always)]
+pub(crate) fn write_space(bytes: &mut [u8], at: usize, space: Space) -> usize
+    requires { at + 8 ≤ length bytes.old }
+    ensures short { result ≤ at + 6 }
+    ensures written { take result bytes.new ≡ take at bytes.old ++ word_of space }
+{
+    let (padded, len) = space_word(space);
+    write_padded(bytes, at, padded, len)
 }
 
 /// Writes the number of an item into `bytes` at this place, and returns the place after it: a word for the index space,
@@ -59,7 +72,7 @@ pub fn write_item(bytes: &mut [u8], at: usize, space: Space, index: u64) -> usiz
     ensures written { take result bytes.new ≡ take at bytes.old
         ++ number_text (record { space = space; index = index }) [] }
 {
-    let at = write_word(bytes, at, space_word(space));
+    let at = write_space(bytes, at, space);
     let at = write_word(bytes, at, "[");
     let at = write_number(bytes, at, index);
     write_word(bytes, at, "]")
