@@ -23,6 +23,28 @@ pub(crate) fn is_escaped(byte: u8) -> bool
     ESCAPED[usize::from(byte)] == b'x'
 }
 
+// Whether one of these four bytes is escaped.
+#[inline(always)]
+fn is_any_escaped(four: &[u8]) -> bool
+    requires { length four.now ≡ 4 }
+    ensures { result ≡ list_any byte_is_escaped four.now }
+{
+    is_escaped(four[0]) || is_escaped(four[1]) || is_escaped(four[2]) || is_escaped(four[3])
+}
+
+// The number of leading bytes that are plain, in fours: one step for four bytes costs half of what four steps do.
+#[inline(always)]
+fn plain_fours(bytes: &[u8]) -> usize
+    ensures within { result ≤ length bytes.now }
+    ensures plain { list_any byte_is_escaped (take result bytes.now) ≡ false }
+{
+    let mut count = 0;
+    'fours: while bytes.len() - count >= 4 && !is_any_escaped(&bytes[count..count + 4]) {
+        count += 4;
+    }
+    count
+}
+
 /// The number of leading bytes that are plain in a text in quotes, and in a string of JSON too: at most a page of them.
 pub(crate) fn plain_count(bytes: &[u8]) -> usize
     ensures within { result ≤ length bytes.now }
@@ -30,7 +52,7 @@ pub(crate) fn plain_count(bytes: &[u8]) -> usize
     ensures plain { list_any byte_is_escaped (take result bytes.now) ≡ false }
 {
     let most = bytes.len().min(PAGE_BYTES);
-    let mut count = 0;
+    let mut count = plain_fours(&bytes[..most]);
     'plain: while count < most && !is_escaped(bytes[count]) {
         count += 1;
     }
