@@ -6,3 +6,4 @@ mod golden;
 mod names;
 mod naming;
 mod runs;
+mod trees;

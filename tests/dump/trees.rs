@@ -1,0 +1,165 @@
+// What trees write at the lengths where the way to write it changes.
+use crate::tests::same_at;
+use std::alloc::Global;
+use std::process::Abort;
+use std::test::Fail;
+use wasm_feed::BoundedSink;
+use wasm_tree::{Lines, Objects, Tree};
+
+// Bytes that are escaped, the escape in lines, and the one in JSON.
+const ESCAPES: [(&'static str, &'static str, &'static str); 4] = [
+    ("\"", "\\22", "\\\""),
+    ("\\", "\\5c", "\\\\"),
+    ("\n", "\\0a", "\\u000a"),
+    // Plain in JSON.
+    ("\x7f", "\\7f", "\x7f"),
+];
+
+// What is written: the name of a field with a number, a text, and bytes as digits.
+#[derive(Clone, Copy)]
+struct Case<'a> {
+    name: &'a str,
+    text: &'a str,
+    bytes: &'a [u8],
+}
+
+fn write_fields<T: Tree>(case: &Case<'_>, out: &mut T) {
+    out.line(1, "x");
+    out.number(case.name, 7);
+    out.quoted("text", case.text);
+    out.begin_field("bytes");
+    out.hexadecimals(case.bytes);
+    out.end();
+    out.write_out();
+}
+
+// Both trees write these lines.
+fn is_written(
+    rt: &impl Abort,
+    alloc: Global,
+    case: &Case<'_>,
+    line: &str,
+    object: &str,
+) -> Result<(), Fail> {
+    let mut lines = Lines::new(alloc, BoundedSink::new(alloc, 1000)?);
+    write_fields(case, &mut lines);
+    same_at(
+        rt,
+        lines.into_output().written(),
+        line.as_bytes(),
+        &case.text,
+    );
+    let mut objects = Objects::new(alloc, BoundedSink::new(alloc, 1000)?);
+    write_fields(case, &mut objects);
+    same_at(
+        rt,
+        objects.into_output().written(),
+        object.as_bytes(),
+        &case.text,
+    );
+    Ok(())
+}
+
+#[test]
+fn escapes_at_each_place(rt: HostRuntime) -> Result<(), Fail> {
+    let plain = "abcdefghi";
+    for (raw, in_lines, in_json) in &ESCAPES {
+        for place in 0..=plain.len() {
+            let (before, after) = plain.split_at(place);
+            let text = format!(in rt.alloc(); "{before}{raw}{after}")?;
+            let line = format!(in rt.alloc();
+                "  x n=7 text=\"{before}{in_lines}{after}\" bytes=\n"
+            )?;
+            let object = format!(in rt.alloc();
+                "{{\"level\":1,\"line\":\"x\",\"n\":7,\"text\":\"{before}{in_json}{after}\",\"bytes\":\"\"}}\n"
+            )?;
+            let case = Case {
+                name: "n",
+                text: &text,
+                bytes: &[],
+            };
+            is_written(&rt, rt.alloc(), &case, &line, &object)?;
+        }
+    }
+    Ok(())
+}
+
+#[test]
+fn names_of_numbers_at_their_limit(rt: HostRuntime) -> Result<(), Fail> {
+    let long = "n".repeat(rt.alloc(), 130)?;
+    for size in [1, 7, 8, 127, 128, 129, 130] {
+        let name = &long[..size];
+        let line = format!(in rt.alloc(); "  x {name}=7 text=\"\" bytes=\n")?;
+        let object = format!(in rt.alloc();
+            "{{\"level\":1,\"line\":\"x\",\"{name}\":7,\"text\":\"\",\"bytes\":\"\"}}\n"
+        )?;
+        is_written(
+            &rt,
+            rt.alloc(),
+            &Case {
+                name,
+                text: "",
+                bytes: &[],
+            },
+            &line,
+            &object,
+        )?;
+    }
+    let object = "{\"level\":1,\"line\":\"x\",\"a\\\"b\":7,\"text\":\"\",\"bytes\":\"\"}\n";
+    is_written(
+        &rt,
+        rt.alloc(),
+        &Case {
+            name: "a\"b",
+            text: "",
+            bytes: &[],
+        },
+        "  x a\"b=7 text=\"\" bytes=\n",
+        object,
+    )
+}
+
+#[test]
+fn digits_in_groups(rt: HostRuntime) -> Result<(), Fail> {
+    let bytes: [u8; 4] = [0, 9, 0xa0, 0xff];
+    let digits = "0009a0ff";
+    for count in [0, 3, 4, 5, 8, 9] {
+        let shown = bytes.repeat(rt.alloc(), count)?;
+        let text = digits.repeat(rt.alloc(), count)?;
+        let line = format!(in rt.alloc(); "  x n=7 text=\"\" bytes={text}\n")?;
+        let object = format!(in rt.alloc();
+            "{{\"level\":1,\"line\":\"x\",\"n\":7,\"text\":\"\",\"bytes\":\"{text}\"}}\n"
+        )?;
+        is_written(
+            &rt,
+            rt.alloc(),
+            &Case {
+                name: "n",
+                text: "",
+                bytes: &shown,
+            },
+            &line,
+            &object,
+        )?;
+        // One less than whole groups.
+        if let Some((_, shorter)) = shown.split_last() {
+            let less = &text[..text.len() - 2];
+            let line = format!(in rt.alloc(); "  x n=7 text=\"\" bytes={less}\n")?;
+            let object = format!(in rt.alloc();
+                "{{\"level\":1,\"line\":\"x\",\"n\":7,\"text\":\"\",\"bytes\":\"{less}\"}}\n"
+            )?;
+            is_written(
+                &rt,
+                rt.alloc(),
+                &Case {
+                    name: "n",
+                    text: "",
+                    bytes: shorter,
+                },
+                &line,
+                &object,
+            )?;
+        }
+    }
+    Ok(())
+}
