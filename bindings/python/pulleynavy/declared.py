@@ -6,7 +6,7 @@ import ctypes
 import enum
 from typing import Any
 
-VERSION = "0.6.0"
+VERSION = "0.6.1"
 
 
 class EventKind(enum.IntEnum):

@@ -1,11 +1,13 @@
 // Parts of JSON objects that are put at once.
-ghost use Rattle.std.specs.Prelude.{◌≡◌, ◌≤◌, ◌+◌, ◌++◌, length, take};
-ghost use Rattle.wasm_tree.specs.Json.{member_start, name_start, object_end};
+ghost use Rattle.std.specs.Prelude.{◌≡◌, ◌≤◌, ◌+◌, ◌++◌, IfSome, codes, length, take};
+ghost use Rattle.wasm_tree.specs.Json.{Leads, member_start, name_start, object_end};
+ghost use Rattle.wasm_tree.specs.declared.objects.Spot.TheVariants.{InText};
 
 use crate::numbers::{Space, write_space};
 use crate::objects::Spot;
 use crate::padded::write_padded;
-use crate::plain::Plain;
+use crate::plain::{MOST_BYTES, Plain};
+use std::marker::Model;
 use wasm_text::{ShortText, write_number, write_word};
 
 // What leads into the name of the next member, with blanks up to 8 bytes, and its length.
@@ -96,13 +98,13 @@ impl ShortText for ObjectEnd {
 
 // Writes the name of a member, up to its value.
 #[inline(always)]
-fn write_member_start(bytes: &mut [u8], at: usize, spot: Spot, name: &Plain<'_>) -> usize
-    requires { at + 138 ≤ length bytes.old }
-    ensures short { result ≤ at + 138 }
+fn write_member_start(bytes: &mut [u8], at: usize, spot: Spot, name: &str) -> usize
+    requires { at + (10 + length name.now) ≤ length bytes.old }
+    ensures short { result ≤ at + (10 + length name.now) }
     ensures written { take result bytes.new ≡ take at bytes.old ++ member_start spot name.now }
 {
     let at = write_name_start(bytes, at, spot);
-    let at = write_word(bytes, at, name.as_str());
+    let at = write_word(bytes, at, name);
     write_word(bytes, at, "\":")
 }
 
@@ -120,7 +122,7 @@ impl ShortText for MemberStart<'_> {
 
     #[inline(always)]
     fn write_at(&self, bytes: &mut [u8], at: usize) -> usize {
-        write_member_start(bytes, at, self.spot, &self.name)
+        write_member_start(bytes, at, self.spot, self.name.as_str())
     }
 }
 
@@ -140,8 +142,57 @@ impl ShortText for NumberMember<'_> {
 
     #[inline(always)]
     fn write_at(&self, bytes: &mut [u8], at: usize) -> usize {
-        let at = write_member_start(bytes, at, self.spot, &self.name);
+        let at = write_member_start(bytes, at, self.spot, self.name.as_str());
         write_number(bytes, at, self.number)
+    }
+}
+
+/// A member whose value is a text, without the quote that ends it. The name and the text are plain, and have at most 128 bytes.
+#[derive(Drop)]
+pub(crate) struct TextMember<'a> {
+    spot: Spot,
+    name: Plain<'a>,
+    text: Plain<'a>,
+}
+
+impl<'a> Model for TextMember<'a> {
+    ghost use Rattle.std.specs.Prelude.{◌≤◌, ◌+◌, ◌++◌, ℕ, List, codes, length};
+    ghost use Rattle.wasm_tree.specs.Json.{member_start};
+
+    ghost Value = { List ℕ };
+
+    ghost view = { λ m. member_start m.spot m.name ++ (codes "\"" ++ m.text) };
+
+    ghost invariant = { λ m. length m.name + length m.text ≤ 128 };
+}
+
+impl<'a> TextMember<'a> {
+    /// The member with this name and this text, if both are short and plain.
+    #[inline(always)]
+    pub(crate) fn of(spot: Spot, name: &'a str, text: &'a str) -> Option<TextMember<'a>>
+        ensures text { IfSome result (λ m. m ≡ member_start spot name.now
+            ++ (codes "\"" ++ text.now)) }
+        ensures leads { IfSome result (λ m. Leads spot m InText) }
+    {
+        if name.len() > MOST_BYTES || text.len() > MOST_BYTES - name.len() {
+            return None;
+        }
+        Some(TextMember {
+            spot,
+            name: Plain::of(name)?,
+            text: Plain::of(text)?,
+        })
+    }
+}
+
+impl ShortText for TextMember<'_> {
+    ghost text = { λ m. m };
+
+    #[inline(always)]
+    fn write_at(&self, bytes: &mut [u8], at: usize) -> usize {
+        let at = write_member_start(bytes, at, self.spot, self.name.as_str());
+        let at = write_word(bytes, at, "\"");
+        write_word(bytes, at, self.text.as_str())
     }
 }
 

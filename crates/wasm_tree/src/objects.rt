@@ -10,7 +10,8 @@ ghost use Rattle.wasm_tree.specs.declared.objects.Spot.TheVariants.{Outside, End
 use crate::escapes::{hexadecimal_digits, plain_count};
 use crate::known_names::{ItemNames, name_in};
 use crate::members::{
-    ItemStart, MemberStart, NameStart, NumberMember, NumberMembers, ObjectEnd, TextStart,
+    ItemStart, MemberStart, NameStart, NumberMember, NumberMembers, ObjectEnd, TextMember,
+    TextStart,
 };
 use crate::numbers::Space;
 use crate::output::Output;
@@ -302,16 +303,31 @@ impl<W: Sink> Objects<W> {
         }
     }
 
+    // A member whose value is a text. More of it may follow.
+    fn text_member(&mut self, name: &str, text: &str)
+        ensures { Adds (objects self.old) (objects self.new) }
+    {
+        match TextMember::of(self.spot, name, text) {
+            Some(member) => self.short(&member, Spot::InText),
+            None => {
+                self.begin_member(name);
+                self.begin_text(text);
+            }
+        }
+    }
+
     // A member with this value.
     fn member(&mut self, name: &str, value: Value<'_>)
         ensures { Adds (objects self.old) (objects self.new) }
     {
-        if let Value::Number(number) = value {
-            self.number_member(name, number);
-            return;
+        match value {
+            Value::Number(number) => self.number_member(name, number),
+            Value::Word(text) | Value::Quoted(text) => self.text_member(name, text),
+            other => {
+                self.begin_member(name);
+                self.value(other);
+            }
         }
-        self.begin_member(name);
-        self.value(value);
     }
 }
 

@@ -72,7 +72,7 @@ With several files the exit status is the greatest of theirs.
 ";
 
 /// What `--version` says.
-const VERSION: &[u8] = b"wasm_dump 0.6.0 (follows wasmparser 0.263.0)\n";
+const VERSION: &[u8] = b"wasm_dump 0.6.1 (follows wasmparser 0.263.0)\n";
 
 // `HELP`, in the words of its clause.
 fn help() -> &'static [u8]

@@ -62,7 +62,7 @@ Exit status:
 ";
 
 /// What `--version` prints.
-const VERSION: &[u8] = b"wasm_list 0.6.0 (follows wasmparser 0.263.0)\n";
+const VERSION: &[u8] = b"wasm_list 0.6.1 (follows wasmparser 0.263.0)\n";
 
 // `HELP`, in the words of its clause.
 fn help() -> &'static [u8]
