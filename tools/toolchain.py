@@ -57,6 +57,7 @@ def build_command(crate, built=common.TOP):
     return words + ["--antt-project", folder() + "/rattle/logic/antt-project.json", "--logic-built", folder() + "/logic_built"]
 
 
-def link_command(triple, path, *objects):
+def link_command(triple, path, *objects, stack=None):
     """The command that links what was built into the file at this path."""
-    return [folder() + "/bin/rattle-link", "--target", triple, "--toolchain", folder() + "/toolchain", "-o", path, *objects]
+    words = [folder() + "/bin/rattle-link", "--target", triple, "--toolchain", folder() + "/toolchain"]
+    return words + (["--stack", str(stack)] if stack else []) + ["-o", path, *objects]
