@@ -64,6 +64,18 @@ function answer(server) {
     });
 }
 
+// Removes the browser's folder. Its processes may write there until they have all ended, so a removal may have to begin again.
+async function removed(folder) {
+    for (let tries = 1; ; tries++) {
+        try {
+            return rmSync(folder, { recursive: true, force: true });
+        } catch (error) {
+            if (error.code !== "ENOTEMPTY" || tries === 50) throw error;
+            await new Promise(resolve => setTimeout(resolve, 100));
+        }
+    }
+}
+
 const server = createServer(), said = answer(server);
 await new Promise(resolve => server.listen(0, "127.0.0.1", resolve));
 const profile = mkdtempSync(join(tmpdir(), "pulleynavy-"));
@@ -76,7 +88,7 @@ try {
 } finally {
     child.kill();
     if (child.exitCode === null && child.signalCode === null) await new Promise(resolve => child.on("exit", resolve));
-    rmSync(profile, { recursive: true, force: true, maxRetries: 20, retryDelay: 100 });
+    await removed(profile);
     server.close();
     server.closeAllConnections();
 }
