@@ -446,7 +446,7 @@ fn a_program_that_cannot_begin(rt: HostRuntime) -> Result<(), Fail> {
 }
 
 #[test]
-fn an_argument_that_is_no_text(rt: HostRuntime) -> Result<(), Fail> {
+fn an_argument_that_is_not_utf8(rt: HostRuntime) -> Result<(), Fail> {
     let mut input = SliceSource::new(MODULE);
     let given = Err(io::Error::from(io::ErrorKind::InvalidData));
     program_answers(&rt, rt.alloc(), given, &mut input, (2, b"", USAGE))

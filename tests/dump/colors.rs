@@ -1,10 +1,10 @@
-// Dumps with colours.
+// Dumps with colors.
 use std::alloc::Global;
 use std::test::Fail;
 use wasm_cli::dump::Colored;
 use wasm_feed::{BoundedSink, Sink, write_all};
 
-// What a sink with room for this many bytes has after this text was written through colours, and whether all was.
+// What a sink with room for this many bytes has after this text was written through colors, and whether all was.
 fn written(alloc: Global, room: usize, text: &[u8]) -> Result<(BoundedSink, bool), Fail> {
     let mut colored = Colored::new(BoundedSink::new(alloc, room)?, true);
     let whole = write_all(&mut colored, text).is_ok();
@@ -27,7 +27,7 @@ fn colors_the_parts_of_lines(rt: HostRuntime) -> Result<(), Fail> {
         ),
         (b"  type=(a)\n", b"\x1b[0m  \x1b[0;1mtype\x1b[0m=(a)\n"),
         (b"a\n", b"\x1b[0;1ma\x1b[0m\n"),
-        // An ESC is no colour, and the next byte has its colour again.
+        // An ESC is no color, and the next byte has its color again.
         (b"a \x1b[1m", b"\x1b[0;1ma\x1b[0m \x1b\\\x1b[0m[1m"),
     ];
     for (text, wanted) in rows {
@@ -38,7 +38,7 @@ fn colors_the_parts_of_lines(rt: HostRuntime) -> Result<(), Fail> {
     Ok(())
 }
 
-// A sink that is full takes a prefix of the text with its colours.
+// A sink that is full takes a prefix of the text with its colors.
 #[test]
 fn stops_where_the_other_sink_does(rt: HostRuntime) -> Result<(), Fail> {
     let wanted = b"\x1b[0;1mend\x1b[0m 8\n".as_slice();

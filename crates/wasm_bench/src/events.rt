@@ -1,4 +1,4 @@
-// The events of a stream, read in several ways.
+// Reads the events of a stream in several ways.
 ghost use Rattle.std.specs.Prelude.{⊤};
 
 use crate::tally::Tally;
@@ -8,10 +8,10 @@ use wasm_base::{Error, Result, WasmFeatures};
 use wasm_feeder::{Feeder, Step};
 use wasm_parser::{Chunk, Parser, Payload};
 
-/// Pieces of at most this many bytes are pushed.
+/// Chunks of at most this many bytes are pushed, and larger ones are borrowed.
 const SMALL_PIECE: usize = 512;
 
-/// Reads a whole stream part by part.
+/// Reads a whole stream by `parse`.
 #[inline(never)]
 pub(crate) fn parse(bytes: &[u8]) -> Result<Tally> {
     let mut tally = Tally::new();
@@ -31,7 +31,7 @@ pub(crate) fn parse(bytes: &[u8]) -> Result<Tally> {
     Ok(tally)
 }
 
-/// Walks over all payloads of a whole stream.
+/// Reads a whole stream by `parse_all`.
 #[inline(never)]
 pub(crate) fn parse_all(bytes: &[u8]) -> Result<Tally> {
     let mut tally = Tally::new();
@@ -41,7 +41,7 @@ pub(crate) fn parse_all(bytes: &[u8]) -> Result<Tally> {
     Ok(tally)
 }
 
-/// Reads a stream that comes in chunks of this size: small ones are pushed to a feeder, and the others borrowed by it.
+/// Reads a stream in chunks of this size by a feeder.
 #[inline(never)]
 pub(crate) fn feed(alloc: Global, bytes: &[u8], size: usize) -> Result<Tally> {
     if size <= SMALL_PIECE {
@@ -64,7 +64,7 @@ fn push_pieces(alloc: Global, bytes: &[u8], size: usize) -> Result<Tally> {
     Ok(tally)
 }
 
-// Pushes the next chunk, or after the last one the end of input, if the feeder wants more. Returns the remaining bytes.
+// If the feeder wants more, pushes the next chunk, or finishes after the last one. Returns the remaining bytes.
 fn push_next<'a>(feeder: &mut Feeder, rest: &'a [u8], size: usize) -> Result<&'a [u8]> {
     if !feeder.wants_more() {
         return Ok(rest);
@@ -110,7 +110,7 @@ fn borrow_pieces(alloc: Global, bytes: &[u8], size: usize) -> Result<Tally> {
     }
 }
 
-// Whether this was the last step, of which a fault is kept.
+// Returns whether this was the last step. Stores its fault, if it has one.
 fn tally_borrowed(step: Result<Step<'_>>, tally: &mut Tally, fault: &mut Option<Error>) -> bool {
     match step {
         Ok(step) => tally_step(step, tally),
@@ -121,7 +121,7 @@ fn tally_borrowed(step: Result<Step<'_>>, tally: &mut Tally, fault: &mut Option<
     }
 }
 
-// Whether this was the last step.
+// Returns whether this was the last step.
 fn tally_step(step: Step<'_>, tally: &mut Tally) -> bool {
     match step {
         Step::Parsed { payload, .. } => tally_payload(payload, tally),
@@ -129,7 +129,7 @@ fn tally_step(step: Step<'_>, tally: &mut Tally) -> bool {
     }
 }
 
-// Whether this was the last payload.
+// Returns whether this was the last payload.
 fn tally_payload(payload: Payload<'_>, tally: &mut Tally) -> bool {
     tally.add(see(&payload));
     is_end(&payload)

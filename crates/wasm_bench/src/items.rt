@@ -1,4 +1,4 @@
-// The items of a stream's sections.
+// Reads the items of a stream's sections.
 use crate::tally::Tally;
 use bitflags::Flags;
 use std::alloc::Global;
@@ -14,8 +14,7 @@ use wasm_items::{
 };
 use wasm_parser::{Parser, Payload};
 
-/// Walks over the items of each section. Lists in segments are skipped, or are walked too where `lists` says so, in
-/// place of the segments.
+/// Reads the items of each section. With `lists`, counts the items of element segments instead of the segments.
 #[inline(never)]
 pub(crate) fn walk_items(alloc: Global, bytes: &[u8], lists: bool) -> Result<Tally> {
     let mut tally = Tally::new();
@@ -97,7 +96,7 @@ fn see_expression(expression: ConstExpr<'_>) -> u64 {
     ends(expression.range())
 }
 
-// Walks over the names of functions, symbols, or relocations.
+// Reads the names of functions, symbols, or relocations.
 fn walk_custom(alloc: Global, section: CustomSectionReader<'_>, tally: &mut Tally) -> Result<()> {
     match section.as_known(alloc)? {
         KnownCustom::Name(names) => walk_names(names, tally),

@@ -1,4 +1,4 @@
-//! Times the ways to read the stream on standard input.
+//! Times several ways to read the stream on standard input, for `tools/bench`.
 #![tactic(auto)]
 
 mod events;
@@ -12,7 +12,7 @@ use std::process::ExitCode;
 use std::time::Instant;
 use tally::Tally;
 
-/// As many rounds as there are at most.
+/// The largest number of rounds.
 const MOST_ROUNDS: u32 = 1000;
 
 /// No round begins after this many seconds.
@@ -21,7 +21,7 @@ const ENOUGH: u64 = 1;
 /// The modes that run if no argument names any.
 const WAYS: [&'static str; 6] = ["parse", "parse_all", "65536", "1", "items", "indices"];
 
-/// The stream has a fault, an argument names no way, or memory, input, output or the clock failed.
+/// The stream has a fault, an argument names no mode, or an allocation, a device or the clock failed.
 #[derive(Drop)]
 struct Failed;
 
@@ -50,8 +50,8 @@ fn main(rt: HostRuntime) -> ExitCode {
     }
 }
 
-// For each mode that an argument names a line of its name, how much was read, a checksum, and the nanoseconds of the fastest
-// round. With no argument each mode runs once, and its line has no time.
+// Writes a line for each mode that an argument names: its name, the number of events or items, a checksum, and the nanoseconds of
+// the fastest round. Without arguments each mode runs once, and its line has no time.
 fn run(rt: &HostRuntime) -> Result<(), Failed> {
     let names = env::args(rt)?.skip(1).collect::<Vec<String>>(rt.alloc())?;
     let mut bytes = Vec::new(rt.alloc());
@@ -69,7 +69,7 @@ fn run(rt: &HostRuntime) -> Result<(), Failed> {
     Ok(())
 }
 
-// What was read, and the nanoseconds of the fastest round.
+// Returns what was read, and the nanoseconds of the fastest round.
 fn time(rt: &HostRuntime, name: &str, bytes: &[u8]) -> Result<(Tally, u64), Failed> {
     let mut tally = Tally::new();
     let mut least = u64::MAX;
@@ -87,7 +87,7 @@ fn time(rt: &HostRuntime, name: &str, bytes: &[u8]) -> Result<(Tally, u64), Fail
     Ok((tally, least))
 }
 
-// Reads the bytes in the mode of this name: a word, or the size of the chunks for a feeder.
+// Reads the bytes in the mode with this name, which is a word or the size of the chunks for a feeder.
 fn read(alloc: Global, name: &str, bytes: &[u8]) -> Result<Tally, Failed> {
     let tally = match name {
         "parse" => events::parse(bytes)?,

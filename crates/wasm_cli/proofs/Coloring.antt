@@ -1,4 +1,4 @@
--- Texts without their colours.
+-- Texts without their colors.
 use Rattle.std.proofs.Common.{◌≡◌, ◌≢◌, ◌∙◌, ℕ, zero, suc, ◌+◌, ◌≤◌, ◌<◌, false, List, [], ◌∷◌, ◌++◌, Option, Some, None, Result, Ok, Err}
 use Rattle.std.proofs.Common.{IfOk, OnErr, ap, sym, subst, refl, nat_eq, eqb-true, length, take, drop, get_or}
 use Rattle.std.proofs.Common.{append_assoc, append-nil, take-append-drop, length-append, take_all, le_refl, arith}
@@ -74,7 +74,7 @@ no_escape byte n = false_from_ne_true (nat_eq byte 27) (λ t. n (eqb-true byte 2
 alone : (byte : ℕ) → byte ≢ 27 → (without_colors (byte ∷ []) ≡ byte ∷ []) × (where_after Outside (byte ∷ []) ≡ Outside)
 alone byte n = (rw (no_escape byte n) refl, rw (no_escape byte n) refl)
 
--- a byte after what sets a colour, or nothing
+-- a byte after what sets a color, or nothing
 pub gains_byte : (byte : ℕ) (old set new : List ℕ) → byte ≢ 27 → without_colors set ≡ [] → where_after Outside set ≡ Outside
     → new ≡ (old ++ set) ++ byte ∷ [] → GainsByte byte old new
 gains_byte byte old set new n silent ends e = record {

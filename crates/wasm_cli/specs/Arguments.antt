@@ -4,6 +4,6 @@ use Rattle.std.specs.declared.io.ErrorKind.{ErrorKind}
 use Rattle.std.specs.declared.io.ErrorKind.TheVariants.{InvalidData}
 
 -- whether one of the arguments is not valid UTF-8, so that there are none
-abbrev pub is_no_text : ErrorKind → Bool
-is_no_text InvalidData = true
-is_no_text _ = false
+abbrev pub is_not_utf8 : ErrorKind → Bool
+is_not_utf8 InvalidData = true
+is_not_utf8 _ = false

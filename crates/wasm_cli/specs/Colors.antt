@@ -29,7 +29,7 @@ abbrev pub without_from : Where → List ℕ → List ℕ
 without_from at [] = []
 without_from at (b ∷ bs) = given_by at b ++ without_from (where_after_byte at b) bs
 
--- a text without its colours
+-- a text without its colors
 abbrev pub without_colors : List ℕ → List ℕ
 without_colors bytes = without_from Outside bytes
 
@@ -46,7 +46,7 @@ where_after at (b ∷ bs) = where_after (where_after_byte at b) bs
 abbrev pub IsSequence : List ℕ → Type 0
 IsSequence bytes = (at : Where) → (without_from at bytes ≡ []) × (where_after at bytes ≡ Outside)
 
--- These bytes, after which a byte of the text may come, got this one more, and what sets its colour.
+-- These bytes, after which a byte of the text may come, got this one more, and what sets its color.
 pub record GainsByte (byte : ℕ) (old new : List ℕ) : Type 0 where
   pub added : List ℕ
   pub adds : new ≡ old ++ added
@@ -60,7 +60,7 @@ pub record IsColored (first : ℕ) (later bytes : List ℕ) : Type 0 where
   pub count : ℕ
   pub gives : without_colors bytes ≡ first ∷ take count later
 
--- bytes without their colours, where there are some
+-- bytes without their colors, where there are some
 abbrev pub seen : (is_colored : Bool) → Option (List ℕ) → Option (List ℕ)
 seen true bytes = plain bytes
 seen false bytes = bytes
@@ -70,7 +70,7 @@ abbrev pub marked : (is_colored : Bool) → Option (List ℕ) → Option (List �
 marked true bytes = option_map (λ text. 1 ∷ text) (plain bytes)
 marked false bytes = option_map (λ text. 0 ∷ text) bytes
 
--- a device whose bytes are seen without colours, where there are some
+-- a device whose bytes are seen without colors, where there are some
 abbrev pub seen_as : (is_colored : Bool) → Device → Device
 seen_as is_colored device = record {
   before = seen is_colored device.before;

@@ -3,7 +3,7 @@ use Rattle.std.specs.Prelude.{◌≡◌, ℕ, Bool, List, [], ◌∷◌, codes, 
 use Rattle.std.specs.Prelude.{Result, Ok, Err, false, string_bytes, if◌then◌else◌}
 use Rattle.std.specs.IoError.{error_kind}
 use Rattle.std.specs.declared.io.Error.{Error}
-use Rattle.wasm_cli.specs.Arguments.{is_no_text}
+use Rattle.wasm_cli.specs.Arguments.{is_not_utf8}
 use Rattle.wasm_cli.specs.Options.{contradict, say_how}
 use Rattle.wasm_cli.specs.Words.{options_of, rest_items, rest_of, words_of}
 use Rattle.wasm_cli.specs.declared.dump.options.Options.{Options}
@@ -89,10 +89,10 @@ asked_by arguments = asked_after (options_of arguments) (words_of arguments) (re
 -- the same of the arguments after the program's own name, unless fetching them failed; one that is not UTF-8 is unknown
 abbrev pub asked_if_any : {A : Type 0} → (A → List (List ℕ)) → Result A Error → Option Asked
 asked_if_any words (Ok arguments) = Some (asked_by (drop 1 (words arguments)))
-asked_if_any words (Err e) = if is_no_text (error_kind e) then Some unknown else None
+asked_if_any words (Err e) = if is_not_utf8 (error_kind e) then Some unknown else None
 
 -- An allocation may fail before the program knows what is asked for: when the arguments are fetched, or their words are
 -- stored.
 abbrev pub WantsMemory : {A : Type 0} → (A → List (List ℕ)) → Result A Error → Type 0
 WantsMemory words (Ok arguments) = ¬ (words_of (drop 1 (words arguments)) ≡ [])
-WantsMemory words (Err e) = is_no_text (error_kind e) ≡ false
+WantsMemory words (Err e) = is_not_utf8 (error_kind e) ≡ false

@@ -126,7 +126,7 @@ pub record RunsTelling (text : List ℕ) (forwarded : Bool) (input output errors
   pub source : IsUntouched input
   pub says_which : Tells text forwarded output errors status
 
--- A run over the input that was asked for this; files it refuses, since it cannot open them. Where colours were asked
+-- A run over the input that was asked for this; files it refuses, since it cannot open them. Where colors were asked
 -- for, what the output took says the same without them.
 pub record Runs (asked : Asked) (forwarded : Bool) (input output errors : Device) (status : ℕ) : Type 0 where
   pub shows : (options : Options) → asked ≡ all options

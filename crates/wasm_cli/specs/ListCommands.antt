@@ -3,11 +3,11 @@ use Rattle.std.specs.Prelude.{◌≡◌, ℕ, List, [], ◌∷◌, codes, bytes_
 use Rattle.std.specs.Prelude.{Result, Ok, Err, false, if◌then◌else◌}
 use Rattle.std.specs.IoError.{error_kind}
 use Rattle.std.specs.declared.io.Error.{Error}
-use Rattle.wasm_cli.specs.Arguments.{is_no_text}
+use Rattle.wasm_cli.specs.Arguments.{is_not_utf8}
 use Rattle.wasm_cli.specs.StripOptions.{rest_of}
 use Rattle.wasm_cli.specs.declared.list.command.Command.{Command}
 use Rattle.wasm_cli.specs.declared.list.command.Given.{Given}
-use Rattle.wasm_cli.specs.declared.list.command.Given.TheVariants.{Words, NoText, Nothing}
+use Rattle.wasm_cli.specs.declared.list.command.Given.TheVariants.{Words, NotUtf8, Nothing}
 use Rattle.wasm_cli.specs.declared.list.command.Command.TheVariants.{Listing, Stripping, Help, Version, Unknown}
 
 -- what is asked for: a listing; to strip with these options; to say how the program is used, or which version it is; or
@@ -49,15 +49,15 @@ asked_by (word ∷ more) =
 -- unknown
 abbrev pub asked_if_any : {A : Type 0} → (A → List (List ℕ)) → Result A Error → Option Asked
 asked_if_any words (Ok arguments) = Some (asked_by (drop 1 (words arguments)))
-asked_if_any words (Err e) = if is_no_text (error_kind e) then Some unknown else None
+asked_if_any words (Err e) = if is_not_utf8 (error_kind e) then Some unknown else None
 
 -- An allocation may fail before the program knows what is asked for: when the arguments are fetched, or stored.
 abbrev pub WantsMemory : {A : Type 0} → (A → List (List ℕ)) → Result A Error → Type 0
 WantsMemory words (Ok arguments) = ¬ (drop 1 (words arguments) ≡ [])
-WantsMemory words (Err e) = is_no_text (error_kind e) ≡ false
+WantsMemory words (Err e) = is_not_utf8 (error_kind e) ≡ false
 
 -- What was stored of the arguments decides what is asked for, unless an allocation failed.
 abbrev pub IsGiven : {A : Type 0} → (A → List (List ℕ)) → Result A Error → Given → Type 0
 IsGiven words arguments (Words stored) = asked_if_any words arguments ≡ Some (asked_by (map string_bytes stored.items))
-IsGiven words arguments NoText = asked_if_any words arguments ≡ Some unknown
+IsGiven words arguments NotUtf8 = asked_if_any words arguments ≡ Some unknown
 IsGiven words arguments Nothing = WantsMemory words arguments

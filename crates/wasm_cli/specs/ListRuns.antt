@@ -10,7 +10,7 @@ use Rattle.wasm_text.specs.Messages.{Says, complaint_of}
 use Rattle.wasm_cli.specs.Endings.{status_of, Reports, RunsUsage, CannotBegin, WritesAll, WritesSome, Flushes}
 use Rattle.wasm_cli.specs.Endings.{FailsToFlush, Finishes}
 use Rattle.wasm_cli.specs.declared.list.command.Given.{Given}
-use Rattle.wasm_cli.specs.declared.list.command.Given.TheVariants.{Words, NoText, Nothing}
+use Rattle.wasm_cli.specs.declared.list.command.Given.TheVariants.{Words, NotUtf8, Nothing}
 use Rattle.wasm_cli.specs.ListCommands.{Asked, asked_by, listing, stripping, help, version, unknown}
 use Rattle.wasm_cli.specs.Strips.{RunsStripping}
 
@@ -135,7 +135,7 @@ pub record RunsWhole (asked : Asked) (forwarded : Bool) (input output errors : D
 abbrev pub RunsGiven : Given → (forwarded : Bool) (input output errors : Device) (status : ℕ) → Type 0
 RunsGiven (Words words) forwarded input output errors status =
     RunsWhole (asked_by (map string_bytes words.items)) forwarded input output errors status
-RunsGiven NoText forwarded input output errors status = RunsWhole unknown forwarded input output errors status
+RunsGiven NotUtf8 forwarded input output errors status = RunsWhole unknown forwarded input output errors status
 RunsGiven Nothing forwarded input output errors status = CannotBegin input output errors status
 
 -- The whole program, which was asked for this if the arguments could be fetched, or one was not UTF-8; or an allocation

@@ -1,7 +1,7 @@
-// What the programs share: the size of a read, files that can't be opened, and how a run ends.
+// Shared by both programs: the size of a read, errors of arguments and files, and flushing at the end.
 ghost use Rattle.std.specs.Prelude.{◌≡◌, IfOk, vec_len};
 ghost use Rattle.std.specs.IoError.{error_kind};
-ghost use Rattle.wasm_cli.specs.Arguments.{is_no_text as is_no_text_of};
+ghost use Rattle.wasm_cli.specs.Arguments.{is_not_utf8 as is_not_utf8_of};
 ghost use Rattle.wasm_cli.specs.Endings.{Finishes};
 ghost use Rattle.wasm_text.specs.Calls.{device_of, writer_device};
 
@@ -24,10 +24,9 @@ pub fn read_buffer(alloc: Global) -> Result<Vec<u8>, AllocError>
     vec![in alloc; 0u8; PIECE]
 }
 
-/// Returns whether the error of fetching arguments says that one is not valid UTF-8. The only other error is out of
-/// memory.
-pub fn is_no_text(error: &Error) -> bool
-    ensures { result ≡ is_no_text_of (error_kind error.now) }
+/// Returns whether fetching the arguments failed because one is not valid UTF-8. The only other error is out of memory.
+pub fn is_not_utf8(error: &Error) -> bool
+    ensures { result ≡ is_not_utf8_of (error_kind error.now) }
 {
     match error.kind() {
         ErrorKind::InvalidData => true,
@@ -35,7 +34,7 @@ pub fn is_no_text(error: &Error) -> bool
     }
 }
 
-// Why a file can't be opened. All texts of `Error` would be a twentieth of `wasm_dump`, so the rarer reasons have none.
+// Returns why a file can't be opened. Rare reasons have no text of their own: the texts of `Error` would be 5 % of `wasm_dump`.
 fn reason(kind: ErrorKind) -> &'static [u8] {
     match kind {
         ErrorKind::NotFound => b": no such file\n",
@@ -44,7 +43,7 @@ fn reason(kind: ErrorKind) -> &'static [u8] {
     }
 }
 
-// Says that a file could not be opened, and why, and returns the exit status 3.
+// Prints why a file could not be opened, and returns the exit status 3.
 pub(crate) fn refuse_file<E: Sink>(name: &str, error: &Error, errors: &mut E) -> u8
     ensures { result ≡ 3 }
 {

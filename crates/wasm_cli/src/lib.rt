@@ -7,4 +7,4 @@ pub mod dump;
 pub mod list;
 mod streams;
 
-pub use common::{PIECE, finish, is_no_text, read_buffer};
+pub use common::{PIECE, finish, is_not_utf8, read_buffer};

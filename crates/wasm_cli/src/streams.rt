@@ -1,11 +1,10 @@
-// The streams of the programs: standard input or a file, and an output that may be a pipe. When its reader has closed the pipe, the program
-// ends without a message.
+// The streams of the programs. If the reader of standard output has closed the pipe, a program ends without a message.
 use std::cell::Cell;
 use std::fs::File;
 use std::io::{self, ErrorKind, Read, Stdin, Write};
 use wasm_feed::{Failed, Sink};
 
-/// Standard input, or a file. One type for both, so that the program has the code that reads them once.
+/// Standard input or a file. It is one type, so that a program contains the code that reads it only once.
 #[derive(Drop)]
 pub enum Input {
     /// Standard input.
@@ -53,7 +52,7 @@ impl<W: Write> Write for Piped<'_, W> {
     }
 }
 
-/// A sink for messages that discards them once a flag is set, which says that the pipe of the output is closed.
+/// A sink for messages. It discards them once a flag says that the pipe of the output is closed.
 #[derive(Drop)]
 pub struct Messages<'a, E> {
     sink: E,

@@ -1,4 +1,4 @@
-// The names of items that the custom sections `name` of a stream have.
+// Collects the names of items from the custom sections `name` of a stream.
 ghost use Rattle.std.specs.Prelude.{◌≡◌, IfErr};
 ghost use Rattle.wasm_text.specs.declared.devices.ListError.TheVariants.{Memory};
 ghost use Rattle.wasm_tree.specs.ItemNames.{KeepsNames};
@@ -10,26 +10,26 @@ use wasm_parser::{Parser, Payload, Result as ParserResult};
 use wasm_text::{ListError, Source};
 use wasm_tree::{ItemNames, Space};
 
-/// How many bytes are read at once at most.
+/// The number of bytes that are read at once, at most.
 const PIECE: usize = 65_536;
 
-/// What is done next.
+/// What the loop does next.
 #[derive(Clone, Copy)]
 enum Next {
-    /// Another step.
+    /// It performs another step.
     Step,
-    /// The source is read.
+    /// It reads the source.
     Read,
-    /// Nothing.
+    /// It ends.
     End,
 }
 
-// What is done after names that have a fault, or none.
+// Names end at their first fault.
 fn after_names(is_whole: bool) -> Next {
     if is_whole { Next::Step } else { Next::End }
 }
 
-// Adds the names of a map, up to its first fault. Returns whether there is none.
+// Adds the names of a map, up to its first fault. Returns false if it has one.
 fn add_map(
     alloc: Global,
     names: &mut ItemNames,
@@ -50,7 +50,7 @@ fn add_map(
     Ok(true)
 }
 
-// Adds the names of a subsection, if they are of items.
+// Adds the names of a subsection if they belong to items. Returns false if it has a fault.
 fn add_subsection(
     alloc: Global,
     names: &mut ItemNames,
@@ -72,7 +72,7 @@ fn add_subsection(
     }
 }
 
-// Adds the names of a name section, up to its first fault. Returns whether there is none.
+// Adds the names of a name section, up to its first fault. Returns false if it has one.
 fn add_subsections(
     alloc: Global,
     names: &mut ItemNames,
@@ -95,7 +95,7 @@ fn add_subsections(
     Ok(true)
 }
 
-// Adds the names of a custom section, if it is one of names.
+// Adds the names of a custom section if it is called `name`. Returns false if it has a fault.
 fn add_section(
     alloc: Global,
     names: &mut ItemNames,
@@ -111,7 +111,7 @@ fn add_section(
     add_subsections(alloc, names, section)
 }
 
-// Adds the names of a payload, and says what is done next.
+// Adds the names of a payload. Returns what to do next.
 fn add_payload(
     alloc: Global,
     names: &mut ItemNames,
@@ -127,7 +127,7 @@ fn add_payload(
     }
 }
 
-// Adds the names of a step's result.
+// Adds the names of the payload that a step returned. Returns what to do next.
 fn add_answer(
     alloc: Global,
     names: &mut ItemNames,
@@ -143,7 +143,7 @@ fn add_answer(
     }
 }
 
-// Performs one step, and adds the names of its result.
+// Performs one step and adds the names of its payload. Returns what to do next.
 fn add_step(alloc: Global, names: &mut ItemNames, feeder: &mut Feeder) -> Result<Next, ListError>
     ensures keeps { KeepsNames names.old names.new }
     ensures memory { IfErr result (λ why. why ≡ Memory) }
@@ -152,7 +152,7 @@ fn add_step(alloc: Global, names: &mut ItemNames, feeder: &mut Feeder) -> Result
     add_answer(alloc, names, &answer)
 }
 
-// Reads the source once. Returns whether it could be read.
+// Reads the source once. Returns false if it failed or the feeder wants no more.
 fn read_more<R: Source>(
     feeder: &mut Feeder,
     input: &mut R,
@@ -173,7 +173,7 @@ fn read_more<R: Source>(
     }
 }
 
-// Adds the names that a stream has.
+// Adds the names of a stream, up to its first fault.
 fn collect_into<R: Source>(
     alloc: Global,
     names: &mut ItemNames,

@@ -1,4 +1,4 @@
-// How many items come before others in their index spaces.
+// Counts the items that come first in their index spaces.
 ghost use Rattle.std.specs.Prelude.{◌≡◌};
 ghost use Rattle.wasm_base.specs.Window.{place};
 ghost use Rattle.wasm_dumper.specs.Counting.{after, count_of, no_counts, space_of, with_imports, with_one};
@@ -21,7 +21,7 @@ use wasm_tree::Space;
 /// ```
 #[derive(Clone, Copy)]
 pub struct Counts {
-    // Only imports and bodies are kept between sections, because a section comes at most once.
+    // Imports and bodies are counted across sections. Nothing else is, because each other section comes at most once.
 
     /// The number of imported functions.
     pub functions: u64,

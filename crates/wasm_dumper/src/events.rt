@@ -1,4 +1,4 @@
-// Which events a dump shows, and the line of each, or its object.
+// Which events a dump shows, and the line or JSON object of each.
 ghost use Rattle.std.specs.List.{list_any};
 ghost use Rattle.std.specs.Prelude.{◌≡◌, ◌≤◌, ◌+◌, ◌++◌, false, IfSome, length, option_map, take};
 ghost use Rattle.wasm_base.specs.FaultAt.{fault_at};
@@ -43,7 +43,7 @@ pub enum Only<'n> {
     Name(&'n str),
 }
 
-/// What a dump shows: the choice of events, and whether with their bytes.
+/// What a dump shows: which events, and whether with their bytes.
 #[derive(Clone, Copy)]
 pub struct Shown<'n> {
     /// The choices. A dump shows the events that any of them chooses, and always the last one.
@@ -52,7 +52,7 @@ pub struct Shown<'n> {
     pub has_bytes: bool,
 }
 
-// The id of the section that a payload is, or is a part of.
+// Returns the id of the section that a payload is, or belongs to.
 fn id_of(payload: &Payload<'_>) -> Option<u8>
     ensures { result ≡ id_reported (report_of payload.now) }
 {
@@ -65,7 +65,7 @@ fn id_of(payload: &Payload<'_>) -> Option<u8>
     }
 }
 
-// Whether a choice chooses a payload.
+// Returns whether this choice includes a payload.
 fn is_chosen_alone(choice: &Only<'_>, payload: &Payload<'_>) -> bool
     ensures { result ≡ is_chosen_by choice.now (report_of payload.now) }
 {
@@ -79,7 +79,7 @@ fn is_chosen_alone(choice: &Only<'_>, payload: &Payload<'_>) -> bool
     }
 }
 
-// Whether any of these choices chooses a payload.
+// Returns whether any of these choices includes a payload.
 #[tactic(auto, using(std::proofs::lemmas::List::Folds::list_any_more, std::proofs::lemmas::List::Folds::list_any_at))]
 fn is_chosen_by_any(only: &[Only<'_>], payload: &Payload<'_>) -> bool
     ensures { result ≡ list_any (λ choice. is_chosen_by choice (report_of payload.now)) only.now }
@@ -92,7 +92,7 @@ fn is_chosen_by_any(only: &[Only<'_>], payload: &Payload<'_>) -> bool
     false
 }
 
-/// Whether a payload is shown.
+/// Returns whether a payload is shown: the end always is.
 pub(crate) fn chooses(only: &[Only<'_>], payload: &Payload<'_>) -> bool
     ensures { result ≡ is_chosen only.now (report_of payload.now) }
 {
@@ -102,7 +102,7 @@ pub(crate) fn chooses(only: &[Only<'_>], payload: &Payload<'_>) -> bool
     }
 }
 
-// The name of the sections with this id, which fits a line.
+// Returns the standard's name of a section id. Its length bounds that of the line.
 fn short_name(id: u8) -> Option<&'static str>
     ensures name { option_map (λ name. name.now) result ≡ name_of id }
     ensures short { IfSome result (λ name. length name.now ≤ 9) }
@@ -110,7 +110,7 @@ fn short_name(id: u8) -> Option<&'static str>
     section_name(id)
 }
 
-// The name of a section whose line has its id.
+// Returns the standard's name of a section whose line has an id and a count.
 fn counted_name(payload: &Payload<'_>) -> Option<&'static str>
     ensures name { option_map (λ name. name.now) result ≡ name_counted (report_of payload.now) }
     ensures short { IfSome result (λ name. length name.now ≤ 9) }
@@ -138,7 +138,7 @@ fn write_name(bytes: &mut [u8], at: usize, name: Option<&'static str>) -> usize
     }
 }
 
-// Writes what comes after the text of a payload: the name of the section, or the number of the function whose body it is.
+// Writes what a dump adds to the line of a listing: the name of a section, or the number of the function of a body.
 fn write_end(bytes: &mut [u8], at: usize, counts: &Counts, payload: &Payload<'_>) -> usize
     requires { at + 29 ≤ length bytes.old }
     ensures short { result ≤ at + 29 }
@@ -154,7 +154,7 @@ fn write_end(bytes: &mut [u8], at: usize, counts: &Counts, payload: &Payload<'_>
     }
 }
 
-// The text of a payload's line, without its line feed. A body's ends with the number of its function.
+// The line of a payload, without its line feed and without the name of a function.
 #[derive(Drop)]
 struct Heading<'a, 'b> {
     base: Base,
@@ -185,7 +185,7 @@ fn begin_event<O: Tree>(word: &str, out: &mut O)
     out.word_field("event", word);
 }
 
-// That of a header.
+// Writes the object of a header.
 fn version_event<O: Tree>(num: u16, encoding: Encoding, range: &Range<u64>, out: &mut O)
     ensures { Adds (O.writing out.old) (O.writing out.new) }
 {
@@ -195,7 +195,7 @@ fn version_event<O: Tree>(num: u16, encoding: Encoding, range: &Range<u64>, out:
     out.word_field("encoding", encoding_name(encoding));
 }
 
-// That of a body, with the number of its function.
+// Writes the object of a body, with the number of its function.
 fn body_event<O: Tree>(counts: &Counts, body: &FunctionBody<'_>, out: &mut O)
     ensures { Adds (O.writing out.old) (O.writing out.new) }
 {
@@ -207,7 +207,7 @@ fn body_event<O: Tree>(counts: &Counts, body: &FunctionBody<'_>, out: &mut O)
     out.item_name(Space::Functions, counts.bodies);
 }
 
-// The name of the sections with this id, where the section is one of them.
+// Returns the standard's name of a section. An unknown section has none, whatever its id.
 fn standard_name(id: u8, payload: &Payload<'_>) -> Option<&'static str> {
     match payload {
         Payload::UnknownSection { .. } => None,
@@ -215,7 +215,7 @@ fn standard_name(id: u8, payload: &Payload<'_>) -> Option<&'static str> {
     }
 }
 
-// Writes what is said of a section besides its id, its range and its count.
+// Writes the members that only some sections have.
 fn section_fields<O: Tree>(payload: &Payload<'_>, out: &mut O)
     ensures { Adds (O.writing out.old) (O.writing out.new) }
 {
@@ -230,7 +230,7 @@ fn section_fields<O: Tree>(payload: &Payload<'_>, out: &mut O)
     }
 }
 
-// The object of a section, or of the start of one.
+// Writes the object of a section, or of the start of a code section.
 fn section_event<O: Tree>(payload: &Payload<'_>, out: &mut O)
     ensures { Adds (O.writing out.old) (O.writing out.new) }
 {
@@ -250,7 +250,7 @@ fn section_event<O: Tree>(payload: &Payload<'_>, out: &mut O)
     section_fields(payload, out);
 }
 
-// The object of an event.
+// Writes the object of an event.
 fn event_object<O: Tree>(counts: &Counts, payload: &Payload<'_>, out: &mut O)
     ensures { Adds (O.writing out.old) (O.writing out.new) }
 {
@@ -269,7 +269,7 @@ fn event_object<O: Tree>(counts: &Counts, payload: &Payload<'_>, out: &mut O)
     }
 }
 
-// The object of a fault.
+// Writes the object of a fault.
 fn fault_object<O: Tree>(error: &Error, out: &mut O)
     ensures { Adds (O.writing out.old) (O.writing out.new) }
 {
@@ -277,7 +277,7 @@ fn fault_object<O: Tree>(error: &Error, out: &mut O)
     out.fault_fields(error);
 }
 
-// The number of the function whose body an event is.
+// Returns the index of the function of a body.
 fn function_of(counts: &Counts, payload: &Payload<'_>) -> Option<u64> {
     match payload {
         Payload::CodeSectionEntry(_) => Some(counts.bodies),
@@ -285,7 +285,7 @@ fn function_of(counts: &Counts, payload: &Payload<'_>) -> Option<u64> {
     }
 }
 
-/// Writes the line of an event, with the number and the name of the function if it is a body; or its object.
+/// Writes the line of an event, or its object. That of a body has the number and the name of its function.
 pub(crate) fn show_event<O: Tree>(counts: &Counts, payload: &Payload<'_>, out: &mut O)
     ensures { AddsFirst (numbered_line (base_of (O.writing out.old).style) counts.now (report_of payload.now))
         (O.writing out.old) (O.writing out.new) }

@@ -1,4 +1,4 @@
-// Items with their numbers.
+// Writes items with their indices in their index spaces.
 ghost use Rattle.std.specs.Prelude.{◌≡◌, None, Some};
 ghost use Rattle.wasm_base.specs.Window.{place};
 ghost use Rattle.wasm_items.specs.Flattened.{flattened, found_at};
@@ -16,7 +16,7 @@ use wasm_items::{
 use wasm_show::{Show, Text, show_fault};
 use wasm_tree::{Space, Start, Tree};
 
-// Begins the line of an item with this number.
+// Begins the line of an item that has this index.
 fn begin_item<O: Tree>(offset: u64, space: Space, index: u64, out: &mut O)
     ensures { AddsNumber space index (O.writing out.old) (O.writing out.new) }
 {
@@ -25,7 +25,7 @@ fn begin_item<O: Tree>(offset: u64, space: Space, index: u64, out: &mut O)
     out.item_number(space, index);
 }
 
-// Writes an item with its number, or the fault in its place, and returns the number of what comes next.
+// Writes an item with its index, or the fault in its place. Returns the index of the next item.
 fn show_one<T: Show, O: Tree>(space: Space, index: u64, item: &Result<(u64, T)>, out: &mut O) -> u64
     ensures shows { AddsThese (number_found space index item.now)
         (O.writing out.old) (O.writing out.new) }
@@ -44,7 +44,7 @@ fn show_one<T: Show, O: Tree>(space: Space, index: u64, item: &Result<(u64, T)>,
     }
 }
 
-/// Writes the items of a section, each with its number after earlier items of this index space.
+/// Writes the items of a section, each with its index in this index space.
 pub(crate) fn show_numbered<'a, T: FromReader<'a> + Show, O: Tree>(
     space: Space,
     counts: &Counts,
@@ -65,7 +65,7 @@ pub(crate) fn show_numbered<'a, T: FromReader<'a> + Show, O: Tree>(
     }
 }
 
-// Writes an import with its number, or the fault in its place, and counts it.
+// Writes an import with its index, or the fault in its place, and counts it.
 fn show_import<O: Tree>(counts: &mut Counts, import: &Result<(u64, Import<'_>)>, out: &mut O)
     ensures shows { AddsThese (import_number counts.old (found_at import.now))
         (O.writing out.old) (O.writing out.new) }
@@ -82,7 +82,7 @@ fn show_import<O: Tree>(counts: &mut Counts, import: &Result<(u64, Import<'_>)>,
     }
 }
 
-/// Writes the imports of a section, each with its number in its index space.
+/// Writes the imports of a section, each with its index in its index space.
 pub(crate) fn show_imports<O: Tree>(counts: &Counts, section: &ImportSectionReader<'_>, out: &mut O)
     ensures { AddsAll
         (import_numbers counts.now (flattened section.now.count (place section.now.reader)))
@@ -97,7 +97,7 @@ pub(crate) fn show_imports<O: Tree>(counts: &Counts, section: &ImportSectionRead
     }
 }
 
-// Writes a type of a group on a line of its own, with its number.
+// Writes a type of a group on its own line, with its index.
 fn show_type<O: Tree>(index: u64, ty: &SubType, out: &mut O)
     ensures { AddsNumber Types index (O.writing out.old) (O.writing out.new) }
 {
@@ -107,7 +107,7 @@ fn show_type<O: Tree>(index: u64, ty: &SubType, out: &mut O)
     ty.text(out);
 }
 
-// Writes the types of a group, each with its number, and returns the number of what comes next.
+// Writes the types of a group, each with its index. Returns the index of the next type.
 fn show_types<O: Tree>(first: u64, types: &[SubType], out: &mut O) -> u64
     ensures { AddsUpTo Types first result (O.writing out.old) (O.writing out.new) }
 {
@@ -119,7 +119,8 @@ fn show_types<O: Tree>(first: u64, types: &[SubType], out: &mut O) -> u64
     index
 }
 
-// Writes a group. One that isn't explicit is one type, on the same line; of one that is, each type has a line under it.
+// Writes a group and returns the index of the next type. The types of an explicit group are on lines under the line of the
+// group. The one type of any other group is on the same line.
 fn show_group<O: Tree>(first: u64, offset: u64, group: &RecGroup, out: &mut O) -> u64
     ensures { AddsUpTo Types first result (O.writing out.old) (O.writing out.new) }
 {
@@ -133,7 +134,7 @@ fn show_group<O: Tree>(first: u64, offset: u64, group: &RecGroup, out: &mut O) -
     show_types(first, &group.types, out)
 }
 
-// Writes a group or the fault in its place, and returns the number of the type that comes next.
+// Writes a group, or the fault in its place. Returns the index of the next type.
 fn show_found<O: Tree>(index: u64, offset: u64, group: &Result<RecGroup>, out: &mut O) -> u64
     ensures { AddsUpTo Types index result (O.writing out.old) (O.writing out.new) }
 {
@@ -146,7 +147,7 @@ fn show_found<O: Tree>(index: u64, offset: u64, group: &Result<RecGroup>, out: &
     }
 }
 
-/// Writes the groups of a type section, with the number of each type.
+/// Writes the groups of a type section, with the index of each type.
 pub(crate) fn show_groups<O: Tree>(alloc: Global, section: &TypeSectionReader<'_>, out: &mut O)
     ensures { AddsNext Types 0 (O.writing out.old) (O.writing out.new) }
 {

@@ -1,4 +1,4 @@
-// What payloads hold.
+// Writes the items of payloads.
 ghost use Rattle.wasm_parser.specs.ParseAnswer.{ItemsBegin, report_of};
 ghost use Rattle.wasm_dumper.specs.Dump.{ShowsItems};
 
@@ -46,8 +46,8 @@ pub fn show_payload<O: Tree>(alloc: Global, counts: &Counts, payload: &Payload<'
     }
 }
 
-/// The offsets at which items begin that are shown under a payload, in the order of their lines; `None` where an
-/// allocation failed.
+/// Returns the offsets of the items that are shown under a payload, in the order of their lines. Returns `None` when an
+/// allocation fails.
 pub(crate) fn offsets_of_items(
     alloc: Global,
     counts: &Counts,

@@ -1,4 +1,4 @@
-// The dump of a stream.
+// Dumps a stream.
 ghost use Rattle.std.specs.Prelude.{◌≡◌, ◌≤◌, ◌<◌, ◌+◌, [], length, vec_len, vec_capacity, Some, None, OnOk, IfErr, if◌then◌else◌};
 ghost use Rattle.wasm_feeder.specs.Beside.{beside, lending, ReadsEnough};
 ghost use Rattle.wasm_feeder.specs.Cursors.{feed_of};
@@ -18,16 +18,16 @@ use wasm_parser::{Parser, Payload, Result as ParserResult};
 use wasm_text::{ListError, Source};
 use wasm_tree::Tree;
 
-// Bytes of the stream that were read together, and the offset in it at which they begin.
+// The bytes of one part of the stream, and their offset.
 #[derive(Clone, Copy)]
 struct Part<'b> {
     offset: u64,
     bytes: &'b [u8],
 }
 
-// Has bytes shown with what is read from them, if bytes are shown. The payload is then walked twice: the first walk records
-// where items begin, with the calls that show them, so that a row of bytes can end before the next item. No clause says
-// what one row shows, but all rows together are the bytes, whatever was recorded.
+// Passes the bytes of a part to the tree, if bytes are shown. That walks the payload once more, to record the offsets of its
+// items, so that a row of bytes can end where the next item begins. No clause states which bytes one row shows: all rows
+// together are the bytes, whatever was recorded.
 fn show_bytes<O: Tree>(
     alloc: Global,
     has_bytes: bool,
@@ -50,7 +50,7 @@ fn show_bytes<O: Tree>(
     }
 }
 
-// Writes the line of a payload and what it holds, if it is shown.
+// Writes the line of a payload and its items, if it is shown.
 fn show_chosen<O: Tree>(
     alloc: Global,
     shown: Shown<'_>,
@@ -70,7 +70,7 @@ fn show_chosen<O: Tree>(
     }
 }
 
-// Writes the result of a step, and returns what to do next.
+// Writes the result of a step. Returns what to do next.
 fn show_answer<O: Tree>(
     alloc: Global,
     shown: Shown<'_>,
@@ -107,7 +107,7 @@ fn show_answer<O: Tree>(
     }
 }
 
-// Whether the tree goes on, or why it has stopped.
+// Returns an error if the tree has stopped.
 fn go_on<O: Tree>(out: &O) -> Result<(), ListError>
     ensures ok { OnOk result ((O.writing out.now).why ≡ None) }
     ensures err { IfErr result (λ why. (O.writing out.now).why ≡ Some why) }
@@ -118,7 +118,7 @@ fn go_on<O: Tree>(out: &O) -> Result<(), ListError>
     }
 }
 
-// Stores what the next step has to read after the bytes that are held; the tree stops where an allocation fails.
+// Makes enough bytes available for the next step. The tree stops if an allocation fails.
 fn make_ready<O: Tree>(
     ahead: &mut Ahead<Global>,
     cursor: &mut Cursor,
@@ -142,9 +142,8 @@ fn make_ready<O: Tree>(
     }
 }
 
-// Like `dump`, by a tree over the output that has written nothing yet, and with a buffer to read into.
-// The loop has the feeder's parts, because no call could return a payload that borrows from a feeder: the prover then
-// derives no clause on the feeder.
+// Does what `dump` says, with a buffer to read into. The loop has the parts of a feeder as separate values, so that a payload can
+// borrow the bytes while the cursor moves on.
 fn dump_into<R: Source, O: Tree>(
     alloc: Global,
     shown: Shown<'_>,

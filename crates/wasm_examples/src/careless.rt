@@ -1,10 +1,10 @@
-// Item types with a careless meaning.
+// Item types whose meaning says little, to show that sections of them are still safe.
 ghost use Rattle.wasm_base.specs.Item.{ReadsAs};
 ghost use Rattle.wasm_examples.specs.Careless.{nothing_at, TakesOneByte};
 
 use wasm_base::{BinaryReader, FromReader, Result};
 
-/// An item that takes no bytes.
+/// An item without bytes.
 #[derive(Clone, Copy, Debug, PartialEq, Eq)]
 pub struct Nothing;
 
@@ -16,7 +16,7 @@ impl<'a> FromReader<'a> for Nothing {
     }
 }
 
-/// A byte. Its meaning says that one is taken, and not which value it has.
+/// A byte. Its meaning states that one byte is consumed, but not its value.
 #[derive(Clone, Copy, Debug, PartialEq, Eq)]
 pub struct AnyByte(pub u8);
 

@@ -14,9 +14,9 @@ use wasm_base::{Result, WasmFeatures};
 use wasm_items::FunctionBody;
 use wasm_parser::Payload;
 
-/// What compiles functions one by one.
+/// A compiler that receives function bodies one by one.
 pub trait Compiler {
-    /// What a body makes of a compiler.
+    /// How a body changes the compiler.
     ghost compiles: { Self → Window → Self → Type 0 } = { λ before body after. Unit {0} };
 
     /// Compiles the body of the next function.
@@ -38,7 +38,7 @@ impl<C: Compiler> Visitor for Compiling<C> {
     }
 }
 
-// The body that a payload is.
+// Returns the body of a payload, if it is one.
 fn body_of(payload: Payload<'_>) -> Option<FunctionBody<'_>>
     ensures { MatchOption result
         (body_in (report_of payload.entry) ≡ [])
@@ -50,12 +50,12 @@ fn body_of(payload: Payload<'_>) -> Option<FunctionBody<'_>>
     }
 }
 
-/// Passes the function bodies of a stream that is cut into these chunks to a compiler, in order, and returns how many bytes were
-/// stored at most.
+/// Passes the function bodies of a stream in these chunks to a compiler, in order. Returns the largest number of bytes that were
+/// buffered at once.
 ///
 /// # Errors
 ///
-/// The fault at which the stream stops, after the bodies before it were compiled; or `OutOfMemory`.
+/// The fault of the stream, once the bodies before it are compiled, or `OutOfMemory`.
 pub fn compile_pieces<C: Compiler>(
     alloc: Global,
     features: WasmFeatures,

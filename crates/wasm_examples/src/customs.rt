@@ -12,16 +12,16 @@ use std::alloc::Global;
 use wasm_base::{Error, Fault, Result, WasmFeatures};
 use wasm_parser::Payload;
 
-/// A custom section: its name, and how many bytes it takes, its id and its length among them.
+/// The name and the size of a custom section.
 #[derive(Drop)]
 pub struct CustomSize {
-    /// The section's name.
+    /// The name.
     pub name: String,
-    /// How many bytes of the stream it takes.
+    /// The size in bytes, including the id and the length.
     pub size: usize,
 }
 
-/// The custom sections so far.
+/// A visitor that records custom sections.
 #[derive(Drop)]
 struct CustomSizes {
     alloc: Global,
@@ -31,7 +31,7 @@ struct CustomSizes {
 impl CustomSizes {
     ghost use Rattle.wasm_examples.specs.Customs.{sizes_in};
 
-    // Notes one more.
+    // Records a custom section.
     fn add(&mut self, name: &str, size: usize) -> Result<()>
         ensures adds { OnOk result
             (sizes_in self.new.list ≡ sizes_in self.old.list ++ (name.now, size) ∷ []) }
@@ -58,7 +58,7 @@ impl Visitor for CustomSizes {
     }
 }
 
-// The name of the custom section that a payload is.
+// Returns the name of a custom section.
 fn custom_name(payload: Payload<'_>) -> Option<&str>
     ensures { MatchOption result
         (names_in (report_of payload.entry) ≡ [])
@@ -70,8 +70,11 @@ fn custom_name(payload: Payload<'_>) -> Option<&str>
     }
 }
 
-/// The custom sections of a stream that is cut into these chunks, in order, with the bytes that each takes; their contents are
-/// dropped as the stream passes. Or the fault at which the stream stops; or `OutOfMemory`.
+/// Returns the names and sizes of the custom sections of a stream in these chunks, in order. Their contents are not kept.
+///
+/// # Errors
+///
+/// The fault of the stream, or `OutOfMemory`.
 pub fn custom_sizes(
     alloc: Global,
     features: WasmFeatures,

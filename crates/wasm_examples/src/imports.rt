@@ -13,8 +13,11 @@ use wasm_base::{Error, Fault, Result};
 use wasm_items::{Import, ImportSection, ImportSectionReader};
 use wasm_parser::{Parser, Payload};
 
-/// The imports of a module, a line for each: the module that it is from, a blank, and its name. Or the fault at which the stream
-/// stops, or `OutOfMemory`.
+/// Returns a line for each import of a module: the name of the module that it comes from, a blank, and its own name.
+///
+/// # Errors
+///
+/// The fault of the stream or of an import, or `OutOfMemory`.
 pub fn imports_text(alloc: Global, bytes: &[u8]) -> Result<String>
     ensures { IsImportsText bytes.now result }
 {
@@ -25,7 +28,7 @@ pub fn imports_text(alloc: Global, bytes: &[u8]) -> Result<String>
     Ok(text)
 }
 
-// Adds the imports that a payload holds.
+// Adds the imports of a payload.
 fn add_payload(text: &mut String, payload: Payload<'_>) -> Result<()>
     ensures { ItemsBegin payload.entry → Gives
         (with_part (string_bytes text.old) (report_of payload.entry))

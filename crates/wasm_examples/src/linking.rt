@@ -1,4 +1,4 @@
-// What a linker fills in.
+// Finds the bytes that a linker fills in.
 ghost use Rattle.std.specs.Prelude.{◌≡◌, OnOk, IfErr, option_map, slice_get, map};
 ghost use Rattle.wasm_base.specs.FaultAt.{fault_at};
 ghost use Rattle.wasm_base.specs.Owned.{out_of_memory};
@@ -17,21 +17,21 @@ use wasm_custom::{
 };
 use wasm_parser::{Parser, Payload};
 
-/// A relocation, with what it names and what it fills in.
+/// A relocation, with the symbol that it names and the bytes that it fills in.
 #[derive(Drop)]
 pub struct Fixup<'a> {
-    /// The relocation, as it is written.
+    /// The relocation as it is encoded.
     pub entry: RelocationEntry,
-    /// The symbol of its index, if a symbol table before it has one. `TypeIndexLeb` names a type, and no symbol.
+    /// The symbol with its index, if an earlier symbol table has one. `TypeIndexLeb` names a type and has none.
     pub symbol: Option<SymbolInfo<'a>>,
-    /// The bytes that it fills in, counted from the start of the whole stream, if a section that has come has them.
+    /// The offsets of the bytes that it fills in, from the start of the stream, if an earlier section contains them.
     pub range: Option<Range<u64>>,
 }
 
-/// What a linker fills in, and by what.
+/// The relocations of a module so far.
 #[derive(Drop)]
 pub struct Linked<'a> {
-    /// Where the content of each section is, counted from the start of the whole stream.
+    /// The offsets of the content of each section, from the start of the stream.
     pub sections: Vec<Range<u64>>,
     /// The symbols.
     pub symbols: Vec<SymbolInfo<'a>>,
@@ -39,7 +39,7 @@ pub struct Linked<'a> {
     pub fixups: Vec<Fixup<'a>>,
 }
 
-// The bytes that a relocation of a section fills in, if the section has them.
+// Returns the bytes that a relocation of a section fills in, if the section has them.
 fn filled_in(section: &Range<u64>, entry: &RelocationEntry) -> Option<Range<u64>>
     ensures { result ≡ filled_in section.now entry.now }
 {
@@ -56,7 +56,7 @@ fn filled_in(section: &Range<u64>, entry: &RelocationEntry) -> Option<Range<u64>
 impl<'a> Linked<'a> {
     ghost use Rattle.wasm_examples.specs.Linking.{symbol_of, filled_if_there, with_relocation, with_symbol};
 
-    // The symbol that a relocation names.
+    // Returns the symbol that a relocation names.
     fn symbol_of(&self, entry: &RelocationEntry) -> Option<SymbolInfo<'a>>
         ensures { option_map symbol_parts result
             ≡ symbol_of (map symbol_parts self.now.symbols.items) entry.now }
@@ -70,7 +70,7 @@ impl<'a> Linked<'a> {
         }
     }
 
-    // The bytes that a relocation of the section of this index fills in.
+    // Returns the bytes that a relocation fills in, in the section with this index.
     fn range_of(&self, section: u32, entry: &RelocationEntry) -> Option<Range<u64>>
         ensures { result
             ≡ filled_if_there (slice_get self.now.sections.items section) entry.now }
@@ -188,8 +188,11 @@ impl<'a> Linked<'a> {
     }
 }
 
-/// What a linker fills in of a module: its relocations, in order, each with the symbol that it names and with the bytes of the
-/// stream that it fills in. Or the first fault, be it the stream's, a symbol's or a relocation's; or `OutOfMemory`.
+/// Returns the relocations of a module, in order, each with the symbol that it names and the bytes that it fills in.
+///
+/// # Errors
+///
+/// The first fault of the stream, a symbol or a relocation, or `OutOfMemory`.
 pub fn linked_of<'a>(alloc: Global, bytes: &'a [u8]) -> Result<Linked<'a>>
     ensures { IsLinked bytes.now result }
 {

@@ -1,4 +1,4 @@
-// What a module needs from its outside and provides to it: a check before it is loaded.
+// Lists the imports and exports of a module, and checks that each export exists.
 ghost use Rattle.std.specs.Prelude.{◌≡◌, OnOk, IfErr};
 ghost use Rattle.wasm_base.specs.Window.{place};
 ghost use Rattle.wasm_parser.specs.ParseAnswer.{report_of, ItemsBegin};
@@ -14,7 +14,7 @@ use wasm_items::{
 };
 use wasm_parser::{Parser, Payload};
 
-/// How many there are of each kind that can be imported and exported.
+/// The number of items of each external kind.
 #[derive(Clone, Copy, Debug, PartialEq, Eq)]
 pub struct Spans {
     /// Functions.
@@ -32,7 +32,7 @@ pub struct Spans {
 impl Spans {
     ghost use Rattle.wasm_examples.specs.Outside.{span_of, with_more};
 
-    /// How many there are of a kind.
+    /// Returns the number of items of a kind.
     pub fn of(&self, kind: ExternalKind) -> u64
         ensures { result ≡ span_of self.now kind }
     {
@@ -45,7 +45,7 @@ impl Spans {
         }
     }
 
-    // Adds this many of a kind. A count saturates above every index, so that adding can't overflow.
+    // Adds items of a kind. A count saturates above every index, so that adding can't overflow.
     fn add(&mut self, kind: ExternalKind, count: u64)
         ensures { self.new ≡ with_more self.old kind count }
     {
@@ -61,14 +61,14 @@ impl Spans {
     }
 }
 
-/// The imports and exports of a module, in order, and how many there are of each kind, imported or its own.
+/// The imports and exports of a module, in order, and the number of its items of each kind.
 #[derive(Drop)]
 pub struct Outside<'a> {
-    /// How many there are of each kind.
+    /// The number of items of each kind, imported or defined.
     pub spans: Spans,
-    /// What it imports.
+    /// The imports.
     pub imports: Vec<Import<'a>>,
-    /// What it exports.
+    /// The exports.
     pub exports: Vec<Export<'a>>,
 }
 
@@ -77,7 +77,7 @@ pub struct Outside<'a> {
 pub enum Misfit {
     /// A fault of its stream, or out of memory.
     Stream(Error),
-    /// The export of this place, counted from 0, names what is not there.
+    /// The export at this position, counted from 0, has an index that no item has.
     NoSuch(usize),
 }
 
@@ -92,7 +92,7 @@ impl From<Error> for Misfit {
     }
 }
 
-// The kind of an import.
+// Returns the kind of an import.
 fn kind_of(ty: &TypeRef) -> ExternalKind
     ensures { result ≡ kind_of_type ty.now }
 {
@@ -183,7 +183,11 @@ impl<'a> Outside<'a> {
     }
 }
 
-/// The imports and exports of a module, each export an index of what the module imports and defines; or why it can't be loaded.
+/// Returns the imports and exports of a module.
+///
+/// # Errors
+///
+/// `Misfit` says why it can't be loaded: a fault, an export whose index no imported or defined item has, or `OutOfMemory`.
 pub fn outside_of<'a>(alloc: Global, bytes: &'a [u8]) -> Result<Outside<'a>, Misfit>
     ensures { IsOutside bytes.now result }
 {

@@ -15,7 +15,7 @@ use wasm_custom::{CustomSectionReader, Name, NameMap, NameSectionReader, Naming}
 use wasm_items::{ImportSection, ImportSectionReader, TypeRef};
 use wasm_parser::{Parser, Payload};
 
-// The name of each function so far, if it has one.
+// The name of each function that was read so far, if it has one.
 #[derive(Drop)]
 struct Names<'a> {
     alloc: Global,
@@ -23,7 +23,7 @@ struct Names<'a> {
 }
 
 impl<'a> Names<'a> {
-    // One function more.
+    // Adds a function without a name.
     fn add(&mut self) -> Result<()>
         ensures ok { OnOk result (texts_of self.new.list ≡ one_more (texts_of self.old.list)) }
         ensures memory { IfErr result (λ e. fault_at e ≡ out_of_memory) }
@@ -121,10 +121,14 @@ impl<'a> Names<'a> {
     }
 }
 
-/// The name of each function of a module, if its name sections name it: first of those that it imports, then of its own.
+/// Returns the name of each function of a module, if it has one: first of the imported functions, then of its own.
 ///
-/// A section names functions that come before it; of two names for one function the later one holds. A name that is out of
-/// order or can't be read is skipped. The fault at which the stream stops, or that of an import; or `OutOfMemory`.
+/// A name section names functions that come before it. If a function has two names, the later one counts. A name that is
+/// malformed or out of order is skipped.
+///
+/// # Errors
+///
+/// The fault of the stream or of an import, or `OutOfMemory`.
 pub fn function_names<'a>(alloc: Global, bytes: &'a [u8]) -> Result<Vec<Option<&'a str>>>
     ensures { AreNames bytes.now result }
 {

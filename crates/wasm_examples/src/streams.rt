@@ -6,7 +6,7 @@ ghost use Rattle.wasm_examples.specs.Streams.{IsEndOf, IsStartOf, started_by};
 use wasm_base::Result;
 use wasm_parser::{Chunk, Parser, Payload};
 
-/// The offset at which a stream ends, or the fault at which it stops.
+/// Returns the offset of the end of a stream, or its fault.
 pub fn end_of(bytes: &[u8]) -> Result<u64>
     ensures { IsEndOf bytes.now result }
 {
@@ -27,7 +27,7 @@ pub fn end_of(bytes: &[u8]) -> Result<u64>
     }
 }
 
-/// The index of the function that starts a module, if its stream names one; or the fault at which the stream stops.
+/// Returns the index in the start section of a module, if there is one, or the fault of the stream.
 pub fn start_of(bytes: &[u8]) -> Result<Option<u32>>
     ensures { IsStartOf bytes.now result }
 {
@@ -40,7 +40,7 @@ pub fn start_of(bytes: &[u8]) -> Result<Option<u32>>
     Ok(start)
 }
 
-// The index in a start section.
+// Returns the index in a start section.
 fn start_in(payload: Payload<'_>) -> Option<u32>
     ensures { result ≡ started_by (report_of payload.entry) }
 {

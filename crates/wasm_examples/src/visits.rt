@@ -1,4 +1,4 @@
-// Chunked input, whose parts are passed to a visitor.
+// Passes the parts of chunked input to a visitor.
 ghost use Rattle.std.specs.Prelude.{◌≡◌, ◌<◌, ◌^◌, length, OnOk, IfErr};
 ghost use Rattle.wasm_base.specs.FaultAt.{fault_at};
 ghost use Rattle.wasm_base.specs.Features.{feature_bits};
@@ -12,20 +12,20 @@ use wasm_base::{Result, WasmFeatures};
 use wasm_feed::{Ended, Feeder, Step, Turn};
 use wasm_parser::Payload;
 
-/// A visitor, to which the parts of a stream are reported in order.
+/// A visitor, which receives the parts of a stream in order.
 pub trait Visitor {
-    // A relation, because a value in memory can't keep what it was passed in a field for proofs alone.
-    /// What a part makes of a visitor.
+    // This is a relation, because a visitor in memory can't have a field for proofs alone that records its parts.
+    /// How a part changes the visitor.
     ghost takes: { Self → Event → Self → Type 0 };
 
-    /// A part of the stream that is not its end, and the bytes that it is. Its only error is out of memory.
+    /// Receives a part of the stream other than the end, and its bytes. The only error is `OutOfMemory`.
     fn visit(&mut self, bytes: &[u8], payload: Payload<'_>) -> Result<()>
         ensures visits { OnOk result
             (takes self.old (part bytes.now payload.entry) self.new) }
         ensures memory { IfErr result (λ e. fault_at e ≡ out_of_memory) };
 }
 
-// Tells a visitor a part, unless it is the end.
+// Passes a part to the visitor, unless it is the end.
 fn tell<V: Visitor>(visitor: &mut V, bytes: &[u8], payload: Payload<'_>) -> Result<Turn>
     ensures { Tells V.takes visitor.old bytes.now payload.entry result visitor.new }
 {
@@ -38,7 +38,7 @@ fn tell<V: Visitor>(visitor: &mut V, bytes: &[u8], payload: Payload<'_>) -> Resu
     }
 }
 
-// One step along the stream: the part that comes next is visited.
+// Performs one step and passes its part to the visitor.
 fn visit_next<V: Visitor>(feeder: &mut Feeder, visitor: &mut V) -> Result<Turn>
     ensures { VisitsNext V.takes feeder.old visitor.old result feeder.new visitor.new }
 {
@@ -48,7 +48,7 @@ fn visit_next<V: Visitor>(feeder: &mut Feeder, visitor: &mut V) -> Result<Turn>
     }
 }
 
-// Visits the parts that are held, and says whether the end is among them.
+// Passes the buffered parts to the visitor. Returns whether the end is among them.
 fn visit_held<V: Visitor>(feeder: &mut Feeder, visitor: &mut V) -> Result<bool>
     ensures { VisitsHeld V.takes feeder.old visitor.old result feeder.new visitor.new }
 {
@@ -61,12 +61,12 @@ fn visit_held<V: Visitor>(feeder: &mut Feeder, visitor: &mut V) -> Result<bool>
     }
 }
 
-/// Passes all parts of a stream that is cut into these chunks and begins at offset 0 to a visitor, in order, and returns how many
-/// bytes were stored at most. `fits_pieces` tests whether the chunks may be read.
+/// Passes the parts of a stream in these chunks, which begins at offset 0, to a visitor, in order. Returns the largest number of
+/// bytes that were buffered at once. `fits_pieces` tests whether the chunks may be read.
 ///
 /// # Errors
 ///
-/// The fault at which the stream stops, after the parts before it were visited; or `OutOfMemory`, at offset 0.
+/// The fault of the stream, once the parts before it are visited, or `OutOfMemory`, at offset 0.
 pub fn visit_pieces<V: Visitor>(
     alloc: Global,
     features: WasmFeatures,

@@ -11,7 +11,7 @@ use std::alloc::Global;
 use wasm_base::{FromReader, FromReaderIn, Result, SectionLimited};
 use wasm_items::{ImportSection, ImportSectionReader, TypeRef};
 
-/// Adds up the numbers of a section, or returns the first fault.
+/// Returns the sum of the numbers of a section, or the first fault.
 pub fn total(numbers: SectionLimited<'_, u32>) -> Result<u64>
     ensures { let sum = total_at numbers.entry.count (place numbers.entry.reader) in
         MatchResult result (λ n. sum ≡ Ok n) (λ e. sum ≡ Err (fault_at e)) }
@@ -23,7 +23,7 @@ pub fn total(numbers: SectionLimited<'_, u32>) -> Result<u64>
     Ok(total)
 }
 
-/// Checks that all announced items can be read, and that no bytes remain after them; or returns the first fault.
+/// Checks that all announced items can be read and that no bytes follow them. Returns the first fault otherwise.
 pub fn check<'a, T: FromReader<'a>>(section: SectionLimited<'a, T>) -> Result<()>
     ensures { Walks T.meaning section.entry.count (place section.entry.reader) result }
 {
@@ -33,8 +33,7 @@ pub fn check<'a, T: FromReader<'a>>(section: SectionLimited<'a, T>) -> Result<()
     Ok(())
 }
 
-/// Like `check`, for items that own lists, as types do: these allocate, and an allocation that fails ends the walk with
-/// `OutOfMemory`.
+/// Like `check`, for items that own lists, such as types. A failed allocation ends the walk with `OutOfMemory`.
 pub fn check_in<'a, T: FromReaderIn<'a>>(
     section: SectionLimited<'a, T>,
     alloc: Global,
@@ -47,7 +46,7 @@ pub fn check_in<'a, T: FromReaderIn<'a>>(
     Ok(())
 }
 
-/// Whether a module imports a memory, alone or in a bundle; or the first fault before one.
+/// Returns whether a module imports a memory, separately or in a bundle, or the first fault before such an import.
 pub fn imports_memory(section: ImportSectionReader<'_>) -> Result<bool>
     ensures { let found = memory_in (imports_of section.entry) in
         MatchResult result (λ some. found ≡ Ok some) (λ e. found ≡ Err (fault_at e)) }

@@ -40,7 +40,7 @@ pub(crate) fn show_custom<O: Tree>(
     true
 }
 
-// Writes what was read, or its fault.
+// Writes a section that was read, or its fault.
 fn show_section<T: Show, O: Tree>(read: Result<T>, out: &mut O) {
     match read {
         Ok(section) => {
@@ -74,7 +74,7 @@ fn show_counted_in<'a, T: FromReaderIn<'a> + Show, O: Tree>(
     }
 }
 
-// Writes all that an iterator returns, each on a line. Unlike `show_items`, it writes `OutOfMemory` too, and continues after it.
+// Writes each item of an iterator on a line. Unlike `show_items`, it writes `OutOfMemory` as a line and continues.
 fn show_all<I: Items, O: Tree>(mut items: I, out: &mut O) {
     out.line(1, "section");
     for _ in 0..u64::MAX {
@@ -96,7 +96,7 @@ fn show_one<T: Show, O: Tree>(item: &Result<(u64, T)>, out: &mut O) {
     }
 }
 
-// Writes what a custom section is known as, or its fault.
+// Writes the known contents of a custom section, or the fault.
 fn show_named<O: Tree>(alloc: Global, reader: BinaryReader<'_>, out: &mut O) {
     match CustomSectionReader::new(reader) {
         Ok(section) => match section.as_known(alloc) {
@@ -107,7 +107,7 @@ fn show_named<O: Tree>(alloc: Global, reader: BinaryReader<'_>, out: &mut O) {
     }
 }
 
-// Writes the name of a custom section, and under it, if its data is known, what that says.
+// Writes the name of a custom section and, if it is known, its contents under it.
 fn show_known<O: Tree>(name: &str, known: &KnownCustom<'_>, out: &mut O) {
     out.line(1, "section");
     out.quoted("name", name);

@@ -35,7 +35,7 @@ pub(crate) fn show_pieces<O: Tree>(
     }
 }
 
-// Pieces: their count, and each after its size.
+// Reads the chunks of a row: their count, and each chunk after its size.
 fn pieces_of<'a>(alloc: Global, reader: &mut BinaryReader<'a>) -> Result<Vec<&'a [u8]>, Failed> {
     let mut pieces = Vec::new(alloc);
     for _ in 0..reader.read_var_u32()? {
@@ -135,7 +135,7 @@ fn show_steps<O: Tree>(
     Ok(())
 }
 
-// Writes the result of a step, and the bytes that are then held and stored. Returns whether it is the last.
+// Writes the result of a step, and the numbers of bytes that are then held and stored. Returns whether it was the last step.
 fn show_step<O: Tree>(feeder: &mut Feeder, out: &mut O) -> bool {
     let is_last = show_result(feeder.open().step(), out);
     out.text(" ");
@@ -170,7 +170,7 @@ fn is_end(payload: &Payload<'_>) -> bool {
     }
 }
 
-// Pushes the next chunk, or after the last one the end of input, if the feeder wants more. Returns how many chunks it was given.
+// If the feeder wants more, pushes the next chunk, or finishes after the last one. Returns the number of chunks pushed so far.
 fn push_next<O: Tree>(
     feeder: &mut Feeder,
     pieces: &[&[u8]],
@@ -190,7 +190,7 @@ fn push_next<O: Tree>(
     }
 }
 
-// Why a chunk was refused. Where memory ran out, the line that is begun stays out of the output.
+// Returns why a chunk was refused. If memory ran out, the current line is not written.
 fn stopped<O: Tree>(error: Error, out: &mut O) -> Failed {
     let why = Failed::from(error);
     if let Failed::System(_) = why {

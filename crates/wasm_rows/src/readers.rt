@@ -1,4 +1,4 @@
-// The lines of rows, each read by the reader that it names.
+// Runs the reader of each row and writes its result.
 use crate::customs::show_custom;
 use crate::pieces::{Shown, show_pieces};
 use crate::readings::Stream;
@@ -44,7 +44,7 @@ pub(crate) fn run(rt: &HostRuntime) -> Result<(), (u64, Failed)> {
     }
 }
 
-// Writes lines, and the result of each row among them.
+// Writes each line of the input, and under each row its result.
 fn show_lines<W: Sink>(alloc: Global, text: &str, out: &mut Lines<W>) -> Result<(), (u64, Failed)> {
     let mut number = 0_u64;
     for line in text.lines() {
@@ -63,7 +63,7 @@ fn echo<W: Sink>(line: &str, out: &mut Lines<W>) {
     out.first(b"\n");
 }
 
-// Writes the result of a line, if it is a row.
+// Writes the result of a line if it is a row.
 fn show_result<W: Sink>(alloc: Global, line: &str, out: &mut Lines<W>) -> Result<(), Failed> {
     if is_prose(line) {
         return Ok(());
@@ -87,7 +87,7 @@ fn show_row<W: Sink>(alloc: Global, row: &Row<'_>, out: &mut Lines<W>) -> Result
     Ok(())
 }
 
-// Writes what the reader with this name reads of these bytes.
+// Writes what the reader with this name returns for these bytes.
 fn show_window<O: Tree>(
     alloc: Global,
     name: &str,
@@ -113,7 +113,7 @@ fn show_window<O: Tree>(
     Err(Failed::Row("unknown reader"))
 }
 
-// Writes what the reader with this name reads. Returns whether there is such a reader.
+// Writes what the reader with this name returns. Returns whether there is such a reader.
 fn show_read_by<O: Tree>(
     alloc: Global,
     name: &str,
@@ -152,7 +152,7 @@ fn show_read_by<O: Tree>(
     true
 }
 
-// Writes an item that was read at this offset and how many bytes it takes, or its fault.
+// Writes the item at this offset and the number of bytes that it takes, or its fault.
 fn show_outcome<T: Show, O: Tree>(
     offset: u64,
     item: &wasm_base::Result<T>,

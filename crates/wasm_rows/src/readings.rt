@@ -1,4 +1,4 @@
-// The ways to read a stream, each as the lines of its events.
+// Reads a stream in several ways, each as the lines of its events.
 use crate::rows::Failed;
 use std::alloc::Global;
 use wasm_base::{Error, Fault, Result as Read, WasmFeatures};
@@ -113,7 +113,7 @@ fn add_walked(event: Read<Payload<'_>>, hints: bool, lines: &mut Gathered) {
     lines.add(b"\n");
 }
 
-// A fault with its hint, or without.
+// Returns a fault with its hint, or without.
 fn shown(error: Error, hints: bool) -> Error {
     if hints {
         error
@@ -135,7 +135,7 @@ pub(crate) fn read_bytewise(alloc: Global, stream: &Stream<'_>) -> Result<Vec<u8
     lines.finish()
 }
 
-// Adds the lines of the events that are complete in the bytes between these places. Returns whether one is the last.
+// Adds the lines of the events that are complete in the bytes between these positions. Returns whether the last event was among them.
 fn add_to(
     parser: &mut Parser,
     bytes: &[u8],
@@ -200,7 +200,7 @@ pub(crate) fn feed(alloc: Global, stream: &Stream<'_>, size: usize) -> Result<Ve
     lines.finish()
 }
 
-// These lines and that of a fault that is none of the bytes, or why there are none: an allocation failed.
+// Returns these lines and that of a fault that `push` returned, or why there are none: an allocation failed.
 fn with_last(mut lines: Gathered, error: &Error) -> Result<Vec<u8>, Failed> {
     match error.fault() {
         Fault::OutOfMemory => Err(Failed::System(ListError::Memory)),
@@ -226,7 +226,7 @@ fn add_steps(feeder: &mut Feeder, lines: &mut Gathered) {
     }
 }
 
-// Adds the text of what a step returned. That of a fault has no hint.
+// Adds the text of the result of a step. The text of a fault has no hint.
 fn add_step(step: Read<Step<'_>>, lines: &mut Gathered) -> Next {
     match step {
         Ok(Step::NeedMoreData(count)) => Next::More(count),
@@ -254,7 +254,7 @@ pub(crate) fn list_chunked(
     }
 }
 
-// Whether a walk over the whole stream ends so too.
+// Returns whether a walk over the whole stream has the same result.
 fn is_end_of(ended: &Ended, stream: &Stream<'_>) -> bool {
     let mut end = Ended::End;
     for event in stream.parser().parse_all(stream.bytes) {
@@ -270,7 +270,7 @@ fn end_after(event: Read<Payload<'_>>) -> Ended {
     }
 }
 
-// Lines with two blanks before each, and one more if the end is another.
+// Returns these lines, indented by two blanks, and one more line if the walk ends differently.
 fn indented(alloc: Global, text: &[u8], is_same_end: bool) -> Result<Vec<u8>, Failed> {
     let mut lines = Gathered::new(alloc);
     let mut is_start = true;

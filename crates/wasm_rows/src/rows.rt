@@ -1,4 +1,4 @@
-// The rows of a table: what reads each, with which features and at which offset, and its bytes.
+// Parses the rows of a table: a reader, features, an offset, and bytes.
 use bitflags::Flags;
 use std::alloc::{AllocError, Global};
 use std::io::{self, ErrorKind};
@@ -45,9 +45,9 @@ impl From<io::Error> for Failed {
 /// A row of a table.
 #[derive(Drop)]
 pub(crate) struct Row<'a> {
-    /// The name of what reads the bytes.
+    /// The name of its reader.
     pub(crate) reader: &'a str,
-    /// The features that it reads with.
+    /// The features of the reader.
     pub(crate) features: WasmFeatures,
     /// The offset of the first byte in the stream.
     pub(crate) offset: u64,
@@ -55,7 +55,7 @@ pub(crate) struct Row<'a> {
     pub(crate) bytes: Vec<u8>,
 }
 
-/// Whether a line is empty or a comment, so that it has no row.
+/// Returns whether a line is empty or a comment.
 pub(crate) fn is_prose(line: &str) -> bool {
     line.is_empty() || line.starts_with('#')
 }
@@ -103,7 +103,7 @@ fn parse_offset(word: &str) -> Result<u64, Failed> {
     }
 }
 
-// Adds the bytes of a word: pairs of digits and, after `*`, how many times these bytes come.
+// Adds the bytes of a word: pairs of digits, repeated by the number after a `*`.
 fn add_word(word: &str, bytes: &mut Vec<u8>) -> Result<(), Failed> {
     match word.split_once('*') {
         Some((pairs, times)) => add_repeated(pairs, times, bytes),
@@ -111,7 +111,7 @@ fn add_word(word: &str, bytes: &mut Vec<u8>) -> Result<(), Failed> {
     }
 }
 
-// Adds bytes that come several times.
+// Adds repeated bytes.
 fn add_repeated(pairs: &str, times: &str, bytes: &mut Vec<u8>) -> Result<(), Failed> {
     match times.parse::<u32>() {
         Ok(times) => {
@@ -124,7 +124,7 @@ fn add_repeated(pairs: &str, times: &str, bytes: &mut Vec<u8>) -> Result<(), Fai
     }
 }
 
-// Adds the byte of each pair of digits.
+// Adds a byte for each pair of digits.
 fn add_pairs(pairs: &[u8], bytes: &mut Vec<u8>) -> Result<(), Failed> {
     let mut rest = pairs;
     while let Some((high, later)) = rest.split_first() {
@@ -147,7 +147,7 @@ fn byte_of(high: u8, low: u8) -> Result<u8, Failed> {
     )
 }
 
-// The value of a hexadecimal digit.
+// Returns the value of a hexadecimal digit.
 fn parse_digit(digit: u8) -> Result<u8, Failed> {
     match digit {
         b'0'..=b'9' => Ok(digit.wrapping_sub(b'0')),

@@ -24,7 +24,7 @@ pub(crate) fn lines_of_stream(alloc: Global, stream: &Stream<'_>) -> Result<Vec<
     lines.finish()
 }
 
-// Adds what a feeder and the listing make of chunks of this size, where these lines are not the result.
+// Adds the results of a feeder and of the listing for chunks of this size, if they differ from these lines.
 fn add_chunked(
     alloc: Global,
     stream: &Stream<'_>,
@@ -50,7 +50,7 @@ fn add_chunked(
     Ok(())
 }
 
-// Adds other lines under a heading, where they are not the wanted ones.
+// Adds lines under a heading if they differ from the expected ones.
 fn add_other(heading: &str, wanted: &[u8], other: &[u8], lines: &mut Gathered) {
     if wanted != other {
         lines.add(b"  differs: ");

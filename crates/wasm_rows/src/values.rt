@@ -1,4 +1,4 @@
-// Numbers, texts and windows, and sections of them: what one call of a reader returns.
+// The readers of single values: numbers, texts and windows, and sections of them.
 use wasm_base::{
     BinaryReader, Error, FromReader, Ieee32, Ieee64, Result, SectionLimited,
     SectionLimitedIntoIterWithOffsets,
@@ -109,7 +109,7 @@ pub(crate) fn show_value<O: Tree>(name: &str, reader: &mut BinaryReader<'_>, out
     true
 }
 
-// Like `show_value`, for what is longer than a number.
+// Like `show_value`, for texts and windows.
 fn show_text<O: Tree>(name: &str, reader: &mut BinaryReader<'_>, out: &mut O) -> bool {
     match name {
         "bool" => show_call(reader.read::<bool>(), reader, out),
@@ -139,7 +139,7 @@ fn show_section<O: Tree>(name: &str, reader: &mut BinaryReader<'_>, out: &mut O)
     true
 }
 
-// Skips as many numbers as the first one says.
+// Reads a count and skips as many numbers.
 fn skip_counted(reader: &mut BinaryReader<'_>) -> Result<()> {
     let count = reader.read_var_u32()?;
     reader.skip_var_u32s(count)

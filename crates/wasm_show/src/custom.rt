@@ -72,7 +72,7 @@ pub fn show_custom<O: Tree>(alloc: Global, section: &CustomSectionReader<'_>, ou
     }
 }
 
-// Writes what the data of a custom section says on the line that is begun, which is at this level, and its items under it.
+// Writes the contents of a custom section: its fields on the current line, which is at this level, and its items under it.
 fn show_known<O: Tree>(level: usize, known: &KnownCustom<'_>, out: &mut O)
     ensures { Adds (O.writing out.old) (O.writing out.new) }
 {

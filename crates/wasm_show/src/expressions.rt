@@ -10,7 +10,7 @@ use wasm_base::Result;
 use wasm_items::{ConstExpr, ConstInstruction, ConstOperator};
 use wasm_tree::Tree;
 
-// The name of an operator.
+// Returns the name of an operator.
 fn operator_word(operator: &ConstOperator) -> &'static str
     ensures one_line { has_line_feed result.now ≡ false }
 {
@@ -95,7 +95,7 @@ fn write_operands<O: Tree>(operator: &ConstOperator, out: &mut O)
     }
 }
 
-// Writes an instruction, or the fault in its place, in parentheses, and before it a blank, unless it is the first one.
+// Writes an instruction, or the fault in its place, in parentheses. A blank precedes all but the first.
 fn write_instruction<O: Tree>(is_first: bool, read: &Result<ConstInstruction>, out: &mut O)
     ensures adds { Adds (O.writing out.old) (O.writing out.new) }
     ensures some { SaysSome (O.writing out.old) (O.writing out.new) }
@@ -111,7 +111,7 @@ fn write_instruction<O: Tree>(is_first: bool, read: &Result<ConstInstruction>, o
     out.text(")");
 }
 
-// Whether what was read is the end of an expression.
+// Returns whether this is the `end` of an expression.
 fn is_end(read: &Result<ConstInstruction>) -> bool {
     match read {
         Ok(instruction) => matches!(&instruction.operator, ConstOperator::End),
@@ -119,8 +119,8 @@ fn is_end(read: &Result<ConstInstruction>) -> bool {
     }
 }
 
-// Writes the instructions of an expression without the end, each in parentheses, with a blank between two. One that has no other
-// is `()`.
+// Writes the instructions of an expression without `end`, each in parentheses, with a blank between two. An expression that is only
+// `end` is written as `()`.
 fn write_instructions<O: Tree>(expr: &ConstExpr<'_>, out: &mut O)
     ensures adds { Adds (O.writing out.old) (O.writing out.new) }
     ensures some { SaysSome (O.writing out.old) (O.writing out.new) }

@@ -19,7 +19,7 @@ use wasm_items::{
 };
 use wasm_tree::Tree;
 
-// The word of what is imported or exported.
+// Returns the name of an external kind in the text format.
 fn kind_word(kind: &ExternalKind) -> &'static str
     ensures word { result.now ≡ word_of_kind kind.now }
     ensures one_line { has_line_feed result.now ≡ false }
@@ -34,7 +34,7 @@ fn kind_word(kind: &ExternalKind) -> &'static str
     }
 }
 
-// Writes what kind is imported or exported.
+// Writes the external kind of an import or export.
 fn show_kind<O: Tree>(kind: &ExternalKind, out: &mut O)
     ensures adds { Adds (O.writing out.old) (O.writing out.new) }
     ensures says { SaysInBase (field_text (kind_field kind.now)) (O.writing out.old) (O.writing out.new) }
@@ -159,7 +159,7 @@ impl Show for Export<'_> {
     }
 }
 
-// Writes what becomes of an element segment.
+// Writes the mode of an element segment: passive, active or declared.
 fn show_element_kind<O: Tree>(kind: &ElementKind<'_>, out: &mut O)
     ensures { Adds (O.writing out.old) (O.writing out.new) }
 {
@@ -209,7 +209,7 @@ impl Show for Element<'_> {
     }
 }
 
-// Writes what becomes of a data segment.
+// Writes the mode of a data segment: passive or active.
 fn show_data_kind<O: Tree>(kind: &DataKind<'_>, out: &mut O)
     ensures adds { Adds (O.writing out.old) (O.writing out.new) }
     ensures says { SaysWith (data_kind_fields kind.now) (O.writing out.old) (O.writing out.new) }

@@ -1,4 +1,4 @@
-// Texts of the sections for linkers, static and dynamic, and of their items.
+// Texts of the sections `linking`, `reloc.*` and `dylink.0`, and of their items.
 ghost use Rattle.std.specs.Prelude.{◌≡◌, false};
 ghost use Rattle.wasm_custom.specs.Linking.{text_if_any};
 ghost use Rattle.wasm_tree.specs.Said.{SaysFields};
@@ -31,7 +31,7 @@ impl Show for InitFunc {
     }
 }
 
-// The word of what is in a group.
+// Returns the name of the kind of a COMDAT symbol.
 fn comdat_word(kind: &ComdatSymbolKind) -> &'static str
     ensures one_line { has_line_feed result.now ≡ false }
 {
@@ -78,7 +78,7 @@ fn show_indexed<O: Tree>(kind: &str, flags: u32, index: u32, name: &Option<&str>
     }
 }
 
-// Writes where the data of a symbol is, if it is here.
+// Writes the position of the data of a symbol, if it is defined in this module.
 fn show_defined<O: Tree>(symbol: &Option<DefinedDataSymbol>, out: &mut O)
     ensures adds { Adds (O.writing out.old) (O.writing out.new) }
     ensures says { SaysFields (defined_fields symbol.now) (O.writing out.old) (O.writing out.new) }
@@ -93,7 +93,7 @@ fn show_defined<O: Tree>(symbol: &Option<DefinedDataSymbol>, out: &mut O)
     }
 }
 
-// Writes a symbol that is data.
+// Writes a data symbol.
 fn show_data<O: Tree>(flags: u32, name: &str, symbol: &Option<DefinedDataSymbol>, out: &mut O)
     ensures adds { Adds (O.writing out.old) (O.writing out.new) }
     ensures says { SaysFields (data_symbol_fields flags name.now symbol.now)
@@ -105,7 +105,7 @@ fn show_data<O: Tree>(flags: u32, name: &str, symbol: &Option<DefinedDataSymbol>
     show_defined(symbol, out);
 }
 
-// Writes a symbol that is a section.
+// Writes a section symbol.
 fn show_section_symbol<O: Tree>(flags: u32, section: u32, out: &mut O)
     ensures adds { Adds (O.writing out.old) (O.writing out.new) }
     ensures says { SaysFields (section_symbol_fields flags section)
@@ -207,7 +207,7 @@ impl Show for ImportInfo<'_> {
     }
 }
 
-// Writes what a list is, and its items under the line.
+// Writes the kind of a list, and its items on lines under the current line.
 fn show_words<T: Show, O: Tree>(list: &str, item: &str, level: usize, items: &[T], out: &mut O)
     requires list_line { has_line_feed list.now ≡ false }
     requires item_line { has_line_feed item.now ≡ false }
@@ -244,7 +244,7 @@ impl Show for Dylink0Subsection<'_> {
     }
 }
 
-// The name of a type of relocations in the tool conventions.
+// Returns the name of a relocation type in the tool conventions.
 fn relocation_word(ty: &RelocationType) -> &'static str
     ensures one_line { has_line_feed result.now ≡ false }
 {

@@ -21,7 +21,7 @@ pub trait Items: Drop {
     /// The type of the items.
     type Item: Show;
 
-    /// Returns the next item, after the offset of its bytes from the start of the stream, or the fault in its place;
+    /// Returns the next item and its offset, in bytes from the start of the stream, or the fault in its place. Returns
     /// `None` at the end.
     fn next_item(&mut self) -> Option<Result<(u64, Self::Item)>>;
 }
@@ -66,7 +66,7 @@ fn show_item<T: Show, O: Tree>(level: usize, item: &Result<(u64, T)>, out: &mut 
     }
 }
 
-/// Writes a line for a fault, at this level. `OutOfMemory` is no fault of a stream: the tree stops instead.
+/// Writes a line for a fault, at this level. At `OutOfMemory`, which is not a fault of the stream, the tree stops instead.
 pub fn show_fault<O: Tree>(level: usize, error: &Error, out: &mut O)
     ensures { Adds (O.writing out.old) (O.writing out.new) }
 {
@@ -76,7 +76,7 @@ pub fn show_fault<O: Tree>(level: usize, error: &Error, out: &mut O)
     }
 }
 
-/// The level of lines that are under one of this level.
+/// Returns the level of the lines under a line of this level.
 pub(crate) fn under(level: usize) -> usize {
     level.saturating_add(1)
 }
@@ -176,7 +176,7 @@ pub(crate) fn write_words<T: Text, O: Tree>(items: &[T], out: &mut O)
     }
 }
 
-// What was read at this offset, if anything was.
+// Pairs an item with its offset.
 fn placed<T>(offset: u64, item: Option<Result<T>>) -> Option<Result<(u64, T)>> {
     match item {
         Some(Ok(item)) => Some(Ok((offset, item))),

@@ -37,7 +37,7 @@ impl Show for IndirectNameMap<'_> {
     }
 }
 
-// Writes what names are of, and the names.
+// Writes the kind of the named items, and the names on lines under the current line.
 fn show_map<T: Show, O: Tree>(word: &str, level: usize, names: &T, out: &mut O)
     requires one_line { has_line_feed word.now ≡ false }
     ensures { Adds (O.writing out.old) (O.writing out.new) }
@@ -46,7 +46,7 @@ fn show_map<T: Show, O: Tree>(word: &str, level: usize, names: &T, out: &mut O)
     names.show(level, out);
 }
 
-/// Writes a subsection that isn't known.
+/// Writes an unknown subsection.
 pub(crate) fn show_unknown<O: Tree>(ty: u8, contents: &[u8], range: &Range<u64>, out: &mut O)
     ensures { Adds (O.writing out.old) (O.writing out.new) }
 {

@@ -1,4 +1,4 @@
-// What can be shown.
+// The traits of what can be shown.
 ghost use Rattle.wasm_show.specs.ItemText.{index_fields};
 ghost use Rattle.wasm_tree.specs.Said.{Says, SaysFields};
 ghost use Rattle.wasm_tree.specs.Tree.{Adds};
@@ -38,7 +38,7 @@ pub trait Show: Drop {
 pub trait Text: Drop {
     ghost use Rattle.std.specs.Prelude.{ℕ, List};
 
-    /// What it is.
+    /// The value that the text depends on.
     ghost words: { Self → List ℕ };
 
     /// Writes the part on the current line. It has no line feed.

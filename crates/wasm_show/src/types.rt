@@ -15,7 +15,7 @@ use wasm_items::{
 };
 use wasm_tree::Tree;
 
-// The word of a heap type that is no index.
+// Returns the name of an abstract heap type in the text format.
 fn heap_word(heap: &HeapType) -> &'static str
     ensures word { result.now ≡ word_of_heap heap.now }
     ensures one_line { has_line_feed result.now ≡ false }
@@ -51,7 +51,7 @@ impl Text for HeapType {
     }
 }
 
-// How the text of a reference begins.
+// Returns the start of the text of a reference type.
 fn ref_start(nullable: bool) -> &'static str
     ensures word { result.now ≡ start_of_ref nullable }
     ensures one_line { has_line_feed result.now ≡ false }
@@ -102,7 +102,7 @@ impl Text for StorageType {
     }
 }
 
-// Writes a type of what may be mutable.
+// Writes a type, inside `(mut ...)` if it is mutable.
 fn write_mutable<T: Text, O: Tree>(mutable: bool, ty: &T, out: &mut O)
     ensures adds { Adds (O.writing out.old) (O.writing out.new) }
     ensures says { Says (mutable_text mutable (T.words ty.now))
@@ -191,7 +191,7 @@ impl Text for CompositeType {
     }
 }
 
-// How the text of a type begins.
+// Returns the start of the text of a composite type.
 fn sub_start(is_final: bool) -> &'static str
     ensures word { result.now ≡ start_of_sub is_final }
     ensures one_line { has_line_feed result.now ≡ false }
@@ -199,14 +199,14 @@ fn sub_start(is_final: bool) -> &'static str
     if is_final { "(sub final " } else { "(sub " }
 }
 
-// Whether the text format has the composite type alone.
+// Returns whether the text format leaves out `sub`, as it may for a final type without a supertype.
 fn is_plain(is_final: bool, supertype: Option<u32>) -> bool
     ensures { result ≡ is_plain_type is_final supertype }
 {
     is_final && supertype.is_none()
 }
 
-// Writes the index of the type that is extended, if there is one.
+// Writes the index of the supertype, if there is one.
 fn write_supertype<O: Tree>(supertype: Option<u32>, out: &mut O)
     ensures adds { Adds (O.writing out.old) (O.writing out.new) }
     ensures says { Says (supertype_text supertype) (O.writing out.old) (O.writing out.new) }
@@ -245,7 +245,7 @@ fn show_type<T: Text, O: Tree>(name: &str, ty: &T, out: &mut O)
     ty.text(out);
 }
 
-// Writes the type of what may be mutable as a field of an item.
+// Writes a type that may be mutable as a field of an item.
 fn show_mutable<O: Tree>(name: &str, mutable: bool, ty: &ValType, out: &mut O)
     requires one_line { has_line_feed name.now ≡ false }
     ensures adds { Adds (O.writing out.old) (O.writing out.new) }
@@ -256,7 +256,7 @@ fn show_mutable<O: Tree>(name: &str, mutable: bool, ty: &ValType, out: &mut O)
     write_mutable(mutable, ty, out);
 }
 
-/// The number in more bits.
+/// Widens an optional number.
 pub(crate) fn wide(number: Option<u32>) -> Option<u64>
     ensures { result ≡ number }
 {
@@ -334,7 +334,7 @@ impl Show for TagType {
     }
 }
 
-/// Writes the types on lines under the item's line; the type of a group that is not explicit on the line itself.
+/// Writes the types of an explicit group on lines under the item's line, and the one type of any other group on that line.
 impl Show for RecGroup {
     fn show<O: Tree>(&self, level: usize, out: &mut O) {
         out.flag("explicit", self.explicit);

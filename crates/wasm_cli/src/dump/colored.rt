@@ -1,4 +1,4 @@
-// Where text goes with colours.
+// A sink that colors a dump.
 ghost use Rattle.std.specs.Prelude.{◌≡◌, ◌≢◌, ℕ, ◌≤◌, ◌<◌, ◌+◌, ◌++◌, ◌∷◌, [], true, length, take, IfOk, OnErr, is_ok, if◌then◌else◌};
 ghost use Rattle.std.specs.Io.KnownBytes.{Appends, WriteAppends};
 ghost use Rattle.wasm_cli.specs.Colors.{plain};
@@ -21,8 +21,8 @@ use wasm_feed::{Failed, Sink, write_all};
 /// assert!(rt; colored.written().len() > 6);
 /// ```
 // Colors follow from the bytes of the text alone, so the code that shows items knows nothing of them. Each write begins with a
-// sequence, so no clause asks what the output had received before. Whether there are colors is no part of the type: so a
-// program has the code that shows items only once.
+// sequence, so no clause depends on what was written before. Whether there are colors is a field, not a type parameter, so that
+// the program contains the code that shows items only once.
 #[derive(Drop)]
 pub struct Colored<W> {
     inner: W,
@@ -56,7 +56,7 @@ impl<W: Sink> Colored<W> {
     }
 }
 
-// Writes all of one text, and then what is taken at once of another.
+// Writes all of `head`, then as much of `body` as one write takes. Returns how many bytes of `body` that was.
 fn write_after<W: Sink>(output: &mut W, head: &[u8], body: &[u8]) -> Result<usize, Failed>
     ensures bound { IfOk result (λ n. n ≤ length body.now) }
     ensures some { IfOk result (λ n. 0 < length body.now → 0 < n) }
@@ -71,7 +71,7 @@ fn write_after<W: Sink>(output: &mut W, head: &[u8], body: &[u8]) -> Result<usiz
     output.write(body)
 }
 
-// Writes an ESC of a text, which sets no colour.
+// Writes an ESC of the text itself, followed by a `\`, so that it begins no sequence.
 fn write_escape<W: Sink>(output: &mut W) -> Result<usize, Failed>
     ensures one { IfOk result (λ n. n ≡ 1) }
     ensures bytes { WriteAppends (plain (W.taken output.old)) (plain (W.taken output.new))
@@ -82,7 +82,7 @@ fn write_escape<W: Sink>(output: &mut W) -> Result<usize, Failed>
     write_after(output, &[ESC], b"\\")
 }
 
-// Writes a prefix of a text with its colors.
+// Writes a prefix of a text that does not begin with an ESC. Returns its length.
 fn write_colors<W: Sink>(
     output: &mut W,
     spot: Spot,
@@ -103,7 +103,7 @@ fn write_colors<W: Sink>(
     Ok(count_plain(&gathered.as_bytes()[..written]))
 }
 
-// Where in its line the byte after these is.
+// Returns the position after these bytes.
 fn pass(spot: Spot, bytes: &[u8]) -> Spot {
     let mut spot = spot;
     for byte in bytes {
@@ -112,7 +112,7 @@ fn pass(spot: Spot, bytes: &[u8]) -> Spot {
     spot
 }
 
-// Writes a prefix of a text, which may begin with an ESC, with its colors.
+// Writes a prefix of a text with its colors. Returns its length.
 fn write_colored<W: Sink>(output: &mut W, spot: Spot, buf: &[u8]) -> Result<usize, Failed>
     ensures bound { IfOk result (λ n. n ≤ length buf.now) }
     ensures some { IfOk result (λ n. 0 < length buf.now → 0 < n) }

@@ -1,25 +1,25 @@
-// What the arguments ask for, and which sections their words choose.
+// Parses the arguments of `wasm_dump`.
 ghost use Rattle.std.specs.Prelude.{◌≡◌, [], IfNone, IfOk, IfSome, OnErr, Some, drop, map, string_bytes};
 ghost use Rattle.std.specs.Vec.Iter.{into_iter_items};
 ghost use Rattle.wasm_cli.specs.DumpCommands.{WantsMemory, asked_after, asked_alone, asked_by, asked_by_one, asked_if_any, asked_of, asked_to_show, asked_with, is_option};
 ghost use Rattle.wasm_cli.specs.Words.{Begins, ChooseInTurn, Chooses, IsSplit, rest_given, words_of};
 
 use super::options::{Mark, Options, mark_of};
-use crate::common::is_no_text;
+use crate::common::is_not_utf8;
 use std::alloc::{AllocError, Global};
 use std::env::Args;
 use std::io;
 use wasm_dumper::Only;
 use wasm_grammar::section_named;
 
-/// Arguments, of which there is one at least.
+/// One or more arguments.
 #[derive(Drop)]
 pub(super) struct Rest {
     pub(super) first: String,
     pub(super) more: Args,
 }
 
-// The words that arguments choose sections by, what else their options ask for, and the arguments after these.
+// The parsed options at the start of the arguments: the values of `--section`, the other options, and the arguments after them.
 #[derive(Drop)]
 struct Split {
     words: Vec<String>,
@@ -27,20 +27,20 @@ struct Split {
     rest: Option<Rest>,
 }
 
-// What arguments begin with.
+// The start of the arguments.
 #[derive(Drop)]
 enum Head {
-    // A word that chooses sections.
+    // `--section` with its value.
     Word(String),
-    // An option without a value.
+    // An option that takes no value.
     Marked(Mark),
     // Another argument.
     Other(String),
-    // Nothing.
+    // There are no more arguments.
     Nothing,
 }
 
-// Takes what arguments begin with: `--section` and a word, another option, or another argument.
+// Takes `--section` and its value, another option, or another argument from the front.
 fn take_head(arguments: &mut Args) -> Head
     ensures { Begins result (map string_bytes (into_iter_items arguments.old))
         (map string_bytes (into_iter_items arguments.new)) }
@@ -60,7 +60,7 @@ fn take_head(arguments: &mut Args) -> Head
     }
 }
 
-// Splits the arguments after the program's own name. Memory can be refused only where there are words to keep.
+// Parses the options at the start of the arguments after the program's name. Allocates only for values of `--section`.
 fn split_words(alloc: Global, mut arguments: Args) -> Result<Split, AllocError>
     ensures ok { IfOk result (λ split. IsSplit split (map string_bytes (into_iter_items arguments))) }
     ensures err { OnErr result (¬ (words_of (map string_bytes (into_iter_items arguments)) ≡ [])) }
@@ -93,7 +93,7 @@ fn split_words(alloc: Global, mut arguments: Args) -> Result<Split, AllocError>
     }
 }
 
-/// Files that are to be dumped, the words that choose sections of them, and what else is asked for.
+/// The files to dump, the sections to show, and the other options.
 #[derive(Drop)]
 pub(super) struct Named {
     pub(super) words: Vec<String>,
@@ -101,31 +101,31 @@ pub(super) struct Named {
     pub(super) files: Rest,
 }
 
-/// What the program is to do.
+/// A parsed command line.
 #[derive(Drop)]
 pub(super) enum Command {
-    /// To show all sections of the input.
+    /// Dump all of standard input.
     All {
         options: Options,
     },
-    /// To show those with these ids and names.
+    /// Dump the sections of standard input with these ids and names.
     Sections {
         options: Options,
         words: Vec<String>,
     },
-    /// To show files.
+    /// Dump files.
     Files(Named),
-    /// To show the names of the input, which can't be read twice.
+    /// Dump standard input with names, which is refused: it can't be read twice.
     NamesOfInput,
-    /// To say how it is used.
+    /// Print the help text.
     Help,
-    /// To say which version it is.
+    /// Print the version.
     Version,
-    /// It doesn't know.
+    /// The arguments are wrong.
     Unknown,
 }
 
-// Whether an argument is no file: it begins with two dashes.
+// Returns whether an argument is an option: it begins with two dashes.
 fn is_an_option(word: &str) -> bool
     ensures { result ≡ is_option word.now }
 {
@@ -135,7 +135,7 @@ fn is_an_option(word: &str) -> bool
     }
 }
 
-// What one argument asks for, unless it is a file.
+// Parses an option that must be the only argument.
 fn command_of_one(word: &str) -> Command
     ensures { asked_of result ≡ asked_by_one word.now }
 {
@@ -146,7 +146,7 @@ fn command_of_one(word: &str) -> Command
     }
 }
 
-// What an argument asks for, unless it is a file, after options and words and before more arguments.
+// Parses an option that must be the only argument, and is refused after options or before other arguments.
 fn command_alone(words: Vec<String>, options: Options, rest: Rest) -> Command
     ensures { asked_of result
         ≡ asked_alone options (map string_bytes words.items) (string_bytes rest.first)
@@ -158,7 +158,7 @@ fn command_alone(words: Vec<String>, options: Options, rest: Rest) -> Command
     command_of_one(rest.first.as_str())
 }
 
-// What words that choose sections of the input ask for.
+// Returns the command to dump standard input, limited to these sections if there are any.
 fn command_to_show(words: Vec<String>, options: Options) -> Command
     ensures { asked_of result ≡ asked_to_show options (map string_bytes words.items) }
 {
@@ -169,7 +169,7 @@ fn command_to_show(words: Vec<String>, options: Options) -> Command
     }
 }
 
-// What options and words ask for, and the arguments after them.
+// Returns the command for these options and the arguments after them.
 fn command_with(words: Vec<String>, options: Options, rest: Option<Rest>) -> Command
     ensures { asked_of result
         ≡ asked_with options (map string_bytes words.items) (rest_given rest) }
@@ -195,7 +195,7 @@ fn command_with(words: Vec<String>, options: Options, rest: Option<Rest>) -> Com
     }
 }
 
-// The same, unless no dump can follow all options.
+// Like `command_with`, but refuses options that exclude each other.
 fn command_of(split: Split) -> Command
     ensures { asked_of result
         ≡ asked_after split.options (map string_bytes split.words.items)
@@ -212,7 +212,7 @@ fn command_of(split: Split) -> Command
     command_with(words, options, rest)
 }
 
-// What the arguments after the program's name ask for, or `None` when an allocation fails.
+// Parses the arguments after the program's name. Returns `None` when an allocation fails.
 fn command_after_name(alloc: Global, mut arguments: Args) -> Option<Command>
     ensures some { IfSome result (λ command. asked_of command
         ≡ asked_by (drop 1 (map string_bytes (into_iter_items arguments)))) }
@@ -226,8 +226,8 @@ fn command_after_name(alloc: Global, mut arguments: Args) -> Option<Command>
     }
 }
 
-/// What these arguments ask for, or `None` when an allocation fails. An argument that is not valid UTF-8 makes the
-/// command unknown.
+/// Parses the arguments. Returns `None` when an allocation fails. An argument that is not valid UTF-8 is a wrong
+/// argument.
 pub(super) fn command_asked(alloc: Global, arguments: io::Result<Args>) -> Option<Command>
     ensures some { IfSome result (λ command. Some (asked_of command)
         ≡ asked_if_any (λ args. map string_bytes (into_iter_items args)) arguments) }
@@ -237,8 +237,8 @@ pub(super) fn command_asked(alloc: Global, arguments: io::Result<Args>) -> Optio
     match arguments {
         Ok(arguments) => command_after_name(alloc, arguments),
         Err(error) => {
-            // If any argument is not UTF-8, `std` refuses all of them.
-            if is_no_text(&error) {
+            // If any argument is not valid UTF-8, `std` refuses all of them.
+            if is_not_utf8(&error) {
                 Some(Command::Unknown)
             } else {
                 None
@@ -247,7 +247,7 @@ pub(super) fn command_asked(alloc: Global, arguments: io::Result<Args>) -> Optio
     }
 }
 
-// The sections that a word chooses: an id, a name of the standard, or the name of a custom section.
+// Parses a value of `--section`: an id, a name of the standard, or the name of a custom section.
 fn sections_named(word: &str) -> Only<'_>
     ensures { Chooses word.now result }
 {
@@ -260,7 +260,7 @@ fn sections_named(word: &str) -> Only<'_>
     }
 }
 
-/// The sections that these words choose, one after the other.
+/// Parses the values of `--section`, in order.
 pub(super) fn chosen_by<'w>(alloc: Global, words: &'w [String]) -> Result<Vec<Only<'w>>, AllocError>
     ensures { IfOk result (λ only. ChooseInTurn (map string_bytes words.now) only.items) }
 {

@@ -1,4 +1,4 @@
-// Runs over files.
+// Dumps the files that the arguments name.
 ghost use Rattle.std.specs.Prelude.{◌≡◌};
 ghost use Rattle.wasm_cli.specs.Endings.{status_of};
 
@@ -16,20 +16,20 @@ use wasm_feed::{Ended, Failed, ListError, ReadSource, Sink, WriteSink, write_all
 use wasm_text::{complain, give_up};
 use wasm_tree::{ItemNames, Objects, Tree};
 
-/// What is shown of each file, and how.
+/// The sections to show of each file, and the options.
 #[derive(Clone, Copy)]
 struct Plan<'w> {
     only: &'w [Only<'w>],
     options: Options,
 }
 
-// Writes the name of a file on a line, before its dump.
+// Writes the name of a file as a line, before its dump.
 fn write_name<W: Write>(name: &str, output: &mut WriteSink<W>) -> Result<(), Failed> {
     write_all(output, name.as_bytes())?;
     write_all(output, b":\n")
 }
 
-// Writes the object of a file, before its dump.
+// Writes the name of a file as a JSON object, before its dump.
 fn write_file_object<W: Write>(
     alloc: Global,
     name: &str,
@@ -45,7 +45,7 @@ fn write_file_object<W: Write>(
     (result, tree.into_output())
 }
 
-// The one or the other.
+// Writes the name of a file before its dump, as a line or as an object.
 fn write_heading<W: Write>(
     alloc: Global,
     options: Options,
@@ -61,7 +61,7 @@ fn write_heading<W: Write>(
     }
 }
 
-// The exit status of a file's dump. A message says why it failed, and names the file if it can't be read.
+// Returns the exit status of a file's dump. If it failed, prints the reason, after the name of the file if it can't be read.
 fn answer_for<E: Sink>(name: &str, how: Result<Ended, ListError>, errors: &mut E) -> u8
     ensures { result ≡ status_of how }
 {
@@ -72,7 +72,7 @@ fn answer_for<E: Sink>(name: &str, how: Result<Ended, ListError>, errors: &mut E
     answer(how, errors)
 }
 
-// Dumps standard input, unless names are asked for: it can't be read twice.
+// Dumps standard input. `--names` is refused, because standard input can't be read twice.
 fn dump_standard_input<W: Write, E: Sink>(
     rt: &HostRuntime,
     plan: Plan<'_>,
@@ -93,7 +93,7 @@ fn dump_standard_input<W: Write, E: Sink>(
     )
 }
 
-// Opens a file, and dumps it with these names, if there are any.
+// Opens a file and dumps it, with these names if there are any.
 fn dump_opened<W: Write, E: Sink>(
     rt: &HostRuntime,
     plan: Plan<'_>,
@@ -119,7 +119,7 @@ fn dump_opened<W: Write, E: Sink>(
     }
 }
 
-// Reads the names that a file has, and dumps it with these.
+// Reads a file for its names, then again to dump it.
 fn dump_with_names<W: Write, E: Sink>(
     rt: &HostRuntime,
     plan: Plan<'_>,
@@ -153,7 +153,7 @@ fn dump_file<W: Write, E: Sink>(
     dump_opened(rt, plan, None, name, output, errors)
 }
 
-// Dumps a file after its name.
+// Writes the name of a file, then its dump.
 fn dump_under_name<W: Write, E: Sink>(
     rt: &HostRuntime,
     plan: Plan<'_>,
@@ -168,7 +168,7 @@ fn dump_under_name<W: Write, E: Sink>(
     }
 }
 
-// Dumps files, each under its name, and returns the greatest of their statuses.
+// Dumps several files, each under its name. Returns the greatest of their statuses.
 fn dump_files<W: Write + Drop, E: Sink>(
     rt: &HostRuntime,
     plan: Plan<'_>,
@@ -187,7 +187,7 @@ fn dump_files<W: Write + Drop, E: Sink>(
     status
 }
 
-// Dumps the files, each under its name if there are several, and returns the greatest of their statuses.
+// Dumps one file, or several under their names. Returns the greatest of their statuses.
 fn dump_named<W: Write + Drop, E: Sink>(
     rt: &HostRuntime,
     plan: Plan<'_>,
@@ -202,7 +202,7 @@ fn dump_named<W: Write + Drop, E: Sink>(
     dump_files(rt, plan, first.as_str(), more, output, errors)
 }
 
-/// Dumps the files, or the sections of them that were chosen.
+/// Dumps the files, limited to the sections that `--section` chooses. Returns the exit status.
 pub(super) fn run_files<W: Write + Drop, E: Sink>(
     rt: &HostRuntime,
     named: Named,

@@ -1,17 +1,17 @@
-// Text that is put together with its colours.
+// A buffer of text with the escape sequences of its colors.
 ghost use Rattle.std.specs.Prelude.{◌≡◌, ◌≢◌, ◌≤◌, ◌+◌, ◌++◌, [], length};
 ghost use Rattle.wasm_cli.specs.Colors.{GainsByte, IsColored};
 
 use super::inks::{Ink, Spot, sequence};
 use super::plain::ESC;
 
-/// How many bytes are put together at most.
+/// The capacity of the buffer, in bytes.
 const ROOM: usize = 4096;
 
-/// Bytes that are put together.
+/// Text with escape sequences, to be written at once.
 pub(super) type Gathered = wasm_tree::Gathered<ROOM>;
 
-// Puts a byte after others, and its colour before it where that isn't the last one.
+// Appends a byte, after a sequence for its color if that differs from the color of the byte before it.
 fn put_byte(gathered: &mut Gathered, last: Ink, ink: Ink, byte: u8)
     requires room { length gathered.old ≤ 4088 }
     requires no_escape { byte ≢ 27 }
@@ -23,8 +23,8 @@ fn put_byte(gathered: &mut Gathered, last: Ink, ink: Ink, byte: u8)
     gathered.put(&[byte]);
 }
 
-/// Gathers the first byte of a text and a prefix of the rest, with the colors of all but the first byte. It ends before
-/// an ESC.
+/// Gathers the first byte of a text and a prefix of the rest, with sequences for the colors of all bytes but the first.
+/// Stops before an ESC, or when the buffer is full.
 pub(super) fn gather(spot: Spot, first: u8, later: &[u8]) -> Gathered
     requires { first ≢ 27 }
     ensures { IsColored first later.now result }

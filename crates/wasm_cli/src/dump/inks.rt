@@ -1,37 +1,37 @@
-// The colours of a dump's lines.
+// The colors of a dump: a state machine over the bytes of its lines.
 ghost use Rattle.std.specs.Prelude.{◌≡◌, ◌≤◌, length};
 ghost use Rattle.wasm_cli.specs.Colors.{IsSequence};
 
-/// Where in a line of a dump the bytes are that come next. The first word of a line is bold, or its offset dim; texts
-/// in quotes are green, and what a fault says is red.
+/// The position in a line of a dump. The first word of a line is bold, or its offset dim. Quoted texts are green, and the
+/// message of a fault is red.
 #[derive(Clone, Copy)]
 pub(super) enum Spot {
     /// At the start of a line.
     Start,
-    /// Among the blanks that a line under another begins with.
+    /// In the indentation.
     Indent,
     /// In the first word of a line.
     Word,
-    /// After an f with which that word begins.
+    /// After an initial `f` of that word.
     LetterF,
-    /// In the word `fault`, since no other first word begins with these two letters.
+    /// In the word `fault`: no other first word begins with `fa`.
     FaultWord,
-    /// In the offset that a line under another begins with.
+    /// In the offset at the start of an item's line.
     Offset,
-    /// In what a fault says.
+    /// In the message of a fault.
     Fault,
-    /// Among the fields.
+    /// In the fields.
     Fields,
-    /// In a text in quotes.
+    /// In a quoted text.
     Quoted,
-    /// After the quote that ends such a text.
+    /// At the closing quote of a text.
     Closed,
 }
 
-/// A colour of text.
+/// A color of text.
 #[derive(Clone, Copy, PartialEq, Eq)]
 pub(super) enum Ink {
-    /// That of the terminal.
+    /// The terminal's own color.
     Plain,
     Bold,
     Dim,
@@ -40,7 +40,7 @@ pub(super) enum Ink {
 }
 
 impl Spot {
-    /// Where the byte is after this one.
+    /// Returns the position after this byte.
     pub(super) fn after(self, byte: u8) -> Spot
         ensures { byte ≡ 10 → result ≡ Spot.Start }
     {
@@ -59,7 +59,7 @@ impl Spot {
         }
     }
 
-    /// The colour of the byte before it.
+    /// Returns the color of the byte that led to this position.
     pub(super) fn ink(self) -> Ink
         ensures { self ≡ Spot.Start → result ≡ Ink.Plain }
     {
@@ -73,7 +73,7 @@ impl Spot {
     }
 }
 
-// The first byte of a line, or one after the blanks that it begins with.
+// The position after the first byte of a line, or after a byte that follows the indentation.
 fn after_blank(byte: u8) -> Spot {
     match byte {
         b' ' => Spot::Indent,
@@ -126,7 +126,7 @@ fn after_field(byte: u8) -> Spot {
     }
 }
 
-/// What sets a colour.
+/// Returns the escape sequence that sets a color.
 pub(super) fn sequence(ink: Ink) -> &'static [u8]
     ensures sets { IsSequence result.now }
     ensures short { length result.now ≤ 7 }

@@ -1,4 +1,4 @@
-// The options of the program, besides those that choose sections.
+// The options of `wasm_dump`, except `--section`.
 ghost use Rattle.std.specs.Prelude.{◌≡◌};
 ghost use Rattle.wasm_cli.specs.Options.{contradict, has_colors, mark_named, no_options, offset_base, say_how, with_mark};
 
@@ -25,22 +25,22 @@ pub struct Options {
     pub is_hex: bool,
 }
 
-/// An option without a value.
+/// An option that takes no value.
 #[derive(Clone, Copy)]
 pub(super) enum Mark {
-    /// Colours are asked for.
+    /// `--color`
     Color,
-    /// Names are asked for.
+    /// `--names`
     Names,
-    /// JSON is asked for.
+    /// `--json`
     Json,
-    /// Bytes are asked for.
+    /// `--bytes`
     Bytes,
-    /// Hexadecimal offsets are asked for.
+    /// `--hex`
     Hex,
 }
 
-/// The option that a word is, if it is one without a value.
+/// Parses an option that takes no value.
 pub(super) fn mark_of(word: &str) -> Option<Mark>
     ensures { result ≡ mark_named word.now }
 {
@@ -55,7 +55,7 @@ pub(super) fn mark_of(word: &str) -> Option<Mark>
 }
 
 impl Options {
-    /// Returns the options of a dump without any: text without colors, names and bytes, with decimal offsets.
+    /// Returns the default options: text without colors, names and bytes, with decimal offsets.
     pub fn new() -> Options
         ensures { result ≡ no_options }
     {
@@ -68,7 +68,7 @@ impl Options {
         }
     }
 
-    /// One option more.
+    /// Adds an option.
     pub(super) fn with(self, mark: Mark) -> Options
         ensures { result ≡ with_mark self mark }
     {
@@ -96,28 +96,28 @@ impl Options {
         }
     }
 
-    /// Whether no dump can be all of this: JSON has no colors, no rows of bytes and no hexadecimal numbers.
+    /// Returns whether the options exclude each other: JSON has no colors, no rows of bytes and no hexadecimal numbers.
     pub(super) fn contradict(self) -> bool
         ensures { result ≡ contradict self }
     {
         self.is_json && (self.is_colored || self.has_bytes || self.is_hex)
     }
 
-    /// Whether the dump has colors.
+    /// Returns whether the dump has colors.
     pub(super) fn has_colors(self) -> bool
         ensures { result ≡ has_colors self }
     {
         !self.is_json && self.is_colored
     }
 
-    /// Whether an option says how a dump is to look.
+    /// Returns whether any option concerns the format of the dump.
     pub(super) fn say_how(self) -> bool
         ensures { result ≡ say_how self }
     {
         self.is_colored || self.is_json || self.has_bytes || self.is_hex
     }
 
-    /// The base of the offsets in lines.
+    /// Returns the base of the offsets in lines.
     pub(super) fn base(self) -> Base
         ensures { result ≡ offset_base self }
     {
@@ -128,7 +128,7 @@ impl Options {
         }
     }
 
-    /// What is shown of these sections.
+    /// Returns what a dump shows if it is limited to these sections.
     pub(super) fn shown<'n>(self, only: &'n [Only<'n>]) -> Shown<'n>
         ensures only { result.only.now ≡ only.now }
         ensures bytes { result.has_bytes ≡ self.has_bytes }

@@ -1,22 +1,22 @@
-// Texts without their colours.
+// Removes the escape sequences of colors from a text.
 ghost use Rattle.std.specs.Prelude.{◌≡◌, ◌≤◌, length};
 ghost use Rattle.wasm_cli.specs.Colors.{given_by, where_after_byte, without_colors};
 
-/// With this byte a sequence that sets a colour begins.
+/// The first byte of an escape sequence.
 pub(super) const ESC: u8 = 0x1b;
 
-/// Where in a text with colors a byte is.
+/// The position in a text with colors.
 #[derive(Clone, Copy)]
 pub(super) enum Where {
-    /// Among the text's own bytes.
+    /// Outside of a sequence.
     Outside,
     /// After an ESC.
     Escaped,
-    /// In a sequence that sets a colour.
+    /// In a sequence that sets a color.
     Inside,
 }
 
-// Where the byte after this one is.
+// Returns the position after this byte.
 fn after(at: Where, byte: u8) -> Where
     ensures { result ≡ where_after_byte at byte }
 {
@@ -42,7 +42,7 @@ fn after(at: Where, byte: u8) -> Where
     }
 }
 
-// How many bytes of the text this one stands for.
+// Returns how many bytes of the plain text this byte adds: one, or none.
 fn gives(at: Where, byte: u8) -> usize
     ensures count { result ≡ length (given_by at byte) }
     ensures one { result ≤ 1 }
@@ -57,7 +57,7 @@ fn gives(at: Where, byte: u8) -> usize
     }
 }
 
-/// How many bytes these are without their colours.
+/// Returns the length of these bytes without their colors.
 pub(super) fn count_plain(bytes: &[u8]) -> usize
     ensures { result ≡ length (without_colors bytes.now) }
 {

@@ -1,4 +1,4 @@
-// The program, over any devices.
+// Runs `wasm_dump` over any devices.
 ghost use Rattle.std.specs.Prelude.{◌≡◌, map, string_bytes, OnOk, OnErr, ℕ, take, true, false, is_ok, if◌then◌else◌};
 ghost use Rattle.std.specs.Io.KnownBytes.{Appends, Keeps};
 ghost use Rattle.std.specs.Process.{exit_status};
@@ -27,7 +27,7 @@ use wasm_feed::{Ended, Failed, ListError, ReadSource, Sink, Source, WriteSink, w
 use wasm_text::{complain, give_up};
 use wasm_tree::{ItemNames, Lines, Objects};
 
-/// What `--help` says.
+/// The text of `--help`.
 const HELP: &[u8] = b"usage: wasm_dump [--color] [--names] [--json] [--bytes] [--hex]
                  [--section ID|NAME] [FILE...]
        wasm_dump --help | --version
@@ -71,17 +71,17 @@ Exit status:
 With several files the exit status is the greatest of theirs.
 ";
 
-/// What `--version` says.
+/// The text of `--version`.
 const VERSION: &[u8] = b"wasm_dump 0.6.1 (follows wasmparser 0.263.0)\n";
 
-// `HELP`, in the words of its clause.
+// Returns `HELP`. A clause can't cite a constant.
 fn help() -> &'static [u8]
     ensures { result.now ≡ help_text }
 {
     HELP
 }
 
-// What `--version` says, in the words of its clause.
+// Returns `VERSION`.
 fn version() -> &'static [u8]
     ensures { result.now ≡ version_text }
 {
@@ -96,7 +96,7 @@ pub fn run_host(rt: HostRuntime) -> ExitCode {
     let output = WriteSink::new(Piped::new(rt.stdout(), &is_closed));
     let mut errors = Messages::new(WriteSink::new(rt.stderr()), &is_closed);
     let status = match command_asked(rt.alloc(), env::args(&rt)) {
-        // Here and not in `run_program`, because no clause of `std` states the contents of a file.
+        // Not in `run_program`, because no clause of `std` states the contents of a file.
         Some(Command::Files(named)) => run_files(&rt, named, output, &mut errors),
         Some(command) => {
             let mut input = ReadSource::new(Input::Standard(rt.stdin()));
@@ -139,8 +139,8 @@ pub fn run_program<R: Source, W: Write, E: Sink>(
     (ExitCode::from(status), output)
 }
 
-// Does what is asked for, and returns the status: 0 at the end of the stream and after `--help`, 1 at a fault of the stream, 2 for
-// wrong arguments, and 3 if the input, the output or an allocation failed.
+// Runs a command. Returns the status: 0 at the end of the stream and after `--help`, 1 at a fault of the stream, 2 for wrong
+// arguments, and 3 if the input, the output or an allocation failed.
 fn run_command<R: Source, W: Write, E: Sink>(
     alloc: Global,
     command: Command,
@@ -173,7 +173,7 @@ fn run_command<R: Source, W: Write, E: Sink>(
     }
 }
 
-/// Prints that names need files, and returns the status.
+/// Prints that `--names` needs files. Returns the status.
 pub(super) fn refuse_names<E: Sink>(errors: &mut E) -> u8
     ensures status { result ≡ 2 }
     ensures says { Says (device_of E.taken E.has_failed errors.old errors.new) names_usage }
@@ -185,7 +185,7 @@ pub(super) fn refuse_names<E: Sink>(errors: &mut E) -> u8
     2
 }
 
-// Writes a text, and hands it on.
+// Writes a text and flushes the output.
 fn write_text<W: Write>(text: &[u8], output: &mut WriteSink<W>) -> Result<(), Failed>
     ensures ok { OnOk result
         (Appends (W.contents output.old.writer) (W.contents output.new.writer) text.now) }
@@ -198,7 +198,7 @@ fn write_text<W: Write>(text: &[u8], output: &mut WriteSink<W>) -> Result<(), Fa
     output.flush()
 }
 
-// Writes a text, and returns the status.
+// Writes a text and flushes the output. Returns the status.
 fn show_text<W: Write, E: Sink>(
     text: &[u8],
     mut output: WriteSink<W>,
@@ -214,7 +214,7 @@ fn show_text<W: Write, E: Sink>(
     }
 }
 
-// Shows the sections of the input that these words choose, and returns the status.
+// Dumps the sections of the input that these values of `--section` choose. Returns the status.
 fn show_chosen<R: Source, W: Write, E: Sink>(
     alloc: Global,
     words: &[String],
@@ -234,8 +234,8 @@ fn show_chosen<R: Source, W: Write, E: Sink>(
     }
 }
 
-/// Shows these sections of the input, and returns the status. A message goes to `errors` if a device or an allocation
-/// failed.
+/// Dumps these sections of the input. Returns the status. If a device or an allocation failed, the reason is written to
+/// `errors`.
 pub(super) fn show_input<R: Source, W: Write, E: Sink>(
     alloc: Global,
     only: &[Only<'_>],
@@ -253,7 +253,7 @@ pub(super) fn show_input<R: Source, W: Write, E: Sink>(
     (answer(how, errors), output)
 }
 
-/// The exit status of a dump; prints a message if it failed.
+/// Returns the exit status of a dump. If it failed, prints the reason.
 pub(super) fn answer<E: Sink>(how: Result<Ended, ListError>, errors: &mut E) -> u8
     ensures status { result ≡ status_of how }
     ensures reports { Reports how (device_of E.taken E.has_failed errors.old errors.new) }
@@ -265,7 +265,7 @@ pub(super) fn answer<E: Sink>(how: Result<Ended, ListError>, errors: &mut E) -> 
     }
 }
 
-// Flushes the output, after a dump that did not fail.
+// Flushes the output if the dump did not fail.
 fn forward_all<W: Write>(
     how: Result<Ended, ListError>,
     output: &mut WriteSink<W>,
@@ -282,7 +282,7 @@ fn forward_all<W: Write>(
     }
 }
 
-// Shows these sections of the input as lines, with these names, if there are any.
+// Dumps these sections of the input as lines, with these names if there are any.
 fn dump_lines<R: Source, W: Write>(
     alloc: Global,
     only: &[Only<'_>],
@@ -302,7 +302,7 @@ fn dump_lines<R: Source, W: Write>(
     (how, colored.into_inner())
 }
 
-// Like `dump_lines`, as objects.
+// Dumps these sections of the input as JSON objects, with these names if there are any.
 fn dump_objects<R: Source, W: Write>(
     alloc: Global,
     only: &[Only<'_>],
@@ -320,7 +320,7 @@ fn dump_objects<R: Source, W: Write>(
     (how, tree.into_output())
 }
 
-// Shows these sections of the input as the options say.
+// Dumps these sections of the input as lines or objects.
 fn dump_over<R: Source, W: Write>(
     alloc: Global,
     only: &[Only<'_>],

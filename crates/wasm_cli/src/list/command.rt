@@ -1,31 +1,31 @@
-// What the program is asked for.
+// Parses the arguments of `wasm_list`.
 ghost use Rattle.std.specs.Prelude.{◌≡◌, [], IfOk, OnErr, drop, map, string_bytes};
 ghost use Rattle.std.specs.Vec.Iter.{into_iter_items};
 ghost use Rattle.wasm_cli.specs.ListCommands.{IsGiven, asked_alone, asked_by, asked_if_options, asked_of};
 ghost use Rattle.wasm_cli.specs.StripOptions.{rest_of};
 
 use super::options::rest_after_options;
-use crate::common::is_no_text;
+use crate::common::is_not_utf8;
 use std::alloc::{AllocError, Global};
 use std::env::Args;
 use std::io;
 
-/// What the program is to do.
+/// A parsed command line.
 #[derive(Clone, Copy)]
 pub(super) enum Command<'a> {
-    /// To list the input.
+    /// List the input.
     Listing,
-    /// To strip it, with these options.
+    /// Strip the input, with these options.
     Stripping(&'a [String]),
-    /// To say how it is used.
+    /// Print the help text.
     Help,
-    /// To say its version.
+    /// Print the version.
     Version,
-    /// It doesn't know.
+    /// The arguments are wrong.
     Unknown,
 }
 
-// What the arguments after `strip` ask for.
+// Returns the command for the arguments after `strip`.
 fn command_to_strip(options: &[String]) -> Command<'_>
     ensures { asked_of result
         ≡ asked_if_options (rest_of (map string_bytes options.now)) (map string_bytes options.now) }
@@ -37,7 +37,7 @@ fn command_to_strip(options: &[String]) -> Command<'_>
     }
 }
 
-// What another argument asks for, before these.
+// Parses an option that must be the only argument: `more` are the arguments after it.
 fn command_alone<'a>(word: &str, more: &[String]) -> Command<'a>
     ensures { asked_of result ≡ asked_alone word.now (map string_bytes more.now) }
 {
@@ -51,7 +51,7 @@ fn command_alone<'a>(word: &str, more: &[String]) -> Command<'a>
     }
 }
 
-/// What these arguments ask for.
+/// Returns the command for these arguments.
 pub(super) fn command_of(words: &[String]) -> Command<'_>
     ensures { asked_of result ≡ asked_by (map string_bytes words.now) }
 {
@@ -64,7 +64,7 @@ pub(super) fn command_of(words: &[String]) -> Command<'_>
     command_alone(word.as_str(), more)
 }
 
-// Stores the arguments after the first, which is the program's own name.
+// Collects the arguments after the first, which is the program's name.
 fn words_after_name(alloc: Global, mut arguments: Args) -> Result<Vec<String>, AllocError>
     ensures ok { IfOk result (λ words. map string_bytes words.items
         ≡ drop 1 (map string_bytes (into_iter_items arguments))) }
@@ -74,7 +74,7 @@ fn words_after_name(alloc: Global, mut arguments: Args) -> Result<Vec<String>, A
     stored(alloc, arguments)
 }
 
-// Stores these arguments.
+// Collects these arguments.
 fn stored(alloc: Global, mut arguments: Args) -> Result<Vec<String>, AllocError>
     ensures ok { IfOk result (λ words. map string_bytes words.items
         ≡ map string_bytes (into_iter_items arguments)) }
@@ -87,18 +87,18 @@ fn stored(alloc: Global, mut arguments: Args) -> Result<Vec<String>, AllocError>
     Ok(words)
 }
 
-/// The arguments of a run.
+/// The collected arguments, or why there are none.
 #[derive(Drop)]
 pub(super) enum Given {
-    /// Those after the program's own name.
+    /// The arguments after the program's name.
     Words(Vec<String>),
-    /// One is not valid UTF-8.
-    NoText,
+    /// An argument is not valid UTF-8.
+    NotUtf8,
     /// An allocation failed.
     Nothing,
 }
 
-/// Stores the arguments, if they could be fetched.
+/// Collects the arguments, if the system returned them.
 pub(super) fn words_given(alloc: Global, arguments: io::Result<Args>) -> Given
     ensures { IsGiven (λ args. map string_bytes (into_iter_items args)) arguments result }
 {
@@ -108,8 +108,8 @@ pub(super) fn words_given(alloc: Global, arguments: io::Result<Args>) -> Given
             Err(_) => Given::Nothing,
         },
         Err(error) => {
-            if is_no_text(&error) {
-                Given::NoText
+            if is_not_utf8(&error) {
+                Given::NotUtf8
             } else {
                 Given::Nothing
             }

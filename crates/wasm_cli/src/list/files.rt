@@ -1,4 +1,4 @@
-// Stripping a file that the arguments name.
+// Strips a file that the arguments name.
 use super::options::{choice_of, rest_after_options};
 use super::stripping::strip_input;
 use super::twice::strip_twice;
@@ -17,7 +17,7 @@ pub(super) struct Named<'a> {
     name: &'a str,
 }
 
-/// The file that these arguments ask to strip: after `strip` and its options there is one word, and it is no option.
+/// Returns the file to strip, if the arguments are `strip`, its options, and one more word that is not an option.
 pub(super) fn file_of(words: &[String]) -> Option<Named<'_>> {
     let [word, options @ ..] = words else {
         return None;
@@ -32,12 +32,12 @@ pub(super) fn file_of(words: &[String]) -> Option<Named<'_>> {
     Some(Named { options, name })
 }
 
-// The input that this file is.
+// Returns a source that reads this file.
 fn input_of(file: File) -> ReadSource<Input> {
     ReadSource::new(Input::File(file))
 }
 
-/// Strips a file. A regular file is read twice; another, such as a pipe, once, as standard input is.
+/// Strips a file. Reads a regular file twice, and any other, such as a pipe, once into memory. Returns the exit status.
 pub(super) fn strip_file<W: Write, E: Sink>(
     rt: &HostRuntime,
     named: Named<'_>,

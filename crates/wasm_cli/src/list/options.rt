@@ -1,4 +1,4 @@
-// The options of `strip`: which custom sections stay.
+// The options of `wasm_list strip`: which custom sections stay.
 ghost use Rattle.std.specs.Prelude.{◌≡◌, ◌∷◌, false, IfNone, IfOk, IfSome, OnOk, map, string_bytes};
 ghost use Rattle.wasm_cli.specs.StripOptions.{Adds, BeginsWithNone, Chooses, Splits, is_keep_names, rest_of};
 
@@ -8,11 +8,11 @@ use wasm_feed::Keep;
 /// An option of `strip`.
 #[derive(Clone, Copy)]
 pub(super) enum StripOption<'a> {
-    /// Keeps the sections named `name`.
+    /// `--keep-names`: the sections named `name` stay.
     KeepNames,
-    /// Keeps the sections with this name.
+    /// `--keep`: the sections with this name stay.
     KeepNamed(&'a str),
-    /// Removes the sections with this name, and no others but those that such options name.
+    /// `--only`: only the sections with this name, and those that other such options name, are removed.
     Only(&'a str),
 }
 
@@ -23,7 +23,7 @@ pub(super) struct Split<'a> {
     rest: &'a [String],
 }
 
-// Splits off an option that has a name.
+// Parses `--keep` or `--only` with its value.
 fn split_named<'a>(first: &str, name: &'a str, rest: &'a [String]) -> Option<Split<'a>>
     requires { is_keep_names first.now ≡ false }
     ensures some { IfSome result (λ split. Splits split
@@ -44,7 +44,7 @@ fn split_named<'a>(first: &str, name: &'a str, rest: &'a [String]) -> Option<Spl
     }
 }
 
-// Splits off the option that these arguments begin with, if they begin with one.
+// Parses the option at the start of the arguments, if there is one.
 fn split_option<'a>(words: &'a [String]) -> Option<Split<'a>>
     ensures some { IfSome result (λ split. Splits split (map string_bytes words.now)) }
     ensures none { IfNone result (BeginsWithNone (map string_bytes words.now)) }
@@ -64,7 +64,7 @@ fn split_option<'a>(words: &'a [String]) -> Option<Split<'a>>
     split_named(first.as_str(), name.as_str(), rest)
 }
 
-/// The arguments after the options of `strip` that these begin with.
+/// Returns the arguments after the options of `strip` at their start.
 pub(super) fn rest_after_options<'a>(words: &'a [String]) -> &'a [String]
     ensures { map string_bytes result.now ≡ rest_of (map string_bytes words.now) }
 {
@@ -75,7 +75,7 @@ pub(super) fn rest_after_options<'a>(words: &'a [String]) -> &'a [String]
     rest
 }
 
-/// The custom sections that options of `strip` choose.
+/// The parsed options of `strip`.
 #[derive(Drop)]
 pub(super) struct Choice<'a> {
     names: bool,
@@ -84,7 +84,7 @@ pub(super) struct Choice<'a> {
 }
 
 impl<'a> Choice<'a> {
-    /// What stays.
+    /// Returns which custom sections stay.
     pub(super) fn keep(&self) -> Keep<'_>
         ensures names { result.names ≡ self.now.names }
         ensures kept { result.kept.now ≡ self.now.kept.items }
@@ -97,7 +97,7 @@ impl<'a> Choice<'a> {
         }
     }
 
-    // Adds what an option says.
+    // Adds an option.
     fn add(&mut self, option: StripOption<'a>) -> Result<(), AllocError>
         ensures { OnOk result (Adds option.entry self.old self.new) }
     {
@@ -110,7 +110,7 @@ impl<'a> Choice<'a> {
     }
 }
 
-/// What the options of `strip` choose that these arguments begin with.
+/// Parses the options of `strip` at the start of the arguments.
 pub(super) fn choice_of<'a>(alloc: Global, words: &'a [String]) -> Result<Choice<'a>, AllocError>
     ensures { IfOk result (λ choice. Chooses (map string_bytes words.now) choice) }
 {

@@ -1,4 +1,4 @@
-// The program, over any devices.
+// Runs `wasm_list` over any devices.
 ghost use Rattle.std.specs.Prelude.{◌≡◌, map, string_bytes};
 ghost use Rattle.std.specs.Process.{exit_status};
 ghost use Rattle.std.specs.Vec.Iter.{into_iter_items};
@@ -20,7 +20,7 @@ use std::process::ExitCode;
 use wasm_feed::{Ended, ListError, ReadSource, Sink, Source, WriteSink, list, write_all};
 use wasm_text::{complain, give_up};
 
-/// What `--help` prints.
+/// The text of `--help`.
 const HELP: &[u8] = b"usage: wasm_list
        wasm_list strip [--keep-names] [--keep NAME] [--only NAME] [FILE]
        wasm_list --help | --version
@@ -61,17 +61,17 @@ Exit status:
      to standard error, unless the output is a pipe that its reader has closed.
 ";
 
-/// What `--version` prints.
+/// The text of `--version`.
 const VERSION: &[u8] = b"wasm_list 0.6.1 (follows wasmparser 0.263.0)\n";
 
-// `HELP`, in the words of its clause.
+// Returns `HELP`. A clause can't cite a constant.
 fn help() -> &'static [u8]
     ensures { result.now ≡ help_text }
 {
     HELP
 }
 
-// `VERSION`, in the words of its clause.
+// Returns `VERSION`.
 fn version() -> &'static [u8]
     ensures { result.now ≡ version_text }
 {
@@ -136,12 +136,12 @@ fn run_given<R: Source, W: Write, E: Sink>(
 {
     match given {
         Given::Words(words) => run_whole(alloc, command_of(&words), input, output, errors),
-        Given::NoText => run_whole(alloc, Command::Unknown, input, output, errors),
+        Given::NotUtf8 => run_whole(alloc, Command::Unknown, input, output, errors),
         Given::Nothing => ExitCode::from(give_up(errors, ListError::Memory)),
     }
 }
 
-// Does what is asked for, flushes the output, and returns the exit status.
+// Runs a command, flushes the output, and returns the exit status.
 fn run_whole<R: Source, W: Write, E: Sink>(
     alloc: Global,
     command: Command<'_>,
@@ -171,7 +171,7 @@ fn run_whole<R: Source, W: Write, E: Sink>(
 /// * 2 for wrong arguments. The usage is written to `errors`.
 /// * 3 if the input, the output or an allocation failed. The reason is written to `errors`.
 ///
-/// Whether `errors` takes a message changes no status.
+/// Whether `errors` takes the message does not change the status.
 ///
 /// ```rattle
 /// let mut input = SliceSource::new(b"\0asm\x01\0\0\0");
@@ -195,7 +195,7 @@ pub fn run<R: Source, W: Sink, E: Sink>(
     run_command(alloc, command_of(args), input, output, errors)
 }
 
-// `run` for this command.
+// Runs a command. Returns the exit status of `run`.
 fn run_command<R: Source, W: Sink, E: Sink>(
     alloc: Global,
     command: Command<'_>,
@@ -220,7 +220,7 @@ fn run_command<R: Source, W: Sink, E: Sink>(
     }
 }
 
-// Writes a text and returns the status.
+// Writes a text. Returns the status.
 fn write_text<W: Sink, E: Sink>(text: &[u8], output: &mut W, errors: &mut E) -> u8
     ensures { WritesText text.now (device_of W.taken W.has_failed output.old output.new)
         (device_of E.taken E.has_failed errors.old errors.new) result }
@@ -231,7 +231,7 @@ fn write_text<W: Sink, E: Sink>(text: &[u8], output: &mut W, errors: &mut E) -> 
     }
 }
 
-// Lists the input.
+// Lists the input. Returns the status.
 fn list_input<R: Source, W: Sink, E: Sink>(
     alloc: Global,
     input: &mut R,

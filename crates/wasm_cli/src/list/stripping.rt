@@ -1,4 +1,4 @@
-// The input without its custom sections.
+// Strips the input of its custom sections.
 ghost use Rattle.wasm_text.specs.Calls.{input_failed, device_of};
 ghost use Rattle.wasm_cli.specs.Strips.{ReadsAll, ReadsPiece, Refuses, RunsStripping, StripsAs, WritesStripped};
 ghost use Rattle.std.specs.Prelude.{◌≡◌, ◌<◌, length, map, string_bytes};
@@ -10,7 +10,7 @@ use wasm_feed::{Keep, ListError, Sink, Source, strip_in_place, write_all};
 use wasm_parser::Error;
 use wasm_text::{complain, give_up};
 
-// Performs one read, and appends the result to these bytes. Returns whether there were any.
+// Performs one read and appends the result to `bytes`. Returns false at the end of input.
 fn read_piece<R: Source>(
     input: &mut R,
     buffer: &mut [u8],
@@ -31,7 +31,7 @@ fn read_piece<R: Source>(
     }
 }
 
-// Reads the source to its end, before anything is written: a fault may come last.
+// Reads the source to its end. Nothing may be written before, because the fault may be in the last byte.
 fn read_all<R: Source>(alloc: Global, input: &mut R) -> Result<Vec<u8>, ListError>
     ensures reads { ReadsAll (R.remaining input.old) (R.remaining input.new) result }
     ensures failed { R.has_failed input.new ≡ input_failed result (R.has_failed input.old) }
@@ -45,8 +45,8 @@ fn read_all<R: Source>(alloc: Global, input: &mut R) -> Result<Vec<u8>, ListErro
     }
 }
 
-/// Prints the fault of the stream, and returns the status.
-pub(super) fn tell_fault<E: Sink>(alloc: Global, errors: &mut E, error: Error) -> u8
+/// Prints the fault of the stream. Returns the status.
+pub(super) fn report_fault<E: Sink>(alloc: Global, errors: &mut E, error: Error) -> u8
     ensures { Refuses error (device_of E.taken E.has_failed errors.old errors.new) result }
 {
     match format!(in alloc; "{error}\n") {
@@ -58,7 +58,7 @@ pub(super) fn tell_fault<E: Sink>(alloc: Global, errors: &mut E, error: Error) -
     }
 }
 
-// Writes the stripped stream, or prints why there is none.
+// Strips the stream in place and writes it, or prints its fault.
 fn write_stripped<W: Sink, E: Sink>(
     alloc: Global,
     mut bytes: Vec<u8>,
@@ -75,11 +75,11 @@ fn write_stripped<W: Sink, E: Sink>(
             Ok(()) => 0,
             Err(_) => give_up(errors, ListError::Output),
         },
-        Err(error) => tell_fault(alloc, errors, error),
+        Err(error) => report_fault(alloc, errors, error),
     }
 }
 
-// Strips this input, as the options say.
+// Strips these bytes as the options say. Returns the status.
 fn strip_bytes<W: Sink, E: Sink>(
     alloc: Global,
     options: &[String],
@@ -97,12 +97,11 @@ fn strip_bytes<W: Sink, E: Sink>(
     }
 }
 
-/// Strips the input as these options say: reads all of it, and writes it without its custom sections, but for those
-/// that stay. Returns the exit status: 0, 1 at a fault of the stream, and 3 if the input, the output or an allocation
-/// failed.
+/// Reads all of the input, and writes it without its custom sections, except those that the options keep. Returns the
+/// exit status: 0, 1 at a fault of the stream, or 3 if the input, the output or an allocation failed.
 ///
-/// For the last two a message goes to `errors`, and nothing to the output. A message that can't be written changes no
-/// status.
+/// At a fault nothing is written to the output. The fault, or the reason of a failure, is written to `errors`. Whether
+/// `errors` takes the message does not change the status.
 pub(super) fn strip_input<R: Source, W: Sink, E: Sink>(
     alloc: Global,
     options: &[String],

@@ -1,16 +1,16 @@
-// Stripping a file, which is read twice: memory then does not grow with the file.
+// Strips a file by reading it twice, in memory that does not depend on its size.
 ghost use Rattle.std.specs.Prelude.{None, false};
 ghost use Rattle.wasm_cli.specs.StripsTwice.{AnswersAs, StripsTwice};
 ghost use Rattle.wasm_feeder.specs.Fates.{stays_by};
 ghost use Rattle.wasm_text.specs.Calls.{device_of};
 
-use super::stripping::tell_fault;
+use super::stripping::report_fault;
 use crate::common::PIECE;
 use std::alloc::Global;
 use wasm_feed::{Ended, Failed, Keep, ListError, Sink, Source, strip_stream};
 use wasm_text::give_up;
 
-// A sink that drops its bytes.
+// A sink that discards its bytes.
 #[derive(Drop)]
 struct Dropped {}
 
@@ -26,19 +26,19 @@ impl Sink for Dropped {
     }
 }
 
-// Prints the fault of a stream, or why a run failed, and returns the status.
+// Returns the exit status of a run. Prints the fault of the stream, or why the run failed.
 fn answer<E: Sink>(alloc: Global, how: Result<Ended, ListError>, errors: &mut E) -> u8
     ensures { AnswersAs how (device_of E.taken E.has_failed errors.old errors.new) result }
 {
     match how {
         Ok(Ended::End) => 0,
-        Ok(Ended::Fault(error)) => tell_fault(alloc, errors, error),
+        Ok(Ended::Fault(error)) => report_fault(alloc, errors, error),
         Err(why) => give_up(errors, why),
     }
 }
 
-/// Reads a stream from `first` to its end, and if it has no fault, reads it again from `second` and writes it without
-/// the sections that do not stay. Returns the exit status, as `strip_input` does.
+/// Reads a stream from `first` to its end. If it has no fault, reads it again from `second` and writes it without the
+/// sections that do not stay. Returns the exit status of `strip_input`.
 pub(super) fn strip_twice<R: Source, W: Sink, E: Sink>(
     alloc: Global,
     keep: Keep<'_>,
