@@ -1,11 +1,11 @@
--- Where events are in their stream.
+-- The positions of events in their stream.
 use Rattle.std.specs.Prelude.{◌≡◌, ℕ, ◌+◌, ◌-◌, ◌≤◌, List, [], ◌∷◌, length, take, drop, flat_map}
 use Rattle.wasm_base.specs.Window.{Window}
 use Rattle.wasm_grammar.specs.Content.{ended, fault}
 use Rattle.wasm_grammar.specs.Reading.{Report, version, counted, start_section, data_count_section, code_start}
 use Rattle.wasm_grammar.specs.Reading.{code_entry, custom_section, unknown_section, stream_end, Event}
 
--- the bytes that events consumed, joined
+-- the bytes that events consume, joined
 abbrev pub consumed_by : List Event → List ℕ
 consumed_by events = flat_map (λ e. e.consumed) events
 

@@ -1,4 +1,5 @@
--- What may come at one place of a stream, and what the bytes there turn out to be.
+-- The grammar of one place of a stream, and its verdict over complete input. Core specification, Binary format,
+-- Modules.
 use Rattle.std.specs.Prelude.{ℕ, zero, suc, ◌+◌, ◌-◌, ◌/◌, ◌%◌, ◌^◌, Bool, ◌&&◌, not, List, [], ◌∷◌, ◌++◌, length, take}
 use Rattle.std.specs.Prelude.{drop, Option, Some, None, nat_lt, nat_le, nat_eq, ◌==◌, if◌then◌else◌}
 use Rattle.std.specs.List.{list_all, list_any}
@@ -18,12 +19,12 @@ use Rattle.wasm_grammar.specs.declared.encoding.Encoding.{Encoding}
 use Rattle.wasm_grammar.specs.declared.encoding.Encoding.TheVariants.{Module, Component}
 use Rattle.wasm_grammar.specs.Ids.{data_id}
 
--- what tiles a stream: its header, whole sections that are no code section, a code section up to its count, and its
--- bodies
+-- the parts of a stream, its tiles: the header, a section other than a code section, the start of a code section up to
+-- its count, and a body
 pub data Shape : Type 0 where
   version : (num : ℕ) → Encoding → Shape
   section : Form → (id : ℕ) (content : List ℕ) → Shape
-  -- the bodies that it announces, the bytes of that count, and the bytes of the bodies
+  -- the number of bodies, the width of that count in bytes, and the size of all bodies in bytes
   code_start : (count width size : ℕ) → Shape
   code_entry : (content : List ℕ) → Shape
 
@@ -32,27 +33,28 @@ pub record Tile : Type 0 where
   pub shape : Shape
   pub bytes : List ℕ
 
--- what is at a place
+-- what the bytes at a place are: a tile, or the end of the reading
 pub data Verdict : Type 0 where
   tile : Tile → Verdict
   final : Ending → Verdict
 
--- What may come at a place, field by field. Offsets are where its faults are reported.
+-- What may come at a place, field by field. Offsets are those at which faults are reported.
 pub data Grammar : Type 0 where
-  -- the tile is whole
+  -- the tile is complete
   accept : Shape → Grammar
-  -- the stream ends here
+  -- a fault
   reject : FaultAt → Grammar
-  -- the stream ends here, if something is wrong; then what else may come
+  -- a fault, if there is one; otherwise the rest of the grammar
   check : Option FaultAt → Grammar → Grammar
-  -- a u32 at this offset; then what its value and its length in bytes say
+  -- a LEB128 u32 at this offset; its value and its width in bytes determine the rest
   u32_field : (offset : ℕ) → (ℕ → ℕ → Grammar) → Grammar
-  -- this many bytes, which are reported missing at this offset; then what they say
+  -- this many bytes, whose fault is at this offset if they are truncated; they determine the rest
   bytes : (count offset : ℕ) → (List ℕ → Grammar) → Grammar
-  -- the stream may end here, in this way, and a header may not follow; then what the id says
+  -- the start of a section: the stream may end here, in this way; the magic is a fault; the id determines the rest
   section_start : (offset : ℕ) → Ending → (ℕ → Grammar) → Grammar
 
--- What comes next in a grammar that is written with `do`: after a check, or with what a field says.
+-- The operators that `do` stands for: after a check comes the rest, and after a field the rest that its value
+-- determines.
 infixl 20 ◌>>◌
 abbrev pub ◌>>◌ : (Grammar → Grammar) → Grammar → Grammar
 first >> next = first next
@@ -65,18 +67,18 @@ first >>= next = first next
 abbrev pub sized_u32 : (offset : ℕ) → (ℕ × ℕ → Grammar) → Grammar
 sized_u32 offset next = u32_field offset (λ value width. next (value, width))
 
--- a verdict after these bytes of the tile
+-- a verdict over the bytes after this prefix of the tile, as one over all bytes of the tile
 abbrev pub after : List ℕ → Verdict → Verdict
 after prefix (tile t) = tile (record t { bytes = prefix ++ t.bytes })
 after prefix (final e) = final e
 
--- a verdict that waits for a number at this offset
+-- the verdict for a number at this offset and what follows it
 abbrev pub after_number : (offset : ℕ) (rest : List ℕ) → Number → (ℕ → ℕ → Verdict) → Verdict
 after_number offset rest (read value used) next = after (take used rest) (next value used)
 after_number offset rest (bad kind place) next = final (fault (at_offset kind (offset + place)))
 after_number offset rest short next = final (fault (at_offset UnexpectedEof (offset + length rest)))
 
--- what the rest of a stream is, where this may come: the first fault, or the whole tile
+-- the verdict of a grammar over the rest of a stream: the tile at its start, or the first fault, or the end
 unfoldable pub verdict : Grammar → (rest : List ℕ) → Verdict
 verdict (accept shape) rest = tile (record { shape = shape; bytes = [] })
 verdict (reject e) rest = final (fault e)
@@ -93,10 +95,10 @@ verdict (section_start offset e next) (id ∷ rest) =
     final (fault (at_offset MagicAtSection offset)) else
     after (id ∷ []) (verdict (next id) rest)
 
--- what the tiles before a section say to it
+-- what earlier tiles imply for a section
 pub record SectionContext : Type 0 where
   pub encoding : Encoding
-  -- whether each of them has a lower rank than this
+  -- whether the rank of each earlier section is below this one
   pub may_follow : ℕ → Bool
   -- the counts of the function, code, data and data count sections
   pub functions : List ℕ
@@ -104,7 +106,7 @@ pub record SectionContext : Type 0 where
   pub datas : List ℕ
   pub data_counts : List ℕ
 
--- the encoding of a header with this 16-bit version and 16-bit kind. Core specification, Binary format, Modules
+-- the encoding of a header with this 16-bit version and this 16-bit layer. Core specification, Binary format, Modules
 abbrev pub encoding_named : (num layer : ℕ) → Option Encoding
 encoding_named num layer =
     if num == 1 && layer == 0 then Some Module else
@@ -114,7 +116,7 @@ abbrev pub header_of : (offset bits : ℕ) → Option Encoding → Grammar
 header_of offset bits (Some encoding) = accept (version (bits % 65536) encoding)
 header_of offset bits None = reject (record { fault = UnknownVersion; offset = offset + 4; number = Some bits })
 
--- a header whose magic is followed by these 32 bits: the lower half is its version, the upper one its kind
+-- a header whose magic is followed by these 32 bits: the version in the lower half, the layer in the upper half
 abbrev pub version_of : (offset bits : ℕ) → Grammar
 version_of offset bits = header_of offset bits (encoding_named (bits % 65536) (bits / 65536))
 
@@ -126,7 +128,7 @@ header_grammar offset = do
   four ← bytes 4 (offset + 4)
   version_of offset (of_four four)
 
--- how a stream ends at the start of a section: a count above 0 requires its other section
+-- how a stream ends where a section may start: functions need a code section, and announced segments a data section
 abbrev pub end_at_section : SectionContext → (offset : ℕ) → Ending
 end_at_section context offset =
     if list_any (nat_lt 0) context.functions && nat_eq (length context.codes) 0 then
@@ -135,13 +137,13 @@ end_at_section context offset =
     fault (at_offset DataCountWithoutData offset) else
     ended offset
 
--- what a code section whose content begins at this offset is wrong in: each function has its body
+-- the fault of the count of a code section at this offset, if it differs from the number of functions
 abbrev pub wrong_count : SectionContext → (offset count : ℕ) → Option FaultAt
 wrong_count context offset count =
     if not (list_all (nat_eq count) context.functions) then Some (at_offset FunctionCodeDiffer offset) else
     when (nat_lt 0 count && nat_eq (length context.functions) 0) (at_offset CodeWithoutFunction offset)
 
--- the head of a code section of this length, whose content begins at this offset
+-- the start of a code section with this length, whose content begins at this offset
 abbrev pub code_grammar : SectionContext → (offset length : ℕ) → Grammar
 code_grammar context offset size = do
   count ← sized_u32 offset
@@ -149,14 +151,14 @@ code_grammar context offset size = do
   check (wrong_count context offset count.0)
   accept (code_start count.0 count.1 (size - count.1))
 
--- what a counted section that ends at this offset is wrong in: the data section has as many segments as were announced
+-- the fault of a data section that ends at this offset, if its count differs from the announced one
 abbrev pub wrong_data : SectionContext → Form → (id offset : ℕ) → List ℕ → Option FaultAt
 wrong_data context items id offset content =
     when (id == data_id && not (list_all (nat_eq (count_of content)) context.data_counts))
     (at_offset DataCountDiffer offset)
 wrong_data context other id offset content = None
 
--- the content of any other section, of this length and at this offset
+-- the content of any other section, at this offset, of this length
 abbrev pub whole_grammar : SectionContext → Form → (id offset length : ℕ) → Grammar
 whole_grammar context form id offset size = do
   content ← bytes size offset
@@ -164,23 +166,24 @@ whole_grammar context form id offset size = do
   check (wrong_data context form id (offset + size) content)
   accept (section form id content)
 
--- the content of a section, of this length and at this offset
+-- the content of a section, at this offset, of this length
 abbrev pub content_grammar : SectionContext → Kind → (id offset length : ℕ) → Grammar
 content_grammar context code id offset size = code_grammar context offset size
 content_grammar context (whole form) id offset size = whole_grammar context form id offset size
 
--- the fault of a section of this length, whose field is at this offset, that overruns the largest offset
+-- the fault of a section whose end exceeds the largest offset, at its length field
 abbrev pub too_large : (field length : ℕ) → FaultAt
 too_large field size = record { fault = SectionTooLarge; offset = field; number = Some size }
 
--- a section of this kind and length, whose length field and content begin at these offsets
+-- the rest of a section of this kind and length after its length field. `field` and `offset` are those of the length
+-- field and of the content.
 abbrev pub after_length : SectionContext → Kind → (id field offset length : ℕ) → Grammar
 after_length context kind id field offset size = do
   check (when (nat_lt (2 ^ 64 - 1) (offset + size)) (too_large field size))
   check (when (nat_lt 0 (rank_of kind id) && not (context.may_follow (rank_of kind id))) (at_offset OutOfOrder offset))
   content_grammar context kind id offset size
 
--- a section with this id, at this offset
+-- the rest of a section at this offset after its id
 abbrev pub after_id : SectionContext → (offset id : ℕ) → Grammar
 after_id context offset id = do
   check (when (nat_le 128 id) (at_offset MalformedSectionId offset))
@@ -191,14 +194,15 @@ after_id context offset id = do
 unfoldable pub section_grammar : SectionContext → (offset : ℕ) → Grammar
 section_grammar context offset = section_start offset (end_at_section context offset) (after_id context offset)
 
--- a body, in a code section of which this many bytes remain. Its size alone says whether it overruns the section
+-- the rest of a body after its size, in a code section with `code_bytes` remaining bytes. The size alone determines
+-- whether the body overruns the section.
 abbrev pub body_of : (offset code_bytes size width : ℕ) → Grammar
 body_of offset code_bytes size width = do
   check (when (nat_lt code_bytes (width + size)) (at_offset UnexpectedEof offset))
   content ← bytes size (offset + width)
   accept (code_entry content)
 
--- what may come in a code section of which this many bodies and bytes remain
+-- what may come in a code section with these numbers of remaining bodies and bytes
 unfoldable pub body_grammar : (bodies code_bytes offset : ℕ) → Grammar
 body_grammar zero code_bytes offset = reject (at_offset TrailingCode offset)
 body_grammar (suc bodies) code_bytes offset = do

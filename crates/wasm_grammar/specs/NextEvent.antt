@@ -1,9 +1,9 @@
--- The event that comes next in a reading.
+-- The next event of a reading after a prefix of its stream.
 use Rattle.std.specs.Prelude.{◌≡◌, ℕ, ◌+◌, ◌<◌, ◌^◌, List, [], ◌++◌, ◌∷◌}
 use Rattle.wasm_grammar.specs.Reading.{Event}
 use Rattle.wasm_grammar.specs.EventRanges.{consumed_by}
 
--- Of these events, this one comes after those that consumed the prefix.
+-- The event after those that consume the prefix.
 pub record NextEvent (events : List Event) (prefix : List ℕ) : Type 0 where
   pub before : List Event
   pub event : Event

@@ -1,4 +1,4 @@
--- The reading of a whole stream. Core specification, Binary format, Modules.
+-- The reading of a stream: the events of its parts, in order. Core specification, Binary format, Modules.
 use Rattle.std.specs.Prelude.{◌≡◌, ℕ, ◌+◌, ◌-◌, List, [], ◌∷◌, ◌++◌, length, Some, ◌^◌, ◌<◌, All}
 use Rattle.wasm_base.specs.Name.{Name, named, refused, name_limit, name}
 use Rattle.wasm_base.specs.Window.{Window, window_over}
@@ -8,12 +8,12 @@ use Rattle.wasm_grammar.specs.Grammar.{Shape, section, Tile, final, verdict}
 use Rattle.wasm_grammar.specs.Tiling.{bytes_of, grammar, Faultless}
 use Rattle.wasm_grammar.specs.declared.encoding.Encoding.{Encoding}
 
--- A stream: bytes, and the offset at which they begin.
+-- The bytes, from this start offset on, are a stream: they are bytes, and end within 64-bit offsets.
 pub record Stream (bytes : List ℕ) (start : ℕ) : Type 0 where
   pub each : All (λ b. b < 256) bytes
   pub fits : start + length bytes < 2 ^ 64
 
--- what is reported of a tile, with the offsets of the stream
+-- the report of a tile, with offsets in the stream
 pub data Report : Type 0 where
   version : (num : ℕ) (encoding : Encoding) (from to : ℕ) → Report
   counted : (id count : ℕ) (window : Window) → Report
@@ -23,21 +23,21 @@ pub data Report : Type 0 where
   code_entry : (window : Window) → Report
   custom_section : (name : List ℕ) (data_offset : ℕ) (window : Window) → Report
   unknown_section : (id : ℕ) (contents : List ℕ) (from to : ℕ) → Report
-  -- the last one
+  -- how the stream ends, reported last
   stream_end : Ending → Report
 
--- what is reported, and the bytes that it consumed
+-- a report and the bytes that it consumes
 pub record Event : Type 0 where
   pub report : Report
   pub consumed : List ℕ
 
--- what is reported of a custom section that begins with this name
+-- the report of a custom section whose content begins with this name
 abbrev pub custom_report : (features from to : ℕ) (content : List ℕ) → Name → Report
 custom_report features from to content (named text used) =
     custom_section text (from + used) (window_over features from content)
 custom_report features from to content (refused f place) = unknown_section 0 content from to
 
--- what is reported of a section whose content lies between these offsets
+-- the report of a section whose content lies between these offsets
 abbrev pub section_report : (features from to : ℕ) → Form → (id : ℕ) (content : List ℕ) → Report
 section_report features from to items id content = counted id (count_of content) (window_over features from content)
 section_report features from to index id content = start_section (count_of content) from to
@@ -46,7 +46,7 @@ section_report features from to custom id content =
     custom_report features from to content (name (Some name_limit) content)
 section_report features from to unknown id content = unknown_section id content from to
 
--- what is reported of a tile between these offsets
+-- the report of a tile between these offsets
 abbrev pub tile_report : (features from to : ℕ) → Shape → Report
 tile_report features from to (Grammar.version num encoding) = version num encoding from to
 tile_report features from to (section form id content) =
@@ -60,25 +60,24 @@ abbrev pub event_of : (features offset : ℕ) → Tile → Event
 event_of features offset t =
     record { report = tile_report features offset (offset + length t.bytes) t.shape; consumed = t.bytes }
 
--- how the stream ends is reported last, and consumes nothing
+-- the last event, which consumes nothing
 abbrev pub last_event : Ending → Event
 last_event end = record { report = stream_end end; consumed = [] }
 
--- the events of tiles, in the order of the stream
+-- the events of tiles, oldest first
 abbrev pub events_of : (start features : ℕ) → List Tile → List Event
 events_of start features [] = []
 events_of start features (t ∷ earlier) =
     events_of start features earlier ++ event_of features (start + length (bytes_of earlier)) t ∷ []
 
--- the stream is these tiles without a fault, and a rest at which it stops
+-- The stream is these faultless tiles and a rest, whose verdict is this end.
 pub record Reads (stream : List ℕ) (start : ℕ) (tiles : List Tile) (end : Ending) : Type 0 where
   pub rest : List ℕ
   pub whole : stream ≡ bytes_of tiles ++ rest
   pub faultless : Faultless start tiles
   pub stops : verdict (grammar start tiles) rest ≡ final end
 
--- These are all the events of the stream: those of its longest faultless tiling, and last the fault at its end, or
--- the end.
+-- These are all events of the stream: those of its longest faultless tiling, and last the fault after it, or the end.
 pub record Reading (stream : List ℕ) (start features : ℕ) (events : List Event) : Type 0 where
   pub tiles : List Tile
   pub end : Ending

@@ -1,4 +1,4 @@
--- What is reported of a stream, with every offset moved.
+-- Reports with every offset moved by a constant.
 use Rattle.std.specs.Prelude.{◌≡◌, ℕ, ◌+◌, List, map}
 use Rattle.wasm_base.specs.FaultAt.{FaultAt}
 use Rattle.wasm_base.specs.Window.{Window}
@@ -36,8 +36,8 @@ shifted_event by e = record e { report = shifted_report by e.report }
 abbrev pub shifted_events : (by : ℕ) → List Event → List Event
 shifted_events by events = map (shifted_event by) events
 
--- The stream ends at a section that passes the top of the offsets. It suffices that the reading at the later offset
--- does not end so: the one at the earlier offset does not either then.
+-- The stream ends at a section whose end exceeds the largest offset. If the reading at the later start offset does not
+-- end so, neither does the one at the earlier offset.
 abbrev pub PassesTheTop : Ending → Type 0
 PassesTheTop (fault f) = f.fault ≡ SectionTooLarge
 PassesTheTop (ended offset) = ⊥

@@ -1,4 +1,4 @@
--- The tiles of a stream.
+-- Tilings of a stream: lists of tiles, and what earlier tiles imply for later ones.
 use Rattle.std.specs.Prelude.{◌≡◌, ℕ, ◌+◌, ◌-◌, List, [], ◌∷◌, ◌++◌, length, nat_lt, nat_eq, if◌then◌else◌, Bool, true}
 use Rattle.std.specs.Prelude.{false}
 use Rattle.std.specs.List.{list_all}
@@ -9,19 +9,19 @@ use Rattle.wasm_grammar.specs.declared.encoding.Encoding.{Encoding}
 use Rattle.wasm_grammar.specs.declared.encoding.Encoding.TheVariants.{Module}
 use Rattle.wasm_grammar.specs.Ids.{function_id, code_id, data_id, data_count_id}
 
--- Tiles are listed from the newest to the oldest: `t ∷ earlier` is a tile and all those before it.
+-- Tiles are listed newest first: `t ∷ earlier` is a tile and all tiles before it.
 
--- the bytes that they cover
+-- the bytes of tiles, in the order of the stream
 abbrev pub bytes_of : List Tile → List ℕ
 bytes_of [] = []
 bytes_of (t ∷ earlier) = bytes_of earlier ++ t.bytes
 
--- whether there are none
+-- whether there are no tiles
 abbrev pub is_start : List Tile → Bool
 is_start [] = true
 is_start (t ∷ earlier) = false
 
--- the encoding that the header names
+-- the encoding after a tile, from the one before it
 abbrev pub encoding_in : Shape → Encoding → Encoding
 encoding_in (version num encoding) other = encoding
 encoding_in other known = known
@@ -30,13 +30,13 @@ abbrev pub encoding_of : List Tile → Encoding
 encoding_of [] = Module
 encoding_of (t ∷ earlier) = encoding_in t.shape (encoding_of earlier)
 
--- the rank of a tile, where it has one
+-- the rank of a tile, or 0
 abbrev pub tile_rank : Shape → ℕ
 tile_rank (section form id content) = rank_of (whole form) id
 tile_rank (code_start count width size) = rank_of code code_id
 tile_rank other = 0
 
--- the count of a section with this id, before other counts
+-- these counts, and that of the tile if it is a section with this id
 abbrev pub count_in : ℕ → Shape → List ℕ → List ℕ
 count_in n (section items id content) others = if nat_eq id n then count_of content ∷ others else others
 count_in n (section data_count id content) others = if nat_eq id n then count_of content ∷ others else others
@@ -48,7 +48,7 @@ abbrev pub counts : ℕ → List Tile → List ℕ
 counts n [] = []
 counts n (t ∷ earlier) = count_in n t.shape (counts n earlier)
 
--- the bodies that a code section still misses, and the bytes
+-- the remaining bodies of a code section after a tile, from those before it, and the remaining bytes
 abbrev pub bodies_after : Shape → ℕ → ℕ
 bodies_after (code_start count width size) earlier = count
 bodies_after (code_entry content) earlier = earlier - 1
@@ -67,7 +67,7 @@ abbrev pub bytes_left : List Tile → ℕ
 bytes_left [] = 0
 bytes_left (t ∷ earlier) = bytes_after t t.shape (bytes_left earlier)
 
--- what the tiles say to a section after them: it ranks above each of them, and the counts agree
+-- what these tiles imply for a section after them
 abbrev pub context_of : List Tile → SectionContext
 context_of tiles = record {
   encoding = encoding_of tiles;
@@ -78,7 +78,7 @@ context_of tiles = record {
   data_counts = counts data_count_id tiles;
 }
 
--- what may come at this offset: a body where a code section isn't at its end, a section elsewhere
+-- what may come at this offset: a body if a code section has remaining bodies or bytes, and a section otherwise
 abbrev pub inside : SectionContext → (bodies code_bytes offset : ℕ) → Grammar
 inside before bodies code_bytes offset =
     if nat_eq (bodies + code_bytes) 0 then section_grammar before offset else body_grammar bodies code_bytes offset
@@ -90,7 +90,7 @@ grammar start (t ∷ earlier) =
     inside (context_of (t ∷ earlier)) (bodies_left (t ∷ earlier)) (bytes_left (t ∷ earlier))
     (start + length (bytes_of (t ∷ earlier)))
 
--- each tile is what its bytes are, after the earlier ones
+-- Each tile is the verdict over its bytes, after the earlier tiles.
 abbrev pub Faultless : (start : ℕ) → List Tile → Type 0
 Faultless start [] = Unit {0}
 Faultless start (t ∷ earlier) = Faultless start earlier × (verdict (grammar start earlier) t.bytes ≡ tile t)

@@ -1,4 +1,4 @@
--- Which bytes leave it open what comes next in a stream, by the streams that begin with them.
+-- Undecided prefixes: two streams begin with the prefix and have different next events.
 use Rattle.std.specs.Prelude.{◌≡◌, ◌≢◌, ◌↔◌, ℕ, ◌+◌, ◌-◌, ◌<◌, ◌^◌, List, [], ◌∷◌, ◌++◌, length, take, drop, replicate}
 use Rattle.std.specs.Prelude.{Some, None, nat_le, if◌then◌else◌}
 use Rattle.wasm_base.specs.Header.{magic, agree}
@@ -10,8 +10,8 @@ use Rattle.wasm_grammar.specs.Reading.{Event, Reading, Stream}
 use Rattle.wasm_grammar.specs.Tiling.{bytes_of, grammar, Faultless}
 use Rattle.wasm_grammar.specs.Waiting.{enough, wants, waiting}
 
--- A suffix that decides what is here, where the bytes so far don't: 00 for each missing byte, and five bytes 80 after
--- an unfinished number and where a section may start. After the first bytes of the magic, it is the others.
+-- A suffix after which an undecided prefix is decided: 00 for each missing byte, five bytes 80 within a number and
+-- where a section may start, and the remaining bytes of an incomplete magic.
 abbrev pub ending_of_number : Number → (ℕ → ℕ → List ℕ) → List ℕ
 ending_of_number (read value used) next = next value used
 ending_of_number (bad fault place) next = []
@@ -31,14 +31,14 @@ deciding_ending (section_start offset e next) [] = replicate 5 0x80
 deciding_ending (section_start offset e next) (id ∷ prefix) =
     if agree (id ∷ prefix) magic then drop (length (id ∷ prefix)) magic else deciding_ending (next id) prefix
 
--- In the stream that consists of this front and this rest, this event comes next after the front.
+-- In the stream that is `front ++ rest`, this event comes next after `front`.
 pub record ComesNext (start features : ℕ) (front rest : List ℕ) (event : Event) : Type 0 where
   pub events : List Event
   pub reading : Reading (front ++ rest) start features events
   pub next : NextEvent events front
   pub is : next.event ≡ event
 
--- An event comes next, and no other.
+-- Exactly one event comes next.
 abbrev pub HasOneNext : (start features : ℕ) (front rest : List ℕ) → Type 0
 HasOneNext start features front rest =
     ((event : Event) × ComesNext start features front rest event)
@@ -55,23 +55,23 @@ abbrev pub OtherNext : (start : ℕ) (front one other : List ℕ) → Type 0
 OtherNext start front one other = (features : ℕ) (x y : Event) → ComesNext start features front one x
     → ComesNext start features front other y → x ≢ y
 
--- The front is a faultless tiling by these tiles.
+-- `front` is tiled by these tiles, without a fault.
 abbrev pub IsTiledBy : (start : ℕ) (front : List ℕ) → List Tile → Type 0
 IsTiledBy start front tiles = Faultless start tiles × (bytes_of tiles ≡ front)
 
--- After a front that is a faultless tiling, one event comes next in every stream that begins with it.
+-- After a front with a faultless tiling, exactly one event comes next in every stream that begins with it.
 abbrev pub OneComesNext : (start : ℕ) (front : List ℕ) → Type 0
 OneComesNext start front = (tiles : List Tile) → IsTiledBy start front tiles → (features : ℕ) (rest : List ℕ)
     → HasOneNext start features front rest
 
--- If the bytes after such a front suffice, the same event comes next in all streams that begin with both.
+-- If the bytes after such a front decide, the same event comes next in all streams that begin with both.
 abbrev pub EnoughIsDecided : (start : ℕ) (front came : List ℕ) → Type 0
 EnoughIsDecided start front came = (tiles : List Tile) → IsTiledBy start front tiles
     → waiting (grammar start tiles) came ≡ enough
     → (one other : List ℕ) → SameNext start front (came ++ one) (came ++ other)
 
--- If they don't, the next event in the stream that ends after them differs from that in the one that continues with the
--- suffix that decides. The latter is a stream too, if there are offsets for 2^33 bytes more.
+-- If they do not decide, the stream that ends after them and the stream that continues with the deciding suffix have
+-- different next events. The latter is a stream too if there are offsets for 2^33 more bytes.
 abbrev pub ShortIsUndecided : (start : ℕ) (front came : List ℕ) → Type 0
 ShortIsUndecided start front came = (tiles : List Tile) → IsTiledBy start front tiles → (need hint : ℕ)
     → waiting (grammar start tiles) came ≡ wants need hint
@@ -79,7 +79,7 @@ ShortIsUndecided start front came = (tiles : List Tile) → IsTiledBy start fron
     × (Stream (front ++ came) start → start + length (front ++ came) + 2 ^ 33 < 2 ^ 64
     → Stream (front ++ (came ++ deciding_ending (grammar start tiles) came)) start)
 
--- Two streams that begin with this front and these bytes, and what comes next in each: different events.
+-- Two streams begin with this front and these bytes, and have different next events.
 pub record TwoStreams (start features : ℕ) (front came : List ℕ) : Type 0 where
   pub one : List ℕ
   pub other : List ℕ

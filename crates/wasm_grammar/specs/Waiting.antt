@@ -1,4 +1,4 @@
--- Where the bytes so far don't decide yet what is there.
+-- Whether a prefix decides what comes at a place of a stream, or more bytes are needed.
 use Rattle.std.specs.Prelude.{ℕ, ◌+◌, ◌-◌, Bool, ◌&&◌, List, [], ◌∷◌, length, take, drop, Option, Some, None, nat_le}
 use Rattle.std.specs.Prelude.{nat_lt, if◌then◌else◌}
 use Rattle.wasm_base.specs.Header.{magic, agree}
@@ -6,30 +6,30 @@ use Rattle.wasm_base.specs.Number.{Number, read, bad, short, number}
 use Rattle.wasm_grammar.specs.Grammar.{Grammar, accept, reject, check, u32_field, bytes, section_start}
 use Rattle.wasm_base.specs.declared.fault.NumberKind.TheVariants.{VarU32}
 
--- whether the bytes suffice
+-- whether a prefix decides
 pub data Waiting : Type 0 where
   enough : Waiting
-  -- they don't: a bound above them, and how many more are known to be needed
+  -- it does not: it is shorter than `need`, and at least `hint` more bytes are needed
   wants : (need hint : ℕ) → Waiting
 
--- how many more bytes are requested
+-- the number of bytes to request, if any
 abbrev pub asked : Waiting → Option ℕ
 asked enough = None
 asked (wants need hint) = Some hint
 
--- a waiting after this many bytes
+-- the waiting of a prefix with these bytes in front of it
 abbrev pub later : ℕ → Waiting → Waiting
 later used enough = enough
 later used (wants need hint) = wants (used + need) hint
 
--- a waiting after a number
+-- the waiting of a prefix that begins with this number
 abbrev pub later_number : Number → (ℕ → ℕ → Waiting) → Waiting
 later_number (read value used) next = later used (next value used)
 later_number (bad f place) next = enough
 later_number short next = wants 5 1
 
--- whether these bytes decide what is here: the field at their end is whole or wrong
--- Before the fourth byte of a header the bound is 4, not 8: a wrong magic is known at its fourth byte.
+-- whether a prefix decides what comes here: its last field is complete or malformed. Within the magic of a header the
+-- bound is 4 and not 8, because its fourth byte shows whether it is wrong.
 unfoldable pub waiting : Grammar → (prefix : List ℕ) → Waiting
 waiting (accept shape) prefix = enough
 waiting (reject e) prefix = enough
@@ -46,11 +46,11 @@ waiting (section_start offset e next) (id ∷ prefix) =
     then (if nat_le 4 (length (id ∷ prefix)) then enough else wants 4 (4 - length (id ∷ prefix)))
     else later 1 (waiting (next id) prefix)
 
--- whether these bytes are the first of those that begin a header, and not all of them
+-- whether these bytes are an incomplete magic
 abbrev pub is_magic_begun : List ℕ → Bool
 is_magic_begun prefix = agree prefix magic && nat_lt (length prefix) 4
 
--- how many more bytes are requested where a section may start, before its id is looked at
+-- the number of bytes to request where a section may start, before its id is read
 abbrev pub asked_at_section : List ℕ → Option ℕ
 asked_at_section [] = Some 1
 asked_at_section (id ∷ prefix) = if is_magic_begun (id ∷ prefix) then Some (4 - length (id ∷ prefix)) else None

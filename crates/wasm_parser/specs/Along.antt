@@ -1,5 +1,5 @@
--- Where a caller is in a stream whose bytes arrive bit by bit, and what a result then says of every stream that begins
--- with those bytes.
+-- The position of a caller in a stream that arrives in chunks, and what each result means for every stream that begins
+-- with the bytes so far.
 use Rattle.std.specs.Prelude.{◌≡◌, ℕ, ◌+◌, ◌<◌, ◌≤◌, ◌^◌, Bool, true, false, List, [], ◌∷◌, ◌++◌, length, Result, Ok}
 use Rattle.std.specs.Prelude.{Err}
 use Rattle.wasm_base.specs.FaultAt.{fault_at, at_offset}
@@ -18,7 +18,7 @@ use Rattle.wasm_parser.specs.declared.payload.Chunk.{Chunk}
 use Rattle.wasm_parser.specs.declared.payload.Chunk.TheVariants.{NeedMoreData, Parsed}
 use Rattle.wasm_parser.specs.declared.payload.Payload.{Payload}
 
--- The bytes so far are those that the parser has consumed, which are read as these events, and those that are held.
+-- The bytes so far, `given`, are those that the parser has consumed, read as these events, and those that are `held`.
 pub record Along (start features : ℕ) (given : List ℕ) (p : ParserState) (held : List ℕ) (events : List Event) : Type
     0 where
   pub prefix : List ℕ
@@ -34,17 +34,17 @@ pub record ReadingBegins (start features : ℕ) (stream : List ℕ) (first : Lis
   pub reading : Reading stream start features events
   pub begins : events ≡ first ++ more
 
--- The reading of each stream that these bytes may be the first of, or all, begins with these events.
+-- The reading of each stream that may begin with these bytes begins with these events.
 abbrev pub BeginsEach : (start features : ℕ) (eof : Bool) (given : List ℕ) (first : List Event) → Type 0
 BeginsEach start features eof given first =
     (stream : List ℕ) → MayBe eof given stream → ReadingBegins start features stream first
 
--- It is these events.
+-- The reading of each stream that may begin with these bytes is these events.
 abbrev pub ReadsEach : (start features : ℕ) (eof : Bool) (given : List ℕ) (events : List Event) → Type 0
 ReadsEach start features eof given events =
     (stream : List ℕ) → MayBe eof given stream → Reading stream start features events
 
--- The next event, as a payload that consumed these bytes: the parser is after it, or it is the last one.
+-- This payload is the next event and consumed these bytes. The parser is then after it, or it was the end.
 pub record Came (start features : ℕ) (eof : Bool) (given : List ℕ) (events : List Event) (bytes : List ℕ)
     (payload : Payload) (new : ParserState) (rest : List ℕ) : Type 0 where
   pub event : Event
@@ -56,8 +56,8 @@ pub record Came (start features : ℕ) (eof : Bool) (given : List ℕ) (events :
   pub ends : is_end (report_of payload) ≡ true → ReadsEach start features eof given (events ++ event ∷ [])
   pub last : is_end (report_of payload) ≡ true → (offset : ℕ) × (event ≡ last_event (ended offset))
 
--- what a result that consumed these bytes says of each of those streams: more bytes are needed, this is the next event,
--- or the fault is the last event
+-- what a result that consumed these bytes means for each such stream: more bytes are needed, the payload is the next
+-- event, or the fault is the last event
 abbrev pub GoesAlong : (start features : ℕ) (eof : Bool) (given : List ℕ) (events : List Event) → Result Chunk Error
     → (bytes : List ℕ) (new : ParserState) (rest : List ℕ) → Type 0
 GoesAlong start features eof given events (Ok (NeedMoreData hint)) bytes new rest =
@@ -68,76 +68,75 @@ GoesAlong start features eof given events (Err e) bytes new rest =
     ReadsEach start features eof given (events ++ last_event (fault (fault_at e)) ∷ [])
     × Along start features given new rest events
 
--- how many bytes a result consumes
+-- the number of bytes that a result consumes
 abbrev pub taken_by : Result Chunk Error → ℕ
 taken_by (Ok (NeedMoreData hint)) = 0
 taken_by (Ok (Parsed consumed payload)) = consumed
 taken_by (Err e) = 0
 
--- whether a result is the last one: the end, or a fault
+-- whether a result is the end or a fault
 abbrev pub is_last : Result Chunk Error → Bool
 is_last (Ok (NeedMoreData hint)) = false
 is_last (Ok (Parsed consumed payload)) = is_end (report_of payload)
 is_last (Err e) = true
 
--- two results consume as many bytes and say the same of them
+-- two results report the same and consume the same number of bytes
 abbrev pub SaysTheSame : Result Chunk Error → Result Chunk Error → Type 0
 SaysTheSame one other = said one ≡ said other
 
--- What a caller relies on that receives a stream bit by bit, passes unconsumed bytes again, and reads from this offset
--- with these features.
+-- What a caller with its own loop can rely on, if it passes unconsumed bytes again.
 pub record AnswersGoAlong : Type 0 where
-  -- a new parser is where no bytes have arrived
+  -- a new parser is at the start, before any bytes
   pub begins : (start features : ℕ) → Along start features [] (initial_state start features) [] []
-  -- more bytes come
+  -- a chunk arrives
   pub more : (start features : ℕ) (given : List ℕ) (p : ParserState) (held : List ℕ) (events : List Event)
       (piece : List ℕ) → Along start features given p held events
       → Along start features (given ++ piece) p (held ++ piece) events
-  -- the held bytes end where the bytes so far do
+  -- the held bytes end at the same offset as the bytes so far
   pub ends : (start features : ℕ) (given : List ℕ) (p : ParserState) (held : List ℕ) (events : List Event)
       → Along start features given p held events → p.offset + length held ≡ start + length given
-  -- the events so far are the first of each stream with this prefix
+  -- the events so far begin the reading of each stream that may begin with the bytes so far
   pub first : (start features : ℕ) (given : List ℕ) (p : ParserState) (held : List ℕ) (events : List Event) (eof : Bool)
       → Along start features given p held events → BeginsEach start features eof given events
-  -- a result is the next event of each of them
+  -- a result is the next event of each such stream
   pub answers : (start features : ℕ) (given : List ℕ) (p : ParserState) (held : List ℕ) (events : List Event)
       (eof : Bool) (answer : Result Chunk Error) (bytes : List ℕ) (new : ParserState) (rest : List ℕ)
       → Along start features given p held events → start + length given < 2 ^ 64
       → ParseAnswer p eof held answer new → held ≡ bytes ++ rest → length bytes ≡ taken_by answer
       → GoesAlong start features eof given events answer bytes new rest
-  -- a stream that ends where more is asked for has one event more
+  -- a stream that ends where more is requested has exactly one more event
   pub cut_short : (start features : ℕ) (given : List ℕ) (p : ParserState) (held : List ℕ) (events : List Event)
       (eof : Bool) (hint : ℕ) → Along start features given p held events → IsUndecided p eof held hint → (end : Ending)
       × Reading given start features (events ++ last_event end ∷ [])
-  -- the bytes so far are those that the events consumed, and the held ones
+  -- the bytes so far are those that the events consumed and those that are held
   pub consumed : (start features : ℕ) (given : List ℕ) (p : ParserState) (held : List ℕ) (events : List Event)
       → Along start features given p held events → given ≡ consumed_by events ++ held
-  -- bytes that are there are consumed, and by a payload but the end some
+  -- a result consumes held bytes, and a payload other than the end at least one
   pub consumes : (p new : ParserState) (eof : Bool) (held : List ℕ) (answer : Result Chunk Error)
       → ParseAnswer p eof held answer new → Consumes held answer
   pub takes_some : (p new : ParserState) (eof : Bool) (held : List ℕ) (consumed : ℕ) (payload : Payload)
       → ParseAnswer p eof held (Ok (Parsed consumed payload)) new → is_end (report_of payload) ≡ false → 0 < consumed
-  -- a result other than a fault is below the largest offset, and a request is undecided
+  -- unless the result is a fault, the held bytes end within the offsets; after a request they are undecided
   pub below : (p new : ParserState) (eof : Bool) (held : List ℕ) (chunk : Chunk) → ParseAnswer p eof held (Ok chunk) new
       → p.offset + length held < 2 ^ 64
   pub asks : (p new : ParserState) (eof : Bool) (held : List ℕ) (hint : ℕ)
       → ParseAnswer p eof held (Ok (NeedMoreData hint)) new → IsUndecided p eof held hint
-  -- undecided bytes are fewer than their bound
+  -- undecided bytes are shorter than their bound
   pub bounded : (p : ParserState) (held : List ℕ) (need hint : ℕ) → waiting (grammar_of p) held ≡ wants need hint
       → length held < need
   -- the items of a payload begin where its reader is
   pub holds_items : (p new : ParserState) (eof : Bool) (held : List ℕ) (consumed : ℕ) (payload : Payload)
       → ParseAnswer p eof held (Ok (Parsed consumed payload)) new → ItemsBegin payload
-  -- bytes that pass the top of the offsets are that fault
+  -- held bytes that exceed the largest offset are the fault `OffsetRange`
   pub past_the_top : (p new : ParserState) (eof : Bool) (held : List ℕ) (answer : Result Chunk Error)
       → ParseAnswer p eof held answer new → 2 ^ 64 ≤ p.offset + length held
       → said answer ≡ refuses (at_offset OffsetRange p.offset)
-  -- what the parser is afterwards
+  -- the state after a result
   pub becomes : (p new : ParserState) (eof : Bool) (held : List ℕ) (answer : Result Chunk Error)
       → ParseAnswer p eof held answer new → new ≡ state_after_answer p answer
-  -- equal bytes have equal results
+  -- the result is determined by the state and the held bytes
   pub once : (p new other : ParserState) (eof : Bool) (held : List ℕ) (one two : Result Chunk Error)
       → ParseAnswer p eof held one new → ParseAnswer p eof held two other → SaysTheSame one two
-  -- after the last result the next call returns it again
+  -- after the end or a fault, the next call returns it again
   pub again : (p new other : ParserState) (eof : Bool) (held : List ℕ) (one two : Result Chunk Error) → is_last one
       ≡ true → ParseAnswer p eof held one new → ParseAnswer new eof held two other → SaysTheSame one two

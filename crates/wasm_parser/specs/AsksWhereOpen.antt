@@ -1,4 +1,4 @@
--- A parser asks for more exactly where streams that begin so differ.
+-- A parser requests more bytes exactly if no parser could decide.
 use Rattle.std.specs.Prelude.{◌≡◌, ◌↔◌, ℕ, ◌+◌, ◌<◌, ◌^◌, Bool, false, List, ◌++◌, length, Result}
 use Rattle.wasm_base.specs.declared.error.Error.{Error}
 use Rattle.wasm_parser.specs.ParseAnswer.{IsRequest}
@@ -7,8 +7,8 @@ use Rattle.wasm_grammar.specs.Reading.{Stream}
 use Rattle.wasm_parser.specs.declared.payload.Chunk.{Chunk}
 use Rattle.wasm_grammar.specs.Undecided.{TwoStreams}
 
--- Where more bytes may come, wherever in a stream the parser is, it asks for them exactly if two streams that begin
--- with the bytes so far have different next events. The offsets have to go on for 2^33 bytes, so that both are streams.
+-- If more bytes may come, the result is a request exactly if two streams that begin with the bytes so far have
+-- different next events. Offsets must remain for 2^33 bytes, so that both are streams.
 abbrev pub AsksWhereOpen : ParserState → (eof : Bool) (came : List ℕ) → Result Chunk Error → Type 0
 AsksWhereOpen p eof came result = eof ≡ false → (start : ℕ) (front : List ℕ) → IsStateAfter p start front
     → Stream (front ++ came) start → start + length (front ++ came) + 2 ^ 33 < 2 ^ 64

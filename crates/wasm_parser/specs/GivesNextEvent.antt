@@ -1,4 +1,4 @@
--- What a call of a parser says of the reading of a stream.
+-- The result of `parse` is the next event of the stream's reading.
 use Rattle.std.specs.Prelude.{◌≡◌, ℕ, ◌+◌, ◌<◌, ◌^◌, Bool, true, false, List, [], ◌++◌, length, take, Result, Ok, Err}
 use Rattle.wasm_base.specs.FaultAt.{fault_at}
 use Rattle.wasm_base.specs.declared.error.Error.{Error}
@@ -11,17 +11,18 @@ use Rattle.wasm_parser.specs.declared.payload.Chunk.{Chunk}
 use Rattle.wasm_parser.specs.declared.payload.Chunk.TheVariants.{NeedMoreData, Parsed}
 use Rattle.wasm_grammar.specs.NextEvent.{NextEvent}
 
--- the whole rest of a stream that these bytes may be the first of: at its end they are all of it
+-- These bytes may be the start of this rest of a stream. At the end of input they are all of it.
 abbrev pub MayBe : (eof : Bool) (bytes rest : List ℕ) → Type 0
 MayBe true bytes rest = rest ≡ bytes
 MayBe false bytes rest = (more : List ℕ) × (rest ≡ bytes ++ more)
 
--- More bytes may come, and these don't decide what comes next: at least `hint` more are needed.
+-- More bytes may come, and these do not decide the next event: at least `hint` more are needed.
 abbrev pub IsUndecided : ParserState → (eof : Bool) (bytes : List ℕ) (hint : ℕ) → Type 0
 IsUndecided p eof bytes hint = (eof ≡ false) × ((need : ℕ) × (waiting (grammar_of p) bytes ≡ wants need hint))
 
--- The event was reported after this prefix of a stream: by a payload that consumed its bytes, after which the parser
--- then is; or by a fault, which changed nothing. Or more bytes are asked for, since these don't decide it.
+-- The result reports this event, which comes after the prefix of the stream. It is a payload that consumed the bytes of
+-- the event, and the parser is then after them; or a fault, which leaves the parser unchanged; or a request for more
+-- bytes, because these do not decide the event.
 abbrev pub GivesEvent : Event → ParserState → (eof : Bool) (start : ℕ) (prefix bytes : List ℕ) → Result Chunk Error
     → ParserState → Type 0
 GivesEvent e old eof start prefix bytes (Ok (NeedMoreData hint)) new = IsUndecided old eof bytes hint × (new ≡ old)
@@ -31,8 +32,8 @@ GivesEvent e old eof start prefix bytes (Ok (Parsed consumed payload)) new = IsP
 GivesEvent e old eof start prefix bytes (Err f) new =
     (e.report ≡ stream_end (fault (fault_at f))) × (e.consumed ≡ []) × (new ≡ old)
 
--- A stream that a parser is in: it has passed this prefix, the rest begins with the bytes that are there, and this is
--- the stream's reading.
+-- A stream around a parser: the parser is after a prefix, the rest begins with these bytes, and the stream has a
+-- reading.
 pub record StreamAround (p : ParserState) (eof : Bool) (bytes : List ℕ) : Type 0 where
   pub start : ℕ
   pub prefix : List ℕ
@@ -43,8 +44,8 @@ pub record StreamAround (p : ParserState) (eof : Bool) (bytes : List ℕ) : Type
   pub below : start + length prefix + length rest < 2 ^ 64
   pub reading : Reading (prefix ++ rest) start p.features events
 
--- Whatever stream the parser is in, the next event of its reading was reported: the first one after the events that
--- consumed the prefix. Or more bytes are asked for.
+-- In every stream around the parser, the result reports the next event of the reading, the first one after the events
+-- that consume the prefix, or is a request for more bytes.
 abbrev pub GivesNextEvent : ParserState → (eof : Bool) (bytes : List ℕ) → Result Chunk Error → ParserState → Type 0
 GivesNextEvent old eof bytes result new = (s : StreamAround old eof bytes) (next : NextEvent s.events s.prefix)
     → GivesEvent next.event old eof s.start s.prefix bytes result new

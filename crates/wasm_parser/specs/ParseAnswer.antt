@@ -38,7 +38,7 @@ unread w = record w { position = 0 }
 abbrev pub counted_by : ℕ → Section → Report
 counted_by id s = counted id s.count (unread s.reader)
 
--- what a payload reports
+-- the report of a payload
 abbrev pub report_of : Payload → Report
 report_of (Version encoding num range) = version num encoding range.start range.end
 report_of (TypeSection s) = counted_by type_id s
@@ -60,7 +60,7 @@ report_of (CustomSection s) = custom_section s.name (place s.reader).offset (unr
 report_of (UnknownSection id contents range) = unknown_section id contents.now range.start range.end
 report_of (End at) = stream_end (ended at)
 
--- The section's items begin after its count. A report has no place of its reader, so this is stated apart.
+-- The reader of the section is after its count. Reports have no readers, so this is stated separately.
 abbrev pub BeginsAfterCount : Section → Type 0
 BeginsAfterCount s = unsigned_at VarU32 (place (unread s.reader)) ≡ Ok (s.count, place s.reader)
 
@@ -84,16 +84,16 @@ abbrev pub counted_in : Report → Option CountedSection
 counted_in (counted id count window) = Some (record { id = id; count = count; range = range_of window })
 counted_in other = None
 
--- The reader in a payload is where the items begin.
+-- The reader of a counted section is at its first item.
 abbrev pub ItemsBegin : Payload → Type 0
 ItemsBegin payload = IfSome (items_in payload) (λ x. BeginsAfterCount x.1)
 
--- The payload reports this, and what it holds is read from the right place on.
+-- The payload has this report, and its reader is at the first item.
 abbrev pub IsPayload : Report → Payload → Type 0
 IsPayload report payload = (report_of payload ≡ report) × ItemsBegin payload
 
--- What was read at a place is the tile that begins at this offset, by its payload, and the reader is after it; or the
--- fault at which the stream ends. Nothing is read where it ends otherwise.
+-- The result of a read is what the verdict says: the payload of the tile, with the reader after it, or the fault. At
+-- the end of the stream nothing is read. `start` is the offset of the tile.
 abbrev pub MatchesVerdict : (start : ℕ) (before : Place) → Verdict → Result Payload Error → (after : Place) → Type 0
 MatchesVerdict start before (tile t) result after = MatchResult result
     (λ payload. (after ≡ advanced (length t.bytes) before)
@@ -102,18 +102,17 @@ MatchesVerdict start before (tile t) result after = MatchResult result
 MatchesVerdict start before (final (fault f)) result after = MatchResult result (λ payload. ⊥) (λ e. fault_at e ≡ f)
 MatchesVerdict start before (final (ended offset)) result after = ⊥
 
--- A fault hints at the bytes that are asked for where more can decide what is here, and elsewhere at nothing.
+-- The hint of a fault is the number of bytes to request if the prefix does not decide. Any other fault has no hint.
 abbrev pub HintsAs : Waiting → Result Payload Error → Type 0
 HintsAs w (Ok payload) = Unit {0}
 HintsAs w (Err e) = hint_of e ≡ asked w
 
--- Like `MatchesVerdict`, for what may come at a place by this grammar.
+-- The result of a read is the verdict of this grammar over the remaining bytes, and its hint is as `waiting` says.
 abbrev pub MatchesGrammar : (start : ℕ) (before : Place) → Grammar → Result Payload Error → (after : Place) → Type 0
 MatchesGrammar start before g result after =
     MatchesVerdict start before (verdict g before.rest) result after × HintsAs (waiting g before.rest) result
 
--- What was read at a place is what may come there by this grammar, a tile or a fault, and the reader is after
--- the tile.
+-- The result of a read is the tile or the fault that this grammar assigns, and the reader is after the tile.
 abbrev pub ReadsByGrammar : Grammar → (before : Place) → Result Payload Error → (after : Place) → Type 0
 ReadsByGrammar g before result after = (start : ℕ) → MatchesGrammar start before g result after
 
@@ -122,21 +121,20 @@ abbrev pub is_end : Report → Bool
 is_end (stream_end (ended offset)) = true
 is_end other = false
 
--- The bytes that are consumed are there, and there are some of them but at the end.
+-- A payload consumes bytes that are there. The end consumes none, and any other payload at least one.
 abbrev pub Consumes : List ℕ → Result Chunk Error → Type 0
 Consumes rest (Ok (Parsed consumed payload)) = (consumed ≤ length rest)
     × (nat_eq consumed 0 ≡ is_end (report_of payload))
 Consumes rest (Ok (NeedMoreData hint)) = Unit {0}
 Consumes rest (Err e) = Unit {0}
 
--- The parser has passed the tile that this payload reports, and that ends at this offset.
+-- The parser is after the tile of this payload, which ends at this offset.
 abbrev pub Advances : ParserState → Payload → (to : ℕ) → ParserState → Type 0
 Advances old payload to new = (rest : List ℕ) (t : Tile) → verdict (grammar_of old) rest ≡ tile t → to
     ≡ old.offset + length t.bytes
     → IsPayload (tile_report old.features old.offset to t.shape) payload → new ≡ state_after_tile old t
 
--- what a call may return: a request for about this many more bytes; what comes next, and how many bytes that consumes;
--- or a fault
+-- the content of a result: a request with its hint; a report, and the number of bytes that it consumes; or a fault
 pub data Answer : Type 0 where
   asks : (hint : ℕ) → Answer
   reports : Report → (consumed : ℕ) → Answer
@@ -147,64 +145,65 @@ said (Ok (NeedMoreData hint)) = asks hint
 said (Ok (Parsed consumed payload)) = reports (report_of payload) consumed
 said (Err e) = refuses (fault_at e)
 
--- what is to be said of what comes next
+-- the content of a result with this verdict
 abbrev pub answer_by : ParserState → Verdict → Answer
 answer_by p (tile t) =
     reports (tile_report p.features p.offset (p.offset + length t.bytes) t.shape) (length t.bytes)
 answer_by p (final (ended offset)) = reports (stream_end (ended offset)) 0
 answer_by p (final (fault f)) = refuses f
 
--- where more bytes may come, it is said only if those that are there decide it, and otherwise more are asked for
+-- If more bytes may come and those so far do not decide, the result is a request.
 abbrev pub answer_in_time : (eof : Bool) → Waiting → Answer → Answer
 answer_in_time true w answer = answer
 answer_in_time false enough answer = answer
 answer_in_time false (wants need hint) answer = asks hint
 
--- what a parser is to say of these bytes, which are all the rest of a stream, or may be a part of it
+-- the content of the result for these bytes, which are the rest of the stream if `eof`, and otherwise may be a part of
+-- it
 abbrev pub answer_to : ParserState → (eof : Bool) → (rest : List ℕ) → Answer
 answer_to p eof rest =
     if nat_lt (p.offset + length rest) (2 ^ 64) then
     answer_in_time eof (waiting (grammar_of p) rest) (answer_by p (verdict (grammar_of p) rest)) else
     refuses (at_offset OffsetRange p.offset)
 
--- the parser's state after a call: it has consumed what it reported, and is at the end once that was reported
+-- the state after a call: after the reported part, or at the end; unchanged after a request or a fault
 abbrev pub state_after_answer : ParserState → Result Chunk Error → ParserState
 state_after_answer p (Ok (NeedMoreData hint)) = p
 state_after_answer p (Ok (Parsed consumed payload)) =
     if is_end (report_of payload) then ended_state p else state_after p (p.offset + consumed) (report_of payload)
 state_after_answer p (Err e) = p
 
--- The reader in a payload, if there is one, is where its items begin.
+-- If the result is a counted section, its reader is at the first item.
 abbrev pub AnswerBegins : Result Chunk Error → Type 0
 AnswerBegins (Ok (NeedMoreData hint)) = Unit {0}
 AnswerBegins (Ok (Parsed consumed payload)) = ItemsBegin payload
 AnswerBegins (Err e) = Unit {0}
 
--- what one call returns
+-- The result of a call, and the state after it, by the state before it.
 pub record ParseAnswer (old : ParserState) (eof : Bool) (rest : List ℕ) (result : Result Chunk Error)
     (new : ParserState) : Type 0 where
   pub answer : said result ≡ answer_to old eof rest
   pub items : AnswerBegins result
   pub state : new ≡ state_after_answer old result
 
--- A fault is between the parser and the end of the bytes.
+-- The offset of a fault is between the parser's offset and the end of the bytes.
 abbrev pub FaultsWithin : ParserState → List ℕ → Result Chunk Error → Type 0
 FaultsWithin p rest (Ok chunk) = Unit {0}
 FaultsWithin p rest (Err e) = (p.offset ≤ (fault_at e).offset) × ((fault_at e).offset ≤ p.offset + length rest)
 
--- After a fault, or a request for more, the parser is what it was.
+-- After a fault or a request, the parser is unchanged.
 abbrev pub IsUnchanged : (old : ParserState) → Result Chunk Error → (new : ParserState) → Type 0
 IsUnchanged old (Ok (Parsed consumed payload)) new = Unit {0}
 IsUnchanged old (Ok (NeedMoreData hint)) new = new ≡ old
 IsUnchanged old (Err e) new = new ≡ old
 
--- A request is for at least one byte.
+-- A request is for one byte or more.
 abbrev pub AsksForSome : Result Chunk Error → Type 0
 AsksForSome (Ok (NeedMoreData hint)) = 1 ≤ hint
 AsksForSome (Ok (Parsed consumed payload)) = Unit {0}
 AsksForSome (Err e) = Unit {0}
 
--- More bytes are asked for.
+-- The result is a request for more bytes.
 abbrev pub IsRequest : Result Chunk Error → Type 0
 IsRequest (Ok (NeedMoreData hint)) = Unit {0}
 IsRequest (Ok (Parsed consumed payload)) = ⊥

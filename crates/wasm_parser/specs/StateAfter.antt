@@ -1,4 +1,4 @@
--- What a parser knows after what it reported.
+-- The state of a parser after a report.
 use Rattle.std.specs.Prelude.{ℕ, zero, suc, ◌+◌, ◌-◌, Bool, true, false, length, Option, Some, None, nat_eq}
 use Rattle.std.specs.Prelude.{if◌then◌else◌}
 use Rattle.wasm_grammar.specs.Grammar.{Tile}
@@ -9,12 +9,12 @@ use Rattle.wasm_parser.specs.ParserState.{ParserState}
 use Rattle.wasm_grammar.specs.declared.encoding.Encoding.{Encoding}
 use Rattle.wasm_grammar.specs.Ids.{function_id, start_id, code_id, data_id, data_count_id, place_of}
 
--- the encoding that a header names, or the one that was known
+-- the encoding after a report, from the one before it
 abbrev pub known_encoding : Report → Encoding → Encoding
 known_encoding (version num encoding from to) known = encoding
 known_encoding other known = known
 
--- the rank of a section, or 0
+-- the rank of the reported section, or 0
 abbrev pub rank_report : Report → ℕ
 rank_report (counted id count window) = place_of id
 rank_report (start_section func from to) = place_of start_id
@@ -22,35 +22,35 @@ rank_report (data_count_section count from to) = place_of data_count_id
 rank_report (code_start count from to size) = place_of code_id
 rank_report other = 0
 
--- the greatest rank of a section so far
+-- the greatest rank after a section with the first rank, if it has one; ranks ascend
 abbrev pub known_rank : ℕ → ℕ → ℕ
 known_rank zero known = known
 known_rank (suc rank) known = suc rank
 
--- the count of the section with this id, or the one that was known
+-- the count of the section with this id after a report, from the one before it
 abbrev pub known_count : ℕ → Option (ℕ × ℕ) → Option ℕ → Option ℕ
 known_count n (Some report) known = if nat_eq report.0 n then Some report.1 else known
 known_count n None known = known
 
--- the bodies that a code section still misses
+-- the remaining bodies of a code section after a report, from those before it
 abbrev pub missing_bodies : Report → ℕ → ℕ
 missing_bodies (code_start count from to size) known = count
 missing_bodies (code_entry window) known = known - 1
 missing_bodies other known = 0
 
--- the bytes that a code section still lacks after a part of `taken` bytes
+-- the remaining bytes of a code section after a report of `taken` bytes, from those before it
 abbrev pub missing_bytes : Report → (taken : ℕ) → ℕ → ℕ
 missing_bytes (code_start count from to size) taken known = size
 missing_bytes (code_entry window) taken known = known - taken
 missing_bytes other taken known = 0
 
--- whether it is the start of a code section, or a body
+-- whether the start of a code section, or a body, is reported
 abbrev pub reports_code : Report → Bool
 reports_code (code_start count from to size) = true
 reports_code (code_entry window) = true
 reports_code other = false
 
--- what a parser knows of the header and the sections before, after it reported this; the rest stays
+-- the state with what a report implies for later sections; the other fields stay
 abbrev pub knowing : ParserState → Report → ParserState
 knowing p report = record p {
   encoding = known_encoding report p.encoding;
@@ -61,13 +61,13 @@ knowing p report = record p {
   data_counts = known_count data_count_id (count_report report) p.data_counts;
 }
 
--- whether it is a section that implies nothing for later parts
+-- whether a section is reported that implies nothing for later parts
 abbrev pub implies_nothing : Report → Bool
 implies_nothing (custom_section name at window) = true
 implies_nothing (unknown_section id contents from to) = true
 implies_nothing other = false
 
--- the same after a section that implies nothing for later parts, which ends at this offset
+-- the state after a section that implies nothing for later parts and ends at this offset
 abbrev pub state_after_section : ParserState → (to : ℕ) → ParserState
 state_after_section p to = record p {
   offset = to;
@@ -77,7 +77,7 @@ state_after_section p to = record p {
   in_code = false;
 }
 
--- the state of a parser after it reported this, which ends at this offset
+-- the state after a report of a part that ends at this offset
 abbrev pub state_after : ParserState → (to : ℕ) → Report → ParserState
 state_after p to report = record (knowing p report) {
   offset = to;
@@ -87,7 +87,7 @@ state_after p to report = record (knowing p report) {
   in_code = reports_code report;
 }
 
--- the same after one more tile
+-- the state after a tile
 abbrev pub state_after_tile : ParserState → Tile → ParserState
 state_after_tile p t = let to = p.offset + length t.bytes in
     state_after p to (tile_report p.features p.offset to t.shape)
