@@ -163,3 +163,50 @@ fn digits_in_groups(rt: HostRuntime) -> Result<(), Fail> {
     }
     Ok(())
 }
+
+// Writes an empty text, or the digits of no bytes.
+fn write_empty<T: Tree>(is_text: bool, out: &mut T) {
+    if is_text {
+        out.text("");
+    } else {
+        out.hexadecimals(&[]);
+    }
+}
+
+// Writes nothing else on a line, then nothing more on one that is begun, then a field after it.
+fn write_empty_lines<T: Tree>(is_text: bool, out: &mut T) {
+    write_empty(is_text, out);
+    out.end();
+    out.line(1, "x");
+    write_empty(is_text, out);
+    out.end();
+    write_empty(is_text, out);
+    out.number("n", 7);
+    out.write_out();
+}
+
+#[test]
+fn empty_texts_begin_a_line(rt: HostRuntime) -> Result<(), Fail> {
+    for is_text in [false, true] {
+        let mut lines = Lines::new(rt.alloc(), BoundedSink::new(rt.alloc(), 1000)?);
+        write_empty_lines(is_text, &mut lines);
+        let wanted = b"  \n  x\n   n=7\n";
+        same_at(
+            &rt,
+            lines.into_output().written(),
+            wanted.as_slice(),
+            &is_text,
+        );
+        // In objects a text outside of a field is left out.
+        let mut objects = Objects::new(rt.alloc(), BoundedSink::new(rt.alloc(), 1000)?);
+        write_empty_lines(is_text, &mut objects);
+        let wanted = b"{\"level\":1,\"line\":\"x\"}\n{\"n\":7}\n";
+        same_at(
+            &rt,
+            objects.into_output().written(),
+            wanted.as_slice(),
+            &is_text,
+        );
+    }
+    Ok(())
+}

@@ -1,5 +1,4 @@
 pub mod EscapedBytes
-pub mod FirstBytes
 pub mod ForCallers
 pub mod Json
 pub mod MemberTexts

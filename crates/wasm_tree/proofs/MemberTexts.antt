@@ -81,10 +81,3 @@ pub text_leads : (spot : Spot) (text : List ℕ) → spot ≡ AtValue → list_a
 text_leads spot text e plain =
     leads_from spot AtValue InText (codes "\"" ++ text) e
     (leads_on AtValue InText InText (codes "\"") text quote_leads (plain_run_stays text plain InText refl))
-
--- a member whose value is a text
-pub text_member_leads : (spot : Spot) (name text : List ℕ) → list_any is_escaped name ≡ false → list_any is_escaped text ≡ false
-    → Leads spot (member_start spot name ++ (codes "\"" ++ text)) InText
-text_member_leads spot name text plain_name plain =
-    leads_on spot AtValue InText (member_start spot name) (codes "\"" ++ text) (member_leads spot name plain_name)
-    (text_leads AtValue text refl plain)

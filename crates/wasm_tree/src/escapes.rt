@@ -46,6 +46,7 @@ fn plain_fours(bytes: &[u8]) -> usize
 }
 
 /// The number of leading bytes that are plain in a text in quotes, and in a string of JSON too: at most a page of them.
+#[inline(always)]
 pub(crate) fn plain_count(bytes: &[u8]) -> usize
     ensures within { result ≤ length bytes.now }
     ensures short { result ≤ 65536 }

@@ -1,98 +1,38 @@
 // Parts of JSON objects that are put at once.
-ghost use Rattle.std.specs.Prelude.{◌≡◌, ◌≤◌, ◌+◌, ◌++◌, IfSome, codes, length, take};
-ghost use Rattle.wasm_tree.specs.Json.{Leads, member_start, name_start, object_end};
-ghost use Rattle.wasm_tree.specs.declared.objects.Spot.TheVariants.{InText};
+ghost use Rattle.std.specs.Prelude.{◌≡◌, ◌≤◌, ◌+◌, ◌++◌, length, take};
+ghost use Rattle.wasm_tree.specs.Json.{member_start, name_start, object_end};
 
 use crate::numbers::{Space, write_space};
 use crate::objects::Spot;
-use crate::padded::write_padded;
-use crate::plain::{MOST_BYTES, Plain};
-use std::marker::Model;
+use crate::padded::{Padded, write_padded};
+use crate::plain::Plain;
 use wasm_text::{ShortText, write_number, write_word};
 
-// What leads into the name of the next member, with blanks up to 8 bytes, and its length.
-#[inline(always)]
-fn name_start_of(spot: Spot) -> (&'static str, usize)
-    ensures padded { (length result.0.now ≡ 8) × (result.1 ≤ 8) }
-    ensures text { take result.1 result.0.now ≡ name_start spot }
-{
-    match spot {
-        Spot::Outside => ("{\"      ", 2),
-        Spot::Ended => (",\"      ", 2),
-        Spot::InName => ("\":null,\"", 8),
-        Spot::AtValue => ("null,\"  ", 6),
-        Spot::InText => ("\",\"     ", 3),
-    }
-}
-
-// What ends the line, with blanks up to 8 bytes, and its length.
-#[inline(always)]
-fn object_end_of(spot: Spot) -> (&'static str, usize)
-    ensures padded { (length result.0.now ≡ 8) × (result.1 ≤ 8) }
-    ensures text { take result.1 result.0.now ≡ object_end spot }
-{
-    match spot {
-        Spot::Outside => ("        ", 0),
-        Spot::Ended => ("}\n      ", 2),
-        Spot::InName => ("\":null}\n", 8),
-        Spot::AtValue => ("null}\n  ", 6),
-        Spot::InText => ("\"}\n     ", 3),
-    }
-}
-
-// Writes what leads into the name of the next member.
-#[inline(always)]
-fn write_name_start(bytes: &mut [u8], at: usize, spot: Spot) -> usize
-    requires { at + 8 ≤ length bytes.old }
-    ensures short { result ≤ at + 8 }
-    ensures written { take result bytes.new ≡ take at bytes.old ++ name_start spot }
-{
-    let (padded, len) = name_start_of(spot);
-    write_padded(bytes, at, padded, len)
-}
-
-// Writes what ends the line.
-#[inline(always)]
-fn write_object_end(bytes: &mut [u8], at: usize, spot: Spot) -> usize
-    requires { at + 8 ≤ length bytes.old }
-    ensures short { result ≤ at + 8 }
-    ensures written { take result bytes.new ≡ take at bytes.old ++ object_end spot }
-{
-    let (padded, len) = object_end_of(spot);
-    write_padded(bytes, at, padded, len)
-}
-
 /// What leads into the name of the next member.
-#[derive(Drop)]
-pub(crate) struct NameStart {
-    pub(crate) spot: Spot,
-}
-
-impl ShortText for NameStart {
-    ghost use Rattle.wasm_tree.specs.Json.{name_start};
-
-    ghost text = { λ s. name_start s.spot };
-
-    #[inline(always)]
-    fn write_at(&self, bytes: &mut [u8], at: usize) -> usize {
-        write_name_start(bytes, at, self.spot)
+#[inline(always)]
+pub(crate) fn name_start_of(spot: Spot) -> Padded
+    ensures { result ≡ name_start spot }
+{
+    match spot {
+        Spot::Outside => Padded::of("{\"      ", 2),
+        Spot::Ended => Padded::of(",\"      ", 2),
+        Spot::InName => Padded::of("\":null,\"", 8),
+        Spot::AtValue => Padded::of("null,\"  ", 6),
+        Spot::InText => Padded::of("\",\"     ", 3),
     }
 }
 
 /// What ends the line.
-#[derive(Drop)]
-pub(crate) struct ObjectEnd {
-    pub(crate) spot: Spot,
-}
-
-impl ShortText for ObjectEnd {
-    ghost use Rattle.wasm_tree.specs.Json.{object_end};
-
-    ghost text = { λ s. object_end s.spot };
-
-    #[inline(always)]
-    fn write_at(&self, bytes: &mut [u8], at: usize) -> usize {
-        write_object_end(bytes, at, self.spot)
+#[inline(always)]
+pub(crate) fn object_end_of(spot: Spot) -> Padded
+    ensures { result ≡ object_end spot }
+{
+    match spot {
+        Spot::Outside => Padded::of("        ", 0),
+        Spot::Ended => Padded::of("}\n      ", 2),
+        Spot::InName => Padded::of("\":null}\n", 8),
+        Spot::AtValue => Padded::of("null}\n  ", 6),
+        Spot::InText => Padded::of("\"}\n     ", 3),
     }
 }
 
@@ -103,7 +43,7 @@ fn write_member_start(bytes: &mut [u8], at: usize, spot: Spot, name: &str) -> us
     ensures short { result ≤ at + (10 + length name.now) }
     ensures written { take result bytes.new ≡ take at bytes.old ++ member_start spot name.now }
 {
-    let at = write_name_start(bytes, at, spot);
+    let at = write_padded(bytes, at, &name_start_of(spot));
     let at = write_word(bytes, at, name);
     write_word(bytes, at, "\":")
 }
@@ -147,55 +87,6 @@ impl ShortText for NumberMember<'_> {
     }
 }
 
-/// A member whose value is a text, without the quote that ends it. The name and the text are plain, and have at most 128 bytes.
-#[derive(Drop)]
-pub(crate) struct TextMember<'a> {
-    spot: Spot,
-    name: Plain<'a>,
-    text: Plain<'a>,
-}
-
-impl<'a> Model for TextMember<'a> {
-    ghost use Rattle.std.specs.Prelude.{◌≤◌, ◌+◌, ◌++◌, ℕ, List, codes, length};
-    ghost use Rattle.wasm_tree.specs.Json.{member_start};
-
-    ghost Value = { List ℕ };
-
-    ghost view = { λ m. member_start m.spot m.name ++ (codes "\"" ++ m.text) };
-
-    ghost invariant = { λ m. length m.name + length m.text ≤ 128 };
-}
-
-impl<'a> TextMember<'a> {
-    /// The member with this name and this text, if both are short and plain.
-    #[inline(always)]
-    pub(crate) fn of(spot: Spot, name: &'a str, text: &'a str) -> Option<TextMember<'a>>
-        ensures text { IfSome result (λ m. m ≡ member_start spot name.now
-            ++ (codes "\"" ++ text.now)) }
-        ensures leads { IfSome result (λ m. Leads spot m InText) }
-    {
-        if name.len() > MOST_BYTES || text.len() > MOST_BYTES - name.len() {
-            return None;
-        }
-        Some(TextMember {
-            spot,
-            name: Plain::of(name)?,
-            text: Plain::of(text)?,
-        })
-    }
-}
-
-impl ShortText for TextMember<'_> {
-    ghost text = { λ m. m };
-
-    #[inline(always)]
-    fn write_at(&self, bytes: &mut [u8], at: usize) -> usize {
-        let at = write_member_start(bytes, at, self.spot, self.name.as_str());
-        let at = write_word(bytes, at, "\"");
-        write_word(bytes, at, self.text.as_str())
-    }
-}
-
 /// The start of a string.
 #[derive(Drop)]
 pub(crate) struct TextStart<'a> {
@@ -228,7 +119,7 @@ impl ShortText for ItemStart {
     ghost text = { λ s. item_start s.spot s.level s.offset };
 
     fn write_at(&self, bytes: &mut [u8], at: usize) -> usize {
-        let at = write_object_end(bytes, at, self.spot);
+        let at = write_padded(bytes, at, &object_end_of(self.spot));
         let at = write_word(bytes, at, "{\"level\":");
         let at = write_number(bytes, at, self.level);
         let at = write_word(bytes, at, ",\"at\":");
@@ -250,7 +141,7 @@ impl ShortText for NumberMembers {
     ghost text = { λ m. number_members m.spot m.space m.index };
 
     fn write_at(&self, bytes: &mut [u8], at: usize) -> usize {
-        let at = write_name_start(bytes, at, self.spot);
+        let at = write_padded(bytes, at, &name_start_of(self.spot));
         let at = write_word(bytes, at, "space\":\"");
         let at = write_space(bytes, at, self.space);
         let at = write_word(bytes, at, "\",\"number\":");

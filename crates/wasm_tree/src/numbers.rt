@@ -2,7 +2,7 @@
 ghost use Rattle.std.specs.Prelude.{◌≡◌, ◌≤◌, ◌+◌, ◌++◌, [], length, take};
 ghost use Rattle.wasm_tree.specs.Numbers.{number_text, word_of};
 
-use crate::padded::write_padded;
+use crate::padded::{Padded, write_padded};
 use wasm_text::{ShortText, write_number, write_word};
 
 /// An index space (core specification, Binary format, Modules, Indices).
@@ -26,21 +26,21 @@ pub enum Space {
     DataSegments,
 }
 
-// The word of an index space, with blanks up to 8 bytes, and its length.
+// The word of an index space.
 #[inline(always)]
-fn space_word(space: Space) -> (&'static str, usize)
-    ensures padded { (length result.0.now ≡ 8) × (result.1 ≤ 6) }
-    ensures word { take result.1 result.0.now ≡ word_of space }
+fn space_word(space: Space) -> Padded
+    ensures word { result ≡ word_of space }
+    ensures short { length result ≤ 6 }
 {
     match space {
-        Space::Types => ("type    ", 4),
-        Space::Functions => ("func    ", 4),
-        Space::Tables => ("table   ", 5),
-        Space::Memories => ("memory  ", 6),
-        Space::Tags => ("tag     ", 3),
-        Space::Globals => ("global  ", 6),
-        Space::Elements => ("elem    ", 4),
-        Space::DataSegments => ("data    ", 4),
+        Space::Types => Padded::of("type    ", 4),
+        Space::Functions => Padded::of("func    ", 4),
+        Space::Tables => Padded::of("table   ", 5),
+        Space::Memories => Padded::of("memory  ", 6),
+        Space::Tags => Padded::of("tag     ", 3),
+        Space::Globals => Padded::of("global  ", 6),
+        Space::Elements => Padded::of("elem    ", 4),
+        Space::DataSegments => Padded::of("data    ", 4),
     }
 }
 
@@ -51,8 +51,7 @@ pub(crate) fn write_space(bytes: &mut [u8], at: usize, space: Space) -> usize
     ensures short { result ≤ at + 6 }
     ensures written { take result bytes.new ≡ take at bytes.old ++ word_of space }
 {
-    let (padded, len) = space_word(space);
-    write_padded(bytes, at, padded, len)
+    write_padded(bytes, at, &space_word(space))
 }
 
 /// Writes the number of an item into `bytes` at this place, and returns the place after it: a word for the index space,

@@ -10,8 +10,7 @@ ghost use Rattle.wasm_tree.specs.declared.objects.Spot.TheVariants.{Outside, End
 use crate::escapes::{hexadecimal_digits, plain_count};
 use crate::known_names::{ItemNames, name_in};
 use crate::members::{
-    ItemStart, MemberStart, NameStart, NumberMember, NumberMembers, ObjectEnd, TextMember,
-    TextStart,
+    ItemStart, MemberStart, NumberMember, NumberMembers, TextStart, name_start_of, object_end_of,
 };
 use crate::numbers::Space;
 use crate::output::Output;
@@ -183,21 +182,9 @@ impl<W: Sink> Objects<W> {
         ensures adds { Adds (objects self.old) (objects self.new) }
         ensures spot { self.new.spot ≡ AtValue }
     {
-        let start = NameStart { spot: self.spot };
-        self.short(&start, Spot::InName);
+        self.short(&name_start_of(self.spot), Spot::InName);
         self.put_string(name.as_bytes());
         self.put(b"\":", Spot::AtValue);
-    }
-
-    // Begins a member, whose value follows. An object is begun if none is.
-    fn begin_member(&mut self, name: &str)
-        ensures adds { Adds (objects self.old) (objects self.new) }
-        ensures spot { self.new.spot ≡ AtValue }
-    {
-        match Plain::of(name) {
-            Some(name) => self.begin_plain_member(name),
-            None => self.begin_long_member(name),
-        }
     }
 
     // Ends the line, and begins the object of an item.
@@ -283,50 +270,61 @@ impl<W: Sink> Objects<W> {
         }
     }
 
-    // A member whose value is a number. Most are, so that it is put at once.
-    fn number_member(&mut self, name: &str, number: u64)
+    // A member whose value is a number. Many are, so that it is put at once.
+    fn number_member(&mut self, name: Plain<'_>, number: u64)
+        requires { list_any is_escaped name ≡ false }
         ensures { Adds (objects self.old) (objects self.new) }
     {
-        match Plain::of(name) {
-            Some(name) => {
-                let member = NumberMember {
-                    spot: self.spot,
-                    name,
-                    number,
-                };
-                self.short(&member, Spot::Ended);
-            }
-            None => {
-                self.begin_long_member(name);
-                self.decimal(number);
-            }
-        }
+        let member = NumberMember {
+            spot: self.spot,
+            name,
+            number,
+        };
+        self.short(&member, Spot::Ended);
     }
 
     // A member whose value is a text. More of it may follow.
-    fn text_member(&mut self, name: &str, text: &str)
+    fn text_member(&mut self, name: Plain<'_>, text: &str)
+        requires { list_any is_escaped name ≡ false }
         ensures { Adds (objects self.old) (objects self.new) }
     {
-        match TextMember::of(self.spot, name, text) {
-            Some(member) => self.short(&member, Spot::InText),
-            None => {
-                self.begin_member(name);
-                self.begin_text(text);
-            }
-        }
+        self.begin_plain_member(name);
+        self.begin_text(text);
     }
 
-    // A member with this value.
-    fn member(&mut self, name: &str, value: Value<'_>)
+    // A member with a short name and this value.
+    #[inline(always)]
+    fn plain_member(&mut self, name: Plain<'_>, value: Value<'_>)
+        requires { list_any is_escaped name ≡ false }
         ensures { Adds (objects self.old) (objects self.new) }
     {
         match value {
             Value::Number(number) => self.number_member(name, number),
             Value::Word(text) | Value::Quoted(text) => self.text_member(name, text),
             other => {
-                self.begin_member(name);
+                self.begin_plain_member(name);
                 self.value(other);
             }
+        }
+    }
+
+    // A member with this value, whose name is long or has escapes.
+    fn long_member(&mut self, name: &str, value: Value<'_>)
+        ensures { Adds (objects self.old) (objects self.new) }
+    {
+        self.begin_long_member(name);
+        self.value(value);
+    }
+
+    // A member with this value. Most names are constants. Where this is inlined in the caller, LLVM searches such a name
+    // for escapes when it compiles, and knows the kind of the value.
+    #[inline(always)]
+    fn member(&mut self, name: &str, value: Value<'_>)
+        ensures { Adds (objects self.old) (objects self.new) }
+    {
+        match Plain::of(name) {
+            Some(name) => self.plain_member(name, value),
+            None => self.long_member(name, value),
         }
     }
 }
@@ -354,8 +352,7 @@ impl<W: Sink> Tree for Objects<W> {
 
     #[tactic(auto, using(crate::proofs::MemberTexts::end_leads))]
     fn end(&mut self) {
-        let end = ObjectEnd { spot: self.spot };
-        self.short(&end, Spot::Outside);
+        self.short(&object_end_of(self.spot), Spot::Outside);
     }
 
     fn begin_line(&mut self, level: usize, start: Start<'_>) {
@@ -389,14 +386,17 @@ impl<W: Sink> Tree for Objects<W> {
         self.digits(offset);
     }
 
+    #[inline(always)]
     fn begin_field(&mut self, name: &str) {
         self.member(name, Value::Word(""));
     }
 
+    #[inline(always)]
     fn field(&mut self, name: &str, value: Value<'_>) {
         self.member(name, value);
     }
 
+    #[inline(always)]
     fn label(&mut self, name: &str, word: &str) {
         self.member(name, Value::Word(word));
     }

@@ -8,7 +8,7 @@ use std::marker::Model;
 use wasm_text::{ShortText, write_number, write_word};
 
 /// Longer texts are put in parts.
-pub(crate) const MOST_BYTES: usize = 128;
+const MOST_BYTES: usize = 128;
 
 /// A text of at most 128 bytes, none of which is escaped.
 #[derive(Drop)]

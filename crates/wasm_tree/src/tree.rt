@@ -285,6 +285,7 @@ pub trait Tree {
     }
 
     /// Writes a field with a word as its value.
+    #[inline(always)]
     final fn word_field(&mut self, name: &str, word: &str)
         requires name_line { has_line_feed name.now ≡ false }
         requires word_line { has_line_feed word.now ≡ false }
@@ -296,6 +297,7 @@ pub trait Tree {
     }
 
     /// Writes a field with an unsigned number as its value.
+    #[inline(always)]
     final fn number(&mut self, name: &str, number: u64)
         requires one_line { has_line_feed name.now ≡ false }
         ensures adds { Adds (writing self.old) (writing self.new) }
@@ -306,6 +308,7 @@ pub trait Tree {
     }
 
     /// Writes a field with a signed number as its value.
+    #[inline(always)]
     final fn signed(&mut self, name: &str, number: i64)
         requires one_line { has_line_feed name.now ≡ false }
         ensures adds { Adds (writing self.old) (writing self.new) }
@@ -316,6 +319,7 @@ pub trait Tree {
     }
 
     /// Writes a field with an optional number as its value.
+    #[inline(always)]
     final fn number_if_any(&mut self, name: &str, number: Option<u64>)
         requires one_line { has_line_feed name.now ≡ false }
         ensures adds { Adds (writing self.old) (writing self.new) }
@@ -329,6 +333,7 @@ pub trait Tree {
     }
 
     /// Writes a field without a value, which lines leave out.
+    #[inline(always)]
     final fn nothing(&mut self, name: &str)
         requires one_line { has_line_feed name.now ≡ false }
         ensures adds { Adds (writing self.old) (writing self.new) }
@@ -339,6 +344,7 @@ pub trait Tree {
     }
 
     /// Writes a field with a truth value, which lines leave out if it is `false`.
+    #[inline(always)]
     final fn flag(&mut self, name: &str, flag: bool)
         requires one_line { has_line_feed name.now ≡ false }
         ensures adds { Adds (writing self.old) (writing self.new) }
@@ -349,6 +355,7 @@ pub trait Tree {
     }
 
     /// Writes a field with a text as its value, which lines quote and escape.
+    #[inline(always)]
     final fn quoted(&mut self, name: &str, text: &str)
         requires one_line { has_line_feed name.now ≡ false }
         ensures adds { Adds (writing self.old) (writing self.new) }
@@ -372,6 +379,7 @@ pub trait Tree {
     }
 
     /// Writes a field with a range of offsets as its value, in bytes from the start of the stream.
+    #[inline(always)]
     final fn range(&mut self, name: &str, start: u64, end: u64)
         requires one_line { has_line_feed name.now ≡ false }
         ensures adds { Adds (writing self.old) (writing self.new) }
