@@ -163,6 +163,26 @@ impl<W: Sink> Objects<W> {
         }
     }
 
+    // Puts more of a text that is begun. The bytes have no escapes.
+    fn plain_text(&mut self, bytes: &[u8])
+        requires short { length bytes.now ≤ 65536 }
+        requires plain { list_any is_escaped bytes.now ≡ false }
+        ensures { Adds (objects self.old) (objects self.new) }
+    {
+        if let Spot::InText = self.spot {
+            self.put(bytes, Spot::InText);
+        }
+    }
+
+    // Like `plain_text`, for any bytes.
+    fn any_text(&mut self, bytes: &[u8])
+        ensures { Adds (objects self.old) (objects self.new) }
+    {
+        if let Spot::InText = self.spot {
+            self.put_string(bytes);
+        }
+    }
+
     // Begins a member with a short name.
     fn begin_plain_member(&mut self, name: Plain<'_>)
         requires { list_any is_escaped name ≡ false }
@@ -370,9 +390,13 @@ impl<W: Sink> Tree for Objects<W> {
         }
     }
 
+    // Most texts are constants too.
+    #[inline(always)]
     fn bytes(&mut self, bytes: &[u8]) {
-        if let Spot::InText = self.spot {
-            self.put_string(bytes);
+        if plain_count(bytes) == bytes.len() {
+            self.plain_text(bytes);
+        } else {
+            self.any_text(bytes);
         }
     }
 

@@ -238,6 +238,7 @@ pub trait Tree {
     }
 
     /// Writes a text as it is.
+    #[inline(always)]
     final fn text(&mut self, text: &str)
         requires one_line { has_line_feed text.now ≡ false }
         ensures adds { Adds (writing self.old) (writing self.new) }
