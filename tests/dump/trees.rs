@@ -210,3 +210,42 @@ fn empty_texts_begin_a_line(rt: HostRuntime) -> Result<(), Fail> {
     }
     Ok(())
 }
+
+// Writes a field whose value is two texts.
+fn write_texts<T: Tree>(first: &str, second: &str, out: &mut T) {
+    out.line_field(1, "t");
+    out.text(first);
+    out.text(second);
+    out.write_out();
+}
+
+// Texts that are written as they are in lines, and escaped in objects. They may be longer than a page.
+#[test]
+fn texts_of_any_length(rt: HostRuntime) -> Result<(), Fail> {
+    let long = "n".repeat(rt.alloc(), 140_000)?;
+    for size in [0, 1, 65_535, 65_536, 65_537, 140_000] {
+        let first = &long[..size];
+        for (raw, _, in_json) in &ESCAPES {
+            if *raw == "\n" {
+                continue;
+            }
+            let second = format!(in rt.alloc(); "ab{raw}cdef{raw}")?;
+            let line = format!(in rt.alloc(); "  t={first}{second}\n")?;
+            let object = format!(in rt.alloc();
+                "{{\"level\":1,\"t\":\"{first}ab{in_json}cdef{in_json}\"}}\n"
+            )?;
+            let mut lines = Lines::new(rt.alloc(), BoundedSink::new(rt.alloc(), 150_000)?);
+            write_texts(first, &second, &mut lines);
+            same_at(&rt, lines.into_output().written(), line.as_bytes(), &size);
+            let mut objects = Objects::new(rt.alloc(), BoundedSink::new(rt.alloc(), 150_000)?);
+            write_texts(first, &second, &mut objects);
+            same_at(
+                &rt,
+                objects.into_output().written(),
+                object.as_bytes(),
+                &size,
+            );
+        }
+    }
+    Ok(())
+}

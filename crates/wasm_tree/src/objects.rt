@@ -163,7 +163,7 @@ impl<W: Sink> Objects<W> {
         }
     }
 
-    // Puts more of a text that is begun. The bytes have no escapes.
+    // Puts more of a text, if one is begun. No byte is escaped.
     fn plain_text(&mut self, bytes: &[u8])
         requires short { length bytes.now ≤ 65536 }
         requires plain { list_any is_escaped bytes.now ≡ false }
@@ -174,7 +174,7 @@ impl<W: Sink> Objects<W> {
         }
     }
 
-    // Like `plain_text`, for any bytes.
+    // Like `plain_text`, for bytes that may have escapes.
     fn any_text(&mut self, bytes: &[u8])
         ensures { Adds (objects self.old) (objects self.new) }
     {
@@ -336,7 +336,7 @@ impl<W: Sink> Objects<W> {
         self.value(value);
     }
 
-    // A member with this value. Most names are constants. Where this is inlined in the caller, LLVM searches such a name
+    // A member with this value. Most names are constants. Since this is inlined in the caller, LLVM searches such a name
     // for escapes when it compiles, and knows the kind of the value.
     #[inline(always)]
     fn member(&mut self, name: &str, value: Value<'_>)
@@ -390,7 +390,7 @@ impl<W: Sink> Tree for Objects<W> {
         }
     }
 
-    // Most texts are constants too.
+    // Most texts are constants, so this is inlined in the caller, like `member`.
     #[inline(always)]
     fn bytes(&mut self, bytes: &[u8]) {
         if plain_count(bytes) == bytes.len() {
