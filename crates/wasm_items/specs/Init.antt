@@ -107,6 +107,12 @@ after_opcode start opcode p =
     else if opcode == 0xFD then numbered_operands_at start vector_operands_of p
     else constant_operands_at start (operands_of opcode) p
 
+-- the place after the operands of an instruction that begins at this offset, whatever operator they make
+unfoldable pub after_operands : (start opcode : ℕ) → Place → Outcome (Unit {0})
+after_operands start opcode p = do
+  instruction ← after_opcode start opcode p
+  Ok (tt, instruction.1)
+
 -- The place after at most `most` instructions, the last of which is `end`, the byte 0x0B. At the end of the window, the
 -- next opcode is missing. The bound makes the recursion end; that it is no limit is a law.
 abbrev pub instructions_at : (most : ℕ) → Place → Outcome (Unit {0})

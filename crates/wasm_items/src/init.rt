@@ -5,7 +5,7 @@ ghost use Rattle.wasm_base.specs.Item.{ReadsAs};
 ghost use Rattle.wasm_base.specs.Outcome.{GivesBy};
 ghost use Rattle.wasm_base.specs.Window.{place, KeepsWindow, range_of};
 ghost use Rattle.wasm_base.specs.Name.{bytes_at};
-ghost use Rattle.wasm_items.specs.Init.{after_opcode, aggregate_operands_of, vector_operands_of, numbered_operands_at, end_of_expression};
+ghost use Rattle.wasm_items.specs.Init.{after_opcode, after_operands, aggregate_operands_of, vector_operands_of, numbered_operands_at, end_of_expression};
 ghost use Rattle.wasm_items.specs.Windows.{bytes_of_vector};
 
 use crate::types::HeapType;
@@ -288,6 +288,32 @@ fn read_vector_constant(start: u64, reader: &mut BinaryReader<'_>) -> Result<Con
     })
 }
 
+// Skips the operands of an instruction that begins at this offset, after its opcode. Those of the frequent instructions
+// are read without an operator: `read_operands` would store one, only for it to be dropped.
+#[inline(always)]
+#[tactic(auto, unfolding(crate::specs::Init::after_operands, crate::specs::Init::after_opcode))]
+fn skip_operands(start: u64, opcode: u8, reader: &mut BinaryReader<'_>) -> Result<()>
+    ensures gives { GivesBy (λ nothing. nothing) result reader.old reader.new (after_operands start opcode) }
+    ensures keeps { KeepsWindow reader.old reader.new }
+    ensures memory { NotOutOfMemory result }
+{
+    match opcode {
+        0x41 => {
+            reader.read_var_i32()?;
+        }
+        0x42 => {
+            reader.read_var_i64()?;
+        }
+        0x23 | 0xd2 => {
+            reader.read_var_u32()?;
+        }
+        _ => {
+            read_operands(start, opcode, reader)?;
+        }
+    }
+    Ok(())
+}
+
 /// Skips instructions up to and including `end`.
 fn skip_expression(reader: &mut BinaryReader<'_>) -> Result<()>
     ensures gives { GivesBy (λ nothing. nothing) result reader.old reader.new end_of_expression }
@@ -300,7 +326,7 @@ fn skip_expression(reader: &mut BinaryReader<'_>) -> Result<()>
         if opcode == 0x0b {
             return Ok(());
         }
-        read_operands(start, opcode, reader)?;
+        skip_operands(start, opcode, reader)?;
     }
 }
 

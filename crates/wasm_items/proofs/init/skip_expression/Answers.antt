@@ -1,6 +1,7 @@
 use Rattle.std.proofs.Common.{rules, length, refl, arith}
+use Rattle.std.proofs.lemmas.Result.{err_from_is_err_and}
 use Rattle.wasm_base.specs.Window.{place}
-use Rattle.wasm_items.proofs.PassedInstructions.{next_instruction, fewer_remaining}
+use Rattle.wasm_items.proofs.PassedInstructions.{next_instruction, instruction_fault, fewer_remaining}
 use Rattle.wasm_items.specs.Init.{end_of_expression}
 use Rattle.wasm_items.proofs.init.skip_expression.Goals as goal
 
@@ -14,8 +15,15 @@ instructions-init c = record {
 pub instructions-preserved : goal.instructions-preserved
 instructions-preserved c = record {
   left = next_instruction c.instructions.invariant.left.most (place c.instructions.reader) _ c.in_ok-opcode.opcode
-      (place c.read_u8.new.self) (place c.read_operands.new.reader) c.instructions.invariant.left.fewer c.instructions.invariant.left.so_far
-      (search rules) (search rules) c.in_ok-read_operands.field-0 (search rules)
-      (fewer_remaining c.read_u8.new.self c.read_operands.new.reader c.read_operands.ensures.keeps);
+      (place c.read_u8.new.self) (place c.skip_operands.new.reader) c.instructions.invariant.left.fewer c.instructions.invariant.left.so_far
+      (search rules) (search rules) (search rules)
+      (fewer_remaining c.read_u8.new.self c.skip_operands.new.reader c.skip_operands.ensures.keeps);
   keeps = search rules;
 }
+
+pub returns-in_err-skip_operands-clause-gives : goal.returns-in_err-skip_operands-clause-gives
+returns-in_err-skip_operands-clause-gives c =
+    let p = err_from_is_err_and c.from_residual-in_err-skip_operands.result c.from_residual-in_err-skip_operands.ensures.1 in
+    rw (p.1, p.2) (instruction_fault c.instructions.invariant.left.most (place c.instructions.reader) _ c.in_ok-opcode.opcode
+    (place c.read_u8.new.self) _ c.instructions.invariant.left.fewer c.instructions.invariant.left.so_far
+    (search rules) (search rules) (search rules))
