@@ -69,6 +69,13 @@ fault_follows bundle after s t whole fault e none none_after next over =
     let h : [] ++ s ≡ whole = rw none at e in
     rw (none_after, over) (sym h ∙ next)
 
+-- No imports of the bundle remained, and the next item is a single import.
+pub single_follows : (bundle after s t whole : List (Result (ℕ × ImportParts) FaultAt)) (one : Result (ℕ × ImportParts) FaultAt)
+    → bundle ++ s ≡ whole → bundle ≡ [] → after ≡ [] → s ≡ (one ∷ []) ++ t → whole ≡ one ∷ (after ++ t)
+single_follows bundle after s t whole one e none none_after next =
+    let h : [] ++ s ≡ whole = rw none at e in
+    rw none_after (sym h ∙ next)
+
 -- a bundle was returned, and the others remain
 pub bundle_given : (s t : Items) (x : Imports) → NextItem {T = Imports} (ReadsAs bundle_parts bundle_at) s (Some (Ok x)) t
     → imports_of_bundles s ≡ bundle_imports (bundle_parts x) ++ imports_of_bundles t

@@ -164,7 +164,11 @@ fn next_import<'a>(
             return Some(import);
         }
         match bundles.next() {
-            Some(Ok(next)) => bundle.start(next),
+            Some(Ok(next)) => match next {
+                // Returned as it is, because storing it in `bundle` first would copy it twice.
+                Imports::Single(offset, import) => return Some(Ok((offset, import))),
+                bundled => bundle.start(bundled),
+            },
             Some(Err(e)) => return Some(Err(e)),
             None => return None,
         }

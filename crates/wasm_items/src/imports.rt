@@ -5,7 +5,7 @@ ghost use Rattle.wasm_base.specs.Item.{ReadsAs};
 ghost use Rattle.wasm_base.specs.Outcome.{GivesBy};
 ghost use Rattle.wasm_base.specs.Window.{place, KeepsWindow};
 ghost use Rattle.wasm_base.specs.Features.{takes_import_bundles};
-ghost use Rattle.wasm_items.specs.Imports.{bundle_parts, bundle_byte_at, module_bundle_at, type_bundle_at, single_at};
+ghost use Rattle.wasm_items.specs.Imports.{bundle_parts, bundle_byte_at, module_bundle_at, type_bundle_at, single_at, type_of_kind_at};
 
 use crate::exports::ExternalKind;
 use crate::types::{GlobalType, MemoryType, TableType, TagType};
@@ -129,6 +129,23 @@ pub enum Imports<'a> {
     },
 }
 
+// Reads what belongs to a kind. It isn't inlined, so that the frequent kind, a function, stays short where it is.
+#[inline(never)]
+fn read_type_of(kind: ExternalKind, reader: &mut BinaryReader<'_>) -> Result<TypeRef>
+    ensures gives { GivesBy (λ ty. ty) result reader.old reader.new (type_of_kind_at kind) }
+    ensures keeps { KeepsWindow reader.old reader.new }
+    ensures memory { NotOutOfMemory result }
+{
+    match kind {
+        ExternalKind::Func => Ok(TypeRef::Func(reader.read_var_u32()?)),
+        ExternalKind::Table => reader.read().map(TypeRef::Table),
+        ExternalKind::Memory => reader.read().map(TypeRef::Memory),
+        ExternalKind::Global => reader.read().map(TypeRef::Global),
+        ExternalKind::Tag => reader.read().map(TypeRef::Tag),
+        ExternalKind::FuncExact => reader.read_var_u32().map(TypeRef::FuncExact),
+    }
+}
+
 /// Reads a kind and the type that belongs to it: for a function the index of its type, a u32.
 ///
 /// # Errors
@@ -140,14 +157,11 @@ impl<'a> FromReader<'a> for TypeRef {
     ghost meaning = { ReadsAs (λ ty. ty) type_ref_at };
 
     #[tactic(auto, unfolding(crate::specs::Imports::type_ref_at))]
+    #[inline(always)]
     fn from_reader(reader: &mut BinaryReader<'a>) -> Result<Self> {
         match ExternalKind::from_reader(reader)? {
             ExternalKind::Func => Ok(TypeRef::Func(reader.read_var_u32()?)),
-            ExternalKind::Table => reader.read().map(TypeRef::Table),
-            ExternalKind::Memory => reader.read().map(TypeRef::Memory),
-            ExternalKind::Global => reader.read().map(TypeRef::Global),
-            ExternalKind::Tag => reader.read().map(TypeRef::Tag),
-            ExternalKind::FuncExact => reader.read_var_u32().map(TypeRef::FuncExact),
+            kind => read_type_of(kind, reader),
         }
     }
 }
