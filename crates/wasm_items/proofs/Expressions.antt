@@ -1,8 +1,8 @@
 -- An expression is `end`, or an instruction followed by an expression: the bound on the number of instructions is no limit.
 use Rattle.std.proofs.Common.{◌≡◌, ℕ, zero, suc, ◌+◌, ◌-◌, ◌*◌, ◌^◌, ◌≤◌, Bool, true}
 use Rattle.std.proofs.Common.{false, cond, List, [], ◌∷◌, length, take, drop, Option, Some, None}
-use Rattle.std.proofs.Common.{Ok, Err, nat_lt, nat_eq, ℤ, pos, negsuc, refl, sym, ◌==◌, if◌then◌else◌, arith, length-drop, ◌∙◌}
-use Rattle.wasm_base.specs.FaultAt.{at_offset}
+use Rattle.std.proofs.Common.{ap, Ok, Err, nat_lt, nat_eq, ℤ, pos, negsuc, refl, sym, ◌==◌, if◌then◌else◌, arith, length-drop, ◌∙◌}
+use Rattle.wasm_base.specs.FaultAt.{FaultAt, at_offset}
 use Rattle.wasm_base.specs.Float.{u64_at}
 use Rattle.wasm_base.specs.Name.{bytes_at, byte_at, first_of, first_peeked, of_four, u32_at}
 use Rattle.wasm_base.specs.Number.{Number, read, bad, short, number, in_window, unsigned_at}
@@ -11,13 +11,14 @@ use Rattle.wasm_base.specs.Signed.{signed_at, signed_value}
 use Rattle.wasm_base.specs.Window.{Place, advanced}
 use Rattle.wasm_base.specs.declared.fault.Fault.TheVariants.{UnexpectedEof}
 use Rattle.wasm_base.specs.declared.fault.NumberKind.{NumberKind}
-use Rattle.wasm_base.specs.declared.fault.NumberKind.TheVariants.{VarU32, VarS33}
+use Rattle.wasm_base.specs.declared.fault.NumberKind.TheVariants.{VarU32, VarI32, VarI64, VarS33}
 use Rattle.wasm_items.proofs.PassedInstructions.{byte_passed}
 use Rattle.wasm_items.specs.Init.{Operands, done, signed, float_32, float_64, raw, u32_index, heap, operands_at, constant_operands_at}
 use Rattle.wasm_items.specs.Init.{numbered_operands_at, operands_of, aggregate_operands_of, vector_operands_of, after_opcode}
 use Rattle.wasm_items.specs.Init.{instructions_at, end_of_expression, IsEndOrInstruction}
 use Rattle.wasm_items.specs.Values.{heap_type_at, heap_type_from, abstract_heap_of, type_index}
 use Rattle.wasm_items.specs.declared.init.ConstOperator.{ConstOperator}
+use Rattle.wasm_items.specs.declared.init.ConstOperator.TheVariants.{GlobalGet, I32Const, I64Const, RefFunc}
 use Rattle.wasm_items.specs.declared.types.HeapType.{HeapType}
 
 -- At most n bytes remain after a reading.
@@ -172,3 +173,95 @@ end_or_instruction p =
     same_bound (length p.rest) (suc (length p.rest)) p (omega arith) (omega arith) in
     more ∙ agree (λ q. instructions_at (length p.rest) q) (λ q. instructions_at (length q.rest) q) p
     (λ q le. same_bound (length p.rest) (length q.rest) q (omega (arith, le)) (omega arith))
+
+same_byte : (p : Place) (rest : List ℕ) (opcode byte : ℕ) (peeked after : Place) → first_peeked p rest ≡ Ok (opcode, peeked)
+    → first_of p rest ≡ Ok (byte, after) → byte ≡ opcode
+same_byte p [] opcode byte peeked after peek taken = cc
+same_byte p (b ∷ rest) opcode byte peeked after peek taken =
+    let one : ℕ × Place = (b, p) in
+    let two : ℕ × Place = (opcode, peeked) in
+    let three : ℕ × Place = (b, advanced 1 p) in
+    let four : ℕ × Place = (byte, after) in
+    let left : one ≡ two = cc in
+    let right : three ≡ four = cc in
+    sym (ap (λ (w : ℕ × Place). w.0) right) ∙ ap (λ (w : ℕ × Place). w.0) left
+
+-- An instruction was skipped: the expression goes on after it.
+number_passed : (p peeked after next : Place) (opcode byte : ℕ) (operator : ConstOperator)
+    → first_peeked p p.rest ≡ Ok (opcode, peeked) → first_of p p.rest ≡ Ok (byte, after) → nat_eq opcode 0x0B ≡ false
+    → after_opcode p.offset opcode after ≡ Ok (operator, next) → end_of_expression next ≡ end_of_expression p
+number_passed p peeked after next opcode byte operator peek taken other operands =
+    let same : byte ≡ opcode = same_byte p p.rest opcode byte peeked after peek taken in
+    let first : byte_at p ≡ Ok (opcode, after) = rw same at taken in
+    sym (rw (first, other, operands) at (end_or_instruction p))
+
+-- The operands of an instruction are malformed.
+number_fault : (p peeked after : Place) (opcode byte : ℕ) (fault : FaultAt)
+    → first_peeked p p.rest ≡ Ok (opcode, peeked) → first_of p p.rest ≡ Ok (byte, after) → nat_eq opcode 0x0B ≡ false
+    → after_opcode p.offset opcode after ≡ Err fault → end_of_expression p ≡ Err fault
+number_fault p peeked after opcode byte fault peek taken other operands =
+    let same : byte ≡ opcode = same_byte p p.rest opcode byte peeked after peek taken in
+    let first : byte_at p ≡ Ok (opcode, after) = rw same at taken in
+    rw (first, other, operands) at (end_or_instruction p)
+
+-- The instruction that was skipped is `i32.const`, `i64.const`, `global.get` or `ref.func`.
+pub i32_passed : (p peeked after next : Place) (byte : ℕ) (n : ℤ) → first_peeked p p.rest ≡ Ok (0x41, peeked)
+    → first_of p p.rest ≡ Ok (byte, after) → signed_at VarI32 after ≡ Ok (n, next) → end_of_expression next ≡ end_of_expression p
+unfolding after_opcode
+i32_passed p peeked after next byte n peek taken number =
+    number_passed p peeked after next 0x41 byte (I32Const n) peek taken refl (rw number refl)
+
+pub i64_passed : (p peeked after next : Place) (byte : ℕ) (n : ℤ) → first_peeked p p.rest ≡ Ok (0x42, peeked)
+    → first_of p p.rest ≡ Ok (byte, after) → signed_at VarI64 after ≡ Ok (n, next) → end_of_expression next ≡ end_of_expression p
+unfolding after_opcode
+i64_passed p peeked after next byte n peek taken number =
+    number_passed p peeked after next 0x42 byte (I64Const n) peek taken refl (rw number refl)
+
+pub global_passed : (p peeked after next : Place) (byte n : ℕ) → first_peeked p p.rest ≡ Ok (0x23, peeked)
+    → first_of p p.rest ≡ Ok (byte, after) → unsigned_at VarU32 after ≡ Ok (n, next) → end_of_expression next ≡ end_of_expression p
+unfolding after_opcode
+global_passed p peeked after next byte n peek taken number =
+    number_passed p peeked after next 0x23 byte (GlobalGet n) peek taken refl (rw number refl)
+
+pub func_passed : (p peeked after next : Place) (byte n : ℕ) → first_peeked p p.rest ≡ Ok (0xD2, peeked)
+    → first_of p p.rest ≡ Ok (byte, after) → unsigned_at VarU32 after ≡ Ok (n, next) → end_of_expression next ≡ end_of_expression p
+unfolding after_opcode
+func_passed p peeked after next byte n peek taken number =
+    number_passed p peeked after next 0xD2 byte (RefFunc n) peek taken refl (rw number refl)
+
+-- The number of such an instruction is malformed.
+pub i32_fault : (p peeked after : Place) (byte : ℕ) (fault : FaultAt) → first_peeked p p.rest ≡ Ok (0x41, peeked)
+    → first_of p p.rest ≡ Ok (byte, after) → signed_at VarI32 after ≡ Err fault → end_of_expression p ≡ Err fault
+unfolding after_opcode
+i32_fault p peeked after byte fault peek taken number = number_fault p peeked after 0x41 byte fault peek taken refl (rw number refl)
+
+pub i64_fault : (p peeked after : Place) (byte : ℕ) (fault : FaultAt) → first_peeked p p.rest ≡ Ok (0x42, peeked)
+    → first_of p p.rest ≡ Ok (byte, after) → signed_at VarI64 after ≡ Err fault → end_of_expression p ≡ Err fault
+unfolding after_opcode
+i64_fault p peeked after byte fault peek taken number = number_fault p peeked after 0x42 byte fault peek taken refl (rw number refl)
+
+pub global_fault : (p peeked after : Place) (byte : ℕ) (fault : FaultAt) → first_peeked p p.rest ≡ Ok (0x23, peeked)
+    → first_of p p.rest ≡ Ok (byte, after) → unsigned_at VarU32 after ≡ Err fault → end_of_expression p ≡ Err fault
+unfolding after_opcode
+global_fault p peeked after byte fault peek taken number = number_fault p peeked after 0x23 byte fault peek taken refl (rw number refl)
+
+pub func_fault : (p peeked after : Place) (byte : ℕ) (fault : FaultAt) → first_peeked p p.rest ≡ Ok (0xD2, peeked)
+    → first_of p p.rest ≡ Ok (byte, after) → unsigned_at VarU32 after ≡ Err fault → end_of_expression p ≡ Err fault
+unfolding after_opcode
+func_fault p peeked after byte fault peek taken number = number_fault p peeked after 0xD2 byte fault peek taken refl (rw number refl)
+
+-- The next byte is `end`.
+pub end_passed : (p peeked after : Place) (opcode byte : ℕ) → first_peeked p p.rest ≡ Ok (opcode, peeked)
+    → first_of p p.rest ≡ Ok (byte, after) → opcode ≡ 0x0B → end_of_expression p ≡ Ok (tt, after)
+end_passed p peeked after opcode byte peek taken e =
+    let same : byte ≡ opcode = same_byte p p.rest opcode byte peeked after peek taken in
+    let first : byte_at p ≡ Ok (0x0B, after) = rw (same, e) at taken in
+    rw first at (end_or_instruction p)
+
+-- No byte remains.
+pub none_remains : (p : Place) (fault : FaultAt) → first_peeked p p.rest ≡ Err fault → end_of_expression p ≡ Err fault
+none_remains p fault peek = rw (none_taken p p.rest fault peek) at (end_or_instruction p)
+  where
+    none_taken : (p : Place) (rest : List ℕ) (fault : FaultAt) → first_peeked p rest ≡ Err fault → first_of p rest ≡ Err fault
+    none_taken p [] fault peek = peek
+    none_taken p (b ∷ rest) fault peek = cc

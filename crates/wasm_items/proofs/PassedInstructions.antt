@@ -1,10 +1,9 @@
 -- Instructions one after the other, as a loop skips them.
-use Rattle.std.proofs.Common.{◌≡◌, ℕ, zero, suc, ◌+◌, ◌≤◌, false, List, [], ◌∷◌, length, drop, Ok, Err, refl, arith, length-drop, ap, nat_eq}
-use Rattle.wasm_base.specs.FaultAt.{FaultAt}
+use Rattle.std.proofs.Common.{◌≡◌, ℕ, zero, suc, ◌+◌, ◌≤◌, false, List, [], ◌∷◌, length, drop, Ok, refl, arith, length-drop, ap, nat_eq}
 use Rattle.wasm_base.specs.Name.{byte_at, first_of}
-use Rattle.wasm_base.specs.Outcome.{Outcome, ◌>>=◌}
+use Rattle.wasm_base.specs.Outcome.{Outcome}
 use Rattle.wasm_base.specs.Window.{Window, Place, place, advanced, KeepsWindow}
-use Rattle.wasm_items.specs.Init.{after_opcode, after_operands, instructions_at}
+use Rattle.wasm_items.specs.Init.{after_opcode, instructions_at}
 use Rattle.wasm_items.specs.declared.init.ConstOperator.{ConstOperator}
 
 first_passed : (p : Place) (rest : List ℕ) (b : ℕ) (q : Place) → p.rest ≡ rest → first_of p rest ≡ Ok (b, q) → length q.rest + 1
@@ -33,47 +32,15 @@ pub record Left (p : Place) (whole : Outcome (Unit {0})) : Type 0 where
   pub fewer : length p.rest ≤ most
   pub so_far : instructions_at most p ≡ whole
 
--- the place of an outcome, without its operator
-abbrev without_operator : Outcome ConstOperator → Outcome (Unit {0})
-without_operator r = r >>= λ instruction. Ok (tt, instruction.1)
-
-goes_on : (most : ℕ) (r : Outcome ConstOperator) (next : Place) (whole : Outcome (Unit {0}))
-    → without_operator r ≡ Ok (tt, next)
-    → (r >>= λ instruction. instructions_at most instruction.1) ≡ whole → instructions_at most next ≡ whole
-goes_on most (Ok x) next whole e h =
-    let here : Unit {0} × Place = (tt, x.1) in
-    let there : Unit {0} × Place = (tt, next) in
-    let z : here ≡ there = cc in
-    let same : x.1 ≡ next = ap (λ (w : Unit {0} × Place). w.1) z in
-    rw same at h
-goes_on most (Err x) next whole e h = cc
-
 pub next_instruction : (most : ℕ) (p : Place) (whole : Outcome (Unit {0})) (opcode : ℕ) (after next : Place) → length p.rest ≤ most
     → instructions_at most p ≡ whole
-    → byte_at p ≡ Ok (opcode, after) → nat_eq opcode 0x0B ≡ false → after_operands p.offset opcode after ≡ Ok (tt, next)
+    → byte_at p ≡ Ok (opcode, after) → nat_eq opcode 0x0B ≡ false → (operator : ConstOperator)
+    → after_opcode p.offset opcode after ≡ Ok (operator, next)
     → length next.rest ≤ length after.rest → Left next whole
-unfolding after_operands
-next_instruction zero p whole opcode after next le e byte other operands fewer =
+next_instruction zero p whole opcode after next le e byte other operator operands fewer =
     absurd (omega (arith, byte_passed p opcode after byte))
-next_instruction (suc most) p whole opcode after next le e byte other operands fewer = record {
+next_instruction (suc most) p whole opcode after next le e byte other operator operands fewer = record {
   most = most;
   fewer = omega (arith, byte_passed p opcode after byte);
-  so_far = goes_on most (after_opcode p.offset opcode after) next whole operands (rw (byte, other) at e);
+  so_far = rw (byte, other, operands) at e;
 }
-
-stops : (most : ℕ) (r : Outcome ConstOperator) (whole : Outcome (Unit {0})) (fault : FaultAt)
-    → without_operator r ≡ Err fault
-    → (r >>= λ instruction. instructions_at most instruction.1) ≡ whole → whole ≡ Err fault
-stops most (Ok x) whole fault e h = cc
-stops most (Err x) whole fault e h = cc
-
--- The operands of the next instruction are malformed.
-pub instruction_fault : (most : ℕ) (p : Place) (whole : Outcome (Unit {0})) (opcode : ℕ) (after : Place) (fault : FaultAt)
-    → length p.rest ≤ most → instructions_at most p ≡ whole
-    → byte_at p ≡ Ok (opcode, after) → nat_eq opcode 0x0B ≡ false → after_operands p.offset opcode after ≡ Err fault
-    → whole ≡ Err fault
-unfolding after_operands
-instruction_fault zero p whole opcode after fault le e byte other operands =
-    absurd (omega (arith, byte_passed p opcode after byte))
-instruction_fault (suc most) p whole opcode after fault le e byte other operands =
-    stops most (after_opcode p.offset opcode after) whole fault operands (rw (byte, other) at e)

@@ -1,15 +1,16 @@
 -- Constant expressions. Core specification, Binary format, Instructions, Expressions, with the instructions of
 -- Validation, Instructions, Constant Expressions.
-use Rattle.std.specs.Prelude.{◌≡◌, ℕ, zero, suc, ◌==◌, List, [], ◌∷◌, length, Option, Some, None, Ok, Err}
+use Rattle.std.specs.Prelude.{◌≡◌, ℕ, zero, suc, ◌==◌, List, [], ◌∷◌, length, Option, Some, None, Result, Ok, Err}
 use Rattle.std.specs.Prelude.{ℤ, if◌then◌else◌}
-use Rattle.wasm_base.specs.FaultAt.{at_offset}
+use Rattle.wasm_base.specs.FaultAt.{at_offset, fault_at}
 use Rattle.wasm_base.specs.Float.{u64_at}
 use Rattle.wasm_base.specs.Leading.{lookup}
 use Rattle.wasm_base.specs.Name.{bytes_at, byte_at, u32_at}
 use Rattle.wasm_base.specs.Number.{unsigned_at}
 use Rattle.wasm_base.specs.Signed.{signed_at}
 use Rattle.wasm_base.specs.Outcome.{Outcome, ◌>>=◌}
-use Rattle.wasm_base.specs.Window.{Window, Place, window_between}
+use Rattle.wasm_base.specs.Window.{Window, Place, place, window_between}
+use Rattle.wasm_base.specs.declared.error.Error.{Error}
 use Rattle.wasm_base.specs.declared.fault.Fault.TheVariants.{UnexpectedEof, NotConstant}
 use Rattle.wasm_base.specs.Float.{of_bits_32, of_bits_64}
 use Rattle.wasm_base.specs.declared.float.Ieee32.{Ieee32}
@@ -107,12 +108,6 @@ after_opcode start opcode p =
     else if opcode == 0xFD then numbered_operands_at start vector_operands_of p
     else constant_operands_at start (operands_of opcode) p
 
--- the place after the operands of an instruction that begins at this offset, whatever operator they make
-unfoldable pub after_operands : (start opcode : ℕ) → Place → Outcome (Unit {0})
-after_operands start opcode p = do
-  instruction ← after_opcode start opcode p
-  Ok (tt, instruction.1)
-
 -- The place after at most `most` instructions, the last of which is `end`, the byte 0x0B. At the end of the window, the
 -- next opcode is missing. The bound makes the recursion end; that it is no limit is a law.
 abbrev pub instructions_at : (most : ℕ) → Place → Outcome (Unit {0})
@@ -131,6 +126,11 @@ unfoldable pub expression_at : Place → Outcome Window
 expression_at p = do
   end ← end_of_expression p
   Ok (window_between p end.1, end.1)
+
+-- What was skipped belongs to the expression: it ends where it ended before, or is malformed.
+abbrev pub LeavesExpression : Result (Unit {0}) Error → (old new : Window) → Type 0
+LeavesExpression (Ok nothing) old new = end_of_expression (place new) ≡ end_of_expression (place old)
+LeavesExpression (Err e) old new = end_of_expression (place old) ≡ Err (fault_at e)
 
 -- An expression is `end`, or an instruction followed by an expression.
 abbrev pub IsEndOrInstruction : Place → Type 0

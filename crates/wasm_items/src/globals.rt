@@ -52,6 +52,7 @@ impl<'a> FromReader<'a> for GlobalType {
     ghost meaning = { ReadsAs (λ global. global) global_type_at };
 
     #[tactic(auto, unfolding(crate::specs::Globals::global_type_at))]
+    #[inline(always)]
     fn from_reader(reader: &mut BinaryReader<'a>) -> Result<Self> {
         let content_type = ValType::from_reader(reader)?;
         let start = reader.original_position();

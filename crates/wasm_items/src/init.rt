@@ -5,7 +5,7 @@ ghost use Rattle.wasm_base.specs.Item.{ReadsAs};
 ghost use Rattle.wasm_base.specs.Outcome.{GivesBy};
 ghost use Rattle.wasm_base.specs.Window.{place, KeepsWindow, range_of};
 ghost use Rattle.wasm_base.specs.Name.{bytes_at};
-ghost use Rattle.wasm_items.specs.Init.{after_opcode, after_operands, aggregate_operands_of, vector_operands_of, numbered_operands_at, end_of_expression};
+ghost use Rattle.wasm_items.specs.Init.{after_opcode, aggregate_operands_of, vector_operands_of, numbered_operands_at, end_of_expression, LeavesExpression};
 ghost use Rattle.wasm_items.specs.Windows.{bytes_of_vector};
 
 use crate::types::HeapType;
@@ -288,34 +288,9 @@ fn read_vector_constant(start: u64, reader: &mut BinaryReader<'_>) -> Result<Con
     })
 }
 
-// Skips the operands of an instruction that begins at this offset, after its opcode. Those of the frequent instructions
-// are read without an operator: `read_operands` would store one, only for it to be dropped.
-#[inline(always)]
-#[tactic(auto, unfolding(crate::specs::Init::after_operands, crate::specs::Init::after_opcode))]
-fn skip_operands(start: u64, opcode: u8, reader: &mut BinaryReader<'_>) -> Result<()>
-    ensures gives { GivesBy (λ nothing. nothing) result reader.old reader.new (after_operands start opcode) }
-    ensures keeps { KeepsWindow reader.old reader.new }
-    ensures memory { NotOutOfMemory result }
-{
-    match opcode {
-        0x41 => {
-            reader.read_var_i32()?;
-        }
-        0x42 => {
-            reader.read_var_i64()?;
-        }
-        0x23 | 0xd2 => {
-            reader.read_var_u32()?;
-        }
-        _ => {
-            read_operands(start, opcode, reader)?;
-        }
-    }
-    Ok(())
-}
-
-/// Skips instructions up to and including `end`.
-fn skip_expression(reader: &mut BinaryReader<'_>) -> Result<()>
+// Skips instructions up to and including `end`, whatever they are.
+#[inline(never)]
+fn skip_instructions(reader: &mut BinaryReader<'_>) -> Result<()>
     ensures gives { GivesBy (λ nothing. nothing) result reader.old reader.new end_of_expression }
     ensures keeps { KeepsWindow reader.old reader.new }
     ensures memory { NotOutOfMemory result }
@@ -326,8 +301,55 @@ fn skip_expression(reader: &mut BinaryReader<'_>) -> Result<()>
         if opcode == 0x0b {
             return Ok(());
         }
-        skip_operands(start, opcode, reader)?;
+        read_operands(start, opcode, reader)?;
     }
+}
+
+// Skips the next instruction if it consists of an opcode and a number, as in most expressions. Otherwise skips nothing.
+#[inline(always)]
+#[tactic(auto, using(crate::proofs::Expressions::none_remains))]
+fn skip_constant(reader: &mut BinaryReader<'_>) -> Result<()>
+    ensures gives { LeavesExpression result reader.old reader.new }
+    ensures keeps { KeepsWindow reader.old reader.new }
+    ensures memory { NotOutOfMemory result }
+{
+    match reader.peek()? {
+        0x41 => {
+            reader.read_u8()?;
+            reader.read_var_i32()?;
+        }
+        0x42 => {
+            reader.read_u8()?;
+            reader.read_var_i64()?;
+        }
+        0x23 => {
+            reader.read_u8()?;
+            reader.read_var_u32()?;
+        }
+        0xd2 => {
+            reader.read_u8()?;
+            reader.read_var_u32()?;
+        }
+        _ => {}
+    }
+    Ok(())
+}
+
+/// Skips instructions up to and including `end`.
+#[inline(always)]
+#[tactic(auto, using(crate::proofs::Expressions::end_passed, crate::proofs::Expressions::none_remains))]
+fn skip_expression(reader: &mut BinaryReader<'_>) -> Result<()>
+    ensures gives { GivesBy (λ nothing. nothing) result reader.old reader.new end_of_expression }
+    ensures keeps { KeepsWindow reader.old reader.new }
+    ensures memory { NotOutOfMemory result }
+{
+    // Reading an operator that is dropped costs more, so `skip_instructions` is only for longer expressions.
+    skip_constant(reader)?;
+    if reader.peek()? == 0x0b {
+        reader.read_u8()?;
+        return Ok(());
+    }
+    skip_instructions(reader)
 }
 
 /// Reads constant instructions up to and including `end`, and returns their window.
@@ -344,6 +366,7 @@ impl<'a> FromReader<'a> for ConstExpr<'a> {
     ghost meaning = { ReadsAs expression_window expression_at };
 
     #[tactic(auto, unfolding(crate::specs::Init::expression_at))]
+    #[inline(always)]
     fn from_reader(reader: &mut BinaryReader<'a>) -> Result<Self> {
         let before = reader.clone().unwrap();
         skip_expression(reader)?;

@@ -2,7 +2,7 @@ use Rattle.std.proofs.Common.{length}
 use Rattle.wasm_base.specs.Window.{place, KeepsWindow}
 use Rattle.wasm_items.proofs.PassedInstructions.{Left}
 use Rattle.wasm_items.specs.Init.{end_of_expression}
-use Rattle.wasm_items.proofs.init.skip_expression.Given as goal
+use Rattle.wasm_items.proofs.init.skip_instructions.Given as goal
 
 abbrev pub invariant-instructions : goal.invariant-instructions
 invariant-instructions l = record {
