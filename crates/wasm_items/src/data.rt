@@ -4,7 +4,7 @@ ghost use Rattle.wasm_base.specs.Hints.{NotOutOfMemory};
 ghost use Rattle.wasm_base.specs.Item.{ReadsAs};
 ghost use Rattle.wasm_base.specs.Outcome.{GivesBy};
 ghost use Rattle.wasm_base.specs.Window.{place, KeepsWindow};
-ghost use Rattle.wasm_items.specs.Data.{active_data_at, data_kind_at};
+ghost use Rattle.wasm_items.specs.Data.{active_data_at, indexed_data_at, data_kind_at};
 
 use crate::init::ConstExpr;
 use std::ops::Range;
@@ -69,6 +69,7 @@ pub enum DataKind<'a> {
 }
 
 // Reads an active segment after its memory index.
+#[inline(always)]
 fn read_active<'a>(memory_index: u32, reader: &mut BinaryReader<'a>) -> Result<DataKind<'a>>
     ensures gives { GivesBy (λ kind. kind) result reader.old reader.new (active_data_at memory_index) }
     ensures keeps { KeepsWindow reader.old reader.new }
@@ -79,6 +80,17 @@ fn read_active<'a>(memory_index: u32, reader: &mut BinaryReader<'a>) -> Result<D
         memory_index,
         offset_expr,
     })
+}
+
+// Reads an active segment with its memory index. It isn't inlined, so that `read_active` is in place only for memory 0.
+#[inline(never)]
+fn read_indexed<'a>(reader: &mut BinaryReader<'a>) -> Result<DataKind<'a>>
+    ensures gives { GivesBy (λ kind. kind) result reader.old reader.new indexed_data_at }
+    ensures keeps { KeepsWindow reader.old reader.new }
+    ensures memory { NotOutOfMemory result }
+{
+    let memory_index = reader.read_var_u32()?;
+    read_active(memory_index, reader)
 }
 
 // Reads the flags of a segment, and its kind.
@@ -92,10 +104,7 @@ fn read_kind<'a>(reader: &mut BinaryReader<'a>) -> Result<DataKind<'a>>
     match read_flags(2, reader)? {
         Some(0) => read_active(0, reader),
         Some(1) => Ok(DataKind::Passive),
-        Some(_) => {
-            let memory_index = reader.read_var_u32()?;
-            read_active(memory_index, reader)
-        }
+        Some(_) => read_indexed(reader),
         None => Err(Error::new(Fault::DataFlags, start)),
     }
 }
