@@ -11,14 +11,14 @@ use Rattle.wasm_base.specs.Signed.{signed_at, signed_value}
 use Rattle.wasm_base.specs.Window.{Place, advanced}
 use Rattle.wasm_base.specs.declared.fault.Fault.TheVariants.{UnexpectedEof}
 use Rattle.wasm_base.specs.declared.fault.NumberKind.{NumberKind}
-use Rattle.wasm_base.specs.declared.fault.NumberKind.TheVariants.{VarU32, VarI32, VarI64, VarS33}
+use Rattle.wasm_base.specs.declared.fault.NumberKind.TheVariants.{VarU32, VarI32, VarS33}
 use Rattle.wasm_items.proofs.PassedInstructions.{byte_passed}
 use Rattle.wasm_items.specs.Init.{Operands, done, signed, float_32, float_64, raw, u32_index, heap, operands_at, constant_operands_at}
 use Rattle.wasm_items.specs.Init.{numbered_operands_at, operands_of, aggregate_operands_of, vector_operands_of, after_opcode}
 use Rattle.wasm_items.specs.Init.{instructions_at, end_of_expression, IsEndOrInstruction}
 use Rattle.wasm_items.specs.Values.{heap_type_at, heap_type_from, abstract_heap_of, type_index}
 use Rattle.wasm_items.specs.declared.init.ConstOperator.{ConstOperator}
-use Rattle.wasm_items.specs.declared.init.ConstOperator.TheVariants.{GlobalGet, I32Const, I64Const, RefFunc}
+use Rattle.wasm_items.specs.declared.init.ConstOperator.TheVariants.{I32Const}
 use Rattle.wasm_items.specs.declared.types.HeapType.{HeapType}
 
 -- At most n bytes remain after a reading.
@@ -204,51 +204,21 @@ number_fault p peeked after opcode byte fault peek taken other operands =
     let first : byte_at p ≡ Ok (opcode, after) = rw same at taken in
     rw (first, other, operands) at (end_or_instruction p)
 
--- The instruction that was skipped is `i32.const`, `i64.const`, `global.get` or `ref.func`.
-pub i32_passed : (p peeked after next : Place) (byte : ℕ) (n : ℤ) → first_peeked p p.rest ≡ Ok (0x41, peeked)
-    → first_of p p.rest ≡ Ok (byte, after) → signed_at VarI32 after ≡ Ok (n, next) → end_of_expression next ≡ end_of_expression p
+-- The instruction that was skipped is `i32.const`.
+pub i32_passed : (p peeked after next : Place) (opcode byte : ℕ) (n : ℤ) → first_peeked p p.rest ≡ Ok (opcode, peeked)
+    → opcode ≡ 0x41 → first_of p p.rest ≡ Ok (byte, after) → signed_at VarI32 after ≡ Ok (n, next)
+    → end_of_expression next ≡ end_of_expression p
 unfolding after_opcode
-i32_passed p peeked after next byte n peek taken number =
-    number_passed p peeked after next 0x41 byte (I32Const n) peek taken refl (rw number refl)
+i32_passed p peeked after next opcode byte n peek is_const taken number =
+    number_passed p peeked after next 0x41 byte (I32Const n) (rw is_const at peek) taken refl (rw number refl)
 
-pub i64_passed : (p peeked after next : Place) (byte : ℕ) (n : ℤ) → first_peeked p p.rest ≡ Ok (0x42, peeked)
-    → first_of p p.rest ≡ Ok (byte, after) → signed_at VarI64 after ≡ Ok (n, next) → end_of_expression next ≡ end_of_expression p
+-- The number of `i32.const` is malformed.
+pub i32_fault : (p peeked after : Place) (opcode byte : ℕ) (fault : FaultAt) → first_peeked p p.rest ≡ Ok (opcode, peeked)
+    → opcode ≡ 0x41 → first_of p p.rest ≡ Ok (byte, after) → signed_at VarI32 after ≡ Err fault
+    → end_of_expression p ≡ Err fault
 unfolding after_opcode
-i64_passed p peeked after next byte n peek taken number =
-    number_passed p peeked after next 0x42 byte (I64Const n) peek taken refl (rw number refl)
-
-pub global_passed : (p peeked after next : Place) (byte n : ℕ) → first_peeked p p.rest ≡ Ok (0x23, peeked)
-    → first_of p p.rest ≡ Ok (byte, after) → unsigned_at VarU32 after ≡ Ok (n, next) → end_of_expression next ≡ end_of_expression p
-unfolding after_opcode
-global_passed p peeked after next byte n peek taken number =
-    number_passed p peeked after next 0x23 byte (GlobalGet n) peek taken refl (rw number refl)
-
-pub func_passed : (p peeked after next : Place) (byte n : ℕ) → first_peeked p p.rest ≡ Ok (0xD2, peeked)
-    → first_of p p.rest ≡ Ok (byte, after) → unsigned_at VarU32 after ≡ Ok (n, next) → end_of_expression next ≡ end_of_expression p
-unfolding after_opcode
-func_passed p peeked after next byte n peek taken number =
-    number_passed p peeked after next 0xD2 byte (RefFunc n) peek taken refl (rw number refl)
-
--- The number of such an instruction is malformed.
-pub i32_fault : (p peeked after : Place) (byte : ℕ) (fault : FaultAt) → first_peeked p p.rest ≡ Ok (0x41, peeked)
-    → first_of p p.rest ≡ Ok (byte, after) → signed_at VarI32 after ≡ Err fault → end_of_expression p ≡ Err fault
-unfolding after_opcode
-i32_fault p peeked after byte fault peek taken number = number_fault p peeked after 0x41 byte fault peek taken refl (rw number refl)
-
-pub i64_fault : (p peeked after : Place) (byte : ℕ) (fault : FaultAt) → first_peeked p p.rest ≡ Ok (0x42, peeked)
-    → first_of p p.rest ≡ Ok (byte, after) → signed_at VarI64 after ≡ Err fault → end_of_expression p ≡ Err fault
-unfolding after_opcode
-i64_fault p peeked after byte fault peek taken number = number_fault p peeked after 0x42 byte fault peek taken refl (rw number refl)
-
-pub global_fault : (p peeked after : Place) (byte : ℕ) (fault : FaultAt) → first_peeked p p.rest ≡ Ok (0x23, peeked)
-    → first_of p p.rest ≡ Ok (byte, after) → unsigned_at VarU32 after ≡ Err fault → end_of_expression p ≡ Err fault
-unfolding after_opcode
-global_fault p peeked after byte fault peek taken number = number_fault p peeked after 0x23 byte fault peek taken refl (rw number refl)
-
-pub func_fault : (p peeked after : Place) (byte : ℕ) (fault : FaultAt) → first_peeked p p.rest ≡ Ok (0xD2, peeked)
-    → first_of p p.rest ≡ Ok (byte, after) → unsigned_at VarU32 after ≡ Err fault → end_of_expression p ≡ Err fault
-unfolding after_opcode
-func_fault p peeked after byte fault peek taken number = number_fault p peeked after 0xD2 byte fault peek taken refl (rw number refl)
+i32_fault p peeked after opcode byte fault peek is_const taken number =
+    number_fault p peeked after 0x41 byte fault (rw is_const at peek) taken refl (rw number refl)
 
 -- The next byte is `end`.
 pub end_passed : (p peeked after : Place) (opcode byte : ℕ) → first_peeked p p.rest ≡ Ok (opcode, peeked)

@@ -5,7 +5,7 @@ ghost use Rattle.wasm_base.specs.Item.{ReadsAs};
 ghost use Rattle.wasm_base.specs.Outcome.{GivesBy};
 ghost use Rattle.wasm_base.specs.Window.{place, KeepsWindow};
 ghost use Rattle.wasm_base.specs.Features.{takes_import_bundles};
-ghost use Rattle.wasm_items.specs.Imports.{bundle_parts, bundle_byte_at, module_bundle_at, type_bundle_at, single_at, type_of_kind_at};
+ghost use Rattle.wasm_items.specs.Imports.{bundle_parts, bundle_byte_at, module_bundle_at, type_bundle_at, single_at, type_of_kind_at, type_ref_at};
 
 use crate::exports::ExternalKind;
 use crate::types::{GlobalType, MemoryType, TableType, TagType};
@@ -146,6 +146,20 @@ fn read_type_of(kind: ExternalKind, reader: &mut BinaryReader<'_>) -> Result<Typ
     }
 }
 
+// Reads a kind and what belongs to it, for a function in place.
+#[tactic(auto, unfolding(crate::specs::Imports::type_ref_at))]
+#[inline(always)]
+fn read_type(reader: &mut BinaryReader<'_>) -> Result<TypeRef>
+    ensures gives { GivesBy (λ ty. ty) result reader.old reader.new type_ref_at }
+    ensures keeps { KeepsWindow reader.old reader.new }
+    ensures memory { NotOutOfMemory result }
+{
+    match ExternalKind::from_reader(reader)? {
+        ExternalKind::Func => Ok(TypeRef::Func(reader.read_var_u32()?)),
+        kind => read_type_of(kind, reader),
+    }
+}
+
 /// Reads a kind and the type that belongs to it: for a function the index of its type, a u32.
 ///
 /// # Errors
@@ -156,13 +170,8 @@ impl<'a> FromReader<'a> for TypeRef {
 
     ghost meaning = { ReadsAs (λ ty. ty) type_ref_at };
 
-    #[tactic(auto, unfolding(crate::specs::Imports::type_ref_at))]
-    #[inline(always)]
     fn from_reader(reader: &mut BinaryReader<'a>) -> Result<Self> {
-        match ExternalKind::from_reader(reader)? {
-            ExternalKind::Func => Ok(TypeRef::Func(reader.read_var_u32()?)),
-            kind => read_type_of(kind, reader),
-        }
+        read_type(reader)
     }
 }
 
@@ -271,7 +280,7 @@ fn read_single<'a>(
     ensures keeps { KeepsWindow reader.old reader.new }
     ensures memory { NotOutOfMemory result }
 {
-    let ty = reader.read()?;
+    let ty = read_type(reader)?;
     Ok(Imports::Single(start, Import { module, name, ty }))
 }
 
