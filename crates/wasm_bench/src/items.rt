@@ -24,6 +24,8 @@ pub(crate) fn walk_items(alloc: Global, bytes: &[u8], lists: bool) -> Result<Tal
     Ok(tally)
 }
 
+// In place, as a call would move each payload.
+#[inline(always)]
 fn walk_payload(alloc: Global, payload: Payload<'_>, lists: bool, tally: &mut Tally) -> Result<()> {
     match payload {
         Payload::TypeSection(types) => tally.walk(types.into_iter_in(alloc), see_group),
