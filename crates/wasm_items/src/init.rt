@@ -328,7 +328,8 @@ fn skip_expression(reader: &mut BinaryReader<'_>) -> Result<()>
     ensures keeps { KeepsWindow reader.old reader.new }
     ensures memory { NotOutOfMemory result }
 {
-    // In place, so that most expressions need no call. Other instructions would make every reader of expressions long.
+    // Most expressions need no operator and no call. Further instructions here would make each reader of expressions longer,
+    // which costs more than it gains.
     skip_constant(reader)?;
     if reader.peek()? == 0x0b {
         reader.read_u8()?;
