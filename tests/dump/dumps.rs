@@ -196,3 +196,87 @@ fn shows_what_came_before_the_source_failed(rt: HostRuntime) -> Result<(), Fail>
     }
     Ok(())
 }
+
+/// An imported function, a custom section of 20 bytes at 19, and a function with its body.
+const HIDING: &[u8] = b"\0asm\x01\0\0\0\x02\x07\x01\x01m\x01f\0\0\0\x14\x01a123456789012345678\x03\x02\x01\0\x0a\x04\x01\x02\0\x0b";
+
+#[test]
+fn skips_what_it_does_not_show(rt: HostRuntime) -> Result<(), Fail> {
+    let rows: [Row; 4] = [
+        (
+            &[Only::Id(10)],
+            b"code 45 49 1 3\nbody 47 49 func[1]\nend 49\n",
+        ),
+        (&[Only::Id(11)], b"end 49\n"),
+        (&[Only::Name("b")], b"end 49\n"),
+        (
+            &[Only::Name("a")],
+            b"custom 19 39 21\n  section name=\"a\" unknown\nend 49\n",
+        ),
+    ];
+    for (only, text) in &rows {
+        dumps(&rt, rt.alloc(), only, HIDING, Ok(Ended::End), text)?;
+    }
+    Ok(())
+}
+
+#[test]
+fn rows_after_what_it_does_not_show(rt: HostRuntime) -> Result<(), Fail> {
+    let text = b"43 | 0a 04 01\ncode 45 49 1 3\n46 | 02 00 0b\nbody 47 49 func[1]\nend 49\n";
+    for piece in [1, 7, 65_536] {
+        let mut tree = Lines::new(rt.alloc(), BoundedSink::new(rt.alloc(), 1_000)?);
+        let shown = Shown {
+            only: &[Only::Id(10)],
+            has_bytes: true,
+        };
+        let ended = dump(rt.alloc(), shown, &mut SliceSource::new(HIDING), &mut tree, piece);
+        assert!(rt; ended == Ok(Ended::End), "{piece}");
+        assert_eq!(rt; tree.into_output().written(), text.as_slice(), "{piece}");
+    }
+    Ok(())
+}
+
+#[test]
+fn a_part_that_is_not_shown_is_cut(rt: HostRuntime) -> Result<(), Fail> {
+    let how = Ok(Ended::Fault(Error::new(Fault::UnexpectedEof, 19)));
+    for end in 19..39 {
+        dumps(
+            &rt,
+            rt.alloc(),
+            &[Only::Id(10)],
+            &HIDING[..end],
+            how,
+            b"fault 19 unexpected end-of-file\n",
+        )?;
+    }
+    Ok(())
+}
+
+#[test]
+fn the_source_fails_in_a_part_that_is_not_shown(rt: HostRuntime) -> Result<(), Fail> {
+    for piece in [1, 4, 30, 65_536] {
+        let sink = BoundedSink::new(rt.alloc(), 2_000)?;
+        let mut input = Cut {
+            bytes: SliceSource::new(&HIDING[..30]),
+            failed: false,
+        };
+        let (ended, output) = dumped(rt.alloc(), &[Only::Id(2)], &mut input, sink, piece);
+        assert!(rt; ended == Err(ListError::Input), "{piece}");
+        let text = b"section 2 10 17 1 import\n  11 func[0] module=\"m\" name=\"f\" ty=func index=0\n";
+        assert_eq!(rt; output.written(), text.as_slice(), "{piece}");
+    }
+    Ok(())
+}
+
+// An output that is full where the fault of such a part would go.
+#[test]
+fn the_sink_is_full_after_a_part_that_is_not_shown(rt: HostRuntime) -> Result<(), Fail> {
+    for piece in [1, 4, 65_536] {
+        let sink = BoundedSink::new(rt.alloc(), 5)?;
+        let input = &mut SliceSource::new(&HIDING[..30]);
+        let (ended, output) = dumped(rt.alloc(), &[Only::Id(10)], input, sink, piece);
+        assert!(rt; ended == Err(ListError::Output), "{piece}");
+        assert_eq!(rt; output.written(), b"fault".as_slice(), "{piece}");
+    }
+    Ok(())
+}

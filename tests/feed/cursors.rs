@@ -72,9 +72,11 @@ fn a_part_that_a_cursor_skips(rt: HostRuntime) -> Result<(), Fail> {
     assert!(rt; cursor.skip_next(PARTS).is_none());
     assert!(rt; cursor.skip_next(&PARTS[..10]).is_none());
     same(&rt, cursor.offset(), 8);
+    let copy = cursor.clone()?;
     let part = cursor.skip_next(&PARTS[..20]).ok_or("not skipped")?;
     same(&rt, (part.range.start, part.range.end), (10, 32));
     same(&rt, (cursor.offset(), cursor.mark()), (32, 8));
+    same(&rt, (copy.offset(), copy.mark()), (8, 8));
     Ok(())
 }
 

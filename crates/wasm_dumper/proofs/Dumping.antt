@@ -165,7 +165,7 @@ starts_beside only has_bytes full w stored piece cursor c none no_piece new none
 -- ---- what is counted
 
 -- no whole stream was read
-not_whole : (left : List ℕ) → false ≡ true → left ≡ []
+pub not_whole : (left : List ℕ) → false ≡ true → left ≡ []
 not_whole left e = cc
 
 -- the numbers of what the source gave
@@ -186,7 +186,7 @@ numbers_at why whole only has_bytes full rest f c k numbers none a = record {
 }
 
 -- more bytes were read and not pushed
-numbers_after : (why : Option ListError) (only : List Only) (has_bytes : Bool) (full rest rest' : Option (List ℕ)) (f : Feed)
+pub numbers_after : (why : Option ListError) (only : List Only) (has_bytes : Bool) (full rest rest' : Option (List ℕ)) (f : Feed)
     (c : Counts) (k : Counting full rest f c) (piece : List ℕ)
     → Consumes rest rest' piece → (numbers : List Number) → AreOfEvents why only no_counts k.events numbers
     → AreOfSource why false only has_bytes (from_to full rest') numbers (bytes_of_events has_bytes only k.events)
@@ -204,7 +204,7 @@ numbers_after why only has_bytes full rest rest' f c k piece more numbers a = re
 }
 
 -- the bytes of one event more
-bytes_more : (has_bytes : Bool) (only : List Only) (events : List Event) (e : Event) (r : Report) (bytes : List ℕ) → r ≡ e.report
+pub bytes_more : (has_bytes : Bool) (only : List Only) (events : List Event) (e : Event) (r : Report) (bytes : List ℕ) → r ≡ e.report
     → e.consumed ≡ bytes → bytes_of_events has_bytes only (events ++ e ∷ [])
     ≡ bytes_of_events has_bytes only events ++ shown_bytes has_bytes only r bytes
 bytes_more true only events e r bytes same is = flat_map-append (λ x. bytes_of_event only x) events (e ∷ [])
@@ -384,7 +384,7 @@ whole_in Objects o w same going out g = record {
   wrote = g.took;
 }
 
-whole : (o : Origin) (w : Writing) → w.why ≡ None → IsOut w → IsWritten o w
+pub whole : (o : Origin) (w : Writing) → w.why ≡ None → IsOut w → IsWritten o w
     → WritesWhole o.style o.taken w.taken o.outline o.numbers o.bytes
 whole o w going out i = whole_in o.style o w i.0 going out (as_going o w going i)
 
@@ -402,7 +402,7 @@ failed_in (Lines base) o w g = g.failed
 failed_in Objects o w g = g.failed
 
 -- the sink has failed only if it had
-has_failed : (o : Origin) (w : Writing) → w.why ≡ None → IsWritten o w → w.has_failed ≡ o.has_failed
+pub has_failed : (o : Origin) (w : Writing) → w.why ≡ None → IsWritten o w → w.has_failed ≡ o.has_failed
 has_failed o w going i = failed_in o.style o w (as_going o w going i)
 
 -- where the tree has stopped, some may be missing
@@ -428,7 +428,7 @@ events_are None only c events numbers a = a
 events_are (Some why) only c events numbers a = events_begin None why only c events numbers a
 
 -- a dump, by what it lists, counts and writes
-dumped : {style : Style} {only : List Only} {has_bytes : Bool} {input : Device} {taken : Option (List ℕ)} {failed : Bool}
+pub dumped : {style : Style} {only : List Only} {has_bytes : Bool} {input : Device} {taken : Option (List ℕ)} {failed : Bool}
     {how : Result Ended ListError} {w : Writing} (outline : List ℕ) (numbers : List Number) (bytes : List ℕ)
     → ListsBy (chosen_line style only) (bytes_of input) (from_to (Some []) (Some outline)) how
     → AreOfSource (stopped_by how) (is_whole how) only has_bytes (bytes_of input) numbers bytes
@@ -692,7 +692,7 @@ module _ (full rest : Option (List ℕ)) (f : Feed) (c : Counts) (k : Counting f
 
 module _ (only : List Only) (has_bytes : Bool) (full rest : Option (List ℕ)) (before : Writing) (f : Feed) (c : Counts) (now last : Writing)
     (d : Wanting only has_bytes full rest before f c now) (a : Adds now last) (out : IsOut last) (going : last.why ≡ None) where
-  all : (events : List Event) → events ≡ d.counting.events → (taken : Option (List ℕ)) (failed : Bool)
+  pub all : (events : List Event) → events ≡ d.counting.events → (taken : Option (List ℕ)) (failed : Bool)
       → IsFresh before taken failed
       → WrittenWith None only has_bytes events before.style taken failed d.outline last
   all events same taken failed i =

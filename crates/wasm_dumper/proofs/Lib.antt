@@ -1,4 +1,5 @@
 pub mod Counted
+pub mod DroppedParts
 pub mod Dumping
 pub mod Lines
 pub mod Numbering

@@ -40,11 +40,15 @@ abbrev pub is_name : List ℕ → Option (List ℕ) → Bool
 is_name name (Some other) = bytes_eq name other
 is_name name None = false
 
+-- whether this choice alone chooses a part of the section with this id, or the custom section with this name
+abbrev pub is_chosen_with : Only → Option ℕ → Option (List ℕ) → Bool
+is_chosen_with All section name = true
+is_chosen_with (Id id) section name = is_id id section
+is_chosen_with (Name text) section name = is_name text.now name
+
 -- whether this choice alone chooses what is reported
 abbrev pub is_chosen_by : Only → Report → Bool
-is_chosen_by All report = true
-is_chosen_by (Id id) report = is_id id (id_of report)
-is_chosen_by (Name name) report = is_name name.now (name_of report)
+is_chosen_by choice report = is_chosen_with choice (id_of report) (name_of report)
 
 -- whether what is reported is shown: the sections that any of these choices chooses, and the last event
 abbrev pub is_chosen : List Only → Report → Bool

@@ -1,3 +1,4 @@
 pub mod Chosen
 pub mod Counting
 pub mod Dump
+pub mod Hiding

@@ -2,6 +2,7 @@
 ghost use Rattle.std.specs.Prelude.{◌≡◌};
 ghost use Rattle.wasm_base.specs.Window.{place};
 ghost use Rattle.wasm_dumper.specs.Counting.{after, count_of, no_counts, space_of, with_imports, with_one};
+ghost use Rattle.wasm_dumper.specs.Hiding.{after_hidden};
 ghost use Rattle.wasm_items.specs.Flattened.{flattened};
 ghost use Rattle.wasm_parser.specs.ParseAnswer.{ItemsBegin, report_of};
 
@@ -105,6 +106,15 @@ impl Counts {
             if let Ok((_, import)) = import {
                 self.add(import_space(&import.ty));
             }
+        }
+    }
+
+    // Counts a part of which nothing is shown: a body, or a section that is not an import section.
+    pub(crate) fn pass_hidden(&mut self, is_body: bool)
+        ensures { self.new ≡ after_hidden self.old is_body }
+    {
+        if is_body {
+            self.bodies = self.bodies.saturating_add(1);
         }
     }
 

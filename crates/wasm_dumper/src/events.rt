@@ -2,7 +2,7 @@
 ghost use Rattle.std.specs.List.{list_any};
 ghost use Rattle.std.specs.Prelude.{◌≡◌, ◌≤◌, ◌+◌, ◌++◌, false, IfSome, length, option_map, take};
 ghost use Rattle.wasm_base.specs.FaultAt.{fault_at};
-ghost use Rattle.wasm_dumper.specs.Chosen.{after_blank, counted_name as name_counted, end_text, id_of as id_reported, is_chosen, is_chosen_by, numbered_line};
+ghost use Rattle.wasm_dumper.specs.Chosen.{after_blank, counted_name as name_counted, end_text, id_of as id_reported, is_chosen, is_chosen_by, is_chosen_with, name_of as name_reported, numbered_line};
 ghost use Rattle.wasm_grammar.specs.Content.{fault};
 ghost use Rattle.wasm_grammar.specs.Ids.{name_of};
 ghost use Rattle.wasm_grammar.specs.Reading.{stream_end};
@@ -65,27 +65,39 @@ fn id_of(payload: &Payload<'_>) -> Option<u8>
     }
 }
 
-// Returns whether this choice includes a payload.
-fn is_chosen_alone(choice: &Only<'_>, payload: &Payload<'_>) -> bool
-    ensures { result ≡ is_chosen_by choice.now (report_of payload.now) }
+// Returns the name of a custom section.
+fn name_of_custom<'a>(payload: &Payload<'a>) -> Option<&'a str>
+    ensures { option_map (λ name. name.now) result ≡ name_reported (report_of payload.now) }
+{
+    match payload {
+        Payload::CustomSection(section) => Some(section.name()),
+        _ => None,
+    }
+}
+
+// Returns whether this choice includes the parts of the section with this id, or the custom section with this name.
+fn is_chosen_alone(choice: &Only<'_>, section: Option<u8>, name: Option<&str>) -> bool
+    ensures { result ≡ is_chosen_with choice.now section (option_map (λ text. text.now) name.entry) }
 {
     match choice {
         Only::All => true,
-        Only::Id(id) => id_of(payload) == Some(*id),
-        Only::Name(name) => match payload {
-            Payload::CustomSection(section) => *name == section.name(),
-            _ => false,
+        Only::Id(id) => section == Some(*id),
+        Only::Name(text) => match name {
+            Some(name) => *text == name,
+            None => false,
         },
     }
 }
 
-// Returns whether any of these choices includes a payload.
+/// Returns whether any of these choices includes the parts of the section with this id, or the custom section with this
+/// name.
 #[tactic(auto, using(std::proofs::lemmas::List::Folds::list_any_more, std::proofs::lemmas::List::Folds::list_any_at))]
-fn is_chosen_by_any(only: &[Only<'_>], payload: &Payload<'_>) -> bool
-    ensures { result ≡ list_any (λ choice. is_chosen_by choice (report_of payload.now)) only.now }
+pub(crate) fn is_chosen_by_any(only: &[Only<'_>], section: Option<u8>, name: Option<&str>) -> bool
+    ensures { result ≡ list_any (λ choice.
+        is_chosen_with choice section (option_map (λ text. text.now) name.entry)) only.now }
 {
     for choice in only {
-        if is_chosen_alone(choice, payload) {
+        if is_chosen_alone(choice, section, name) {
             return true;
         }
     }
@@ -98,7 +110,7 @@ pub(crate) fn chooses(only: &[Only<'_>], payload: &Payload<'_>) -> bool
 {
     match payload {
         Payload::End(_) => true,
-        _ => is_chosen_by_any(only, payload),
+        _ => is_chosen_by_any(only, id_of(payload), name_of_custom(payload)),
     }
 }
 

@@ -5,6 +5,7 @@
 mod collected;
 mod counts;
 mod events;
+mod hidden;
 pub mod laws;
 mod numbered;
 mod payload;

@@ -7,10 +7,11 @@ ghost use Rattle.wasm_text.specs.Calls.{device_of};
 ghost use Rattle.wasm_feeder.specs.Step.{answer_of};
 ghost use Rattle.wasm_feeder.specs.Turns.{turn_after};
 ghost use Rattle.wasm_dumper.specs.Dump.{DumpsByTree, DumpsInto, ShowsAnswer, ShowsReport, after_answer};
-ghost use Rattle.wasm_tree.specs.Tree.{Adds, AddsBytes};
+ghost use Rattle.wasm_tree.specs.Tree.{Adds, AddsBytes, IsOut};
 
 use crate::counts::Counts;
 use crate::events::{Shown, chooses, show_event, show_last_fault};
+use crate::hidden::{drop_hidden, skip_hidden};
 use crate::payload::{offsets_of_items, show_payload};
 use std::alloc::Global;
 use wasm_feeder::{Ahead, Cursor, Ended, Step, Turn, parse_next, seen};
@@ -118,6 +119,17 @@ fn go_on<O: Tree>(out: &O) -> Result<(), ListError>
     }
 }
 
+// Writes the buffered lines out. Returns an error if the tree has stopped.
+fn flush<O: Tree>(out: &mut O) -> Result<(), ListError>
+    ensures adds { Adds (O.writing out.old) (O.writing out.new) }
+    ensures out { IsOut (O.writing out.new) }
+    ensures ok { OnOk result ((O.writing out.new).why ≡ None) }
+    ensures err { IfErr result (λ why. (O.writing out.new).why ≡ Some why) }
+{
+    out.write_out();
+    go_on(out)
+}
+
 // Makes enough bytes available for the next step. The tree stops if an allocation fails.
 fn make_ready<O: Tree>(
     ahead: &mut Ahead<Global>,
@@ -170,13 +182,24 @@ fn dump_into<R: Source, O: Tree>(
         match turn {
             Turn::Advance => ahead.pass_borrowed(&mut cursor, &stored),
             Turn::Read => {
-                out.write_out();
-                go_on(out)?;
-                ahead.refill(&mut cursor, &mut stored, input)?;
+                flush(out)?;
+                let bytes = seen(&stored, ahead.bytes());
+                let Some(hidden) = skip_hidden(shown.only, &mut cursor, bytes) else {
+                    ahead.refill(&mut cursor, &mut stored, input)?;
+                    continue;
+                };
+                let cut = drop_hidden(alloc, hidden, &mut cursor, &mut stored, &mut ahead, input)?;
+                if let Some(error) = cut {
+                    show_answer(alloc, shown, &mut counts, &mut offset, &Err(error), out);
+                    go_on(out)?;
+                    flush(out)?;
+                    return Ok(Ended::Fault(error));
+                }
+                counts.pass_hidden(hidden.is_body);
+                offset = cursor.offset();
             }
             Turn::End(ended) => {
-                out.write_out();
-                go_on(out)?;
+                flush(out)?;
                 return Ok(ended);
             }
         }

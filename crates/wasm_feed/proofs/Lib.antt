@@ -1,8 +1,6 @@
 pub mod KeptFrames
 pub mod KeptInPlace
 pub mod KeptParts
-pub mod PassedParts
 pub mod SkipList
-pub mod Skipping
 pub mod StripLaws
 pub mod StripProgress

@@ -20,16 +20,16 @@ use Rattle.wasm_parser.proofs.ForCallers.{answers_go_along}
 use Rattle.wasm_feeder.specs.Beside.{seen, lending}
 use Rattle.wasm_feeder.specs.Feed.{Feed, pushed}
 use Rattle.wasm_feeder.specs.Lists.{IsListed, ListsBy}
-use Rattle.wasm_feed.specs.Passing.{GivesUp, PassesPart, SkipsHere, held_by}
+use Rattle.wasm_feeder.specs.Passing.{GivesUp, PassesPart, SkipsHere, held_by}
 use Rattle.wasm_feeder.specs.Progress.{Progress, Wants, weight}
 use Rattle.wasm_feed.specs.Dropping.{DropsHere}
 use Rattle.wasm_feeder.specs.declared.feeder.Cursor.{Cursor}
 use Rattle.wasm_feed.specs.declared.listing.Dropped.{Dropped}
 use Rattle.wasm_feeder.specs.declared.turns.Ended.TheVariants.{Fault}
-use Rattle.wasm_feed.specs.declared.passing.Passing.{Passing}
-use Rattle.wasm_feed.proofs.PassedParts.{none_put}
+use Rattle.wasm_feeder.specs.declared.passing.Passing.{Passing}
+use Rattle.wasm_feeder.proofs.ForCallers.{none_put}
 use Rattle.wasm_feeder.proofs.ForCallers.{AtEnd, cut, cut_at_end, listed_to_end, put_line}
-use Rattle.wasm_feed.proofs.Skipping.{came, is_along, is_below, is_short, lighter, reads_short}
+use Rattle.wasm_feeder.proofs.ForCallers.{came, is_along, is_below, is_short, lighter, reads_short}
 
 -- the bytes of a step are those that it sees
 pub dropped_here : (old : Cursor) (stored chunk items rest bytes : List ℕ) (d : Dropped) (new : Cursor) → bytes ≡ seen items rest

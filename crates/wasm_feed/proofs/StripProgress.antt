@@ -25,7 +25,7 @@ use Rattle.wasm_feeder.specs.Beside.{beside, lending, IsAlike, FillsAlike}
 use Rattle.wasm_feeder.specs.Cursors.{feed_of}
 use Rattle.wasm_feeder.specs.Feed.{Feed, new_feed, pushed, finished}
 use Rattle.wasm_feeder.specs.Lists.{IsEndedBy, IsWhole}
-use Rattle.wasm_feed.specs.Passing.{GivesUp, held_by, if_stays}
+use Rattle.wasm_feeder.specs.Passing.{GivesUp, held_by, if_stays}
 use Rattle.wasm_feeder.specs.Progress.{weight}
 use Rattle.wasm_feeder.specs.Step.{chunk_of, Stepped, Steps}
 use Rattle.wasm_feed.specs.StripStream.{IsStreamed, PassesHere, ReadsOrPasses, WroteSome, piece_after}
@@ -42,8 +42,8 @@ use Rattle.wasm_feeder.specs.declared.turns.Turn.TheVariants as turn
 use Rattle.wasm_feed.proofs.KeptFrames.{kept_more}
 use Rattle.wasm_feeder.proofs.ForCallers.{stepped as step_along}
 use Rattle.wasm_feed.proofs.StripLaws.{strips_so}
-use Rattle.wasm_feed.proofs.PassedParts.{cut_wrote}
-use Rattle.wasm_feed.proofs.Skipping.{came, is_along, is_below, is_short, lighter as lighter_after, reads_short, same_held}
+use Rattle.wasm_feeder.proofs.ForCallers.{cut_wrote}
+use Rattle.wasm_feeder.proofs.ForCallers.{came, is_along, is_below, is_short, lighter as lighter_after, reads_short, same_held}
 
 -- The bytes of what the feeder has passed that stay are written, or wait on the page.
 pub record StripProgress (keeps : List ℕ → Bool) (source rest taken written : Option (List ℕ)) (f : Feed) (page : List ℕ) : Type

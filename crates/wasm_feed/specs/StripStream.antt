@@ -15,7 +15,7 @@ use Rattle.wasm_feeder.specs.Beside.{seen, lending, FillsAlike}
 use Rattle.wasm_feeder.specs.Fates.{head_stays}
 use Rattle.wasm_feeder.specs.Feed.{Feed}
 use Rattle.wasm_feeder.specs.Lists.{IsEndedBy, IsWhole, PassesTop}
-use Rattle.wasm_feed.specs.Passing.{PassesPart, SkipsHere, if_stays}
+use Rattle.wasm_feeder.specs.Passing.{PassesPart, SkipsHere, if_stays}
 use Rattle.wasm_feed.specs.Stripped.{IsStripped, kept_bytes}
 use Rattle.wasm_feeder.specs.Fates.{report_stays}
 use Rattle.wasm_feeder.specs.Turns.{turn_after}
@@ -25,7 +25,7 @@ use Rattle.wasm_feeder.specs.declared.feeder.Step.TheVariants.{NeedMoreData, Par
 use Rattle.wasm_feeder.specs.declared.turns.Ended.{Ended}
 use Rattle.wasm_feeder.specs.declared.turns.Ended.TheVariants.{End}
 use Rattle.wasm_feeder.specs.declared.turns.Turn.{Turn}
-use Rattle.wasm_feed.specs.declared.passing.Passing.{Passing}
+use Rattle.wasm_feeder.specs.declared.passing.Passing.{Passing}
 
 -- ---- bytes that are forwarded
 

@@ -18,7 +18,6 @@
 
 pub mod laws;
 mod listing;
-mod passing;
 mod streaming;
 mod stripping;
 

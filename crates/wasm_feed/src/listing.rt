@@ -11,9 +11,8 @@ ghost use Rattle.wasm_feeder.specs.Progress.{ReadsOn};
 ghost use Rattle.wasm_feed.specs.Dropping.{DropsIfAny};
 ghost use Rattle.wasm_feeder.specs.Turns.{TakesTurn};
 
-use crate::passing::{Passing, pass_part};
 use std::alloc::{Allocator, Global};
-use wasm_feeder::{Ahead, Cursor, Ended, Step, Turn, parse_next, seen};
+use wasm_feeder::{Ahead, Cursor, Ended, Passing, Step, Turn, parse_next, pass_part, seen};
 use wasm_lines::{FaultLine, PayloadLine, SkippedLine};
 use wasm_parser::{Error, Parser, PartHead, Payload, Result as ParserResult, SkippedPart};
 use wasm_text::{Base, ListError, Page, Sink, Source};

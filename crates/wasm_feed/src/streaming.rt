@@ -6,10 +6,10 @@ ghost use Rattle.wasm_feeder.specs.Cursors.{feed_of};
 ghost use Rattle.wasm_feed.specs.StripStream.{ReadsOrPasses, SkipsIfAny, StripsSource, TakesPiece, WroteSome};
 ghost use Rattle.wasm_feeder.specs.Fates.{stays_by};
 
-use crate::passing::{Passing, pass_part, put_all};
 use std::alloc::Allocator;
 use wasm_feeder::{
-    Ahead, Cursor, Ended, Fate, Keep, Step, Turn, fate_of, head_stays, parse_next, seen,
+    Ahead, Cursor, Ended, Fate, Keep, Passing, Step, Turn, fate_of, head_stays, parse_next,
+    pass_part, put_all, seen,
 };
 use wasm_parser::{Error, Parser, Result as ParserResult};
 use wasm_text::{ListError, Page, Sink, Source};

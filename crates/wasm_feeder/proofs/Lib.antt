@@ -3,7 +3,9 @@ pub mod Beside
 pub mod ByHand
 pub mod ForCallers
 pub mod Joining
+pub mod PassedParts
 pub mod Progress
 pub mod Resting
+pub mod Skipping
 pub mod Stepping
 pub mod Waits

@@ -7,6 +7,7 @@ pub mod Feed
 pub mod FeedersLaws
 pub mod Lists
 pub mod Opened
+pub mod Passing
 pub mod Pieces
 pub mod Progress
 pub mod Rows

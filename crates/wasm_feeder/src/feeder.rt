@@ -1,5 +1,5 @@
 // A feeder: it takes the bytes of a stream in chunks, and its payloads borrow from it.
-ghost use Rattle.std.specs.Prelude.{◌≡◌, ◌+◌, ◌<◌, ◌≤◌, ◌++◌, true, [], drop, length, option_map, OnOk, OnErr, IfErr, IfOk};
+ghost use Rattle.std.specs.Prelude.{⊤, ◌≡◌, ◌+◌, ◌<◌, ◌≤◌, ◌++◌, true, [], drop, length, option_map, OnOk, OnErr, IfErr, IfOk};
 ghost use Rattle.wasm_base.specs.FaultAt.{fault_at};
 ghost use Rattle.wasm_base.specs.Features.{feature_bits};
 ghost use Rattle.wasm_base.specs.Owned.{out_of_memory};
@@ -18,7 +18,7 @@ use crate::buffer::{after, append};
 pub use lending::seen;
 use lending::take_left;
 pub(crate) use lending::{keep, make_ready, pass_borrowed};
-use std::alloc::{Allocator, Global};
+use std::alloc::{AllocError, Allocator, Global};
 use std::marker::Model;
 use wasm_parser::{Chunk, Error, Fault, Parser, Payload, Result, SkippedPart, WasmFeatures, fits};
 use wasm_text::{ListError, Source};
@@ -69,6 +69,21 @@ pub struct Cursor {
     mark: usize,
     is_finished: bool,
     wants_more: bool,
+}
+
+impl Clone for Cursor {
+    ghost is_clone = { λ cursor copy. copy ≡ cursor };
+
+    ghost is_infallible = { λ _. ⊤ };
+
+    fn clone(&self) -> std::result::Result<Self, AllocError> {
+        Ok(Cursor {
+            parser: self.parser.clone().unwrap(),
+            mark: self.mark,
+            is_finished: self.is_finished,
+            wants_more: self.wants_more,
+        })
+    }
 }
 
 impl Cursor {

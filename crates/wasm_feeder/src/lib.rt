@@ -38,6 +38,7 @@ mod events;
 mod fates;
 mod feeder;
 pub mod laws;
+mod passing;
 mod pieces;
 mod turns;
 
@@ -45,5 +46,6 @@ pub use ahead::Ahead;
 pub use events::{Event, EventKind};
 pub use fates::{Fate, Keep, fate_of, head_stays, stays};
 pub use feeder::{Cursor, Feeder, Opened, Step, parse_next, seen};
+pub use passing::{Passing, pass_part, put_all};
 pub use pieces::{fits_pieces, read_pieces, read_pieces_in};
 pub use turns::{Ended, Turn};

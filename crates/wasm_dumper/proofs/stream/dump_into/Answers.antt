@@ -1,8 +1,10 @@
-use Rattle.std.proofs.Common.{ap, ◌∙◌, ◌≡◌, refl, subst, List, ℕ}
+use Rattle.std.proofs.Common.{ap, ◌∙◌, ◌++◌, ◌≡◌, drop, refl, subst, List, ℕ}
 use Rattle.std.proofs.lemmas.Result.{err_from_is_err_and}
 use Rattle.wasm_feeder.specs.Beside.{beside, lending}
 use Rattle.wasm_feeder.specs.Cursors.{feed_of}
 use Rattle.wasm_feeder.specs.Feed.{empty_feed}
+use Rattle.wasm_feeder.specs.declared.feeder.Cursor.{Cursor}
+use Rattle.wasm_dumper.proofs.DroppedParts.{dropped, dumping_short, failed_within, hides_here, shows_fault}
 use Rattle.wasm_dumper.proofs.Dumping.{starts_beside, shows_step, advanced, asked, same_going, stopped, stopped_at_last, stopped_before}
 use Rattle.wasm_dumper.proofs.Dumping.{ended, filled, not_filled}
 use Rattle.wasm_dumper.proofs.stream.dump_into.Goals as goal
@@ -58,27 +60,27 @@ events-preserved-in-Advance g c =
       input = c.events.invariant.input;
     }
 
-pub returns-in_err-go_on-in-Read : goal.returns-in_err-go_on-in-Read
-returns-in_err-go_on-in-Read g c taken failed i =
+pub returns-in_err-flush-in-Read : goal.returns-in_err-flush-in-Read
+returns-in_err-flush-in-Read g c taken failed i =
     let a = c.parse_next-answer.ensures in
     let ready = c.in_ok-make_ready.ensures in
     let t = c.show_answer-turn.ensures in
     let s = shows_step _ _ _ _ _ _ _ _ _ _ _ _ _ _ _ _ _ ready.same ready.enough c.seen.ensures c.deref.ensures.value c.bytes.ensures
     a.parses a.shows a.finished a.wants t.turns ready.keeps (t.shows a.parses.items) (t.counts a.parses.items) in
-    let e = err_from_is_err_and c.from_residual-in_err-go_on-in-Read.result c.from_residual-in_err-go_on-in-Read.ensures.1 in
+    let e = err_from_is_err_and c.from_residual-in_err-flush-in-Read.result c.from_residual-in_err-flush-in-Read.ensures.1 in
     rw (e.1, e.2) (stopped_at_last _ _ _ _ _ _ _ _ c.events.invariant.dumping _ _ _ _ s _ _ c.events.invariant.input _ _
-    c.write_out.ensures.adds c.in_err-go_on-in-Read.ensures.err taken failed i)
+    c.flush.ensures.adds c.in_err-flush-in-Read.ensures.err taken failed i)
 
-pub returns-in_err-go_on-in-End : goal.returns-in_err-go_on-in-End
-returns-in_err-go_on-in-End g c taken failed i =
+pub returns-in_err-flush-in-End : goal.returns-in_err-flush-in-End
+returns-in_err-flush-in-End g c taken failed i =
     let a = c.parse_next-answer.ensures in
     let ready = c.in_ok-make_ready.ensures in
     let t = c.show_answer-turn.ensures in
     let s = shows_step _ _ _ _ _ _ _ _ _ _ _ _ _ _ _ _ _ ready.same ready.enough c.seen.ensures c.deref.ensures.value c.bytes.ensures
     a.parses a.shows a.finished a.wants t.turns ready.keeps (t.shows a.parses.items) (t.counts a.parses.items) in
-    let e = err_from_is_err_and c.from_residual-in_err-go_on-in-End.result c.from_residual-in_err-go_on-in-End.ensures.1 in
+    let e = err_from_is_err_and c.from_residual-in_err-flush-in-End.result c.from_residual-in_err-flush-in-End.ensures.1 in
     rw (e.1, e.2) (stopped_at_last _ _ _ _ _ _ _ _ c.events.invariant.dumping _ _ _ _ s _ _ c.events.invariant.input _ _
-    c.write_out-in-End.ensures.adds c.in_err-go_on-in-End.ensures.err taken failed i)
+    c.flush-in-End.ensures.adds c.in_err-flush-in-End.ensures.err taken failed i)
 
 pub returns-in-End : goal.returns-in-End
 returns-in-End g c taken failed i =
@@ -88,21 +90,35 @@ returns-in-End g c taken failed i =
     let s = shows_step _ _ _ _ _ _ _ _ _ _ _ _ _ _ _ _ _ ready.same ready.enough c.seen.ensures c.deref.ensures.value c.bytes.ensures
     a.parses a.shows a.finished a.wants t.turns ready.keeps (t.shows a.parses.items) (t.counts a.parses.items) in
     ended _ _ _ _ _ _ _ _ c.events.invariant.dumping _ _ _ _ s _ _ c.events.invariant.input c.in_ok-go_on.ensures.ok _ _ c.in-End.is
-    c.write_out-in-End.ensures.adds c.write_out-in-End.ensures.out c.in_ok-go_on-in-End.ensures.ok taken failed i
+    c.flush-in-End.ensures.adds c.flush-in-End.ensures.out c.in_ok-flush-in-End.ensures.ok taken failed i
 
-pub events-preserved : goal.events-preserved
-events-preserved g c =
+pub events-preserved-in_default : goal.events-preserved-in_default
+events-preserved-in_default g c =
     let a = c.parse_next-answer.ensures in
     let ready = c.in_ok-make_ready.ensures in
     let t = c.show_answer-turn.ensures in
     let s = shows_step _ _ _ _ _ _ _ _ _ _ _ _ _ _ _ _ _ ready.same ready.enough c.seen.ensures c.deref.ensures.value c.bytes.ensures
     a.parses a.shows a.finished a.wants t.turns ready.keeps (t.shows a.parses.items) (t.counts a.parses.items) in
     let (wanting, same) = asked _ _ _ _ _ _ _ _ c.events.invariant.dumping _ _ _ _ s c.in_ok-go_on.ensures.ok c.in-Read.is in
+    let kept : c.skip_hidden.new.cursor ≡ c.parse_next-answer.new.cursor = c.in_default.ensures in
     record {
-      dumping = (filled _ _ _ _ _ _ _ _ _ wanting c.write_out.ensures.adds c.write_out.ensures.out c.in_ok-go_on-in-Read.ensures.ok _ _
-          c.in_ok-refill-in-Read.ensures.refills).0;
+      dumping = (filled _ _ _ _ _ _ _ _ _ wanting c.flush.ensures.adds c.flush.ensures.out c.in_ok-flush-in-Read.ensures.ok _ _
+          (rw kept at c.in_ok-refill-in-Read.ensures.refills)).0;
       input = c.in_ok-refill-in-Read.ensures.failed ∙ c.events.invariant.input;
     }
+
+pub events-smaller-in_default : goal.events-smaller-in_default
+events-smaller-in_default g c =
+    let a = c.parse_next-answer.ensures in
+    let ready = c.in_ok-make_ready.ensures in
+    let t = c.show_answer-turn.ensures in
+    let s = shows_step _ _ _ _ _ _ _ _ _ _ _ _ _ _ _ _ _ ready.same ready.enough c.seen.ensures c.deref.ensures.value c.bytes.ensures
+    a.parses a.shows a.finished a.wants t.turns ready.keeps (t.shows a.parses.items) (t.counts a.parses.items) in
+    let (wanting, same) = asked _ _ _ _ _ _ _ _ c.events.invariant.dumping _ _ _ _ s c.in_ok-go_on.ensures.ok c.in-Read.is in
+    let kept : c.skip_hidden.new.cursor ≡ c.parse_next-answer.new.cursor = c.in_default.ensures in
+    let less = (filled _ _ _ _ _ _ _ _ _ wanting c.flush.ensures.adds c.flush.ensures.out c.in_ok-flush-in-Read.ensures.ok _ _
+    (rw kept at c.in_ok-refill-in-Read.ensures.refills)).1 in
+    rw same at less
 
 pub returns-in_err-refill-in-Read : goal.returns-in_err-refill-in-Read
 returns-in_err-refill-in-Read g c taken failed i =
@@ -113,9 +129,39 @@ returns-in_err-refill-in-Read g c taken failed i =
     a.parses a.shows a.finished a.wants t.turns ready.keeps (t.shows a.parses.items) (t.counts a.parses.items) in
     let (wanting, same) = asked _ _ _ _ _ _ _ _ c.events.invariant.dumping _ _ _ _ s c.in_ok-go_on.ensures.ok c.in-Read.is in
     let e = err_from_is_err_and c.from_residual-in_err-refill-in-Read.result c.from_residual-in_err-refill-in-Read.ensures.1 in
-    rw (e.1, e.2) (not_filled _ _ _ _ _ _ _ _ _ wanting c.write_out.ensures.adds c.write_out.ensures.out c.in_ok-go_on-in-Read.ensures.ok
+    rw (e.1, e.2) (not_filled _ _ _ _ _ _ _ _ _ wanting c.flush.ensures.adds c.flush.ensures.out c.in_ok-flush-in-Read.ensures.ok
     _ _ _ c.events.invariant.input _ (beside (feed_of c.refill.new.stored.items c.refill.new.cursor) c.refill.new.self) _
     c.in_err-refill-in-Read.ensures.refills c.in_err-refill-in-Read.ensures.failed taken failed i)
+
+pub returns-in_err-cut-in-Read : goal.returns-in_err-cut-in-Read
+returns-in_err-cut-in-Read g c taken failed i =
+    let a = c.parse_next-answer.ensures in
+    let ready = c.in_ok-make_ready.ensures in
+    let t = c.show_answer-turn.ensures in
+    let s = shows_step _ _ _ _ _ _ _ _ _ _ _ _ _ _ _ _ _ ready.same ready.enough c.seen.ensures c.deref.ensures.value c.bytes.ensures
+    a.parses a.shows a.finished a.wants t.turns ready.keeps (t.shows a.parses.items) (t.counts a.parses.items) in
+    let (wanting, same) = asked _ _ _ _ _ _ _ _ c.events.invariant.dumping _ _ _ _ s c.in_ok-go_on.ensures.ok c.in-Read.is in
+    let h = hides_here _ _ _ _ _ _ _ _ _ c.seen-bytes.ensures c.deref-in-Read.ensures.value c.bytes-in-Read.ensures c.in-Some.ensures in
+    let e = err_from_is_err_and c.from_residual-in_err-cut-in-Read.result c.from_residual-in_err-cut-in-Read.ensures.1 in
+    rw (e.1, e.2) (failed_within _ _ _ _ _ _ c.make_ready.new.stored.items c.make_ready.new.ahead _ _ _ wanting c.flush.ensures.adds c.flush.ensures.out c.in_ok-flush-in-Read.ensures.ok _ _ h _ _ _ _ c.events.invariant.input _ c.in_err-cut-in-Read.ensures.fails
+    c.in_err-cut-in-Read.ensures.source taken failed i)
+
+pub events-preserved : goal.events-preserved
+events-preserved g c =
+    let a = c.parse_next-answer.ensures in
+    let ready = c.in_ok-make_ready.ensures in
+    let t = c.show_answer-turn.ensures in
+    let s = shows_step _ _ _ _ _ _ _ _ _ _ _ _ _ _ _ _ _ ready.same ready.enough c.seen.ensures c.deref.ensures.value c.bytes.ensures
+    a.parses a.shows a.finished a.wants t.turns ready.keeps (t.shows a.parses.items) (t.counts a.parses.items) in
+    let (wanting, same) = asked _ _ _ _ _ _ _ _ c.events.invariant.dumping _ _ _ _ s c.in_ok-go_on.ensures.ok c.in-Read.is in
+    let h = hides_here _ _ _ _ _ _ _ _ _ c.seen-bytes.ensures c.deref-in-Read.ensures.value c.bytes-in-Read.ensures c.in-Some.ensures in
+    let d = c.in_ok-cut-in-Read.ensures in
+    record {
+      dumping = (dropped _ _ _ _ _ _ c.make_ready.new.stored.items c.make_ready.new.ahead _ _ _ wanting c.flush.ensures.adds c.flush.ensures.out c.in_ok-flush-in-Read.ensures.ok _ _ h _ _ _ d.drops c.in_default-cut.is (beside (feed_of c.drop_hidden.new.stored.items c.drop_hidden.new.cursor) c.drop_hidden.new.ahead)
+          (ap (λ (y : Cursor). y.parser) d.cursor) (λ i. drop (d.cursor i).mark (d.none i) ++ c.drop_hidden.new.ahead)
+          (ap (λ (y : Cursor). y.is_finished) d.cursor) _ c.pass_hidden.ensures).0;
+      input = d.source ∙ c.events.invariant.input;
+    }
 
 pub events-smaller : goal.events-smaller
 events-smaller g c =
@@ -125,6 +171,56 @@ events-smaller g c =
     let s = shows_step _ _ _ _ _ _ _ _ _ _ _ _ _ _ _ _ _ ready.same ready.enough c.seen.ensures c.deref.ensures.value c.bytes.ensures
     a.parses a.shows a.finished a.wants t.turns ready.keeps (t.shows a.parses.items) (t.counts a.parses.items) in
     let (wanting, same) = asked _ _ _ _ _ _ _ _ c.events.invariant.dumping _ _ _ _ s c.in_ok-go_on.ensures.ok c.in-Read.is in
-    let less = (filled _ _ _ _ _ _ _ _ _ wanting c.write_out.ensures.adds c.write_out.ensures.out c.in_ok-go_on-in-Read.ensures.ok _ _
-    c.in_ok-refill-in-Read.ensures.refills).1 in
+    let h = hides_here _ _ _ _ _ _ _ _ _ c.seen-bytes.ensures c.deref-in-Read.ensures.value c.bytes-in-Read.ensures c.in-Some.ensures in
+    let d = c.in_ok-cut-in-Read.ensures in
+    let less = (dropped _ _ _ _ _ _ c.make_ready.new.stored.items c.make_ready.new.ahead _ _ _ wanting c.flush.ensures.adds c.flush.ensures.out c.in_ok-flush-in-Read.ensures.ok _ _ h _ _ _ d.drops c.in_default-cut.is (beside (feed_of c.drop_hidden.new.stored.items c.drop_hidden.new.cursor) c.drop_hidden.new.ahead)
+    (ap (λ (y : Cursor). y.parser) d.cursor) (λ i. drop (d.cursor i).mark (d.none i) ++ c.drop_hidden.new.ahead)
+    (ap (λ (y : Cursor). y.is_finished) d.cursor) _ c.pass_hidden.ensures).1 in
     rw same at less
+
+pub returns-in_err-go_on-in-Read : goal.returns-in_err-go_on-in-Read
+returns-in_err-go_on-in-Read g c taken failed i =
+    let a = c.parse_next-answer.ensures in
+    let ready = c.in_ok-make_ready.ensures in
+    let t = c.show_answer-turn.ensures in
+    let s = shows_step _ _ _ _ _ _ _ _ _ _ _ _ _ _ _ _ _ ready.same ready.enough c.seen.ensures c.deref.ensures.value c.bytes.ensures
+    a.parses a.shows a.finished a.wants t.turns ready.keeps (t.shows a.parses.items) (t.counts a.parses.items) in
+    let (wanting, same) = asked _ _ _ _ _ _ _ _ c.events.invariant.dumping _ _ _ _ s c.in_ok-go_on.ensures.ok c.in-Read.is in
+    let h = hides_here _ _ _ _ _ _ _ _ _ c.seen-bytes.ensures c.deref-in-Read.ensures.value c.bytes-in-Read.ensures c.in-Some.ensures in
+    let d = c.in_ok-cut-in-Read.ensures in
+    let dumping = dumping_short _ _ _ _ _ _ c.make_ready.new.stored.items c.make_ready.new.ahead _ _ _ wanting c.flush.ensures.adds c.flush.ensures.out c.in_ok-flush-in-Read.ensures.ok _ _ h _ _ _ d.drops _ c.in-Some-cut.is in
+    let shows = shows_fault _ _ _ _ _ _ c.make_ready.new.stored.items c.make_ready.new.ahead _ _ _ wanting c.flush.ensures.adds c.flush.ensures.out c.in_ok-flush-in-Read.ensures.ok _ _ h _ _ _ d.drops _ c.in-Some-cut.is _ _ (c.show_answer.ensures.shows tt) (c.show_answer.ensures.counts tt) in
+    let e = err_from_is_err_and c.from_residual-in_err-go_on-in-Read.result c.from_residual-in_err-go_on-in-Read.ensures.1 in
+    rw (e.1, e.2) (stopped _ _ _ _ _ _ _ _ dumping _ _ _ _ shows _ _ (d.source ∙ c.events.invariant.input) _
+    c.in_err-go_on-in-Read.ensures.err taken failed i)
+
+pub returns-in_err-flush-in-Read-2 : goal.returns-in_err-flush-in-Read-2
+returns-in_err-flush-in-Read-2 g c taken failed i =
+    let a = c.parse_next-answer.ensures in
+    let ready = c.in_ok-make_ready.ensures in
+    let t = c.show_answer-turn.ensures in
+    let s = shows_step _ _ _ _ _ _ _ _ _ _ _ _ _ _ _ _ _ ready.same ready.enough c.seen.ensures c.deref.ensures.value c.bytes.ensures
+    a.parses a.shows a.finished a.wants t.turns ready.keeps (t.shows a.parses.items) (t.counts a.parses.items) in
+    let (wanting, same) = asked _ _ _ _ _ _ _ _ c.events.invariant.dumping _ _ _ _ s c.in_ok-go_on.ensures.ok c.in-Read.is in
+    let h = hides_here _ _ _ _ _ _ _ _ _ c.seen-bytes.ensures c.deref-in-Read.ensures.value c.bytes-in-Read.ensures c.in-Some.ensures in
+    let d = c.in_ok-cut-in-Read.ensures in
+    let dumping = dumping_short _ _ _ _ _ _ c.make_ready.new.stored.items c.make_ready.new.ahead _ _ _ wanting c.flush.ensures.adds c.flush.ensures.out c.in_ok-flush-in-Read.ensures.ok _ _ h _ _ _ d.drops _ c.in-Some-cut.is in
+    let shows = shows_fault _ _ _ _ _ _ c.make_ready.new.stored.items c.make_ready.new.ahead _ _ _ wanting c.flush.ensures.adds c.flush.ensures.out c.in_ok-flush-in-Read.ensures.ok _ _ h _ _ _ d.drops _ c.in-Some-cut.is _ _ (c.show_answer.ensures.shows tt) (c.show_answer.ensures.counts tt) in
+    let e = err_from_is_err_and c.from_residual-in_err-flush-in-Read-2.result c.from_residual-in_err-flush-in-Read-2.ensures.1 in
+    rw (e.1, e.2) (stopped_at_last _ _ _ _ _ _ _ _ dumping _ _ _ _ shows _ _ (d.source ∙ c.events.invariant.input) _ _
+    c.flush-in-Some-cut.ensures.adds c.in_err-flush-in-Read-2.ensures.err taken failed i)
+
+pub returns-in-Some-cut : goal.returns-in-Some-cut
+returns-in-Some-cut g c taken failed i =
+    let a = c.parse_next-answer.ensures in
+    let ready = c.in_ok-make_ready.ensures in
+    let t = c.show_answer-turn.ensures in
+    let s = shows_step _ _ _ _ _ _ _ _ _ _ _ _ _ _ _ _ _ ready.same ready.enough c.seen.ensures c.deref.ensures.value c.bytes.ensures
+    a.parses a.shows a.finished a.wants t.turns ready.keeps (t.shows a.parses.items) (t.counts a.parses.items) in
+    let (wanting, same) = asked _ _ _ _ _ _ _ _ c.events.invariant.dumping _ _ _ _ s c.in_ok-go_on.ensures.ok c.in-Read.is in
+    let h = hides_here _ _ _ _ _ _ _ _ _ c.seen-bytes.ensures c.deref-in-Read.ensures.value c.bytes-in-Read.ensures c.in-Some.ensures in
+    let d = c.in_ok-cut-in-Read.ensures in
+    let dumping = dumping_short _ _ _ _ _ _ c.make_ready.new.stored.items c.make_ready.new.ahead _ _ _ wanting c.flush.ensures.adds c.flush.ensures.out c.in_ok-flush-in-Read.ensures.ok _ _ h _ _ _ d.drops _ c.in-Some-cut.is in
+    let shows = shows_fault _ _ _ _ _ _ c.make_ready.new.stored.items c.make_ready.new.ahead _ _ _ wanting c.flush.ensures.adds c.flush.ensures.out c.in_ok-flush-in-Read.ensures.ok _ _ h _ _ _ d.drops _ c.in-Some-cut.is _ _ (c.show_answer.ensures.shows tt) (c.show_answer.ensures.counts tt) in
+    ended _ _ _ _ _ _ _ _ dumping _ _ _ _ shows _ _ (d.source ∙ c.events.invariant.input) c.in_ok-go_on-in-Read.ensures.ok _ _ refl
+    c.flush-in-Some-cut.ensures.adds c.flush-in-Some-cut.ensures.out c.in_ok-flush-in-Read-2.ensures.ok taken failed i

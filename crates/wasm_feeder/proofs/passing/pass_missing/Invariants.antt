@@ -1,6 +1,6 @@
 use Rattle.std.proofs.Common.{◌≡◌}
-use Rattle.wasm_feed.proofs.PassedParts.{Passed}
-use Rattle.wasm_feed.proofs.passing.pass_missing.Given as goal
+use Rattle.wasm_feeder.proofs.PassedParts.{Passed}
+use Rattle.wasm_feeder.proofs.passing.pass_missing.Given as goal
 
 -- how far the part is passed
 abbrev pub invariant-chunks : goal.invariant-chunks

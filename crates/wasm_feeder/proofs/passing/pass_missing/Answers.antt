@@ -1,7 +1,7 @@
 use Rattle.std.proofs.Common.{refl, ◌∙◌}
 use Rattle.std.proofs.lemmas.Result.{err_from_is_err_and}
-use Rattle.wasm_feed.proofs.PassedParts.{none_passed, passed_more, passed_end, passed_up}
-use Rattle.wasm_feed.proofs.passing.pass_missing.Goals as goal
+use Rattle.wasm_feeder.proofs.PassedParts.{none_passed, passed_more, passed_end, passed_up}
+use Rattle.wasm_feeder.proofs.passing.pass_missing.Goals as goal
 
 pub chunks-init : goal.chunks-init
 chunks-init g c = record { passed = none_passed _ _ _ _ _ _; input = refl; output = refl }

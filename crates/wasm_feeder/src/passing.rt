@@ -3,10 +3,11 @@ ghost use Rattle.std.specs.Prelude.{◌≡◌, ◌<◌, [], true, drop, length, 
 ghost use Rattle.wasm_text.specs.Calls.{input_failed, output_failed};
 ghost use Rattle.wasm_feeder.specs.Beside.{seen};
 ghost use Rattle.wasm_text.specs.declared.devices.ListError.TheVariants.{Input};
-ghost use Rattle.wasm_feed.specs.Passing.{FillsChunk, GivesUp, IsCutSomewhere, PassesMissing, PassesPart, PutsAll, Settles, TakesSome, held_by, if_stays};
+ghost use Rattle.wasm_feeder.specs.Passing.{FillsChunk, GivesUp, IsCutSomewhere, PassesMissing, PassesPart, PutsAll, Settles, TakesSome, held_by, if_stays};
 
+use crate::ahead::Ahead;
+use crate::feeder::Cursor;
 use std::alloc::Allocator;
-use wasm_feeder::{Ahead, Cursor};
 use wasm_parser::{Error, Fault};
 use wasm_text::{ListError, Page, Sink, Source, write_all};
 
@@ -15,17 +16,17 @@ const LARGE: usize = 16_384;
 
 /// A part of a stream that is forwarded or dropped before all of it has come.
 #[derive(Clone, Copy)]
-pub(crate) struct Passing {
+pub struct Passing {
     /// The offset of its content.
-    pub(crate) from: u64,
+    pub from: u64,
     /// Its size in bytes.
-    pub(crate) size: u64,
+    pub size: u64,
     /// Whether it stays.
-    pub(crate) stays: bool,
+    pub stays: bool,
 }
 
 /// Puts bytes on the page, or writes them after those of the page.
-pub(crate) fn put_all<A: Allocator, W: Sink>(
+pub fn put_all<A: Allocator, W: Sink>(
     page: &mut Page<A>,
     bytes: &[u8],
     output: &mut W,
@@ -164,7 +165,7 @@ fn settle<A: Allocator, W: Sink>(
 
 /// Forwards or drops a part that the cursor has skipped, whose first bytes are held. Returns the fault of a stream that
 /// ends before the part does.
-pub(crate) fn pass_part<A: Allocator, R: Source, W: Sink>(
+pub fn pass_part<A: Allocator, R: Source, W: Sink>(
     passing: Passing,
     cursor: &mut Cursor,
     stored: &mut Vec<u8, A>,

@@ -1,7 +1,7 @@
 use Rattle.std.proofs.lemmas.Result.{err_from_is_err_and}
 use Rattle.std.proofs.Common.{refl}
-use Rattle.wasm_feed.proofs.PassedParts.{not_filled, not_put}
-use Rattle.wasm_feed.proofs.passing.take_some.Goals as goal
+use Rattle.wasm_feeder.proofs.PassedParts.{not_filled, not_put}
+use Rattle.wasm_feeder.proofs.passing.take_some.Goals as goal
 
 pub returns-in_err-fill-clause-cut : goal.returns-in_err-fill-clause-cut
 returns-in_err-fill-clause-cut g c =

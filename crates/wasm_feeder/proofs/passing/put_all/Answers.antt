@@ -1,5 +1,5 @@
-use Rattle.wasm_feed.proofs.PassedParts.{puts_after, cuts_after}
-use Rattle.wasm_feed.proofs.passing.put_all.Goals as goal
+use Rattle.wasm_feeder.proofs.PassedParts.{puts_after, cuts_after}
+use Rattle.wasm_feeder.proofs.passing.put_all.Goals as goal
 
 pub returns-in-Ok-clause-puts : goal.returns-in-Ok-clause-puts
 returns-in-Ok-clause-puts g c =

@@ -11,7 +11,7 @@ use Rattle.wasm_text.specs.declared.devices.ListError.TheVariants.{Input}
 use Rattle.wasm_parser.specs.SkipNext.{Head, Skip, SkipsPart}
 use Rattle.wasm_feeder.specs.Beside.{seen, unseen}
 use Rattle.wasm_feeder.specs.declared.feeder.Cursor.{Cursor}
-use Rattle.wasm_feed.specs.declared.passing.Passing.{Passing}
+use Rattle.wasm_feeder.specs.declared.passing.Passing.{Passing}
 
 -- All bytes were put after those that waited; or the device or an allocation failed, and a prefix of both was written.
 abbrev pub PutsAll : (taken written : Option (List ℕ)) (waiting bytes new : List ℕ) → Result (Unit {0}) ListError

@@ -10,10 +10,10 @@ use Rattle.wasm_parser.specs.SkipNext.{Head, SkipCame}
 use Rattle.wasm_parser.proofs.ForCallers.{answers_go_along, skipping_goes_along}
 use Rattle.wasm_feeder.specs.Beside.{seen, unseen, lending}
 use Rattle.wasm_feeder.specs.Feed.{Feed}
-use Rattle.wasm_feed.specs.Passing.{SkipsHere, held_by}
+use Rattle.wasm_feeder.specs.Passing.{SkipsHere, held_by}
 use Rattle.wasm_feeder.specs.Progress.{weight}
 use Rattle.wasm_feeder.specs.declared.feeder.Cursor.{Cursor}
-use Rattle.wasm_feed.specs.declared.passing.Passing.{Passing}
+use Rattle.wasm_feeder.specs.declared.passing.Passing.{Passing}
 
 module _ (stays_if : Head → Bool) (given : List ℕ) (events : List Event) (c : Cursor) (stored chunk : List ℕ)
     (a : Along 0 all_features given c.parser (held_by c stored chunk) events) (passing : Passing) (skipped : Cursor)

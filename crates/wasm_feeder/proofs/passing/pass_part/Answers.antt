@@ -1,6 +1,6 @@
 use Rattle.std.proofs.lemmas.Result.{err_from_is_err_and}
-use Rattle.wasm_feed.proofs.PassedParts.{part_passed, part_cut, settled_up, unsettled_up}
-use Rattle.wasm_feed.proofs.passing.pass_part.Goals as goal
+use Rattle.wasm_feeder.proofs.PassedParts.{part_passed, part_cut, settled_up, unsettled_up}
+use Rattle.wasm_feeder.proofs.passing.pass_part.Goals as goal
 
 pub returns-in_err-pass_missing-clause-cut : goal.returns-in_err-pass_missing-clause-cut
 returns-in_err-pass_missing-clause-cut g c =
