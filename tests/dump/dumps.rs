@@ -198,7 +198,8 @@ fn shows_what_came_before_the_source_failed(rt: HostRuntime) -> Result<(), Fail>
 }
 
 /// An imported function, a custom section of 20 bytes at 19, and a function with its body.
-const HIDING: &[u8] = b"\0asm\x01\0\0\0\x02\x07\x01\x01m\x01f\0\0\0\x14\x01a123456789012345678\x03\x02\x01\0\x0a\x04\x01\x02\0\x0b";
+const HIDING: &[u8] =
+    b"\0asm\x01\0\0\0\x02\x07\x01\x01m\x01f\0\0\0\x14\x01a123456789012345678\x03\x02\x01\0\x0a\x04\x01\x02\0\x0b";
 
 #[test]
 fn skips_what_it_does_not_show(rt: HostRuntime) -> Result<(), Fail> {
@@ -229,7 +230,13 @@ fn rows_after_what_it_does_not_show(rt: HostRuntime) -> Result<(), Fail> {
             only: &[Only::Id(10)],
             has_bytes: true,
         };
-        let ended = dump(rt.alloc(), shown, &mut SliceSource::new(HIDING), &mut tree, piece);
+        let ended = dump(
+            rt.alloc(),
+            shown,
+            &mut SliceSource::new(HIDING),
+            &mut tree,
+            piece,
+        );
         assert!(rt; ended == Ok(Ended::End), "{piece}");
         assert_eq!(rt; tree.into_output().written(), text.as_slice(), "{piece}");
     }
@@ -262,7 +269,8 @@ fn the_source_fails_in_a_part_that_is_not_shown(rt: HostRuntime) -> Result<(), F
         };
         let (ended, output) = dumped(rt.alloc(), &[Only::Id(2)], &mut input, sink, piece);
         assert!(rt; ended == Err(ListError::Input), "{piece}");
-        let text = b"section 2 10 17 1 import\n  11 func[0] module=\"m\" name=\"f\" ty=func index=0\n";
+        let text =
+            b"section 2 10 17 1 import\n  11 func[0] module=\"m\" name=\"f\" ty=func index=0\n";
         assert_eq!(rt; output.written(), text.as_slice(), "{piece}");
     }
     Ok(())

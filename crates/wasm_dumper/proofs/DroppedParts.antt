@@ -1,6 +1,8 @@
 -- How far a dump has come after a part of which nothing is shown, and which was dropped.
-use Rattle.std.proofs.Common.{◌≡◌, ℕ, ◌+◌, ◌^◌, ◌<◌, Bool, true, false, not, ◌&&◌, if◌then◌else◌, nat_eq, nat_lt, List, [], ◌∷◌, ◌++◌, length}
-use Rattle.std.proofs.Common.{Option, Some, None, Result, Ok, Err, refl, sym, ap, subst, ◌∙◌, arith, append-nil, append_assoc, length-append, drop}
+use Rattle.std.proofs.Common.{◌≡◌, ℕ, ◌+◌, ◌^◌, ◌<◌, Bool, true, false, not, ◌&&◌, if◌then◌else◌, nat_eq, nat_lt, List, [], ◌∷◌, ◌++◌}
+use Rattle.std.proofs.Common.{length}
+use Rattle.std.proofs.Common.{Option, Some, None, Result, Ok, Err, refl, sym, ap, subst, ◌∙◌, arith, append-nil, append_assoc}
+use Rattle.std.proofs.Common.{length-append, drop}
 use Rattle.std.proofs.lemmas.Bool.Decides.{nat_tests}
 use Rattle.std.specs.List.{list_any}
 use Rattle.std.specs.Io.KnownBytes.{Appends, Consumes, IsAtEnd}
@@ -41,7 +43,8 @@ use Rattle.wasm_dumper.specs.Hiding.{DropsPart, FailsWithin, Hides, after_hidden
 use Rattle.wasm_dumper.specs.declared.counts.Counts.{Counts}
 use Rattle.wasm_dumper.specs.declared.events.Only.{Only}
 use Rattle.wasm_dumper.specs.declared.hidden.Hidden.{Hidden}
-use Rattle.wasm_dumper.proofs.Dumping.{Counting, Dumping, ShowsStep, Wanting, WrittenWith, IsFresh, all, bytes_more, dumped, has_failed, numbers_after, source}
+use Rattle.wasm_dumper.proofs.Dumping.{Counting, Dumping, ShowsStep, Wanting, WrittenWith, IsFresh, all, bytes_more, dumped, has_failed}
+use Rattle.wasm_dumper.proofs.Dumping.{numbers_after, source}
 use Rattle.wasm_dumper.proofs.Dumping.{whole}
 use Rattle.wasm_dumper.proofs.Numbering.{all_more, events_more, no_numbers}
 
@@ -135,7 +138,8 @@ module _ (only : List Only) (has_bytes : Bool) (full rest : Option (List ℕ)) (
         events = p.events;
         last = last_event (fault (at_offset UnexpectedEof hidden.passing.from));
         gave = Consumes-trans full rest rest' p.given w.given p.gave w.gave;
-        listed = rw p.parts (Appends-trans (Some []) (Some d.outline) (Some d.outline) p.lines [] p.listed (Appends-nil (Some d.outline)));
+        listed = rw p.parts (Appends-trans (Some []) (Some d.outline) (Some d.outline) p.lines [] p.listed
+            (Appends-nil (Some d.outline)));
         reading = reads_short stays p.given p.events cur stored chunk p.is_along hidden.passing skipped sk w.given w.fewer;
       }) (numbers_after None only has_bytes full rest rest' (lending stored chunk cur) c k w.given w.gave numbers are)
       (whole o last going out wrote) failed_so (has_failed o last going wrote))
@@ -164,10 +168,14 @@ module _ (only : List Only) (has_bytes : Bool) (full rest : Option (List ℕ)) (
     dropped n new state held eof c' counts =
         let ends : length x.part ≡ hidden.passing.size = rw n at x.ends in
         let e : new.eof ≡ false = eof ∙ (ap (λ (y : Cursor). y.is_finished) sk.same ∙ d.listing.undecided.0) in
-        let event = (came stays p.given p.events cur stored chunk p.is_along hidden.passing skipped sk x.fetched x.part left x.parts ends).event in
-        let says = (came stays p.given p.events cur stored chunk p.is_along hidden.passing skipped sk x.fetched x.part left x.parts ends).says in
-        let one = (came stays k.given k.events cur stored chunk k.along hidden.passing skipped sk x.fetched x.part left x.parts ends).event in
-        let one_says = (came stays k.given k.events cur stored chunk k.along hidden.passing skipped sk x.fetched x.part left x.parts ends).says in
+        let event = (came stays p.given p.events cur stored chunk p.is_along hidden.passing skipped sk x.fetched x.part left x.parts
+        ends).event in
+        let says = (came stays p.given p.events cur stored chunk p.is_along hidden.passing skipped sk x.fetched x.part left x.parts
+        ends).says in
+        let one = (came stays k.given k.events cur stored chunk k.along hidden.passing skipped sk x.fetched x.part left x.parts
+        ends).event in
+        let one_says = (came stays k.given k.events cur stored chunk k.along hidden.passing skipped sk x.fetched x.part left x.parts
+        ends).says in
         let unlisted = not_chosen only event.report sk.skip says h.hides in
         let unshown = not_chosen only one.report sk.skip one_says h.hides in
         let earlier = so_far false (λ n. absurd (let no : true ≡ false = sym n in cc)) in
@@ -175,14 +183,16 @@ module _ (only : List Only) (has_bytes : Bool) (full rest : Option (List ℕ)) (
         record { moved = []; writes = Appends-nil (Some d.outline); waits = refl } in
         let none : [] ≡ line event.report =
         sym (ap (λ (b : Bool). if b then shown_line (base_of before.style) event.report else []) unlisted) in
-        let (wrote, parts) = progress.put_line line full rest' (Some []) (Some d.outline) (arrived false) [] earlier (Some d.outline) [] [] event
+        let (wrote, parts) = progress.put_line line full rest' (Some []) (Some d.outline) (arrived false) [] earlier (Some d.outline)
+        [] [] event
         put none in (
           record {
             outline = d.outline;
             listing = record {
               given = p.given ++ x.fetched;
               events = p.events ++ event ∷ [];
-              is_along = is_along stays p.given p.events cur stored chunk p.is_along hidden.passing skipped sk x.fetched x.part left x.parts
+              is_along = is_along stays p.given p.events cur stored chunk p.is_along hidden.passing skipped sk x.fetched x.part left
+                  x.parts
                   ends new state held;
               gave = earlier.gave;
               at_end = λ z. absurd (let no : true ≡ false = sym z ∙ e in cc);
@@ -194,7 +204,8 @@ module _ (only : List Only) (has_bytes : Bool) (full rest : Option (List ℕ)) (
               given = k.given ++ x.fetched;
               events = k.events ++ one ∷ [];
               gave = Consumes-trans full rest rest' k.given x.fetched k.gave x.gave;
-              along = is_along stays k.given k.events cur stored chunk k.along hidden.passing skipped sk x.fetched x.part left x.parts ends new
+              along = is_along stays k.given k.events cur stored chunk k.along hidden.passing skipped sk x.fetched x.part left x.parts
+                  ends new
                   state held;
               counted = counts ∙ (ap (after_hidden c) h.body ∙ (sym (counted_as only c one.report sk.skip one_says h.hides)
                   ∙ (ap (λ (y : Counts). after y one.report) k.counted ∙ sym (all_more no_counts k.events one))));
@@ -206,12 +217,15 @@ module _ (only : List Only) (has_bytes : Bool) (full rest : Option (List ℕ)) (
                       (subst (λ (b : Bool). AreOfShown None b (after_all no_counts k.events) one.report []) (sym unshown) refl),
                   subst (λ (y : List ℕ). IsWritten (origin before.style taken failed d.outline (numbers ++ []) y) last)
                       (sym (bytes_more has_bytes only k.events one one.report one.consumed refl refl
-                      ∙ (ap (λ (y : List ℕ). bytes_of_events has_bytes only k.events ++ y) (no_bytes has_bytes only one.report one.consumed unshown)
+                      ∙ (ap (λ (y : List ℕ). bytes_of_events has_bytes only k.events ++ y)
+                      (no_bytes has_bytes only one.report one.consumed unshown)
                       ∙ append-nil (bytes_of_events has_bytes only k.events))))
-                      (no_numbers (origin before.style taken failed d.outline numbers (bytes_of_events has_bytes only k.events)) last wrote),
+                      (no_numbers (origin before.style taken failed d.outline numbers (bytes_of_events has_bytes only k.events)) last
+                      wrote),
                 );
           },
-          lighter stays p.given p.events cur stored chunk p.is_along hidden.passing skipped sk x.fetched x.part left x.parts ends new state held
+          lighter stays p.given p.events cur stored chunk p.is_along hidden.passing skipped sk x.fetched x.part left x.parts ends new
+              state held
               d.listing.below d.listing.undecided.0 e,
         )
 
@@ -222,7 +236,8 @@ module _ (only : List Only) (has_bytes : Bool) (full rest : Option (List ℕ)) (
       ends = rw cuts at x.ends
 
       few : length (held_by skipped stored chunk) + length x.fetched < hidden.passing.size
-      few = is_short stays p.given p.events cur stored chunk p.is_along hidden.passing skipped sk x.fetched x.part left x.parts ends.0 ends.2
+      few = is_short stays p.given p.events cur stored chunk p.is_along hidden.passing skipped sk x.fetched x.part left x.parts ends.0
+          ends.2
 
       abbrev first : List ℕ
       first = drop cur.mark (seen stored chunk)

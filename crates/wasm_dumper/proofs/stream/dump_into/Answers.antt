@@ -143,7 +143,8 @@ returns-in_err-cut-in-Read g c taken failed i =
     let (wanting, same) = asked _ _ _ _ _ _ _ _ c.events.invariant.dumping _ _ _ _ s c.in_ok-go_on.ensures.ok c.in-Read.is in
     let h = hides_here _ _ _ _ _ _ _ _ _ c.seen-bytes.ensures c.deref-in-Read.ensures.value c.bytes-in-Read.ensures c.in-Some.ensures in
     let e = err_from_is_err_and c.from_residual-in_err-cut-in-Read.result c.from_residual-in_err-cut-in-Read.ensures.1 in
-    rw (e.1, e.2) (failed_within _ _ _ _ _ _ c.make_ready.new.stored.items c.make_ready.new.ahead _ _ _ wanting c.flush.ensures.adds c.flush.ensures.out c.in_ok-flush-in-Read.ensures.ok _ _ h _ _ _ _ c.events.invariant.input _ c.in_err-cut-in-Read.ensures.fails
+    rw (e.1, e.2) (failed_within _ _ _ _ _ _ c.make_ready.new.stored.items c.make_ready.new.ahead _ _ _ wanting c.flush.ensures.adds
+    c.flush.ensures.out c.in_ok-flush-in-Read.ensures.ok _ _ h _ _ _ _ c.events.invariant.input _ c.in_err-cut-in-Read.ensures.fails
     c.in_err-cut-in-Read.ensures.source taken failed i)
 
 pub events-preserved : goal.events-preserved
@@ -157,7 +158,9 @@ events-preserved g c =
     let h = hides_here _ _ _ _ _ _ _ _ _ c.seen-bytes.ensures c.deref-in-Read.ensures.value c.bytes-in-Read.ensures c.in-Some.ensures in
     let d = c.in_ok-cut-in-Read.ensures in
     record {
-      dumping = (dropped _ _ _ _ _ _ c.make_ready.new.stored.items c.make_ready.new.ahead _ _ _ wanting c.flush.ensures.adds c.flush.ensures.out c.in_ok-flush-in-Read.ensures.ok _ _ h _ _ _ d.drops c.in_default-cut.is (beside (feed_of c.drop_hidden.new.stored.items c.drop_hidden.new.cursor) c.drop_hidden.new.ahead)
+      dumping = (dropped _ _ _ _ _ _ c.make_ready.new.stored.items c.make_ready.new.ahead _ _ _ wanting c.flush.ensures.adds
+          c.flush.ensures.out c.in_ok-flush-in-Read.ensures.ok _ _ h _ _ _ d.drops c.in_default-cut.is
+          (beside (feed_of c.drop_hidden.new.stored.items c.drop_hidden.new.cursor) c.drop_hidden.new.ahead)
           (ap (λ (y : Cursor). y.parser) d.cursor) (λ i. drop (d.cursor i).mark (d.none i) ++ c.drop_hidden.new.ahead)
           (ap (λ (y : Cursor). y.is_finished) d.cursor) _ c.pass_hidden.ensures).0;
       input = d.source ∙ c.events.invariant.input;
@@ -173,7 +176,9 @@ events-smaller g c =
     let (wanting, same) = asked _ _ _ _ _ _ _ _ c.events.invariant.dumping _ _ _ _ s c.in_ok-go_on.ensures.ok c.in-Read.is in
     let h = hides_here _ _ _ _ _ _ _ _ _ c.seen-bytes.ensures c.deref-in-Read.ensures.value c.bytes-in-Read.ensures c.in-Some.ensures in
     let d = c.in_ok-cut-in-Read.ensures in
-    let less = (dropped _ _ _ _ _ _ c.make_ready.new.stored.items c.make_ready.new.ahead _ _ _ wanting c.flush.ensures.adds c.flush.ensures.out c.in_ok-flush-in-Read.ensures.ok _ _ h _ _ _ d.drops c.in_default-cut.is (beside (feed_of c.drop_hidden.new.stored.items c.drop_hidden.new.cursor) c.drop_hidden.new.ahead)
+    let less = (dropped _ _ _ _ _ _ c.make_ready.new.stored.items c.make_ready.new.ahead _ _ _ wanting c.flush.ensures.adds
+    c.flush.ensures.out c.in_ok-flush-in-Read.ensures.ok _ _ h _ _ _ d.drops c.in_default-cut.is
+    (beside (feed_of c.drop_hidden.new.stored.items c.drop_hidden.new.cursor) c.drop_hidden.new.ahead)
     (ap (λ (y : Cursor). y.parser) d.cursor) (λ i. drop (d.cursor i).mark (d.none i) ++ c.drop_hidden.new.ahead)
     (ap (λ (y : Cursor). y.is_finished) d.cursor) _ c.pass_hidden.ensures).1 in
     rw same at less
@@ -188,8 +193,11 @@ returns-in_err-go_on-in-Read g c taken failed i =
     let (wanting, same) = asked _ _ _ _ _ _ _ _ c.events.invariant.dumping _ _ _ _ s c.in_ok-go_on.ensures.ok c.in-Read.is in
     let h = hides_here _ _ _ _ _ _ _ _ _ c.seen-bytes.ensures c.deref-in-Read.ensures.value c.bytes-in-Read.ensures c.in-Some.ensures in
     let d = c.in_ok-cut-in-Read.ensures in
-    let dumping = dumping_short _ _ _ _ _ _ c.make_ready.new.stored.items c.make_ready.new.ahead _ _ _ wanting c.flush.ensures.adds c.flush.ensures.out c.in_ok-flush-in-Read.ensures.ok _ _ h _ _ _ d.drops _ c.in-Some-cut.is in
-    let shows = shows_fault _ _ _ _ _ _ c.make_ready.new.stored.items c.make_ready.new.ahead _ _ _ wanting c.flush.ensures.adds c.flush.ensures.out c.in_ok-flush-in-Read.ensures.ok _ _ h _ _ _ d.drops _ c.in-Some-cut.is _ _ (c.show_answer.ensures.shows tt) (c.show_answer.ensures.counts tt) in
+    let dumping = dumping_short _ _ _ _ _ _ c.make_ready.new.stored.items c.make_ready.new.ahead _ _ _ wanting c.flush.ensures.adds
+    c.flush.ensures.out c.in_ok-flush-in-Read.ensures.ok _ _ h _ _ _ d.drops _ c.in-Some-cut.is in
+    let shows = shows_fault _ _ _ _ _ _ c.make_ready.new.stored.items c.make_ready.new.ahead _ _ _ wanting c.flush.ensures.adds
+    c.flush.ensures.out c.in_ok-flush-in-Read.ensures.ok _ _ h _ _ _ d.drops _ c.in-Some-cut.is _ _ (c.show_answer.ensures.shows tt)
+    (c.show_answer.ensures.counts tt) in
     let e = err_from_is_err_and c.from_residual-in_err-go_on-in-Read.result c.from_residual-in_err-go_on-in-Read.ensures.1 in
     rw (e.1, e.2) (stopped _ _ _ _ _ _ _ _ dumping _ _ _ _ shows _ _ (d.source ∙ c.events.invariant.input) _
     c.in_err-go_on-in-Read.ensures.err taken failed i)
@@ -204,8 +212,11 @@ returns-in_err-flush-in-Read-2 g c taken failed i =
     let (wanting, same) = asked _ _ _ _ _ _ _ _ c.events.invariant.dumping _ _ _ _ s c.in_ok-go_on.ensures.ok c.in-Read.is in
     let h = hides_here _ _ _ _ _ _ _ _ _ c.seen-bytes.ensures c.deref-in-Read.ensures.value c.bytes-in-Read.ensures c.in-Some.ensures in
     let d = c.in_ok-cut-in-Read.ensures in
-    let dumping = dumping_short _ _ _ _ _ _ c.make_ready.new.stored.items c.make_ready.new.ahead _ _ _ wanting c.flush.ensures.adds c.flush.ensures.out c.in_ok-flush-in-Read.ensures.ok _ _ h _ _ _ d.drops _ c.in-Some-cut.is in
-    let shows = shows_fault _ _ _ _ _ _ c.make_ready.new.stored.items c.make_ready.new.ahead _ _ _ wanting c.flush.ensures.adds c.flush.ensures.out c.in_ok-flush-in-Read.ensures.ok _ _ h _ _ _ d.drops _ c.in-Some-cut.is _ _ (c.show_answer.ensures.shows tt) (c.show_answer.ensures.counts tt) in
+    let dumping = dumping_short _ _ _ _ _ _ c.make_ready.new.stored.items c.make_ready.new.ahead _ _ _ wanting c.flush.ensures.adds
+    c.flush.ensures.out c.in_ok-flush-in-Read.ensures.ok _ _ h _ _ _ d.drops _ c.in-Some-cut.is in
+    let shows = shows_fault _ _ _ _ _ _ c.make_ready.new.stored.items c.make_ready.new.ahead _ _ _ wanting c.flush.ensures.adds
+    c.flush.ensures.out c.in_ok-flush-in-Read.ensures.ok _ _ h _ _ _ d.drops _ c.in-Some-cut.is _ _ (c.show_answer.ensures.shows tt)
+    (c.show_answer.ensures.counts tt) in
     let e = err_from_is_err_and c.from_residual-in_err-flush-in-Read-2.result c.from_residual-in_err-flush-in-Read-2.ensures.1 in
     rw (e.1, e.2) (stopped_at_last _ _ _ _ _ _ _ _ dumping _ _ _ _ shows _ _ (d.source ∙ c.events.invariant.input) _ _
     c.flush-in-Some-cut.ensures.adds c.in_err-flush-in-Read-2.ensures.err taken failed i)
@@ -220,7 +231,10 @@ returns-in-Some-cut g c taken failed i =
     let (wanting, same) = asked _ _ _ _ _ _ _ _ c.events.invariant.dumping _ _ _ _ s c.in_ok-go_on.ensures.ok c.in-Read.is in
     let h = hides_here _ _ _ _ _ _ _ _ _ c.seen-bytes.ensures c.deref-in-Read.ensures.value c.bytes-in-Read.ensures c.in-Some.ensures in
     let d = c.in_ok-cut-in-Read.ensures in
-    let dumping = dumping_short _ _ _ _ _ _ c.make_ready.new.stored.items c.make_ready.new.ahead _ _ _ wanting c.flush.ensures.adds c.flush.ensures.out c.in_ok-flush-in-Read.ensures.ok _ _ h _ _ _ d.drops _ c.in-Some-cut.is in
-    let shows = shows_fault _ _ _ _ _ _ c.make_ready.new.stored.items c.make_ready.new.ahead _ _ _ wanting c.flush.ensures.adds c.flush.ensures.out c.in_ok-flush-in-Read.ensures.ok _ _ h _ _ _ d.drops _ c.in-Some-cut.is _ _ (c.show_answer.ensures.shows tt) (c.show_answer.ensures.counts tt) in
+    let dumping = dumping_short _ _ _ _ _ _ c.make_ready.new.stored.items c.make_ready.new.ahead _ _ _ wanting c.flush.ensures.adds
+    c.flush.ensures.out c.in_ok-flush-in-Read.ensures.ok _ _ h _ _ _ d.drops _ c.in-Some-cut.is in
+    let shows = shows_fault _ _ _ _ _ _ c.make_ready.new.stored.items c.make_ready.new.ahead _ _ _ wanting c.flush.ensures.adds
+    c.flush.ensures.out c.in_ok-flush-in-Read.ensures.ok _ _ h _ _ _ d.drops _ c.in-Some-cut.is _ _ (c.show_answer.ensures.shows tt)
+    (c.show_answer.ensures.counts tt) in
     ended _ _ _ _ _ _ _ _ dumping _ _ _ _ shows _ _ (d.source ∙ c.events.invariant.input) c.in_ok-go_on-in-Read.ensures.ok _ _ refl
     c.flush-in-Some-cut.ensures.adds c.flush-in-Some-cut.ensures.out c.in_ok-flush-in-Read-2.ensures.ok taken failed i
