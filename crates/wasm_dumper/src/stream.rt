@@ -214,8 +214,9 @@ fn dump_into<R: Source, O: Tree>(
 /// On a tree of objects each line is a JSON object.
 ///
 /// It reads at most `piece` bytes at once, which must be at least 1. The tree must not have written anything. It
-/// buffers the undecided bytes, the last chunk, and the lines that are not written yet, at most 65,536 bytes; if bytes
-/// are shown, also a copy of the current part and the offsets of its items.
+/// buffers the last chunk, the undecided bytes, which are less than a part, and the lines that are not written yet, at
+/// most 65,536 bytes; if bytes are shown, also a copy of the current part and the offsets of its items. Of a part that
+/// is not chosen it buffers only the first fields, except of import sections, whose items count.
 ///
 /// A fault of the stream is no error: its line is written, and `Ended::Fault` is returned. A fault of an item is a line
 /// in its place.
