@@ -17,15 +17,22 @@ const LARGE: usize = 16_384;
 /// A part of a stream that is forwarded or dropped before all of it has come.
 #[derive(Clone, Copy)]
 pub struct Passing {
-    /// The offset of its content.
+    /// The offset of its content in the stream.
     pub from: u64,
-    /// Its size in bytes.
+    /// Its size in bytes, from its id on, or for a body from its size on.
     pub size: u64,
-    /// Whether it stays.
+    /// Whether it is forwarded, and not dropped.
     pub stays: bool,
 }
 
-/// Puts bytes on the page, or writes them after those of the page.
+/// Puts bytes on the page; more than 16,384 bytes are written at once, after those of the page.
+///
+/// # Errors
+///
+/// A prefix of what waited and of these bytes has been written.
+///
+/// * `Output` if the sink failed.
+/// * `Memory` when an allocation fails.
 pub fn put_all<A: Allocator, W: Sink>(
     page: &mut Page<A>,
     bytes: &[u8],
@@ -163,8 +170,18 @@ fn settle<A: Allocator, W: Sink>(
     Ok(count)
 }
 
-/// Forwards or drops a part that the cursor has skipped, whose first bytes are held. Returns the fault of a stream that
-/// ends before the part does.
+/// Forwards a part to the output, or drops it, and returns the fault of a stream that ends before the part does.
+///
+/// The cursor has skipped the part (`Cursor::skip_next`), of which not all bytes are held. The others are read in
+/// chunks. Afterwards no bytes are stored, and the cursor is at the rest of the chunk, which follows the part.
+///
+/// # Errors
+///
+/// Some bytes of the part may have been read and written. Where the cursor then is, is not stated: it can't go on.
+///
+/// * `Input` if the source failed.
+/// * `Output` if the sink failed.
+/// * `Memory` when an allocation fails.
 pub fn pass_part<A: Allocator, R: Source, W: Sink>(
     passing: Passing,
     cursor: &mut Cursor,
