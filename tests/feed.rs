@@ -6,6 +6,7 @@ mod equal_events;
 mod feeding;
 mod lending;
 mod listings;
+mod passing;
 mod pieces;
 mod reads;
 mod refusals;
