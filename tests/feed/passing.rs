@@ -185,7 +185,7 @@ fn a_part_that_is_cut(rt: HostRuntime) -> Result<(), Fail> {
                 &(piece, end),
             );
             same_at(&rt, output.written(), &PARTS[8..end], &(piece, end));
-            // There is no more to come.
+            // The same again: nothing remains.
             same_at(
                 &rt,
                 stream.pass(alloc, true, &mut output),
