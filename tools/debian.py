@@ -100,7 +100,7 @@ def development(machine, folder, place):
     """libpulleynavy-dev: the header and the static library."""
     name, libdir = "libpulleynavy-dev", "usr/lib/" + TRIPLE % machine
     files = documents(name)
-    files["usr/include/pulleynavy.h"] = (packages.read(packages.prebuilt("pulleynavy.h")), 0o644)
+    files["usr/include/pulleynavy.h"] = (packages.read(packages.HEADER), 0o644)
     files[libdir + "/libpulleynavy.a"] = (packages.read(packages.archive(machine)), 0o644)
     text = packages.pkg_config("/usr", "${prefix}/lib/" + TRIPLE % machine)
     files[libdir + "/pkgconfig/pulleynavy.pc"] = (text, 0o644)

@@ -36,6 +36,8 @@ class Tagged(bdist_wheel):
 setup(distclass=Binary, cmdclass={"bdist_wheel": Tagged})
 """
 
+HEADER = os.path.join(common.TOP, "crates", "wasm_c", "include", "pulleynavy.h")
+
 
 class Missing(Exception):
     """A program that makes a package is not there."""
@@ -213,7 +215,7 @@ def tarball(machine, folder, place):
     shared_library(machine, os.path.join(place, "shared"))
     full = "libpulleynavy.so." + common.version()
     files = [("lib/libpulleynavy.a", read(archive(machine)), 0o644), ("lib/" + full, read(os.path.join(place, "shared")), 0o755)]
-    files += [("include/pulleynavy.h", read(prebuilt("pulleynavy.h")), 0o644)]
+    files += [("include/pulleynavy.h", read(HEADER), 0o644)]
     files += [("lib/pkgconfig/pulleynavy.pc", pkg_config("${pcfiledir}/../.."), 0o644)]
     files += [("bin/" + name, read(prebuilt(name)), 0o755) for name in programs(machine)]
     files += [("share/man/man1/" + name, text, 0o644) for name, text in manuals() if name.split(".")[0] in programs(machine)]
