@@ -2,7 +2,7 @@
 use super::PARTS;
 use super::devices::Failing;
 use crate::tests::{same, same_at};
-use std::alloc::Global;
+use std::alloc::{Allocator, Global};
 use std::test::Fail;
 use wasm_feed::{
     Ahead, BoundedSink, Cursor, ListError, SliceSource, Source, Step, parse_next, seen,
@@ -61,15 +61,15 @@ const PIECES: [usize; 5] = [1, 3, 5, 14, 30];
 
 // What the calls for one stream share.
 #[derive(Drop)]
-struct Stream<R: Drop> {
+struct Stream<R: Drop, A: Allocator + Copy> {
     input: R,
-    ahead: Ahead<Global>,
+    ahead: Ahead<A>,
     cursor: Cursor,
-    stored: Vec<u8>,
+    stored: Vec<u8, A>,
 }
 
-impl<R: Source + Drop> Stream<R> {
-    fn new(alloc: Global, input: R, piece: usize) -> Result<Self, Fail> {
+impl<R: Source + Drop, A: Allocator + Copy> Stream<R, A> {
+    fn new(alloc: A, input: R, piece: usize) -> Result<Self, Fail> {
         Ok(Stream {
             input,
             ahead: Ahead::new(vec![in alloc; 0_u8; piece.max(1)]?),
@@ -108,7 +108,7 @@ impl<R: Source + Drop> Stream<R> {
     // Forwards or drops the custom section. Its bytes are written out to `output`.
     fn pass(
         &mut self,
-        alloc: Global,
+        alloc: A,
         stays: bool,
         output: &mut BoundedSink,
     ) -> Result<Option<Error>, ListError> {
@@ -223,6 +223,22 @@ fn the_sink_is_full_in_a_part(rt: HostRuntime) -> Result<(), Fail> {
     let result = stream.pass(alloc, true, &mut output);
     same(&rt, result, Err(ListError::Output));
     same(&rt, output.written(), &PARTS[8..13]);
+    Ok(())
+}
+
+// No more memory: a part that is dropped needs none.
+#[test]
+fn a_part_without_memory(rt: HostRuntime) -> Result<(), Fail> {
+    let heap = Sparing::new(rt.alloc(), 100);
+    for (stays, wanted) in [(true, Err(ListError::Memory)), (false, Ok(None))] {
+        heap.give(100);
+        let mut output = BoundedSink::new(rt.alloc(), 100)?;
+        let mut stream = Stream::new(&heap, SliceSource::new(PARTS), 5)?;
+        stream.skip_section()?;
+        heap.give(0);
+        same_at(&rt, stream.pass(&heap, stays, &mut output), wanted, &stays);
+        same_at(&rt, output.written(), b"".as_slice(), &stays);
+    }
     Ok(())
 }
 
