@@ -376,6 +376,15 @@ fn written(sink: &mut BoundedSink, bytes: &[u8]) -> (Result<usize, Failed>, bool
 }
 
 #[test]
+fn a_sink_that_discards(rt: HostRuntime) {
+    let mut sink = io::sink();
+    for bytes in [b"".as_slice(), b"abc", &[0; 70_000]] {
+        same(&rt, Sink::write(&mut sink, bytes), Ok(bytes.len()));
+        same(&rt, sink.failed(), false);
+    }
+}
+
+#[test]
 fn a_sink_takes_what_fits(rt: HostRuntime) {
     let mut sink = sink(&rt, rt.alloc(), 5);
     let rows: [(&[u8], (Result<usize, Failed>, bool)); 6] = [

@@ -34,9 +34,8 @@ fn bytes_on_a_page_or_past_it(rt: HostRuntime) -> Result<(), Fail> {
     same(&rt, put(alloc, 16_385, 20_000)?, (Ok(()), 0, 16_388));
     same(&rt, put(alloc, 200_000, 200_003)?, (Ok(()), 0, 200_003));
     for room in [0, 2, 3, 200_002] {
-        let (result, _, written) = put(alloc, 200_000, room)?;
-        same_at(&rt, result, Err(ListError::Output), &room);
-        same_at(&rt, written, room, &room);
+        let failed = (Err(ListError::Output), 0, room);
+        same_at(&rt, put(alloc, 200_000, room)?, failed, &room);
     }
     Ok(())
 }
@@ -53,7 +52,27 @@ fn a_page_without_memory(rt: HostRuntime) -> Result<(), Fail> {
             Err(ListError::Memory),
         );
         same(&rt, output.written(), b"".as_slice());
+        same(&rt, page.len(), 0);
     }
+    Ok(())
+}
+
+#[test]
+fn a_page_whose_sink_is_full(rt: HostRuntime) -> Result<(), Fail> {
+    let mut output = BoundedSink::new(rt.alloc(), 1)?;
+    let mut page = Page::new(rt.alloc());
+    page.put(b"abc", &mut output)?;
+    for _ in 0..2 {
+        let failed = Err(ListError::Output);
+        same(&rt, page.write_out(&mut output), failed);
+        same(&rt, page.put(&[0; 65_534], &mut output), failed);
+        same(&rt, page.len(), 3);
+        same(&rt, output.written(), b"a".as_slice());
+    }
+    page.clear();
+    page.clear();
+    same(&rt, page.len(), 0);
+    same(&rt, page.write_out(&mut output), Ok(()));
     Ok(())
 }
 
@@ -105,6 +124,24 @@ impl<R: Source + Drop, A: Allocator + Copy> Stream<R, A> {
         Err("nothing was skipped".into())
     }
 
+    // Forwards or drops a part.
+    fn pass_on(
+        &mut self,
+        part: Passing,
+        page: &mut Page<A>,
+        output: &mut BoundedSink,
+    ) -> Result<Option<Error>, ListError> {
+        pass_part(
+            part,
+            &mut self.cursor,
+            &mut self.stored,
+            &mut self.ahead,
+            page,
+            &mut self.input,
+            output,
+        )
+    }
+
     // Forwards or drops the custom section. Its bytes are written out to `output`.
     fn pass(
         &mut self,
@@ -112,23 +149,28 @@ impl<R: Source + Drop, A: Allocator + Copy> Stream<R, A> {
         stays: bool,
         output: &mut BoundedSink,
     ) -> Result<Option<Error>, ListError> {
-        let section = Passing {
-            from: 10,
-            size: 24,
-            stays,
-        };
         let mut page = Page::new(alloc);
-        let fault = pass_part(
-            section,
-            &mut self.cursor,
-            &mut self.stored,
-            &mut self.ahead,
-            &mut page,
-            &mut self.input,
-            output,
-        )?;
+        let fault = self.pass_on(section(stays), &mut page, output)?;
         page.write_out(output)?;
         Ok(fault)
+    }
+
+    // Returns how many bytes are stored, the cursor's mark, and how many bytes of the chunk remain.
+    fn held(&self) -> (usize, usize, usize) {
+        (
+            self.stored.len(),
+            self.cursor.mark(),
+            self.ahead.bytes().len(),
+        )
+    }
+}
+
+// The custom section of `PARTS`.
+fn section(stays: bool) -> Passing {
+    Passing {
+        from: 10,
+        size: 24,
+        stays,
     }
 }
 
@@ -198,24 +240,29 @@ fn a_part_that_is_cut(rt: HostRuntime) -> Result<(), Fail> {
     Ok(())
 }
 
+// The source fails after 20 bytes, of which 12 are the section's: they wait on the page, or are dropped.
 #[test]
 fn the_source_fails_in_a_part(rt: HostRuntime) -> Result<(), Fail> {
     let alloc = rt.alloc();
-    for stays in [false, true] {
+    for (stays, waiting) in [(false, 0), (true, 12)] {
         let mut output = BoundedSink::new(alloc, 100)?;
+        let mut page = Page::new(alloc);
         let mut stream = Stream::new(alloc, Failing::after(PARTS, 5, 4), 5)?;
         stream.skip_section()?;
         for _ in 0..2 {
-            let result = stream.pass(alloc, stays, &mut output);
+            let result = stream.pass_on(section(stays), &mut page, &mut output);
             same_at(&rt, result, Err(ListError::Input), &stays);
+            same_at(&rt, stream.held(), (0, 0, 0), &stays);
+            same_at(&rt, page.len(), waiting, &stays);
         }
-        assert!(rt; PARTS[8..].starts_with(output.written()), "{stays}");
+        page.write_out(&mut output)?;
+        same_at(&rt, output.written(), &PARTS[8..8 + waiting], &stays);
     }
     Ok(())
 }
 
 #[test]
-fn the_sink_is_full_in_a_part(rt: HostRuntime) -> Result<(), Fail> {
+fn the_sink_is_full_after_a_part(rt: HostRuntime) -> Result<(), Fail> {
     let alloc = rt.alloc();
     let mut output = BoundedSink::new(alloc, 5)?;
     let mut stream = Stream::new(alloc, SliceSource::new(PARTS), 14)?;
@@ -223,6 +270,31 @@ fn the_sink_is_full_in_a_part(rt: HostRuntime) -> Result<(), Fail> {
     let result = stream.pass(alloc, true, &mut output);
     same(&rt, result, Err(ListError::Output));
     same(&rt, output.written(), &PARTS[8..13]);
+    Ok(())
+}
+
+// Bytes that are too many for the page are written at once, after those that waited.
+#[test]
+fn the_sink_is_full_in_a_part(rt: HostRuntime) -> Result<(), Fail> {
+    let alloc = rt.alloc();
+    let bytes = vec![in alloc; 7_u8; 60_000]?;
+    let part = Passing {
+        from: 0,
+        size: 40_000,
+        stays: true,
+    };
+    for (room, rest) in [(2, 40_000), (20_003, 20_000)] {
+        let mut output = BoundedSink::new(alloc, room)?;
+        let mut page = Page::new(alloc);
+        page.put(b"abc", &mut output)?;
+        let mut stream = Stream::new(alloc, SliceSource::new(&bytes), 20_000)?;
+        let result = stream.pass_on(part, &mut page, &mut output);
+        same_at(&rt, result, Err(ListError::Output), &room);
+        same_at(&rt, stream.held(), (0, 0, 0), &room);
+        same_at(&rt, (page.len(), output.written().len()), (0, room), &room);
+        let mut piece = [0; 60_000];
+        same_at(&rt, stream.input.read(&mut piece)?, rest, &room);
+    }
     Ok(())
 }
 
@@ -238,6 +310,7 @@ fn a_part_without_memory(rt: HostRuntime) -> Result<(), Fail> {
         heap.give(0);
         same_at(&rt, stream.pass(&heap, stays, &mut output), wanted, &stays);
         same_at(&rt, output.written(), b"".as_slice(), &stays);
+        same_at(&rt, (stream.held().0, stream.held().1), (0, 0), &stays);
     }
     Ok(())
 }
@@ -246,7 +319,7 @@ fn a_part_without_memory(rt: HostRuntime) -> Result<(), Fail> {
 #[test]
 fn a_part_at_the_largest_offset(rt: HostRuntime) -> Result<(), Fail> {
     let alloc = rt.alloc();
-    let section = Passing {
+    let part = Passing {
         from: u64::MAX,
         size: u64::MAX,
         stays: true,
@@ -254,15 +327,7 @@ fn a_part_at_the_largest_offset(rt: HostRuntime) -> Result<(), Fail> {
     let mut stream = Stream::new(alloc, SliceSource::new(b"abc"), 2)?;
     let mut output = BoundedSink::new(alloc, 3)?;
     let mut page = Page::new(alloc);
-    let fault = pass_part(
-        section,
-        &mut stream.cursor,
-        &mut stream.stored,
-        &mut stream.ahead,
-        &mut page,
-        &mut stream.input,
-        &mut output,
-    )?;
+    let fault = stream.pass_on(part, &mut page, &mut output)?;
     same(&rt, fault, Some(Error::new(Fault::UnexpectedEof, u64::MAX)));
     same(&rt, page.len(), 3);
     Ok(())

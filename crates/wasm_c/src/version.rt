@@ -11,7 +11,7 @@ ghost use Rattle.std.specs.Prelude.{◌≡◌};
 /// ```
 #[unsafe(no_mangle)]
 pub extern "C" fn pulleynavy_version() -> u32
-    ensures { result ≡ 1792 }
+    ensures { result ≡ 2048 }
 {
-    1792
+    2048
 }

@@ -150,44 +150,41 @@ pub enum RelocAddendKind {
     Addend64,
 }
 
-// The types in the order of their numbers.
-const TYPES: [RelocationType; 27] = [
-    RelocationType::FunctionIndexLeb,
-    RelocationType::TableIndexSleb,
-    RelocationType::TableIndexI32,
-    RelocationType::MemoryAddrLeb,
-    RelocationType::MemoryAddrSleb,
-    RelocationType::MemoryAddrI32,
-    RelocationType::TypeIndexLeb,
-    RelocationType::GlobalIndexLeb,
-    RelocationType::FunctionOffsetI32,
-    RelocationType::SectionOffsetI32,
-    RelocationType::EventIndexLeb,
-    RelocationType::MemoryAddrRelSleb,
-    RelocationType::TableIndexRelSleb,
-    RelocationType::GlobalIndexI32,
-    RelocationType::MemoryAddrLeb64,
-    RelocationType::MemoryAddrSleb64,
-    RelocationType::MemoryAddrI64,
-    RelocationType::MemoryAddrRelSleb64,
-    RelocationType::TableIndexSleb64,
-    RelocationType::TableIndexI64,
-    RelocationType::TableNumberLeb,
-    RelocationType::MemoryAddrTlsSleb,
-    RelocationType::FunctionOffsetI64,
-    RelocationType::MemoryAddrLocrelI32,
-    RelocationType::TableIndexRelSleb64,
-    RelocationType::MemoryAddrTlsSleb64,
-    RelocationType::FunctionIndexI32,
-];
-
 // Returns the type with this number, if any.
+//
+// A `match`, and no table of the types, because LLVM finds that each has the number that it is looked up by.
 fn type_numbered(number: u8) -> Option<RelocationType>
     ensures { result ≡ slice_get types number }
 {
-    match TYPES.get(usize::from(number)) {
-        Some(ty) => Some(*ty),
-        None => None,
+    match number {
+        0 => Some(RelocationType::FunctionIndexLeb),
+        1 => Some(RelocationType::TableIndexSleb),
+        2 => Some(RelocationType::TableIndexI32),
+        3 => Some(RelocationType::MemoryAddrLeb),
+        4 => Some(RelocationType::MemoryAddrSleb),
+        5 => Some(RelocationType::MemoryAddrI32),
+        6 => Some(RelocationType::TypeIndexLeb),
+        7 => Some(RelocationType::GlobalIndexLeb),
+        8 => Some(RelocationType::FunctionOffsetI32),
+        9 => Some(RelocationType::SectionOffsetI32),
+        10 => Some(RelocationType::EventIndexLeb),
+        11 => Some(RelocationType::MemoryAddrRelSleb),
+        12 => Some(RelocationType::TableIndexRelSleb),
+        13 => Some(RelocationType::GlobalIndexI32),
+        14 => Some(RelocationType::MemoryAddrLeb64),
+        15 => Some(RelocationType::MemoryAddrSleb64),
+        16 => Some(RelocationType::MemoryAddrI64),
+        17 => Some(RelocationType::MemoryAddrRelSleb64),
+        18 => Some(RelocationType::TableIndexSleb64),
+        19 => Some(RelocationType::TableIndexI64),
+        20 => Some(RelocationType::TableNumberLeb),
+        21 => Some(RelocationType::MemoryAddrTlsSleb),
+        22 => Some(RelocationType::FunctionOffsetI64),
+        23 => Some(RelocationType::MemoryAddrLocrelI32),
+        24 => Some(RelocationType::TableIndexRelSleb64),
+        25 => Some(RelocationType::MemoryAddrTlsSleb64),
+        26 => Some(RelocationType::FunctionIndexI32),
+        _ => None,
     }
 }
 

@@ -1,5 +1,5 @@
 // Skips the parts of a stream of which a dump shows nothing.
-ghost use Rattle.std.specs.Prelude.{◌≡◌, ◌<◌, [], false, drop, length, option_map, Some, IfErr, IfOk, OnOk};
+ghost use Rattle.std.specs.Prelude.{◌≡◌, ◌<◌, [], false, drop, length, option_map, Some, IfErr, IfOk};
 ghost use Rattle.wasm_dumper.specs.Chosen.{id_of as id_reported, name_of as name_reported};
 ghost use Rattle.wasm_dumper.specs.Hiding.{DropsPart, FailsWithin, HidesIfAny, is_body_head, is_hidden as hides};
 ghost use Rattle.wasm_feeder.specs.Beside.{seen};
@@ -9,10 +9,11 @@ ghost use Rattle.wasm_text.specs.Calls.{input_failed};
 
 use crate::events::{Only, is_chosen_by_any};
 use std::alloc::Global;
+use std::io;
 use wasm_feeder::{Ahead, Cursor, Passing, pass_part};
 use wasm_grammar::{CODE_SECTION, CUSTOM_SECTION, IMPORT_SECTION};
 use wasm_parser::{Error, PartHead};
-use wasm_text::{Failed, ListError, Page, Sink, Source};
+use wasm_text::{ListError, Page, Source};
 
 /// A part of which a dump shows nothing.
 #[derive(Clone, Copy)]
@@ -88,22 +89,6 @@ pub(crate) fn skip_hidden(only: &[Only<'_>], cursor: &mut Cursor, bytes: &[u8]) 
     Some(hidden)
 }
 
-// A sink that discards its bytes.
-#[derive(Drop)]
-struct Discarded {}
-
-impl Sink for Discarded {
-    ghost has_failed = { λ _. false };
-
-    fn write(&mut self, buf: &[u8]) -> Result<usize, Failed> {
-        Ok(buf.len())
-    }
-
-    fn failed(&self) -> bool {
-        false
-    }
-}
-
 /// Drops a part that the cursor has skipped, whose first bytes are held. Returns the fault of a stream that ends before
 /// the part does.
 pub(crate) fn drop_hidden<R: Source>(
@@ -118,8 +103,8 @@ pub(crate) fn drop_hidden<R: Source>(
     requires drops { hidden.passing.stays ≡ false }
     ensures drops { IfOk result (λ fault. DropsPart (R.remaining input.old) (R.remaining input.new)
         hidden.passing (held_by cursor.old stored.old.items ahead.old) fault ahead.new) }
-    ensures none { OnOk result (stored.new.items ≡ []) }
-    ensures cursor { OnOk result (cursor.new ≡ record cursor.old { mark = 0 }) }
+    ensures none { stored.new.items ≡ [] }
+    ensures cursor { cursor.new ≡ record cursor.old { mark = 0 } }
     ensures fails { IfErr result (λ e. FailsWithin (R.remaining input.old) (R.remaining input.new)
         hidden.passing.size (held_by cursor.old stored.old.items ahead.old) e) }
     ensures source { R.has_failed input.new ≡ input_failed result (R.has_failed input.old) }
@@ -131,6 +116,6 @@ pub(crate) fn drop_hidden<R: Source>(
         ahead,
         &mut Page::new(alloc),
         input,
-        &mut Discarded {},
+        &mut io::sink(),
     )
 }

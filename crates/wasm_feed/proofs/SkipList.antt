@@ -27,7 +27,7 @@ use Rattle.wasm_feeder.specs.declared.feeder.Cursor.{Cursor}
 use Rattle.wasm_feed.specs.declared.listing.Dropped.{Dropped}
 use Rattle.wasm_feeder.specs.declared.turns.Ended.TheVariants.{Fault}
 use Rattle.wasm_feeder.specs.declared.passing.Passing.{Passing}
-use Rattle.wasm_feeder.proofs.ForCallers.{none_put}
+use Rattle.wasm_feeder.proofs.ForCallers.{dropped_before, none_put}
 use Rattle.wasm_feeder.proofs.ForCallers.{AtEnd, cut, cut_at_end, listed_to_end, put_line}
 use Rattle.wasm_feeder.proofs.ForCallers.{came, is_along, is_below, is_short, lighter, reads_short}
 
@@ -56,12 +56,13 @@ module _ (source rest taken written : Option (List ℕ)) (c : Cursor) (stored ch
   p = w.progress
 
   -- the source failed within the part
-  pub given_up : (written' : Option (List ℕ)) (e : ListError)
-      → GivesUp rest rest' written written' passing.stays passing.size (held_by skipped stored chunk) waiting e
+  pub given_up : (written' : Option (List ℕ)) (e : ListError) (left page : List ℕ)
+      → GivesUp rest rest' written written' passing.stays passing.size (held_by skipped stored chunk) waiting e left page
       → ListsBy line_of (from_to source rest') (from_to taken written') (Err e)
-  given_up written' e g =
-      let (is, none, fewer) = g.drops drops in
-      let written_so : Appends written written' [] = rw (none nothing) at g.wrote in
+  given_up written' e left page g =
+      let (is, wrote, fewer) = dropped_before written written' passing.stays passing.size waiting g.passed left page
+      (held_by skipped stored chunk) g.given e g.ends g.parts drops in
+      let written_so = wrote nothing in
       rw is (record {
         given = p.given ++ g.given;
         events = p.events;

@@ -13,7 +13,7 @@ use Rattle.wasm_grammar.specs.Content.{Ending, fault, ended}
 use Rattle.wasm_grammar.specs.EventRanges.{consumed_by}
 use Rattle.wasm_grammar.specs.Reading.{Report, Event, last_event, Reading, custom_section, counted, unknown_section, code_entry}
 use Rattle.wasm_text.specs.Calls.{from_to}
-use Rattle.wasm_text.specs.Page.{IsCut, PutsBytes}
+use Rattle.wasm_text.specs.Page.{IsCut, PutsBytes, WritesHead}
 use Rattle.wasm_text.specs.declared.devices.ListError.{ListError}
 use Rattle.wasm_parser.specs.Along.{Along, ReadsEach, Came}
 use Rattle.wasm_parser.specs.GivesNextEvent.{MayBe}
@@ -21,20 +21,21 @@ use Rattle.wasm_parser.specs.ParseAnswer.{report_of, is_end}
 use Rattle.wasm_parser.specs.SkipNext.{Skip, SkipCame, skip_in}
 use Rattle.wasm_parser.specs.declared.payload.Payload.{Payload}
 use Rattle.wasm_parser.proofs.ForCallers.{answers_go_along}
-use Rattle.wasm_feeder.specs.Beside.{beside, lending, IsAlike, FillsAlike}
+use Rattle.wasm_feeder.specs.Beside.{beside, lending, seen, IsAlike, FillsAlike}
 use Rattle.wasm_feeder.specs.Cursors.{feed_of}
 use Rattle.wasm_feeder.specs.Feed.{Feed, new_feed, pushed, finished}
 use Rattle.wasm_feeder.specs.Lists.{IsEndedBy, IsWhole}
-use Rattle.wasm_feeder.specs.Passing.{GivesUp, held_by, if_stays}
+use Rattle.wasm_feeder.specs.Passing.{SkipsHere, held_by, if_stays}
 use Rattle.wasm_feeder.specs.Progress.{weight}
 use Rattle.wasm_feeder.specs.Step.{chunk_of, Stepped, Steps}
-use Rattle.wasm_feed.specs.StripStream.{IsStreamed, PassesHere, ReadsOrPasses, WroteSome, piece_after}
+use Rattle.wasm_feed.specs.StripStream.{IsStreamed, PassesHere, ReadsOrPasses, StopsHere, StripsHead, piece_after}
 use Rattle.wasm_feeder.specs.Fates.{head_stays}
 use Rattle.wasm_feed.specs.Stripped.{event_stays, kept_bytes}
 use Rattle.wasm_feeder.specs.Fates.{report_stays}
 use Rattle.wasm_feeder.specs.Turns.{turn_after}
 use Rattle.wasm_feeder.specs.declared.feeder.Cursor.{Cursor}
 use Rattle.wasm_feeder.specs.declared.feeder.Step.{Step}
+use Rattle.wasm_feeder.specs.declared.passing.Passing.{Passing}
 use Rattle.wasm_feeder.specs.declared.feeder.Step.TheVariants.{NeedMoreData, Parsed}
 use Rattle.wasm_feeder.specs.declared.turns.Ended.{Ended}
 use Rattle.wasm_feeder.specs.declared.turns.Ended.TheVariants.{End, Fault}
@@ -42,7 +43,7 @@ use Rattle.wasm_feeder.specs.declared.turns.Turn.TheVariants as turn
 use Rattle.wasm_feed.proofs.KeptFrames.{kept_more}
 use Rattle.wasm_feeder.proofs.ForCallers.{stepped as step_along}
 use Rattle.wasm_feed.proofs.StripLaws.{strips_so}
-use Rattle.wasm_feeder.proofs.ForCallers.{cut_wrote}
+use Rattle.wasm_feeder.proofs.ForCallers.{head_after, head_before, head_of_cut}
 use Rattle.wasm_feeder.proofs.ForCallers.{came, is_along, is_below, is_short, lighter as lighter_after, reads_short, same_held}
 
 -- The bytes of what the feeder has passed that stay are written, or wait on the page.
@@ -76,7 +77,7 @@ alike keeps source rest taken written f g page a p = record {
   parts = p.parts;
 }
 
-begun : (keeps : List ℕ → Bool) (source taken : Option (List ℕ))
+pub begun : (keeps : List ℕ → Bool) (source taken : Option (List ℕ))
     → StripProgress keeps source source taken taken (new_feed 0 all_features) []
 begun keeps source taken = record {
   given = [];
@@ -139,37 +140,33 @@ module _ (keeps : List ℕ → Bool) (source rest taken written : Option (List �
   whole_input : (events : List Event) → ReadsEach 0 all_features f.eof p.given events → IsWhole source p.given events
   whole_input events r = grind (arith, all_given, append-nil)
 
-  -- what was written, and waits to be
-  cut_some : (written' : Option (List ℕ)) (waiting : List ℕ) (e : ListError) → IsCut written written' waiting e
-      → WroteSome (from_to source rest) (from_to taken written')
-  cut_some written' waiting e w =
-      let (some, a) = cut_wrote written written' waiting e w in
-      record { given = p.given; some = p.lines ++ some; gave = p.gave; wrote = Appends-trans taken written written' p.lines some p.wrote a }
-
-  pub cut : (written' : Option (List ℕ)) (bytes : List ℕ) (e : ListError) → IsCut written written' (page ++ bytes) e
-      → WroteSome (from_to source rest) (from_to taken written')
-  cut written' bytes e w = cut_some written' (page ++ bytes) e w
-
-  pub cut_page : (mid written' : Option (List ℕ)) (bytes page' waiting : List ℕ) (e : ListError) → PutsBytes written mid page bytes page'
-      → IsCut mid written' waiting e → WroteSome (from_to source rest) (from_to taken written')
-  cut_page mid written' bytes page' waiting e w v =
-      let (some, a) = cut_wrote mid written' waiting e v in
-      record {
-        given = p.given;
-        some = (p.lines ++ w.moved) ++ some;
-        gave = p.gave;
-        wrote = Appends-trans taken mid written' (p.lines ++ w.moved) some
-            (Appends-trans taken written mid p.lines w.moved p.wrote w.writes) a;
-      }
-
-  pub gave_up : (rest' written' : Option (List ℕ)) → WroteSome (from_to rest rest') (from_to written written')
-      → WroteSome (from_to source rest') (from_to taken written')
-  gave_up rest' written' w = record {
-    given = p.given ++ w.given;
-    some = p.lines ++ w.some;
-    gave = Consumes-trans source rest rest' p.given w.given p.gave w.gave;
-    wrote = Appends-trans taken written written' p.lines w.some p.wrote w.wrote;
+  -- the call is given up after more bytes
+  pub gave_up : (rest' written' : Option (List ℕ)) (more partial unread : List ℕ) → Consumes rest rest' more
+      → f.held ++ more ≡ partial ++ unread → WritesHead written written' (page ++ partial)
+      → StripsHead keeps (from_to source rest') (from_to taken written')
+  gave_up rest' written' more partial unread g same w = record {
+    given = p.given ++ more;
+    first = p.events;
+    partial = partial;
+    unread = unread;
+    gave = Consumes-trans source rest rest' p.given more p.gave g;
+    begins = answers_go_along.first 0 all_features p.given f.state f.held p.events false p.is_along (p.given ++ more) (more, refl);
+    parts = ap (λ (l : List ℕ). l ++ more) (answers_go_along.consumed 0 all_features p.given f.state f.held p.events p.is_along)
+        ∙ (append_assoc (consumed_by p.events) f.held more ∙ ap (λ (l : List ℕ). consumed_by p.events ++ l) same);
+    wrote = record {
+      moved = p.lines ++ w.moved;
+      unwritten = w.unwritten;
+      parts = ap (λ (l : List ℕ). l ++ partial) p.parts ∙ (append_assoc p.lines page partial
+          ∙ (ap (λ (l : List ℕ). p.lines ++ l) w.parts ∙ sym (append_assoc p.lines w.moved w.unwritten)));
+      wrote = Appends-trans taken written written' p.lines w.moved p.wrote w.wrote;
+    };
   }
+
+  -- nothing more was written
+  pub gave_up_at_once : (rest' : Option (List ℕ)) (more : List ℕ) → Consumes rest rest' more
+      → StripsHead keeps (from_to source rest') (from_to taken written)
+  gave_up_at_once rest' more g = gave_up rest' written more [] (f.held ++ more) g refl
+      (record { moved = []; unwritten = page ++ []; parts = refl; wrote = Appends-nil written })
 
   module _ (g : Feed) where
     -- what a step did, if the given bytes are below the top
@@ -209,6 +206,34 @@ module _ (keeps : List ℕ → Bool) (source rest taken written : Option (List �
           },
           rw s.eof (omega (arith, ends_at, o, n, some, given_below (Parsed bytes payload) s)),
         )
+
+    -- the bytes of a step that stay are the first that are held
+    piece_of : (x : Result Step Error) → Steps f x g → (unread : List ℕ) × (f.held ≡ piece_after keeps x ++ unread)
+    piece_of (Ok (Parsed bytes payload)) s = by_end (is_end (report_of payload)) (report_stays keeps (report_of payload))
+      where
+        by_end : (b k : Bool) → (unread : List ℕ) × (f.held ≡ (if b then [] else if_stays k bytes.now) ++ unread)
+        by_end true k = (f.held, refl)
+        by_end false true = (g.held, s.shows)
+        by_end false false = (f.held, refl)
+    piece_of (Ok (NeedMoreData hint)) s = (f.held, refl)
+    piece_of (Err e) s = (f.held, refl)
+
+    -- the bytes of a step could not be put, or were put and could not be written
+    wrote_up_to : (x : Result Step Error) → Steps f x g → (written' : Option (List ℕ))
+        → WritesHead written written' (page ++ piece_after keeps x) → StripsHead keeps (from_to source rest) (from_to taken written')
+    wrote_up_to x s written' w =
+        let (unread, same) = piece_of x s in
+        gave_up rest written' [] (piece_after keeps x) unread (Consumes-nil rest) (append-nil f.held ∙ same) w
+
+    pub cut : (x : Result Step Error) → Steps f x g → (written' : Option (List ℕ)) (e : ListError)
+        → IsCut written written' (page ++ piece_after keeps x) e → StripsHead keeps (from_to source rest) (from_to taken written')
+    cut x s written' e w = wrote_up_to x s written' (head_of_cut written written' (page ++ piece_after keeps x) e w)
+
+    pub cut_page : (x : Result Step Error) → Steps f x g → (mid written' : Option (List ℕ)) (page' : List ℕ) (e : ListError)
+        → PutsBytes written mid page (piece_after keeps x) page' → IsCut mid written' page' e
+        → StripsHead keeps (from_to source rest) (from_to taken written')
+    cut_page x s mid written' page' e w v = wrote_up_to x s written'
+        (head_after written mid written' page (piece_after keeps x) page' w (head_of_cut mid written' page' e v))
 
     -- ---- the turns
 
@@ -406,6 +431,26 @@ module _ (keeps : List ℕ → Bool) (source rest taken written : Option (List �
 
 -- ---- a part that is skipped
 
+-- its bytes that do not stay
+abbrev dropped : Bool → List ℕ → List ℕ
+dropped true xs = []
+dropped false xs = xs
+
+both_parts : (b : Bool) (xs : List ℕ) → if_stays b xs ++ dropped b xs ≡ xs
+both_parts true xs = append-nil xs
+both_parts false xs = refl
+
+held_parts : (keeps : List ℕ → Bool) (source rest taken written : Option (List ℕ)) (c : Cursor) (stored chunk page : List ℕ)
+    (q : StripProgress keeps source rest taken written (lending stored chunk c) page) (passing : Passing) (skipped : Cursor)
+    → SkipsHere (head_stays keeps) c (seen stored chunk) passing skipped → (fetched part left : List ℕ)
+    → held_by skipped stored chunk ++ fetched ≡ part ++ left
+    → held_by c stored chunk ++ fetched ≡ if_stays passing.stays part ++ (dropped passing.stays part ++ left)
+held_parts keeps source rest taken written c stored chunk page q passing skipped skips fetched part left parts =
+    ap (λ (l : List ℕ). l ++ fetched)
+    (sym (same_held (head_stays keeps) q.given q.events c stored chunk q.is_along passing skipped skips fetched))
+    ∙ (parts ∙ (ap (λ (l : List ℕ). l ++ left) (sym (both_parts passing.stays part))
+    ∙ append_assoc (if_stays passing.stays part) (dropped passing.stays part) left))
+
 module _ (keeps : List ℕ → Bool) (source rest taken written : Option (List ℕ)) (c : Cursor) (stored chunk page : List ℕ)
     (w : StripWants keeps source rest taken written (lending stored chunk c) page) (rest' written' : Option (List ℕ))
     (how_cut : Option Error)
@@ -494,13 +539,15 @@ module _ (keeps : List ℕ → Bool) (source rest taken written : Option (List �
           ∙ (sym (append_assoc q.lines page (if_stays x.passing.stays x.passes.part))
           ∙ ap (λ (l : List ℕ). l ++ if_stays x.passing.stays x.passes.part) (sym q.parts)))
 
-      dropped : Bool → List ℕ → List ℕ
-      dropped true xs = []
-      dropped false xs = xs
-
-      both_parts : (b : Bool) (xs : List ℕ) → if_stays b xs ++ dropped b xs ≡ xs
-      both_parts true xs = append-nil xs
-      both_parts false xs = refl
+  -- the page could not be written after that
+  page_cut : (written'' : Option (List ℕ)) (e : ListError) → IsCut written' written'' page' e
+      → StripsHead keeps (from_to source rest') (from_to taken written'')
+  page_cut written'' e v = gave_up keeps source rest taken written (lending stored chunk c) page q rest' written'' x.passes.fetched
+      (if_stays x.passing.stays x.passes.part) (dropped x.passing.stays x.passes.part ++ x.left) x.passes.gave
+      (held_parts keeps source rest taken written c stored chunk page q x.passing x.skipped x.skips x.passes.fetched x.passes.part x.left
+      x.passes.parts)
+      (head_after written written' written'' page (if_stays x.passing.stays x.passes.part) page' x.passes.puts
+      (head_of_cut written' written'' page' e v))
 
 -- what was done with a request, if no part was cut off
 pub went_past : (keeps : List ℕ → Bool) (source rest taken written : Option (List ℕ)) (c : Cursor) (stored chunk page : List ℕ)
@@ -525,26 +572,25 @@ was_cut keeps source rest taken written c stored chunk page w rest' written' how
     cut_off keeps source rest taken written c stored chunk page w rest' written' how_cut new page' x e ends.3 ends.0 ends.1 ends.2
     written'' v
 
--- what was read and written for a request
-pub went_wrote : (keeps : List ℕ → Bool) (rest written rest' written' : Option (List ℕ)) (c : Cursor) (stored chunk page : List ℕ)
-    (how_cut : Option Error) (new : Feed) (page' : List ℕ)
-    → ReadsOrPasses keeps rest rest' written written' c stored chunk page how_cut new page'
-    → WroteSome (from_to rest rest') (from_to written written')
-went_wrote keeps rest written rest' written' c stored chunk page how_cut new page' (inl (inl (gave, end, a), same, waits, none)) =
-    rw same (record { given = []; some = []; gave = gave; wrote = Appends-nil written })
-went_wrote keeps rest written rest' written' c stored chunk page how_cut new page' (inl (inr (piece, gave, some, a), same, waits, none)) =
-    rw same (record { given = piece; some = []; gave = gave; wrote = Appends-nil written })
-went_wrote keeps rest written rest' written' c stored chunk page how_cut new page' (inr x) =
-    record { given = x.passes.fetched; some = x.passes.puts.moved; gave = x.passes.gave; wrote = x.passes.puts.writes }
+-- the page could not be written after a part was cut off
+pub cut_after : (keeps : List ℕ → Bool) (source rest taken written : Option (List ℕ)) (c : Cursor) (stored chunk page : List ℕ)
+    → StripWants keeps source rest taken written (lending stored chunk c) page → (rest' written' : Option (List ℕ)) (how_cut : Option Error)
+    (new : Feed) (page' : List ℕ) → ReadsOrPasses keeps rest rest' written written' c stored chunk page how_cut new page' → (e : Error)
+    → how_cut ≡ Some e → (written'' : Option (List ℕ)) (why : ListError) → IsCut written' written'' page' why
+    → StripsHead keeps (from_to source rest') (from_to taken written'')
+cut_after keeps source rest taken written c stored chunk page w rest' written' how_cut new page' (inl (fills, same, waits, none)) e is
+    written'' why v = absurd (let no : None ≡ Some e = sym none ∙ is in cc)
+cut_after keeps source rest taken written c stored chunk page w rest' written' how_cut new page' (inr x) e is written'' why v =
+    page_cut keeps source rest taken written c stored chunk page w rest' written' how_cut new page' x written'' why v
 
-pub wrote_more : (source rest taken written written' : Option (List ℕ)) (waiting : List ℕ) (e : ListError)
-    → WroteSome (from_to source rest) (from_to taken written) → IsCut written written' waiting e
-    → WroteSome (from_to source rest) (from_to taken written')
-wrote_more source rest taken written written' waiting e w v =
-    let (some, a) = cut_wrote written written' waiting e v in
-    record { given = w.given; some = w.some ++ some; gave = w.gave; wrote = Appends-trans taken written written' w.some some w.wrote a }
-
-pub up_wrote : (source rest taken written : Option (List ℕ)) (stays : Bool) (missing : ℕ) (chunk waiting : List ℕ) (e : ListError)
-    → GivesUp source rest taken written stays missing chunk waiting e → WroteSome (from_to source rest) (from_to taken written)
-up_wrote source rest taken written stays missing chunk waiting e w =
-    record { given = w.given; some = w.some; gave = w.gave; wrote = w.wrote }
+-- a request could not be met
+pub stopped_here : (keeps : List ℕ → Bool) (source rest taken written : Option (List ℕ)) (c : Cursor) (stored chunk page : List ℕ)
+    → StripWants keeps source rest taken written (lending stored chunk c) page → (rest' written' : Option (List ℕ)) (e : ListError)
+    → StopsHere keeps rest rest' written written' c stored chunk page e → StripsHead keeps (from_to source rest') (from_to taken written')
+stopped_here keeps source rest taken written c stored chunk page w rest' written' e (inl (given, gave, same)) =
+    rw same (gave_up_at_once keeps source rest taken written (lending stored chunk c) page w.progress rest' given gave)
+stopped_here keeps source rest taken written c stored chunk page w rest' written' e (inr x) =
+    gave_up keeps source rest taken written (lending stored chunk c) page w.progress rest' written' x.up.given
+    (if_stays x.passing.stays x.up.passed) (dropped x.passing.stays x.up.passed ++ x.left) x.up.gave
+    (held_parts keeps source rest taken written c stored chunk page w.progress x.passing x.skipped x.skips x.up.given x.up.passed x.left
+    x.up.parts) (head_before written written' x.passing.stays x.passing.size page x.up.passed x.left x.page e x.up.ends)

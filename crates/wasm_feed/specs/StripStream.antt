@@ -8,14 +8,16 @@ use Rattle.wasm_grammar.specs.Content.{Ending}
 use Rattle.wasm_grammar.specs.EventRanges.{consumed_by}
 use Rattle.wasm_grammar.specs.Reading.{Event, last_event, Stream}
 use Rattle.wasm_text.specs.Calls.{Change, Device, bytes_of, input_failed, output_failed}
-use Rattle.wasm_text.specs.Page.{IsCut, PutsBytes}
+use Rattle.wasm_text.specs.Page.{IsCut, PutsBytes, WritesHead}
+use Rattle.wasm_base.specs.Features.{all_features}
+use Rattle.wasm_parser.specs.Along.{ReadingBegins}
 use Rattle.wasm_text.specs.declared.devices.ListError.{ListError}
 use Rattle.wasm_parser.specs.ParseAnswer.{report_of, is_end}
 use Rattle.wasm_feeder.specs.Beside.{seen, lending, FillsAlike}
 use Rattle.wasm_feeder.specs.Fates.{head_stays}
 use Rattle.wasm_feeder.specs.Feed.{Feed}
 use Rattle.wasm_feeder.specs.Lists.{IsEndedBy, IsWhole, PassesTop}
-use Rattle.wasm_feeder.specs.Passing.{PassesPart, SkipsHere, if_stays}
+use Rattle.wasm_feeder.specs.Passing.{GivesUp, PassesPart, SkipsHere, held_by, if_stays}
 use Rattle.wasm_feed.specs.Stripped.{IsStripped, kept_bytes}
 use Rattle.wasm_feeder.specs.Fates.{report_stays}
 use Rattle.wasm_feeder.specs.Turns.{turn_after}
@@ -49,13 +51,6 @@ abbrev pub SkipsIfAny : (keeps : List ℕ → Bool) → Cursor → (bytes : List
 SkipsIfAny keeps old bytes (Some passing) new = SkipsHere (head_stays keeps) old bytes passing new
 SkipsIfAny keeps old bytes None new = new ≡ old
 
--- The call was given up: some bytes of the source were read, and some written.
-pub record WroteSome (input output : Change) : Type 0 where
-  pub given : List ℕ
-  pub some : List ℕ
-  pub gave : Consumes input.before input.after given
-  pub wrote : Appends output.before output.after some
-
 -- ---- a whole stream
 
 -- What was done with a request: the next bytes were read, or a part was skipped, of which these were the first bytes.
@@ -81,6 +76,39 @@ ReadsOrPasses keeps source rest taken written old stored chunk waiting fault new
     ReadsMore source rest taken written (lending stored chunk old) waiting fault new page
     ⊎ PassesHere keeps source rest taken written old stored chunk waiting fault new page
 
+-- A part that was skipped could not be passed.
+pub record PassesNot (keeps : List ℕ → Bool) (source rest taken written : Option (List ℕ)) (old : Cursor)
+    (stored chunk waiting : List ℕ) (e : ListError) : Type 0 where
+  pub passing : Passing
+  pub skipped : Cursor
+  pub skips : SkipsHere (head_stays keeps) old (seen stored chunk) passing skipped
+  pub left : List ℕ
+  pub page : List ℕ
+  pub up : GivesUp source rest taken written passing.stays passing.size (held_by skipped stored chunk) waiting e
+      left page
+
+-- A read failed, perhaps after the source gave some bytes. Nothing was written.
+abbrev pub ReadsNot : (source rest taken written : Option (List ℕ)) → Type 0
+ReadsNot source rest taken written = (given : List ℕ) × Consumes source rest given × (written ≡ taken)
+
+-- what was done with a request that could not be met
+abbrev pub StopsHere : (keeps : List ℕ → Bool) (source rest taken written : Option (List ℕ)) (old : Cursor)
+    (stored chunk waiting : List ℕ) → ListError → Type 0
+StopsHere keeps source rest taken written old stored chunk waiting e =
+    ReadsNot source rest taken written ⊎ PassesNot keeps source rest taken written old stored chunk waiting e
+
+-- A call was given up. What was written is a prefix of the bytes of these events that stay, and of the first bytes of
+-- the next part, if it stays.
+pub record StripsHead (keeps : List ℕ → Bool) (input output : Change) : Type 0 where
+  pub given : List ℕ
+  pub first : List Event
+  pub partial : List ℕ
+  pub unread : List ℕ
+  pub gave : Consumes input.before input.after given
+  pub begins : ReadingBegins 0 all_features given first
+  pub parts : given ≡ consumed_by first ++ (partial ++ unread)
+  pub wrote : WritesHead output.before output.after (kept_bytes keeps first ++ partial)
+
 -- What was read and written of a stream that ended so. A fault may come after the first bytes of a part, which were
 -- written if it stays.
 pub record IsStreamed (keeps : List ℕ → Bool) (input output : Change) (how : Ended) : Type 0 where
@@ -99,7 +127,7 @@ pub record IsStreamed (keeps : List ℕ → Bool) (input output : Change) (how :
 
 abbrev pub StripsBy : (keeps : List ℕ → Bool) (input output : Change) → Result Ended ListError → Type 0
 StripsBy keeps input output (Ok how) = IsStreamed keeps input output how
-StripsBy keeps input output (Err e) = WroteSome input output
+StripsBy keeps input output (Err e) = StripsHead keeps input output
 
 -- what a call that strips a source does, and whether each device has failed
 pub record StripsSource (keeps : List ℕ → Bool) (input output : Device) (how : Result Ended ListError) : Type 0 where

@@ -1,9 +1,9 @@
 // Stripping a stream that need not fit in memory.
-ghost use Rattle.std.specs.Prelude.{◌≡◌, ◌+◌, ◌≤◌, length, IfOk, OnErr, vec_len, vec_capacity};
-ghost use Rattle.wasm_text.specs.Calls.{device_of, from_to, input_failed, output_failed};
+ghost use Rattle.std.specs.Prelude.{◌≡◌, ◌+◌, ◌≤◌, length, IfErr, IfOk, vec_len, vec_capacity};
+ghost use Rattle.wasm_text.specs.Calls.{device_of, input_failed, output_failed};
 ghost use Rattle.wasm_feeder.specs.Beside.{beside};
 ghost use Rattle.wasm_feeder.specs.Cursors.{feed_of};
-ghost use Rattle.wasm_feed.specs.StripStream.{ReadsOrPasses, SkipsIfAny, StripsSource, TakesPiece, WroteSome};
+ghost use Rattle.wasm_feed.specs.StripStream.{ReadsOrPasses, SkipsIfAny, StopsHere, StripsSource, TakesPiece};
 ghost use Rattle.wasm_feeder.specs.Fates.{stays_by};
 
 use std::alloc::Allocator;
@@ -68,9 +68,9 @@ fn read_or_pass<A: Allocator, R: Source, W: Sink>(
         (R.remaining input.old) (R.remaining input.new) (W.taken output.old) (W.taken output.new)
         cursor.old stored.old.items ahead.old page.old
         fault (beside (feed_of stored.new.items cursor.new) ahead.new) page.new) }
-    ensures cut { OnErr result (WroteSome
-        (from_to (R.remaining input.old) (R.remaining input.new))
-        (from_to (W.taken output.old) (W.taken output.new))) }
+    ensures stops { IfErr result (λ e. StopsHere (stays_by keep.entry)
+        (R.remaining input.old) (R.remaining input.new) (W.taken output.old) (W.taken output.new)
+        cursor.old stored.old.items ahead.old page.old e) }
     ensures source { R.has_failed input.new ≡ input_failed result (R.has_failed input.old) }
     ensures sink { W.has_failed output.new ≡ output_failed result (W.has_failed output.old) }
 {
@@ -96,7 +96,7 @@ fn read_or_pass<A: Allocator, R: Source, W: Sink>(
 ///
 /// # Errors
 ///
-/// Some bytes may have been written.
+/// A prefix of the bytes that stay of what was read has been written.
 ///
 /// * `Input` if the source failed.
 /// * `Output` if the sink failed.

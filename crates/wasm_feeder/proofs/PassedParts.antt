@@ -1,13 +1,15 @@
 -- A part that is forwarded or dropped chunk by chunk, after its first fields.
-use Rattle.std.proofs.Common.{◌≡◌, ℕ, ◌+◌, ◌-◌, ◌<◌, Bool, true, false, length, Some, None, List, [], ◌∷◌, ◌++◌, take, drop, Option, Err}
-use Rattle.std.proofs.Common.{refl, sym, ap, subst, ◌∙◌, arith, append-nil, append_assoc, length-append}
+use Rattle.std.proofs.Common.{◌≡◌, ℕ, ◌+◌, ◌-◌, ◌<◌, ◌≤◌, Bool, true, false, length, Some, None, List, [], ◌∷◌, ◌++◌, take, drop}
+use Rattle.std.proofs.Common.{Option, Err}
+use Rattle.std.proofs.Common.{refl, sym, ap, subst, ◌∙◌, arith, append-nil, append_assoc, length-append, length-take, min}
 use Rattle.std.proofs.lemmas.List.{take-append-drop}
 use Rattle.std.specs.Io.KnownBytes.{Appends, Consumes}
 use Rattle.std.proofs.KnownBytes.{Appends-nil, Appends-trans, Consumes-kept, Consumes-nil, Consumes-trans}
 use Rattle.wasm_text.specs.Page.{IsCut, PutsBytes, WritesHead}
 use Rattle.wasm_text.specs.declared.devices.ListError.{ListError}
 use Rattle.wasm_text.specs.declared.devices.ListError.TheVariants.{Input, Output, Memory}
-use Rattle.wasm_feeder.specs.Passing.{FillsChunk, GivesUp, IsCutSomewhere, PassesMissing, PassesPart, Settles, TakesSome, held_by, if_stays}
+use Rattle.wasm_feeder.specs.Passing.{EndsBefore, FillsChunk, GivesUp, PassesMissing, PassesPart, PutsAll, Settles, SettlesNot}
+use Rattle.wasm_feeder.specs.Passing.{TakesSome, held_by, if_stays}
 use Rattle.wasm_base.specs.FaultAt.{fault_at, at_offset}
 use Rattle.wasm_base.specs.declared.error.Error.{Error}
 use Rattle.wasm_base.specs.declared.fault.Fault.TheVariants.{UnexpectedEof}
@@ -36,32 +38,67 @@ cuts_after taken mid written waiting bytes n a b = record {
 }
 
 -- a prefix was written
-pub cut_wrote : (taken written : Option (List ℕ)) (waiting : List ℕ) (e : ListError) → IsCut taken written waiting e
-    → (some : List ℕ) × Appends taken written some
-cut_wrote taken written waiting Output w = (w.moved, w.wrote)
-cut_wrote taken written waiting Memory w = (w.moved, w.wrote)
-cut_wrote taken written waiting Input w = absurd w
+pub head_of_cut : (taken written : Option (List ℕ)) (waiting : List ℕ) (e : ListError) → IsCut taken written waiting e
+    → WritesHead taken written waiting
+head_of_cut taken written waiting Output w = w
+head_of_cut taken written waiting Memory w = w
+head_of_cut taken written waiting Input w = absurd w
+
+-- bytes were put, and then a prefix of those that waited was written
+pub head_after : (taken mid written : Option (List ℕ)) (waiting bytes page : List ℕ) → PutsBytes taken mid waiting bytes page
+    → WritesHead mid written page → WritesHead taken written (waiting ++ bytes)
+head_after taken mid written waiting bytes page p w = record {
+  moved = p.moved ++ w.moved;
+  unwritten = w.unwritten;
+  parts = p.waits ∙ (ap (λ (l : List ℕ). p.moved ++ l) w.parts ∙ sym (append_assoc p.moved w.moved w.unwritten));
+  wrote = Appends-trans taken mid written p.moved w.moved p.writes w.wrote;
+}
+
+-- what was written before an error is a prefix of what waited and of the bytes that were passed and stay
+pub head_before : (taken written : Option (List ℕ)) (stays : Bool) (missing : ℕ) (waiting passed left new : List ℕ) (e : ListError)
+    → EndsBefore taken written stays missing waiting passed left new e → WritesHead taken written (waiting ++ if_stays stays passed)
+head_before taken written stays missing waiting passed left new Input w =
+    record { moved = w.0.moved; unwritten = new; parts = w.0.waits; wrote = w.0.writes }
+head_before taken written stays missing waiting passed left new Output w = rw w.3 w.0
+head_before taken written stays missing waiting passed left new Memory w = rw w.3 w.0
 
 -- ---- bytes that are taken from a chunk
 
+puts_none : (taken : Option (List ℕ)) (waiting : List ℕ) (stays : Bool) → PutsBytes taken taken waiting (if_stays stays []) waiting
+puts_none taken waiting true = record { moved = []; writes = Appends-nil taken; waits = append-nil waiting }
+puts_none taken waiting false = record { moved = []; writes = Appends-nil taken; waits = append-nil waiting }
+
 -- the source failed where nothing had been taken
-pub not_filled : (source rest taken : Option (List ℕ)) (stays : Bool) (most : ℕ) (chunk waiting : List ℕ)
-    → FillsChunk source rest chunk [] (Err Input) → 0 < most → GivesUp source rest taken taken stays most chunk waiting Input
-not_filled source rest taken stays most chunk waiting (k, none) some = record {
+pub not_filled : (source rest taken : Option (List ℕ)) (stays : Bool) (most : ℕ) (chunk waiting left : List ℕ)
+    → FillsChunk source rest chunk left (Err Input) → 0 < most
+    → GivesUp source rest taken taken stays most chunk waiting Input left waiting
+not_filled source rest taken stays most chunk waiting left (k, none, nothing) some = record {
   given = [];
-  some = [];
+  passed = [];
   gave = Consumes-kept source source rest [] (Consumes-nil source) k;
-  wrote = Appends-nil taken;
-  drops = λ s. (refl, λ z. refl, rw none (omega (arith, some)));
+  parts = rw (none, nothing) refl;
+  ends = (puts_none taken waiting stays, some, nothing);
 }
 
+could_not : (taken written : Option (List ℕ)) (missing : ℕ) (waiting bytes left new : List ℕ) (e : ListError)
+    → PutsAll taken written waiting bytes new (Err e) → length bytes ≤ missing
+    → EndsBefore taken written true missing waiting bytes left new e
+could_not taken written missing waiting bytes left new Output (w, none) few = (w, none, few, refl)
+could_not taken written missing waiting bytes left new Memory (w, none) few = (w, none, few, refl)
+could_not taken written missing waiting bytes left new Input (w, none) few = absurd w
+
 -- bytes that stay could not be put
-pub not_put : (source rest taken written : Option (List ℕ)) (stays : Bool) (missing : ℕ) (chunk waiting fetched bytes : List ℕ)
-    (e : ListError) → Consumes source rest fetched → IsCut taken written bytes e → stays ≡ true
-    → GivesUp source rest taken written stays missing chunk waiting e
-not_put source rest taken written stays missing chunk waiting fetched bytes e g w s =
-    let (some, a) = cut_wrote taken written bytes e w in
-    record { given = fetched; some = some; gave = g; wrote = a; drops = λ n. absurd (let no : true ≡ false = sym s ∙ n in cc) }
+pub not_put : (source rest taken written : Option (List ℕ)) (stays : Bool) (missing : ℕ)
+    (chunk waiting fetched bytes left new : List ℕ) (e : ListError) → Consumes source rest fetched
+    → PutsAll taken written waiting (if_stays stays bytes) new (Err e) → stays ≡ true → chunk ++ fetched ≡ bytes ++ left
+    → length bytes ≤ missing → GivesUp source rest taken written stays missing chunk waiting e left new
+not_put source rest taken written stays missing chunk waiting fetched bytes left new e g w s parts few = record {
+  given = fetched;
+  passed = bytes;
+  gave = g;
+  parts = parts;
+  ends = rw s (could_not taken written missing waiting bytes left new e (rw s at w) few);
+}
 
 nil_both : (xs ys : List ℕ) → [] ≡ xs ++ ys → (xs ≡ []) × (ys ≡ [])
 nil_both [] ys e = (refl, sym e)
@@ -71,6 +108,32 @@ nil_both (x ∷ xs) ys e = cc
 pub none_put : (taken written : Option (List ℕ)) (stays : Bool) (waiting part page : List ℕ)
     (p : PutsBytes taken written waiting (if_stays stays part) page) → stays ≡ false → waiting ≡ [] → (p.moved ≡ []) × (page ≡ [])
 none_put taken written stays waiting part page p s z = nil_both p.moved page (rw (s, z) at p.waits)
+
+-- a part that is dropped is given up only if the source failed
+pub dropped_before : (taken written : Option (List ℕ)) (stays : Bool) (missing : ℕ) (waiting passed left new chunk given : List ℕ)
+    (e : ListError) → EndsBefore taken written stays missing waiting passed left new e → chunk ++ given ≡ passed ++ left
+    → stays ≡ false → (e ≡ Input) × (waiting ≡ [] → Appends taken written []) × (length chunk + length given < missing)
+dropped_before taken written stays missing waiting passed left new chunk given Input (w, few, none) parts s = (
+  refl,
+  λ z. rw (none_put taken written stays waiting passed new w s z).0 at w.writes,
+  let l = ap (λ (x : List ℕ). length x) parts in
+      let a = length-append chunk given in
+      let b = length-append passed left in
+      let n = ap (λ (x : List ℕ). length x) none in
+      omega (arith, l, a, b, n, few),
+)
+dropped_before taken written stays missing waiting passed left new chunk given Output (w, none, few, y) parts s =
+    absurd (let no : true ≡ false = sym y ∙ s in cc)
+dropped_before taken written stays missing waiting passed left new chunk given Memory (w, none, few, y) parts s =
+    absurd (let no : true ≡ false = sym y ∙ s in cc)
+
+-- the first bytes of a chunk, and the others
+pub cut_from : (chunk fetched filled seen left : List ℕ) (count : ℕ) → filled ≡ chunk ++ fetched → seen ≡ filled
+    → left ≡ drop count filled → chunk ++ fetched ≡ take count seen ++ left
+cut_from chunk fetched filled seen left count f s l = rw (s, l, ← f) (sym (take-append-drop count filled))
+
+pub few_of : (seen : List ℕ) (count most n : ℕ) → count ≡ min most n → length (take count seen) ≤ most
+few_of seen count most n e = grind (arith, length-take, e)
 
 -- ---- the bytes of a part, chunk by chunk
 
@@ -92,12 +155,8 @@ none_passed source taken stays missing chunk waiting = record {
   gave = Consumes-nil source;
   parts = append-nil chunk;
   size = omega arith;
-  puts = puts_none stays;
+  puts = puts_none taken waiting stays;
 }
-  where
-    puts_none : (b : Bool) → PutsBytes taken taken waiting (if_stays b []) waiting
-    puts_none true = record { moved = []; writes = Appends-nil taken; waits = append-nil waiting }
-    puts_none false = record { moved = []; writes = Appends-nil taken; waits = append-nil waiting }
 
 -- bytes that stay or not, in two parts
 stays_both : (stays : Bool) (xs ys : List ℕ) → if_stays stays (xs ++ ys) ≡ if_stays stays xs ++ if_stays stays ys
@@ -115,14 +174,19 @@ puts_both taken mid written waiting page new xs ys a b = record {
       ∙ (ap (λ (l : List ℕ). a.moved ++ l) b.waits ∙ sym (append_assoc a.moved b.moved new))));
 }
 
+-- bytes of a chunk in two parts, each with what was fetched for it
+joined : (chunk fetched part ahead more later left : List ℕ) → chunk ++ fetched ≡ part ++ ahead → ahead ++ more ≡ later ++ left
+    → chunk ++ (fetched ++ more) ≡ (part ++ later) ++ left
+joined chunk fetched part ahead more later left one two =
+    sym (append_assoc chunk fetched more) ∙ (ap (λ (l : List ℕ). l ++ more) one ∙ (append_assoc part ahead more
+    ∙ (ap (λ (l : List ℕ). part ++ l) two ∙ sym (append_assoc part later left))))
+
 module _ (source rest taken written rest' written' : Option (List ℕ)) (stays : Bool) (missing left count : ℕ)
     (chunk waiting ahead page ahead' page' : List ℕ)
     (p : Passed source rest taken written stays missing chunk waiting left ahead page)
     (t : TakesSome rest rest' written written' stays left ahead page count ahead' page') where
   parts_join : chunk ++ (p.fetched ++ t.fetched) ≡ (p.part ++ t.part) ++ ahead'
-  parts_join =
-      sym (append_assoc chunk p.fetched t.fetched) ∙ (ap (λ (l : List ℕ). l ++ t.fetched) p.parts
-      ∙ (append_assoc p.part ahead t.fetched ∙ (ap (λ (l : List ℕ). p.part ++ l) t.parts ∙ sym (append_assoc p.part t.part ahead'))))
+  parts_join = joined chunk p.fetched p.part ahead t.fetched t.part ahead' p.parts t.parts
 
   puts_join : PutsBytes taken written' waiting (if_stays stays (p.part ++ t.part)) page'
   puts_join = subst (λ (x : List ℕ). PutsBytes taken written' waiting x page') (sym (stays_both stays p.part t.part))
@@ -167,26 +231,45 @@ passed_all source rest taken written stays missing left chunk waiting ahead page
   some = λ e. absurd (let no : true ≡ false = e in cc);
 }
 
+-- after these bytes were put, more were, up to an error
+module _ (taken mid written : Option (List ℕ)) (stays : Bool) (missing left : ℕ) (waiting page xs ys rest new : List ℕ)
+    (p : PutsBytes taken mid waiting (if_stays stays xs) page) (size : length xs + left ≡ missing) where
+  longer : length (xs ++ ys) ≡ length xs + length ys
+  longer = length-append xs ys
+
+  heads_both : stays ≡ true → WritesHead mid written (page ++ ys) → WritesHead taken written (waiting ++ (xs ++ ys))
+  heads_both s w =
+      let put : waiting ++ xs ≡ p.moved ++ page = rw s at p.waits in
+      record {
+        moved = p.moved ++ w.moved;
+        unwritten = w.unwritten;
+        parts = sym (append_assoc waiting xs ys) ∙ (ap (λ (l : List ℕ). l ++ ys) put ∙ (append_assoc p.moved page ys
+            ∙ (ap (λ (l : List ℕ). p.moved ++ l) w.parts ∙ sym (append_assoc p.moved w.moved w.unwritten))));
+        wrote = Appends-trans taken mid written p.moved w.moved p.writes w.wrote;
+      }
+
+  ends_later : (e : ListError) → EndsBefore mid written stays left page ys rest new e
+      → EndsBefore taken written stays missing waiting (xs ++ ys) rest new e
+  ends_later Input (w, few, none) = (
+    subst (λ (x : List ℕ). PutsBytes taken written waiting x new) (sym (stays_both stays xs ys))
+        (puts_both taken mid written waiting page new (if_stays stays xs) (if_stays stays ys) p w),
+    omega (arith, longer, size, few),
+    none,
+  )
+  ends_later Output (w, none, few, s) = (heads_both s w, none, omega (arith, longer, size, few), s)
+  ends_later Memory (w, none, few, s) = (heads_both s w, none, omega (arith, longer, size, few), s)
+
 pub passed_up : (source rest taken written rest' written' : Option (List ℕ)) (stays : Bool) (missing left : ℕ)
-    (chunk waiting ahead page : List ℕ) (e : ListError)
+    (chunk waiting ahead page ahead' page' : List ℕ) (e : ListError)
     → Passed source rest taken written stays missing chunk waiting left ahead page
-    → GivesUp rest rest' written written' stays left ahead page e → GivesUp source rest' taken written' stays missing chunk waiting e
-passed_up source rest taken written rest' written' stays missing left chunk waiting ahead page e p w = record {
+    → GivesUp rest rest' written written' stays left ahead page e ahead' page'
+    → GivesUp source rest' taken written' stays missing chunk waiting e ahead' page'
+passed_up source rest taken written rest' written' stays missing left chunk waiting ahead page ahead' page' e p w = record {
   given = p.fetched ++ w.given;
-  some = p.puts.moved ++ w.some;
+  passed = p.part ++ w.passed;
   gave = Consumes-trans source rest rest' p.fetched w.given p.gave w.gave;
-  wrote = Appends-trans taken written written' p.puts.moved w.some p.puts.writes w.wrote;
-  drops = λ s.
-      let (is, none, fewer) = w.drops s in
-      let l = ap (λ (x : List ℕ). length x) p.parts in
-      let a = length-append chunk p.fetched in
-      let b = length-append p.part ahead in
-      let n = length-append p.fetched w.given in
-      let k = p.size in (
-        is,
-        λ z. (let (m, g) = none_put taken written stays waiting p.part page p.puts s z in rw m (none g)),
-        omega (arith, l, a, b, n, k, fewer),
-      );
+  parts = joined chunk p.fetched p.part ahead w.given w.passed ahead' p.parts w.parts;
+  ends = ends_later taken written written' stays missing left waiting page p.part w.passed ahead' page' p.puts p.size e w.ends;
 }
 
 -- ---- a part, whose first bytes are held
@@ -236,28 +319,26 @@ module _ (source rest taken mid written : Option (List ℕ)) (passing : Passing)
         (omega (arith, n, z, k, i, fewer), (m.some w).1, (m.some w).2, f);
   }
 
-pub settled_up : (source rest taken mid written : Option (List ℕ)) (stays : Bool) (c : Cursor) (stored chunk waiting : List ℕ)
-    (count size : ℕ) (ahead page : List ℕ) (e : ListError) (s : Settles taken mid stays c stored chunk waiting count ahead page)
-    → length (drop c.mark (seen stored chunk)) < size → GivesUp source rest mid written stays (size - count) ahead page e
-    → GivesUp source rest taken written stays size (held_by c stored chunk) waiting e
-settled_up source rest taken mid written stays c stored chunk waiting count size ahead page e s few w = record {
-  given = w.given;
-  some = s.puts.moved ++ w.some;
-  gave = w.gave;
-  wrote = Appends-trans taken mid written s.puts.moved w.some s.puts.writes w.wrote;
-  drops = λ d.
-      let (is, none, fewer) = w.drops d in
-      let l = ap (λ (x : List ℕ). length x) s.parts in
-      let a = length-append s.front ahead in
-      let z = s.size in
-      let i = s.within in (
-        is,
-        λ y. (let (m, g) = none_put taken mid stays waiting s.front page s.puts d y in rw m (none g)),
-        omega (arith, l, a, z, i, few, fewer),
-      );
-}
+module _ (source rest taken mid written : Option (List ℕ)) (stays : Bool) (c : Cursor)
+    (stored chunk waiting ahead page left new : List ℕ) (count size : ℕ) (e : ListError)
+    (s : Settles taken mid stays c stored chunk waiting count ahead page)
+    (few : length (drop c.mark (seen stored chunk)) < size) where
+  pub settled_up : GivesUp source rest mid written stays (size - count) ahead page e left new
+      → GivesUp source rest taken written stays size (held_by c stored chunk) waiting e left new
+  settled_up w = record {
+    given = w.given;
+    passed = s.front ++ w.passed;
+    gave = w.gave;
+    parts = joined (held_by c stored chunk) [] s.front ahead w.given w.passed left
+        (append-nil (held_by c stored chunk) ∙ s.parts) w.parts;
+    ends = ends_later taken mid written stays size (size - count) waiting page s.front w.passed left new s.puts
+        (let z = s.size in let i = s.within in omega (arith, z, i, few)) e w.ends;
+  }
 
-pub unsettled_up : (source taken written : Option (List ℕ)) (stays : Bool) (size : ℕ) (held waiting : List ℕ) (e : ListError)
-    → IsCutSomewhere taken written e → stays ≡ true → GivesUp source source taken written stays size held waiting e
-unsettled_up source taken written stays size held waiting e (bytes, w) s =
-    not_put source source taken written stays size held waiting [] bytes e (Consumes-nil source) w s
+pub unsettled_up : (source taken written : Option (List ℕ)) (stays : Bool) (size : ℕ) (c : Cursor)
+    (stored chunk waiting left new : List ℕ) (e : ListError) (s : SettlesNot taken written c stored chunk waiting e left new)
+    → stays ≡ true → length (drop c.mark (seen stored chunk)) < size
+    → GivesUp source source taken written stays size (held_by c stored chunk) waiting e left new
+unsettled_up source taken written stays size c stored chunk waiting left new e s stay few =
+    not_put source source taken written stays size (held_by c stored chunk) waiting [] s.front left new e (Consumes-nil source)
+    (rw stay s.puts) stay (append-nil (held_by c stored chunk) ∙ s.parts) (let i = s.within in omega (arith, i, few))

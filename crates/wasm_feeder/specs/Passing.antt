@@ -1,11 +1,11 @@
 -- A part that is forwarded or dropped chunk by chunk, after its first fields.
 use Rattle.std.specs.Prelude.{◌≡◌, ℕ, ◌+◌, ◌<◌, ◌≤◌, Bool, true, false, List, [], ◌++◌, length, drop}
 use Rattle.std.specs.Prelude.{Option, Some, None, Result, Ok, Err, if◌then◌else◌}
-use Rattle.std.specs.Io.KnownBytes.{Consumes, Appends, IsAtEnd, Keeps}
+use Rattle.std.specs.Io.KnownBytes.{Consumes, IsAtEnd, Keeps}
 use Rattle.wasm_base.specs.FaultAt.{fault_at, at_offset}
 use Rattle.wasm_base.specs.declared.error.Error.{Error}
 use Rattle.wasm_base.specs.declared.fault.Fault.TheVariants.{UnexpectedEof}
-use Rattle.wasm_text.specs.Page.{IsCut, PutsBytes}
+use Rattle.wasm_text.specs.Page.{IsCut, PutsBytes, WritesHead}
 use Rattle.wasm_text.specs.declared.devices.ListError.{ListError}
 use Rattle.wasm_text.specs.declared.devices.ListError.TheVariants.{Input}
 use Rattle.wasm_parser.specs.SkipNext.{Head, Skip, SkipsPart}
@@ -13,11 +13,12 @@ use Rattle.wasm_feeder.specs.Beside.{seen, unseen}
 use Rattle.wasm_feeder.specs.declared.feeder.Cursor.{Cursor}
 use Rattle.wasm_feeder.specs.declared.passing.Passing.{Passing}
 
--- All bytes were put after those that waited; or the device or an allocation failed, and a prefix of both was written.
+-- All bytes were put after those that waited; or the device or an allocation failed, a prefix of both was written, and
+-- none waits.
 abbrev pub PutsAll : (taken written : Option (List ℕ)) (waiting bytes new : List ℕ) → Result (Unit {0}) ListError
     → Type 0
 PutsAll taken written waiting bytes new (Ok done) = PutsBytes taken written waiting bytes new
-PutsAll taken written waiting bytes new (Err e) = IsCut taken written (waiting ++ bytes) e
+PutsAll taken written waiting bytes new (Err e) = IsCut taken written (waiting ++ bytes) e × (new ≡ [])
 
 -- these bytes if they stay
 abbrev pub if_stays : Bool → List ℕ → List ℕ
@@ -40,7 +41,7 @@ pub record SkipsHere (stays_if : Head → Bool) (old : Cursor) (bytes : List ℕ
 abbrev pub FillsChunk : (source rest : Option (List ℕ)) (old new : List ℕ) → Result (Unit {0}) ListError → Type 0
 FillsChunk source rest old new (Ok done) = (fetched : List ℕ) × Consumes source rest fetched × (new ≡ old ++ fetched)
     × (new ≡ [] → IsAtEnd rest)
-FillsChunk source rest old new (Err e) = Keeps source rest × (old ≡ [])
+FillsChunk source rest old new (Err e) = Keeps source rest × (old ≡ []) × (new ≡ [])
 
 -- Some bytes were taken from a chunk, after more were read if it was empty; none if the source is at its end.
 pub record TakesSome (source rest : Option (List ℕ)) (taken written : Option (List ℕ)) (stays : Bool) (most : ℕ)
@@ -78,19 +79,31 @@ pub record Settles (taken written : Option (List ℕ)) (stays : Bool) (c : Curso
   pub within : count ≤ length (drop c.mark (seen stored chunk))
   pub puts : PutsBytes taken written waiting (if_stays stays front) new
 
--- A call that passes the missing bytes of a part was given up: some bytes of the source were read, and some written. If
--- the part is dropped and no bytes waited, the source failed before all of the part had come, and nothing was written.
-pub record GivesUp (source rest taken written : Option (List ℕ)) (stays : Bool) (missing : ℕ) (chunk waiting : List ℕ)
-    (e : ListError) : Type 0 where
-  pub given : List ℕ
-  pub some : List ℕ
-  pub gave : Consumes source rest given
-  pub wrote : Appends taken written some
-  pub drops : stays ≡ false → (e ≡ Input) × (waiting ≡ [] → some ≡ []) × (length chunk + length given < missing)
+-- The stored bytes of what is held could not be put, and are no longer stored.
+pub record SettlesNot (taken written : Option (List ℕ)) (c : Cursor) (stored chunk waiting : List ℕ) (e : ListError)
+    (left new : List ℕ) : Type 0 where
+  pub front : List ℕ
+  pub parts : held_by c stored chunk ≡ front ++ left
+  pub within : length front ≤ length (drop c.mark (seen stored chunk))
+  pub puts : PutsAll taken written waiting front new (Err e)
 
--- a prefix of some bytes was written
-abbrev pub IsCutSomewhere : (taken written : Option (List ℕ)) → ListError → Type 0
-IsCutSomewhere taken written e = (waiting : List ℕ) × IsCut taken written waiting e
+-- What became of the bytes that were passed before an error. If the source failed, all were put or dropped, and fewer
+-- came than are missing. If they could not be put, a prefix of what waited and of them was written, and none waits.
+abbrev pub EndsBefore : (taken written : Option (List ℕ)) (stays : Bool) (missing : ℕ)
+    (waiting passed left new : List ℕ) → ListError → Type 0
+EndsBefore taken written stays missing waiting passed left new Input =
+    PutsBytes taken written waiting (if_stays stays passed) new × (length passed < missing) × (left ≡ [])
+EndsBefore taken written stays missing waiting passed left new e =
+    WritesHead taken written (waiting ++ passed) × (new ≡ []) × (length passed ≤ missing) × (stays ≡ true)
+
+-- A call that passes the missing bytes of a part was given up, after some of what was held and of the source.
+pub record GivesUp (source rest taken written : Option (List ℕ)) (stays : Bool) (missing : ℕ) (chunk waiting : List ℕ)
+    (e : ListError) (left new : List ℕ) : Type 0 where
+  pub given : List ℕ
+  pub passed : List ℕ
+  pub gave : Consumes source rest given
+  pub parts : chunk ++ given ≡ passed ++ left
+  pub ends : EndsBefore taken written stays missing waiting passed left new e
 
 -- how a part ends that is forwarded or dropped: with all its bytes, or with the source, and this fault
 abbrev pub PartEnds : Passing → (size : ℕ) → Option Error → (rest : Option (List ℕ)) (left : List ℕ) → Type 0

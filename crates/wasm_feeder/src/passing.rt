@@ -1,9 +1,10 @@
 // A part that is forwarded or dropped chunk by chunk, after its first fields.
-ghost use Rattle.std.specs.Prelude.{◌≡◌, ◌<◌, [], true, drop, length, IfErr, IfOk, OnErr, OnOk};
+ghost use Rattle.std.specs.Prelude.{◌≡◌, ◌<◌, ◌++◌, [], true, drop, length, IfErr, IfOk, OnErr};
 ghost use Rattle.wasm_text.specs.Calls.{input_failed, output_failed};
 ghost use Rattle.wasm_feeder.specs.Beside.{seen};
+ghost use Rattle.wasm_text.specs.Page.{IsCut, PutsBytes};
 ghost use Rattle.wasm_text.specs.declared.devices.ListError.TheVariants.{Input};
-ghost use Rattle.wasm_feeder.specs.Passing.{FillsChunk, GivesUp, IsCutSomewhere, PassesMissing, PassesPart, PutsAll, Settles, TakesSome, held_by, if_stays};
+ghost use Rattle.wasm_feeder.specs.Passing.{FillsChunk, GivesUp, SettlesNot, PassesMissing, PassesPart, PutsAll, Settles, TakesSome, held_by, if_stays};
 
 use crate::ahead::Ahead;
 use crate::feeder::Cursor;
@@ -25,11 +26,32 @@ pub struct Passing {
     pub stays: bool,
 }
 
+// Puts bytes on the page; more than 16,384 bytes are written at once, after those of the page.
+fn put_or_write<A: Allocator, W: Sink>(
+    page: &mut Page<A>,
+    bytes: &[u8],
+    output: &mut W,
+) -> Result<(), ListError>
+    ensures puts { IfOk result (λ done. PutsBytes (W.taken output.old) (W.taken output.new)
+        page.old bytes.now page.new) }
+    ensures cut { IfErr result (λ e. IsCut (W.taken output.old) (W.taken output.new) (page.old ++ bytes.now) e) }
+    ensures failed { W.has_failed output.new ≡ output_failed result (W.has_failed output.old) }
+{
+    if bytes.len() <= LARGE {
+        return page.put(bytes, output);
+    }
+    page.write_out(output)?;
+    match write_all(output, bytes) {
+        Ok(()) => Ok(()),
+        Err(_) => Err(ListError::Output),
+    }
+}
+
 /// Puts bytes on the page; more than 16,384 bytes are written at once, after those of the page.
 ///
 /// # Errors
 ///
-/// A prefix of what waited and of these bytes has been written.
+/// A prefix of what waited and of these bytes has been written, and the page is empty.
 ///
 /// * `Output` if the sink failed.
 /// * `Memory` when an allocation fails.
@@ -42,14 +64,11 @@ pub fn put_all<A: Allocator, W: Sink>(
         page.old bytes.now page.new result }
     ensures failed { W.has_failed output.new ≡ output_failed result (W.has_failed output.old) }
 {
-    if bytes.len() <= LARGE {
-        return page.put(bytes, output);
+    let put = put_or_write(page, bytes, output);
+    if put.is_err() {
+        page.clear();
     }
-    page.write_out(output)?;
-    match write_all(output, bytes) {
-        Ok(()) => Ok(()),
-        Err(_) => Err(ListError::Output),
-    }
+    put
 }
 
 // Puts bytes on the page if they stay.
@@ -88,7 +107,7 @@ fn fill<A: Allocator, R: Source>(ahead: &mut Ahead<A>, input: &mut R) -> Result<
 }
 
 // Takes at most `most` bytes from the chunk, and puts them on the page if they stay. An empty chunk is read first.
-// Returns how many bytes it took: none if the source is at its end.
+// Returns how many bytes it took: none if the source is at its end. Bytes that could not be put are taken too.
 fn take_some<A: Allocator, R: Source, W: Sink>(
     most: u64,
     stays: bool,
@@ -101,14 +120,15 @@ fn take_some<A: Allocator, R: Source, W: Sink>(
     ensures takes { IfOk result (λ count. TakesSome (R.remaining input.old) (R.remaining input.new)
         (W.taken output.old) (W.taken output.new) stays most ahead.old page.old count ahead.new page.new) }
     ensures cut { IfErr result (λ e. GivesUp (R.remaining input.old) (R.remaining input.new)
-        (W.taken output.old) (W.taken output.new) stays most ahead.old page.old e) }
+        (W.taken output.old) (W.taken output.new) stays most ahead.old page.old e ahead.new page.new) }
     ensures source { R.has_failed input.new ≡ input_failed result (R.has_failed input.old) }
     ensures sink { W.has_failed output.new ≡ output_failed result (W.has_failed output.old) }
 {
     fill(ahead, input)?;
     let count = most.min(ahead.bytes().len() as u64) as usize;
-    put_if(stays, page, &ahead.bytes()[..count], output)?;
+    let put = put_if(stays, page, &ahead.bytes()[..count], output);
     ahead.pass(count);
+    put?;
     Ok(count as u64)
 }
 
@@ -124,7 +144,7 @@ fn pass_missing<A: Allocator, R: Source, W: Sink>(
     ensures passes { IfOk result (λ whole. PassesMissing (R.remaining input.old) (R.remaining input.new)
         (W.taken output.old) (W.taken output.new) stays missing ahead.old page.old whole ahead.new page.new) }
     ensures cut { IfErr result (λ e. GivesUp (R.remaining input.old) (R.remaining input.new)
-        (W.taken output.old) (W.taken output.new) stays missing ahead.old page.old e) }
+        (W.taken output.old) (W.taken output.new) stays missing ahead.old page.old e ahead.new page.new) }
     ensures source { R.has_failed input.new ≡ input_failed result (R.has_failed input.old) }
     ensures sink { W.has_failed output.new ≡ output_failed result (W.has_failed output.old) }
 {
@@ -140,7 +160,7 @@ fn pass_missing<A: Allocator, R: Source, W: Sink>(
 }
 
 // Puts the stored bytes of the part at the cursor on the page if it stays, so that its other bytes are in the chunk.
-// Returns how many bytes it put or dropped.
+// Returns how many bytes it put or dropped. Bytes that could not be put are no longer stored either.
 fn settle<A: Allocator, W: Sink>(
     stays: bool,
     cursor: &mut Cursor,
@@ -151,9 +171,10 @@ fn settle<A: Allocator, W: Sink>(
 ) -> Result<usize, ListError>
     ensures settles { IfOk result (λ count. Settles (W.taken output.old) (W.taken output.new) stays
         cursor.old stored.old.items ahead.old page.old count ahead.new page.new) }
-    ensures none { OnOk result (stored.new.items ≡ []) }
-    ensures cursor { OnOk result (cursor.new ≡ record cursor.old { mark = 0 }) }
-    ensures cut { IfErr result (λ e. IsCutSomewhere (W.taken output.old) (W.taken output.new) e) }
+    ensures none { stored.new.items ≡ [] }
+    ensures cursor { cursor.new ≡ record cursor.old { mark = 0 } }
+    ensures cut { IfErr result (λ e. SettlesNot (W.taken output.old) (W.taken output.new)
+        cursor.old stored.old.items ahead.old page.old e ahead.new page.new) }
     ensures stays { OnErr result (stays ≡ true) }
     ensures sink { W.has_failed output.new ≡ output_failed result (W.has_failed output.old) }
 {
@@ -164,9 +185,10 @@ fn settle<A: Allocator, W: Sink>(
     }
     let held = cursor.remaining(stored);
     let count = held.len();
-    put_if(stays, page, held, output)?;
+    let put = put_if(stays, page, held, output);
     stored.clear();
     cursor.rewind();
+    put?;
     Ok(count)
 }
 
@@ -177,11 +199,11 @@ fn settle<A: Allocator, W: Sink>(
 ///
 /// # Errors
 ///
-/// Some bytes of the part may have been read and written. Where the cursor then is, is not stated: it can't go on.
+/// No bytes are stored then either, and the cursor is at the rest of the chunk.
 ///
-/// * `Input` if the source failed.
-/// * `Output` if the sink failed.
-/// * `Memory` when an allocation fails.
+/// * `Input` if the source failed. The bytes so far were forwarded or dropped, and the rest of the chunk is empty.
+/// * `Output` if the sink failed, and `Memory` when an allocation fails. A prefix of the page and of the part has been
+///   written, the page is empty, and the rest of the chunk begins after the bytes that could not be forwarded.
 pub fn pass_part<A: Allocator, R: Source, W: Sink>(
     passing: Passing,
     cursor: &mut Cursor,
@@ -195,11 +217,11 @@ pub fn pass_part<A: Allocator, R: Source, W: Sink>(
     ensures passes { IfOk result (λ fault. PassesPart (R.remaining input.old) (R.remaining input.new)
         (W.taken output.old) (W.taken output.new) passing cursor.old stored.old.items ahead.old page.old
         fault ahead.new page.new) }
-    ensures none { OnOk result (stored.new.items ≡ []) }
-    ensures cursor { OnOk result (cursor.new ≡ record cursor.old { mark = 0 }) }
+    ensures none { stored.new.items ≡ [] }
+    ensures cursor { cursor.new ≡ record cursor.old { mark = 0 } }
     ensures cut { IfErr result (λ e. GivesUp (R.remaining input.old) (R.remaining input.new)
         (W.taken output.old) (W.taken output.new) passing.stays passing.size
-        (held_by cursor.old stored.old.items ahead.old) page.old e) }
+        (held_by cursor.old stored.old.items ahead.old) page.old e ahead.new page.new) }
     ensures source { R.has_failed input.new ≡ input_failed result (R.has_failed input.old) }
     ensures sink { W.has_failed output.new ≡ output_failed result (W.has_failed output.old) }
 {

@@ -18,6 +18,7 @@ fn fill<A: Allocator>(bytes: &mut Vec<u8, A>) -> Result<(), ListError>
     requires { vec_len bytes.old ≤ 65536 }
     ensures len { OnOk result (vec_len bytes.new ≡ 65536) }
     ensures err { IfErr result (λ e. (e ≡ Memory) × (vec_len bytes.new ≡ vec_len bytes.old)) }
+    ensures kept { OnErr result (bytes.new.items ≡ bytes.old.items) }
 {
     match bytes.resize(PAGE_BYTES, 0) {
         Ok(()) => Ok(()),
@@ -51,6 +52,7 @@ fn begin_anew<A: Allocator, W: Sink>(
     ensures cut { IfErr result (λ e. IsCut (W.taken output.old) (W.taken output.new)
         (take len bytes.old.items) e) }
     ensures keeps { IfErr result (λ e. vec_len bytes.new ≡ vec_len bytes.old) }
+    ensures kept { OnErr result (bytes.new.items ≡ bytes.old.items) }
     ensures failed { W.has_failed output.new
         ≡ output_failed result (W.has_failed output.old) }
 {
@@ -92,6 +94,7 @@ fn make_room<A: Allocator, W: Sink>(
     ensures cut { IfErr result (λ e. IsCut (W.taken output.old) (W.taken output.new)
         (take len bytes.old.items) e) }
     ensures keeps { IfErr result (λ e. vec_len bytes.new ≡ vec_len bytes.old) }
+    ensures kept { OnErr result (bytes.new.items ≡ bytes.old.items) }
     ensures failed { W.has_failed output.new
         ≡ output_failed result (W.has_failed output.old) }
 {
@@ -152,6 +155,13 @@ impl<A: Allocator> Page<A> {
         self.len
     }
 
+    /// Empties the page. The buffered bytes are not written.
+    pub fn clear(&mut self)
+        ensures { self.new ≡ [] }
+    {
+        self.len = 0;
+    }
+
     /// Appends at most 65,536 bytes to the buffer. If there is no room for them, the buffered bytes are written first.
     ///
     /// # Errors
@@ -159,12 +169,13 @@ impl<A: Allocator> Page<A> {
     /// - `Output` if the sink fails.
     /// - `Memory` if an allocation fails.
     ///
-    /// A prefix of the buffered bytes is then written. What the page holds is not specified: don't use it further.
+    /// A prefix of the buffered bytes is then written. The page still holds all of them, and none of the new ones.
     #[inline(always)]
     pub fn put<W: Sink>(&mut self, bytes: &[u8], output: &mut W) -> Result<(), ListError>
         requires { length bytes.now ≤ 65536 }
         ensures puts { Puts (W.taken output.old) (W.taken output.new)
             self.old bytes.now self.new result }
+        ensures kept { OnErr result (self.new ≡ self.old) }
         ensures failed { W.has_failed output.new
             ≡ output_failed result (W.has_failed output.old) }
     {
@@ -186,6 +197,7 @@ impl<A: Allocator> Page<A> {
     ) -> Result<(), ListError>
         ensures puts { Puts (W.taken output.old) (W.taken output.new)
             self.old (T.text text.now) self.new result }
+        ensures kept { OnErr result (self.new ≡ self.old) }
         ensures failed { W.has_failed output.new
             ≡ output_failed result (W.has_failed output.old) }
     {
@@ -205,6 +217,7 @@ impl<A: Allocator> Page<A> {
     ) -> Result<(), ListError>
         ensures puts { Puts (W.taken output.old) (W.taken output.new)
             self.old (T.text text.now ++ codes "\n") self.new result }
+        ensures kept { OnErr result (self.new ≡ self.old) }
         ensures failed { W.has_failed output.new
             ≡ output_failed result (W.has_failed output.old) }
     {
@@ -222,6 +235,7 @@ impl<A: Allocator> Page<A> {
         requires { length end.now ≤ 1 }
         ensures puts { Puts (W.taken output.old) (W.taken output.new)
             self.old (T.text text.now ++ end.now) self.new result }
+        ensures kept { OnErr result (self.new ≡ self.old) }
         ensures failed { W.has_failed output.new
             ≡ output_failed result (W.has_failed output.old) }
     {
@@ -234,10 +248,11 @@ impl<A: Allocator> Page<A> {
     ///
     /// # Errors
     ///
-    /// `Output` if the sink fails. A prefix of the buffered bytes is then written.
+    /// `Output` if the sink fails. A prefix of the buffered bytes is then written, and the page still holds all of them.
     pub fn write_out<W: Sink>(&mut self, output: &mut W) -> Result<(), ListError>
         ensures writes { WritesOut (W.taken output.old) (W.taken output.new)
             self.old self.new result }
+        ensures kept { OnErr result (self.new ≡ self.old) }
         ensures failed { W.has_failed output.new
             ≡ output_failed result (W.has_failed output.old) }
     {

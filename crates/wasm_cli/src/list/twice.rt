@@ -1,5 +1,4 @@
 // Strips a file by reading it twice, in memory that does not depend on its size.
-ghost use Rattle.std.specs.Prelude.{None, false};
 ghost use Rattle.wasm_cli.specs.StripsTwice.{AnswersAs, StripsTwice};
 ghost use Rattle.wasm_feeder.specs.Fates.{stays_by};
 ghost use Rattle.wasm_text.specs.Calls.{device_of};
@@ -7,24 +6,9 @@ ghost use Rattle.wasm_text.specs.Calls.{device_of};
 use super::stripping::report_fault;
 use crate::common::PIECE;
 use std::alloc::Global;
-use wasm_feed::{Ended, Failed, Keep, ListError, Sink, Source, strip_stream};
+use std::io;
+use wasm_feed::{Ended, Keep, ListError, Sink, Source, strip_stream};
 use wasm_text::give_up;
-
-// A sink that discards its bytes.
-#[derive(Drop)]
-struct Dropped {}
-
-impl Sink for Dropped {
-    ghost has_failed = { λ _. false };
-
-    fn write(&mut self, buf: &[u8]) -> Result<usize, Failed> {
-        Ok(buf.len())
-    }
-
-    fn failed(&self) -> bool {
-        false
-    }
-}
 
 // Returns the exit status of a run. Prints the fault of the stream, or why the run failed.
 fn answer<E: Sink>(alloc: Global, how: Result<Ended, ListError>, errors: &mut E) -> u8
@@ -53,7 +37,7 @@ pub(super) fn strip_twice<R: Source, W: Sink, E: Sink>(
         (device_of W.taken W.has_failed output.old output.new)
         (device_of E.taken E.has_failed errors.old errors.new) result }
 {
-    let checked = strip_stream(alloc, first, &mut Dropped {}, keep, PIECE);
+    let checked = strip_stream(alloc, first, &mut io::sink(), keep, PIECE);
     if let Ok(Ended::End) = checked {
         let how = strip_stream(alloc, second, output, keep, PIECE);
         return answer(alloc, how, errors);

@@ -1,10 +1,10 @@
 // Where bytes go.
-ghost use Rattle.std.specs.Prelude.{◌≡◌, ℕ, ◌≤◌, ◌<◌, Bool, true, false, List, Option, Some, None, [], length, take, min, IfOk, OnOk, OnErr, is_ok, if◌then◌else◌, vec_len, vec_capacity};
+ghost use Rattle.std.specs.Prelude.{◌≡◌, ℕ, ◌≤◌, ◌<◌, Bool, true, false, List, Option, Some, None, Ok, [], length, take, min, IfOk, OnOk, OnErr, is_ok, if◌then◌else◌, vec_len, vec_capacity};
 ghost use Rattle.std.specs.Io.KnownBytes.{WriteAppends, Appends, Keeps};
 
 use super::Failed;
 use std::alloc::{AllocError, Allocator, Global};
-use std::io::Write;
+use std::io::{self, Write};
 
 /// A device that bytes are written to, as many at a time as it takes: a file, a pipe, memory.
 ///
@@ -167,6 +167,25 @@ impl<A: Allocator> Sink for BoundedSink<A> {
 
     fn failed(&self) -> bool {
         self.failed
+    }
+}
+
+/// Discards its bytes, and never fails.
+impl Sink for io::Sink {
+    ghost has_failed = { λ _. false };
+
+    fn write(&mut self, buf: &[u8]) -> Result<usize, Failed>
+        ensures bound { IfOk result (λ n. n ≤ length buf.now) }
+        ensures some { IfOk result (λ n. 0 < length buf.now → 0 < n) }
+        ensures bytes { WriteAppends None None result buf.now }
+        ensures failed { is_ok result ≡ true }
+        ensures all { result ≡ Ok (length buf.now) }
+    {
+        Ok(buf.len())
+    }
+
+    fn failed(&self) -> bool {
+        false
     }
 }
 

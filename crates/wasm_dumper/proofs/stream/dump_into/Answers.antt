@@ -1,13 +1,72 @@
-use Rattle.std.proofs.Common.{ap, ◌∙◌, ◌++◌, ◌≡◌, drop, refl, subst, List, ℕ}
+use Rattle.std.proofs.Common.{true, false, ap, ◌∙◌, ◌++◌, ◌≡◌, drop, refl, subst, List, ℕ}
 use Rattle.std.proofs.lemmas.Result.{err_from_is_err_and}
-use Rattle.wasm_feeder.specs.Beside.{beside, lending}
+use Rattle.wasm_feeder.specs.Beside.{beside, lending, seen}
 use Rattle.wasm_feeder.specs.Cursors.{feed_of}
-use Rattle.wasm_feeder.specs.Feed.{empty_feed}
+use Rattle.wasm_feeder.specs.Feed.{Feed, empty_feed, pushed}
+use Rattle.wasm_feeder.specs.Progress.{weight}
 use Rattle.wasm_feeder.specs.declared.feeder.Cursor.{Cursor}
+use Rattle.wasm_feeder.specs.declared.turns.Ended.TheVariants.{Fault}
+use Rattle.wasm_feeder.specs.declared.turns.Turn.TheVariants as turn
+use Rattle.wasm_dumper.specs.Hiding.{Hides}
 use Rattle.wasm_dumper.proofs.DroppedParts.{dropped, dumping_short, failed_within, hides_here, shows_fault}
-use Rattle.wasm_dumper.proofs.Dumping.{starts_beside, shows_step, advanced, asked, same_going, stopped, stopped_at_last, stopped_before}
+use Rattle.wasm_dumper.proofs.Dumping.{Dumping, ShowsStep, Wanting, starts_beside, shows_step, advanced, asked, same_going, stopped}
+use Rattle.wasm_dumper.proofs.Dumping.{stopped_at_last, stopped_before}
 use Rattle.wasm_dumper.proofs.Dumping.{ended, filled, not_filled}
+use Rattle.wasm_dumper.proofs.stream.dump_into.Given.{Over}
 use Rattle.wasm_dumper.proofs.stream.dump_into.Goals as goal
+use Rattle.wasm_dumper.proofs.stream.dump_into.Goals.{After-show_answer, After-show_answer-turn, In-Read, In-Some}
+
+-- the step of the parser was shown
+shows_so : (g : Over) (c : After-show_answer-turn g) → ShowsStep c.args.shown.only.now c.args.shown.has_bytes c.events.counts
+    c.show_answer-turn.new.counts (beside (feed_of c.events.stored.items c.events.cursor) c.events.ahead)
+    (lending c.make_ready.new.stored.items c.make_ready.new.ahead c.parse_next-answer.new.cursor) (g.O.Tree.writing c.events.out)
+    (g.O.Tree.writing c.show_answer-turn.new.out) c.show_answer-turn.result
+shows_so g c =
+    let a = c.parse_next-answer.ensures in
+    let ready = c.in_ok-make_ready.ensures in
+    let t = c.show_answer-turn.ensures in
+    shows_step _ _ _ _ _ _ _ _ _ _ _ _ _ _ _ _ _ ready.same ready.enough c.seen.ensures c.deref.ensures.value c.bytes.ensures
+    a.parses a.shows a.finished a.wants t.turns ready.keeps (t.shows a.parses.items) (t.counts a.parses.items)
+
+-- it asks for more
+wants_so : (g : Over) (c : In-Read g) → Wanting c.args.shown.only.now c.args.shown.has_bytes (g.R.Source.remaining c.args.input.now)
+    (g.R.Source.remaining c.events.input) (g.O.Tree.writing c.args.out.now)
+    (lending c.make_ready.new.stored.items c.make_ready.new.ahead c.parse_next-answer.new.cursor) c.show_answer-turn.new.counts
+    (g.O.Tree.writing c.show_answer-turn.new.out)
+    × (weight (lending c.make_ready.new.stored.items c.make_ready.new.ahead c.parse_next-answer.new.cursor)
+    ≡ weight (beside (feed_of c.events.stored.items c.events.cursor) c.events.ahead))
+wants_so g c =
+    let s = shows_so g (goal.at.In-Read g c).After-show_answer-turn in
+    asked _ _ _ _ _ _ _ _ c.events.invariant.dumping _ _ _ _ s c.in_ok-go_on.ensures.ok c.in-Read.is
+
+-- nothing of the next part is shown
+hides_so : (g : Over) (c : In-Some g) → Hides c.args.shown.only.now c.parse_next-answer.new.cursor
+    (seen c.make_ready.new.stored.items c.make_ready.new.ahead) c.in-Some.hidden c.skip_hidden.new.cursor
+hides_so g c =
+    hides_here _ _ _ _ _ _ _ _ _ c.seen-bytes.ensures c.deref-in-Read.ensures.value c.bytes-in-Read.ensures c.in-Some.ensures
+
+-- the source ended within the part: what the feeder then holds is the fault
+abbrev cut_feed : (g : Over) (c : After-show_answer g) → Feed
+cut_feed g c = record (pushed (lending c.make_ready.new.stored.items c.make_ready.new.ahead c.parse_next-answer.new.cursor)
+    c.in_ok-cut-in-Read.ensures.drops.fetched) { eof = true; wants_more = false }
+
+cut_so : (g : Over) (c : After-show_answer g) → Dumping c.args.shown.only.now c.args.shown.has_bytes
+    (g.R.Source.remaining c.args.input.now) (g.R.Source.remaining c.drop_hidden.new.input) (g.O.Tree.writing c.args.out.now)
+    (cut_feed g c) c.show_answer-turn.new.counts (g.O.Tree.writing c.flush.new.out)
+cut_so g c =
+    let (wanting, same) = wants_so g (goal.at.After-show_answer g c).In-Read in
+    dumping_short _ _ _ _ _ _ c.make_ready.new.stored.items c.make_ready.new.ahead _ _ _ wanting c.flush.ensures.adds c.flush.ensures.out
+    c.in_ok-flush-in-Read.ensures.ok _ _ (hides_so g (goal.at.After-show_answer g c).In-Some) _ _ _ c.in_ok-cut-in-Read.ensures.drops _
+    c.in-Some-cut.is
+
+fault_so : (g : Over) (c : After-show_answer g) → ShowsStep c.args.shown.only.now c.args.shown.has_bytes c.show_answer-turn.new.counts
+    c.show_answer.new.counts (cut_feed g c) (cut_feed g c) (g.O.Tree.writing c.flush.new.out) (g.O.Tree.writing c.show_answer.new.out)
+    (turn.End (Fault c.in-Some-cut.error))
+fault_so g c =
+    let (wanting, same) = wants_so g (goal.at.After-show_answer g c).In-Read in
+    shows_fault _ _ _ _ _ _ c.make_ready.new.stored.items c.make_ready.new.ahead _ _ _ wanting c.flush.ensures.adds c.flush.ensures.out
+    c.in_ok-flush-in-Read.ensures.ok _ _ (hides_so g (goal.at.After-show_answer g c).In-Some) _ _ _ c.in_ok-cut-in-Read.ensures.drops _
+    c.in-Some-cut.is _ _ (c.show_answer.ensures.shows tt) (c.show_answer.ensures.counts tt)
 
 pub events-init : goal.events-init
 events-init g c = record {
@@ -24,22 +83,14 @@ returns-in_err-make_ready g c taken failed i =
 
 pub returns-in_err-go_on : goal.returns-in_err-go_on
 returns-in_err-go_on g c taken failed i =
-    let a = c.parse_next-answer.ensures in
-    let ready = c.in_ok-make_ready.ensures in
-    let t = c.show_answer-turn.ensures in
-    let s = shows_step _ _ _ _ _ _ _ _ _ _ _ _ _ _ _ _ _ ready.same ready.enough c.seen.ensures c.deref.ensures.value c.bytes.ensures
-    a.parses a.shows a.finished a.wants t.turns ready.keeps (t.shows a.parses.items) (t.counts a.parses.items) in
+    let s = shows_so g (goal.at.returns-in_err-go_on g c).After-show_answer-turn in
     let e = err_from_is_err_and c.from_residual-in_err-go_on.result c.from_residual-in_err-go_on.ensures.1 in
     rw (e.1, e.2) (stopped _ _ _ _ _ _ _ _ c.events.invariant.dumping _ _ _ _ s _ _ c.events.invariant.input _
     c.in_err-go_on.ensures.err taken failed i)
 
 pub events-smaller-in-Advance : goal.events-smaller-in-Advance
 events-smaller-in-Advance g c =
-    let a = c.parse_next-answer.ensures in
-    let ready = c.in_ok-make_ready.ensures in
-    let t = c.show_answer-turn.ensures in
-    let s = shows_step _ _ _ _ _ _ _ _ _ _ _ _ _ _ _ _ _ ready.same ready.enough c.seen.ensures c.deref.ensures.value c.bytes.ensures
-    a.parses a.shows a.finished a.wants t.turns ready.keeps (t.shows a.parses.items) (t.counts a.parses.items) in
+    let s = shows_so g (goal.at.events-smaller-in-Advance g c).After-show_answer-turn in
     (same_going _ _ _ _ _ (beside (feed_of c.events.stored.items c.events.cursor) c.events.ahead) _ _ _ _
     (subst (λ (l : List ℕ). beside (feed_of l c.pass_borrowed.new.cursor) c.pass_borrowed.new.self
     ≡ lending l c.make_ready.new.ahead c.parse_next-answer.new.cursor) c.deref-in-Advance.ensures.value c.pass_borrowed.ensures)
@@ -47,11 +98,7 @@ events-smaller-in-Advance g c =
 
 pub events-preserved-in-Advance : goal.events-preserved-in-Advance
 events-preserved-in-Advance g c =
-    let a = c.parse_next-answer.ensures in
-    let ready = c.in_ok-make_ready.ensures in
-    let t = c.show_answer-turn.ensures in
-    let s = shows_step _ _ _ _ _ _ _ _ _ _ _ _ _ _ _ _ _ ready.same ready.enough c.seen.ensures c.deref.ensures.value c.bytes.ensures
-    a.parses a.shows a.finished a.wants t.turns ready.keeps (t.shows a.parses.items) (t.counts a.parses.items) in
+    let s = shows_so g (goal.at.events-preserved-in-Advance g c).After-show_answer-turn in
     record {
       dumping = (same_going _ _ _ _ _ (beside (feed_of c.events.stored.items c.events.cursor) c.events.ahead) _ _ _ _
           (subst (λ (l : List ℕ). beside (feed_of l c.pass_borrowed.new.cursor) c.pass_borrowed.new.self
@@ -62,44 +109,27 @@ events-preserved-in-Advance g c =
 
 pub returns-in_err-flush-in-Read : goal.returns-in_err-flush-in-Read
 returns-in_err-flush-in-Read g c taken failed i =
-    let a = c.parse_next-answer.ensures in
-    let ready = c.in_ok-make_ready.ensures in
-    let t = c.show_answer-turn.ensures in
-    let s = shows_step _ _ _ _ _ _ _ _ _ _ _ _ _ _ _ _ _ ready.same ready.enough c.seen.ensures c.deref.ensures.value c.bytes.ensures
-    a.parses a.shows a.finished a.wants t.turns ready.keeps (t.shows a.parses.items) (t.counts a.parses.items) in
+    let s = shows_so g (goal.at.returns-in_err-flush-in-Read g c).After-show_answer-turn in
     let e = err_from_is_err_and c.from_residual-in_err-flush-in-Read.result c.from_residual-in_err-flush-in-Read.ensures.1 in
     rw (e.1, e.2) (stopped_at_last _ _ _ _ _ _ _ _ c.events.invariant.dumping _ _ _ _ s _ _ c.events.invariant.input _ _
     c.flush.ensures.adds c.in_err-flush-in-Read.ensures.err taken failed i)
 
 pub returns-in_err-flush-in-End : goal.returns-in_err-flush-in-End
 returns-in_err-flush-in-End g c taken failed i =
-    let a = c.parse_next-answer.ensures in
-    let ready = c.in_ok-make_ready.ensures in
-    let t = c.show_answer-turn.ensures in
-    let s = shows_step _ _ _ _ _ _ _ _ _ _ _ _ _ _ _ _ _ ready.same ready.enough c.seen.ensures c.deref.ensures.value c.bytes.ensures
-    a.parses a.shows a.finished a.wants t.turns ready.keeps (t.shows a.parses.items) (t.counts a.parses.items) in
+    let s = shows_so g (goal.at.returns-in_err-flush-in-End g c).After-show_answer-turn in
     let e = err_from_is_err_and c.from_residual-in_err-flush-in-End.result c.from_residual-in_err-flush-in-End.ensures.1 in
     rw (e.1, e.2) (stopped_at_last _ _ _ _ _ _ _ _ c.events.invariant.dumping _ _ _ _ s _ _ c.events.invariant.input _ _
     c.flush-in-End.ensures.adds c.in_err-flush-in-End.ensures.err taken failed i)
 
 pub returns-in-End : goal.returns-in-End
 returns-in-End g c taken failed i =
-    let a = c.parse_next-answer.ensures in
-    let ready = c.in_ok-make_ready.ensures in
-    let t = c.show_answer-turn.ensures in
-    let s = shows_step _ _ _ _ _ _ _ _ _ _ _ _ _ _ _ _ _ ready.same ready.enough c.seen.ensures c.deref.ensures.value c.bytes.ensures
-    a.parses a.shows a.finished a.wants t.turns ready.keeps (t.shows a.parses.items) (t.counts a.parses.items) in
+    let s = shows_so g (goal.at.returns-in-End g c).After-show_answer-turn in
     ended _ _ _ _ _ _ _ _ c.events.invariant.dumping _ _ _ _ s _ _ c.events.invariant.input c.in_ok-go_on.ensures.ok _ _ c.in-End.is
     c.flush-in-End.ensures.adds c.flush-in-End.ensures.out c.in_ok-flush-in-End.ensures.ok taken failed i
 
 pub events-preserved-in_default : goal.events-preserved-in_default
 events-preserved-in_default g c =
-    let a = c.parse_next-answer.ensures in
-    let ready = c.in_ok-make_ready.ensures in
-    let t = c.show_answer-turn.ensures in
-    let s = shows_step _ _ _ _ _ _ _ _ _ _ _ _ _ _ _ _ _ ready.same ready.enough c.seen.ensures c.deref.ensures.value c.bytes.ensures
-    a.parses a.shows a.finished a.wants t.turns ready.keeps (t.shows a.parses.items) (t.counts a.parses.items) in
-    let (wanting, same) = asked _ _ _ _ _ _ _ _ c.events.invariant.dumping _ _ _ _ s c.in_ok-go_on.ensures.ok c.in-Read.is in
+    let (wanting, same) = wants_so g (goal.at.events-preserved-in_default g c).In-Read in
     let kept : c.skip_hidden.new.cursor ≡ c.parse_next-answer.new.cursor = c.in_default.ensures in
     record {
       dumping = (filled _ _ _ _ _ _ _ _ _ wanting c.flush.ensures.adds c.flush.ensures.out c.in_ok-flush-in-Read.ensures.ok _ _
@@ -109,12 +139,7 @@ events-preserved-in_default g c =
 
 pub events-smaller-in_default : goal.events-smaller-in_default
 events-smaller-in_default g c =
-    let a = c.parse_next-answer.ensures in
-    let ready = c.in_ok-make_ready.ensures in
-    let t = c.show_answer-turn.ensures in
-    let s = shows_step _ _ _ _ _ _ _ _ _ _ _ _ _ _ _ _ _ ready.same ready.enough c.seen.ensures c.deref.ensures.value c.bytes.ensures
-    a.parses a.shows a.finished a.wants t.turns ready.keeps (t.shows a.parses.items) (t.counts a.parses.items) in
-    let (wanting, same) = asked _ _ _ _ _ _ _ _ c.events.invariant.dumping _ _ _ _ s c.in_ok-go_on.ensures.ok c.in-Read.is in
+    let (wanting, same) = wants_so g (goal.at.events-smaller-in_default g c).In-Read in
     let kept : c.skip_hidden.new.cursor ≡ c.parse_next-answer.new.cursor = c.in_default.ensures in
     let less = (filled _ _ _ _ _ _ _ _ _ wanting c.flush.ensures.adds c.flush.ensures.out c.in_ok-flush-in-Read.ensures.ok _ _
     (rw kept at c.in_ok-refill-in-Read.ensures.refills)).1 in
@@ -122,12 +147,7 @@ events-smaller-in_default g c =
 
 pub returns-in_err-refill-in-Read : goal.returns-in_err-refill-in-Read
 returns-in_err-refill-in-Read g c taken failed i =
-    let a = c.parse_next-answer.ensures in
-    let ready = c.in_ok-make_ready.ensures in
-    let t = c.show_answer-turn.ensures in
-    let s = shows_step _ _ _ _ _ _ _ _ _ _ _ _ _ _ _ _ _ ready.same ready.enough c.seen.ensures c.deref.ensures.value c.bytes.ensures
-    a.parses a.shows a.finished a.wants t.turns ready.keeps (t.shows a.parses.items) (t.counts a.parses.items) in
-    let (wanting, same) = asked _ _ _ _ _ _ _ _ c.events.invariant.dumping _ _ _ _ s c.in_ok-go_on.ensures.ok c.in-Read.is in
+    let (wanting, same) = wants_so g (goal.at.returns-in_err-refill-in-Read g c).In-Read in
     let e = err_from_is_err_and c.from_residual-in_err-refill-in-Read.result c.from_residual-in_err-refill-in-Read.ensures.1 in
     rw (e.1, e.2) (not_filled _ _ _ _ _ _ _ _ _ wanting c.flush.ensures.adds c.flush.ensures.out c.in_ok-flush-in-Read.ensures.ok
     _ _ _ c.events.invariant.input _ (beside (feed_of c.refill.new.stored.items c.refill.new.cursor) c.refill.new.self) _
@@ -135,13 +155,9 @@ returns-in_err-refill-in-Read g c taken failed i =
 
 pub returns-in_err-cut-in-Read : goal.returns-in_err-cut-in-Read
 returns-in_err-cut-in-Read g c taken failed i =
-    let a = c.parse_next-answer.ensures in
-    let ready = c.in_ok-make_ready.ensures in
-    let t = c.show_answer-turn.ensures in
-    let s = shows_step _ _ _ _ _ _ _ _ _ _ _ _ _ _ _ _ _ ready.same ready.enough c.seen.ensures c.deref.ensures.value c.bytes.ensures
-    a.parses a.shows a.finished a.wants t.turns ready.keeps (t.shows a.parses.items) (t.counts a.parses.items) in
-    let (wanting, same) = asked _ _ _ _ _ _ _ _ c.events.invariant.dumping _ _ _ _ s c.in_ok-go_on.ensures.ok c.in-Read.is in
-    let h = hides_here _ _ _ _ _ _ _ _ _ c.seen-bytes.ensures c.deref-in-Read.ensures.value c.bytes-in-Read.ensures c.in-Some.ensures in
+    let at = goal.at.returns-in_err-cut-in-Read g c in
+    let (wanting, same) = wants_so g at.In-Read in
+    let h = hides_so g at.In-Some in
     let e = err_from_is_err_and c.from_residual-in_err-cut-in-Read.result c.from_residual-in_err-cut-in-Read.ensures.1 in
     rw (e.1, e.2) (failed_within _ _ _ _ _ _ c.make_ready.new.stored.items c.make_ready.new.ahead _ _ _ wanting c.flush.ensures.adds
     c.flush.ensures.out c.in_ok-flush-in-Read.ensures.ok _ _ h _ _ _ _ c.events.invariant.input _ c.in_err-cut-in-Read.ensures.fails
@@ -149,13 +165,9 @@ returns-in_err-cut-in-Read g c taken failed i =
 
 pub events-preserved : goal.events-preserved
 events-preserved g c =
-    let a = c.parse_next-answer.ensures in
-    let ready = c.in_ok-make_ready.ensures in
-    let t = c.show_answer-turn.ensures in
-    let s = shows_step _ _ _ _ _ _ _ _ _ _ _ _ _ _ _ _ _ ready.same ready.enough c.seen.ensures c.deref.ensures.value c.bytes.ensures
-    a.parses a.shows a.finished a.wants t.turns ready.keeps (t.shows a.parses.items) (t.counts a.parses.items) in
-    let (wanting, same) = asked _ _ _ _ _ _ _ _ c.events.invariant.dumping _ _ _ _ s c.in_ok-go_on.ensures.ok c.in-Read.is in
-    let h = hides_here _ _ _ _ _ _ _ _ _ c.seen-bytes.ensures c.deref-in-Read.ensures.value c.bytes-in-Read.ensures c.in-Some.ensures in
+    let at = goal.at.events-preserved g c in
+    let (wanting, same) = wants_so g at.In-Read in
+    let h = hides_so g at.In-Some in
     let d = c.in_ok-cut-in-Read.ensures in
     record {
       dumping = (dropped _ _ _ _ _ _ c.make_ready.new.stored.items c.make_ready.new.ahead _ _ _ wanting c.flush.ensures.adds
@@ -168,13 +180,9 @@ events-preserved g c =
 
 pub events-smaller : goal.events-smaller
 events-smaller g c =
-    let a = c.parse_next-answer.ensures in
-    let ready = c.in_ok-make_ready.ensures in
-    let t = c.show_answer-turn.ensures in
-    let s = shows_step _ _ _ _ _ _ _ _ _ _ _ _ _ _ _ _ _ ready.same ready.enough c.seen.ensures c.deref.ensures.value c.bytes.ensures
-    a.parses a.shows a.finished a.wants t.turns ready.keeps (t.shows a.parses.items) (t.counts a.parses.items) in
-    let (wanting, same) = asked _ _ _ _ _ _ _ _ c.events.invariant.dumping _ _ _ _ s c.in_ok-go_on.ensures.ok c.in-Read.is in
-    let h = hides_here _ _ _ _ _ _ _ _ _ c.seen-bytes.ensures c.deref-in-Read.ensures.value c.bytes-in-Read.ensures c.in-Some.ensures in
+    let at = goal.at.events-smaller g c in
+    let (wanting, same) = wants_so g at.In-Read in
+    let h = hides_so g at.In-Some in
     let d = c.in_ok-cut-in-Read.ensures in
     let less = (dropped _ _ _ _ _ _ c.make_ready.new.stored.items c.make_ready.new.ahead _ _ _ wanting c.flush.ensures.adds
     c.flush.ensures.out c.in_ok-flush-in-Read.ensures.ok _ _ h _ _ _ d.drops c.in_default-cut.is
@@ -185,56 +193,29 @@ events-smaller g c =
 
 pub returns-in_err-go_on-in-Read : goal.returns-in_err-go_on-in-Read
 returns-in_err-go_on-in-Read g c taken failed i =
-    let a = c.parse_next-answer.ensures in
-    let ready = c.in_ok-make_ready.ensures in
-    let t = c.show_answer-turn.ensures in
-    let s = shows_step _ _ _ _ _ _ _ _ _ _ _ _ _ _ _ _ _ ready.same ready.enough c.seen.ensures c.deref.ensures.value c.bytes.ensures
-    a.parses a.shows a.finished a.wants t.turns ready.keeps (t.shows a.parses.items) (t.counts a.parses.items) in
-    let (wanting, same) = asked _ _ _ _ _ _ _ _ c.events.invariant.dumping _ _ _ _ s c.in_ok-go_on.ensures.ok c.in-Read.is in
-    let h = hides_here _ _ _ _ _ _ _ _ _ c.seen-bytes.ensures c.deref-in-Read.ensures.value c.bytes-in-Read.ensures c.in-Some.ensures in
-    let d = c.in_ok-cut-in-Read.ensures in
-    let dumping = dumping_short _ _ _ _ _ _ c.make_ready.new.stored.items c.make_ready.new.ahead _ _ _ wanting c.flush.ensures.adds
-    c.flush.ensures.out c.in_ok-flush-in-Read.ensures.ok _ _ h _ _ _ d.drops _ c.in-Some-cut.is in
-    let shows = shows_fault _ _ _ _ _ _ c.make_ready.new.stored.items c.make_ready.new.ahead _ _ _ wanting c.flush.ensures.adds
-    c.flush.ensures.out c.in_ok-flush-in-Read.ensures.ok _ _ h _ _ _ d.drops _ c.in-Some-cut.is _ _ (c.show_answer.ensures.shows tt)
-    (c.show_answer.ensures.counts tt) in
+    let at = goal.at.returns-in_err-go_on-in-Read g c in
+    let dumping = cut_so g at.After-show_answer in
+    let shows = fault_so g at.After-show_answer in
+    let input = c.in_ok-cut-in-Read.ensures.source ∙ c.events.invariant.input in
     let e = err_from_is_err_and c.from_residual-in_err-go_on-in-Read.result c.from_residual-in_err-go_on-in-Read.ensures.1 in
-    rw (e.1, e.2) (stopped _ _ _ _ _ _ _ _ dumping _ _ _ _ shows _ _ (d.source ∙ c.events.invariant.input) _
+    rw (e.1, e.2) (stopped _ _ _ _ _ _ _ _ dumping _ _ _ _ shows _ _ input _
     c.in_err-go_on-in-Read.ensures.err taken failed i)
 
 pub returns-in_err-flush-in-Read-2 : goal.returns-in_err-flush-in-Read-2
 returns-in_err-flush-in-Read-2 g c taken failed i =
-    let a = c.parse_next-answer.ensures in
-    let ready = c.in_ok-make_ready.ensures in
-    let t = c.show_answer-turn.ensures in
-    let s = shows_step _ _ _ _ _ _ _ _ _ _ _ _ _ _ _ _ _ ready.same ready.enough c.seen.ensures c.deref.ensures.value c.bytes.ensures
-    a.parses a.shows a.finished a.wants t.turns ready.keeps (t.shows a.parses.items) (t.counts a.parses.items) in
-    let (wanting, same) = asked _ _ _ _ _ _ _ _ c.events.invariant.dumping _ _ _ _ s c.in_ok-go_on.ensures.ok c.in-Read.is in
-    let h = hides_here _ _ _ _ _ _ _ _ _ c.seen-bytes.ensures c.deref-in-Read.ensures.value c.bytes-in-Read.ensures c.in-Some.ensures in
-    let d = c.in_ok-cut-in-Read.ensures in
-    let dumping = dumping_short _ _ _ _ _ _ c.make_ready.new.stored.items c.make_ready.new.ahead _ _ _ wanting c.flush.ensures.adds
-    c.flush.ensures.out c.in_ok-flush-in-Read.ensures.ok _ _ h _ _ _ d.drops _ c.in-Some-cut.is in
-    let shows = shows_fault _ _ _ _ _ _ c.make_ready.new.stored.items c.make_ready.new.ahead _ _ _ wanting c.flush.ensures.adds
-    c.flush.ensures.out c.in_ok-flush-in-Read.ensures.ok _ _ h _ _ _ d.drops _ c.in-Some-cut.is _ _ (c.show_answer.ensures.shows tt)
-    (c.show_answer.ensures.counts tt) in
+    let at = goal.at.returns-in_err-flush-in-Read-2 g c in
+    let dumping = cut_so g at.After-show_answer in
+    let shows = fault_so g at.After-show_answer in
+    let input = c.in_ok-cut-in-Read.ensures.source ∙ c.events.invariant.input in
     let e = err_from_is_err_and c.from_residual-in_err-flush-in-Read-2.result c.from_residual-in_err-flush-in-Read-2.ensures.1 in
-    rw (e.1, e.2) (stopped_at_last _ _ _ _ _ _ _ _ dumping _ _ _ _ shows _ _ (d.source ∙ c.events.invariant.input) _ _
+    rw (e.1, e.2) (stopped_at_last _ _ _ _ _ _ _ _ dumping _ _ _ _ shows _ _ input _ _
     c.flush-in-Some-cut.ensures.adds c.in_err-flush-in-Read-2.ensures.err taken failed i)
 
 pub returns-in-Some-cut : goal.returns-in-Some-cut
 returns-in-Some-cut g c taken failed i =
-    let a = c.parse_next-answer.ensures in
-    let ready = c.in_ok-make_ready.ensures in
-    let t = c.show_answer-turn.ensures in
-    let s = shows_step _ _ _ _ _ _ _ _ _ _ _ _ _ _ _ _ _ ready.same ready.enough c.seen.ensures c.deref.ensures.value c.bytes.ensures
-    a.parses a.shows a.finished a.wants t.turns ready.keeps (t.shows a.parses.items) (t.counts a.parses.items) in
-    let (wanting, same) = asked _ _ _ _ _ _ _ _ c.events.invariant.dumping _ _ _ _ s c.in_ok-go_on.ensures.ok c.in-Read.is in
-    let h = hides_here _ _ _ _ _ _ _ _ _ c.seen-bytes.ensures c.deref-in-Read.ensures.value c.bytes-in-Read.ensures c.in-Some.ensures in
-    let d = c.in_ok-cut-in-Read.ensures in
-    let dumping = dumping_short _ _ _ _ _ _ c.make_ready.new.stored.items c.make_ready.new.ahead _ _ _ wanting c.flush.ensures.adds
-    c.flush.ensures.out c.in_ok-flush-in-Read.ensures.ok _ _ h _ _ _ d.drops _ c.in-Some-cut.is in
-    let shows = shows_fault _ _ _ _ _ _ c.make_ready.new.stored.items c.make_ready.new.ahead _ _ _ wanting c.flush.ensures.adds
-    c.flush.ensures.out c.in_ok-flush-in-Read.ensures.ok _ _ h _ _ _ d.drops _ c.in-Some-cut.is _ _ (c.show_answer.ensures.shows tt)
-    (c.show_answer.ensures.counts tt) in
-    ended _ _ _ _ _ _ _ _ dumping _ _ _ _ shows _ _ (d.source ∙ c.events.invariant.input) c.in_ok-go_on-in-Read.ensures.ok _ _ refl
+    let at = goal.at.returns-in-Some-cut g c in
+    let dumping = cut_so g at.After-show_answer in
+    let shows = fault_so g at.After-show_answer in
+    let input = c.in_ok-cut-in-Read.ensures.source ∙ c.events.invariant.input in
+    ended _ _ _ _ _ _ _ _ dumping _ _ _ _ shows _ _ input c.in_ok-go_on-in-Read.ensures.ok _ _ refl
     c.flush-in-Some-cut.ensures.adds c.flush-in-Some-cut.ensures.out c.in_ok-flush-in-Read-2.ensures.ok taken failed i

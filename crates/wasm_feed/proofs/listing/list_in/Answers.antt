@@ -1,15 +1,40 @@
-use Rattle.std.proofs.Common.{refl, sym, ap, ◌∙◌, arith}
+use Rattle.std.proofs.Common.{◌≡◌, refl, sym, ap, ◌∙◌, arith}
 use Rattle.std.proofs.lemmas.Grind.{common_steps}
 use Rattle.std.proofs.lemmas.Result.{err_from_is_err_and}
 use Rattle.std.proofs.KnownBytes.{Consumes-nil}
-use Rattle.wasm_feeder.specs.Beside.{beside}
+use Rattle.wasm_feeder.specs.Beside.{beside, lending}
 use Rattle.wasm_feeder.specs.Cursors.{feed_of}
 use Rattle.wasm_feeder.specs.Feed.{empty_feed}
 use Rattle.wasm_lines.specs.Listing.{line_of}
 use Rattle.wasm_feeder.proofs.ForCallers.{both, begun_beside, same_lighter}
 use Rattle.wasm_text.proofs.ForCallers.{cut_of}
 use Rattle.wasm_feeder.proofs.ForCallers.{begun, no_memory, cut, advanced, asked, listed_all, end_cut}
+use Rattle.wasm_feeder.specs.Progress.{Wants, weight}
+use Rattle.wasm_feeder.specs.Step.{Steps}
+use Rattle.wasm_text.specs.Calls.{from_to}
+use Rattle.wasm_feed.proofs.listing.list_in.Given.{Over}
 use Rattle.wasm_feed.proofs.listing.list_in.Goals as goal
+use Rattle.wasm_feed.proofs.listing.list_in.Goals.{In_ok-turn, In-Read}
+
+-- the parser made a step
+steps_so : (g : Over) (c : In_ok-turn g) → Steps (beside (feed_of c.events.stored.items c.events.cursor) c.events.ahead)
+    c.parse_next-answer.result (lending c.make_ready.new.stored.items c.make_ready.new.self c.parse_next-answer.new.cursor)
+steps_so g c =
+    let a = c.parse_next-answer.ensures in
+    let ready = c.in_ok-make_ready.ensures in
+    both _ _ _ _ _ _ _ _ _ ready.same ready.enough c.seen.ensures c.deref.ensures.value c.bytes.ensures a.parses a.shows a.finished
+    a.wants
+
+-- it asks for more
+asks_so : (g : Over) (c : In-Read g) → Wants line_of (from_to (g.R.Source.remaining c.args.input.now) (g.R.Source.remaining c.events.input))
+    (from_to (g.W.Sink.taken c.args.output.now) (g.W.Sink.taken c.put_answer-turn.new.output))
+    (lending c.make_ready.new.stored.items c.make_ready.new.self c.parse_next-answer.new.cursor) c.put_answer-turn.new.page
+    × (weight (lending c.make_ready.new.stored.items c.make_ready.new.self c.parse_next-answer.new.cursor)
+    ≡ weight (beside (feed_of c.events.stored.items c.events.cursor) c.events.ahead))
+asks_so g c =
+    let s = steps_so g (goal.at.In-Read g c).In_ok-turn in
+    let t = c.in_ok-turn.ensures.takes in
+    asked line_of _ _ _ _ _ _ c.events.invariant.progress _ _ s _ _ t.0 (sym c.in-Read.is ∙ t.1)
 
 pub returns-in_err-vec : goal.returns-in_err-vec
 returns-in_err-vec g c =
@@ -49,10 +74,7 @@ returns-in_err-turn g c =
 
 pub events-smaller-in-Advance : goal.events-smaller-in-Advance
 events-smaller-in-Advance g c =
-    let a = c.parse_next-answer.ensures in
-    let ready = c.in_ok-make_ready.ensures in
-    let s = both _ _ _ _ _ _ _ _ _ ready.same ready.enough c.seen.ensures c.deref.ensures.value c.bytes.ensures a.parses a.shows a.finished
-    a.wants in
+    let s = steps_so g (goal.at.events-smaller-in-Advance g c).In_ok-turn in
     let t = c.in_ok-turn.ensures.takes in
     (same_lighter line_of _ _ (beside (feed_of c.events.stored.items c.events.cursor) c.events.ahead) _ _ _
     (rw c.deref-in-Advance.ensures.value at c.pass_borrowed.ensures)
@@ -60,10 +82,7 @@ events-smaller-in-Advance g c =
 
 pub events-preserved-in-Advance : goal.events-preserved-in-Advance
 events-preserved-in-Advance g c =
-    let a = c.parse_next-answer.ensures in
-    let ready = c.in_ok-make_ready.ensures in
-    let s = both _ _ _ _ _ _ _ _ _ ready.same ready.enough c.seen.ensures c.deref.ensures.value c.bytes.ensures a.parses a.shows a.finished
-    a.wants in
+    let s = steps_so g (goal.at.events-preserved-in-Advance g c).In_ok-turn in
     let t = c.in_ok-turn.ensures.takes in
     record {
       progress = (same_lighter line_of _ _ (beside (feed_of c.events.stored.items c.events.cursor) c.events.ahead) _ _ _
@@ -75,12 +94,7 @@ events-preserved-in-Advance g c =
 
 pub returns-in_err-fault-in-Read : goal.returns-in_err-fault-in-Read
 returns-in_err-fault-in-Read g c =
-    let a = c.parse_next-answer.ensures in
-    let ready = c.in_ok-make_ready.ensures in
-    let s = both _ _ _ _ _ _ _ _ _ ready.same ready.enough c.seen.ensures c.deref.ensures.value c.bytes.ensures a.parses a.shows a.finished
-    a.wants in
-    let t = c.in_ok-turn.ensures.takes in
-    let (asks, same) = asked line_of _ _ _ _ _ _ c.events.invariant.progress _ _ s _ _ t.0 (sym c.in-Read.is ∙ t.1) in
+    let (asks, same) = asks_so g (goal.at.returns-in_err-fault-in-Read g c).In-Read in
     let e = err_from_is_err_and c.from_residual-in_err-fault-in-Read.result c.from_residual-in_err-fault-in-Read.ensures.1 in
     record {
       lists = rw (e.1, e.2) (c.in_err-fault-in-Read.ensures.reads _ _ asks);
@@ -90,12 +104,7 @@ returns-in_err-fault-in-Read g c =
 
 pub returns-in-Some : goal.returns-in-Some
 returns-in-Some g c =
-    let a = c.parse_next-answer.ensures in
-    let ready = c.in_ok-make_ready.ensures in
-    let s = both _ _ _ _ _ _ _ _ _ ready.same ready.enough c.seen.ensures c.deref.ensures.value c.bytes.ensures a.parses a.shows a.finished
-    a.wants in
-    let t = c.in_ok-turn.ensures.takes in
-    let (asks, same) = asked line_of _ _ _ _ _ _ c.events.invariant.progress _ _ s _ _ t.0 (sym c.in-Read.is ∙ t.1) in
+    let (asks, same) = asks_so g (goal.at.returns-in-Some g c).In-Read in
     record {
       lists = (rw c.in-Some.is at c.in_ok-fault-in-Read.ensures.reads) _ _ asks;
       source = grind (arith, common_steps);
@@ -104,23 +113,13 @@ returns-in-Some g c =
 
 pub events-smaller : goal.events-smaller
 events-smaller g c =
-    let a = c.parse_next-answer.ensures in
-    let ready = c.in_ok-make_ready.ensures in
-    let s = both _ _ _ _ _ _ _ _ _ ready.same ready.enough c.seen.ensures c.deref.ensures.value c.bytes.ensures a.parses a.shows a.finished
-    a.wants in
-    let t = c.in_ok-turn.ensures.takes in
-    let (asks, same) = asked line_of _ _ _ _ _ _ c.events.invariant.progress _ _ s _ _ t.0 (sym c.in-Read.is ∙ t.1) in
+    let (asks, same) = asks_so g (goal.at.events-smaller g c).In-Read in
     let less = ((rw c.in_default.is at c.in_ok-fault-in-Read.ensures.reads) _ _ asks).1 in
     rw same at less
 
 pub events-preserved : goal.events-preserved
 events-preserved g c =
-    let a = c.parse_next-answer.ensures in
-    let ready = c.in_ok-make_ready.ensures in
-    let s = both _ _ _ _ _ _ _ _ _ ready.same ready.enough c.seen.ensures c.deref.ensures.value c.bytes.ensures a.parses a.shows a.finished
-    a.wants in
-    let t = c.in_ok-turn.ensures.takes in
-    let (asks, same) = asked line_of _ _ _ _ _ _ c.events.invariant.progress _ _ s _ _ t.0 (sym c.in-Read.is ∙ t.1) in
+    let (asks, same) = asks_so g (goal.at.events-preserved g c).In-Read in
     record {
       progress = ((rw c.in_default.is at c.in_ok-fault-in-Read.ensures.reads) _ _ asks).0;
       input = grind (arith, common_steps);
@@ -129,10 +128,7 @@ events-preserved g c =
 
 pub returns-in_err-write_out-in-End : goal.returns-in_err-write_out-in-End
 returns-in_err-write_out-in-End g c =
-    let a = c.parse_next-answer.ensures in
-    let ready = c.in_ok-make_ready.ensures in
-    let s = both _ _ _ _ _ _ _ _ _ ready.same ready.enough c.seen.ensures c.deref.ensures.value c.bytes.ensures a.parses a.shows a.finished
-    a.wants in
+    let s = steps_so g (goal.at.returns-in_err-write_out-in-End g c).In_ok-turn in
     let t = c.in_ok-turn.ensures.takes in
     let e = err_from_is_err_and c.from_residual-in_err-write_out-in-End.result c.from_residual-in_err-write_out-in-End.ensures.1 in
     record {
@@ -144,10 +140,7 @@ returns-in_err-write_out-in-End g c =
 
 pub returns-in-End : goal.returns-in-End
 returns-in-End g c =
-    let a = c.parse_next-answer.ensures in
-    let ready = c.in_ok-make_ready.ensures in
-    let s = both _ _ _ _ _ _ _ _ _ ready.same ready.enough c.seen.ensures c.deref.ensures.value c.bytes.ensures a.parses a.shows a.finished
-    a.wants in
+    let s = steps_so g (goal.at.returns-in-End g c).In_ok-turn in
     let t = c.in_ok-turn.ensures.takes in
     record {
       lists = listed_all line_of _ _ _ _ _ _ c.events.invariant.progress _ _ s _ _ t.0 _ (sym c.in-End.is ∙ t.1) _

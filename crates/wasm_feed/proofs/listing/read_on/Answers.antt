@@ -34,7 +34,7 @@ returns-in_err-pass_part-clause-reads g c =
     let h = dropped_here _ _ _ _ _ _ _ _ c.seen.ensures c.deref.ensures.value c.bytes.ensures c.in-Some.ensures in
     let (written, none) = c.in_ok-write_out.ensures.writes in
     rw (e.1, e.2) (λ source taken w. given_up _ _ _ _ _ c.args.stored.now.items c.args.ahead.now
-    (to_be_written line_of _ _ _ _ _ _ _ w written) _ _ h _ none _ _ _ c.in_err-pass_part.ensures.cut)
+    (to_be_written line_of _ _ _ _ _ _ _ w written) _ _ h _ none _ _ _ _ _ c.in_err-pass_part.ensures.cut)
 
 pub returns-in_err-put_line-in-None-clause-reads :
     goal.returns-in_err-put_line-in-None-clause-reads

@@ -5,12 +5,12 @@ use Rattle.wasm_feeder.proofs.passing.pass_part.Goals as goal
 pub returns-in_err-pass_missing-clause-cut : goal.returns-in_err-pass_missing-clause-cut
 returns-in_err-pass_missing-clause-cut g c =
     let e = err_from_is_err_and c.from_residual-in_err-pass_missing.result c.from_residual-in_err-pass_missing.ensures.1 in
-    rw (e.1, e.2) (settled_up _ _ _ _ _ _ _ _ _ _ _ _ _ _ _ c.in_ok-held.ensures.settles c.requires c.in_err-pass_missing.ensures.cut)
+    rw (e.1, e.2) (settled_up _ _ _ _ _ _ _ _ _ _ _ _ _ _ _ _ _ c.in_ok-held.ensures.settles c.requires c.in_err-pass_missing.ensures.cut)
 
 pub returns-in_err-held-clause-cut : goal.returns-in_err-held-clause-cut
 returns-in_err-held-clause-cut g c =
     let e = err_from_is_err_and c.from_residual.result c.from_residual.ensures.1 in
-    rw (e.1, e.2) (unsettled_up _ _ _ _ _ _ _ _ c.in_err-held.ensures.cut c.in_err-held.ensures.stays)
+    rw (e.1, e.2) (unsettled_up _ _ _ _ _ _ _ _ _ _ _ _ c.in_err-held.ensures.cut c.in_err-held.ensures.stays c.requires)
 
 pub returns-then-branch-clause-passes : goal.returns-then-branch-clause-passes
 returns-then-branch-clause-passes g c =
