@@ -1,7 +1,9 @@
 // Streams without their custom sections.
+use super::devices::Failing;
 use crate::tests::same_at;
 use std::alloc::Global;
 use std::process::Abort;
+use std::test::Fail;
 use wasm_feed::{
     BoundedSink, Ended, Keep, ListError, Sink, SliceSource, strip, strip_in, strip_in_place,
     strip_stream, strip_to_front,
@@ -439,11 +441,41 @@ fn streams_whose_memory_runs_out(rt: HostRuntime) {
     }
 }
 
+// What was written is a prefix of the stripped stream, whichever read fails.
 #[test]
-fn streams_whose_output_is_full(rt: HostRuntime) {
-    let ample = Sparing::new(rt.alloc(), 100);
-    let mut output = BoundedSink::new(rt.alloc(), 4).expect(&rt, "out of memory");
-    let how = stream_in(&ample, CUSTOM, &mut output, true, 5);
-    same_at(&rt, how, Err(ListError::Output), &CUSTOM);
-    same_at(&rt, output.written(), b"\0asm".as_slice(), &CUSTOM);
+fn streams_whose_source_fails(rt: HostRuntime) -> std::result::Result<(), Fail> {
+    for (stream, _, without) in rows() {
+        for (step, reads) in [
+            (1, stream.len()),
+            (3, stream.len() / 3),
+            (7, stream.len() / 7),
+        ] {
+            for calls in 0..reads {
+                let mut input = Failing::after(stream, step, calls);
+                let mut output = BoundedSink::new(rt.alloc(), 200)?;
+                let keep = Keep::names(false);
+                let how = strip_stream(rt.alloc(), &mut input, &mut output, keep, 5);
+                same_at(&rt, how, Err(ListError::Input), &(stream, step, calls));
+                assert!(rt; without.starts_with(output.written()));
+            }
+        }
+    }
+    Ok(())
+}
+
+// What was written is all that there was room for, and a prefix of the stripped stream.
+#[test]
+fn streams_whose_output_is_full(rt: HostRuntime) -> std::result::Result<(), Fail> {
+    for (stream, with_names, _) in rows() {
+        for room in 0..with_names.len() {
+            for piece in [1, 5, 40] {
+                let ample = Sparing::new(rt.alloc(), 100);
+                let mut output = BoundedSink::new(rt.alloc(), room)?;
+                let how = stream_in(&ample, stream, &mut output, true, piece);
+                let failed = (Err(ListError::Output), &with_names[..room]);
+                same_at(&rt, (how, output.written()), failed, &(stream, room, piece));
+            }
+        }
+    }
+    Ok(())
 }
