@@ -1,5 +1,5 @@
 -- How far a stream is stripped while it is read, and what each turn does to it.
-use Rattle.std.proofs.Common.{◌≡◌, ℕ, ◌+◌, ◌^◌, ◌<◌, ◌≤◌, Bool, true, false, if◌then◌else◌, List, [], ◌∷◌, ◌++◌, length, Option}
+use Rattle.std.proofs.Common.{◌≡◌, ℕ, ◌+◌, ◌^◌, ◌<◌, ◌≤◌, Bool, true, false, if◌then◌else◌, List, [], ◌∷◌, ◌++◌, drop, length, Option}
 use Rattle.std.proofs.Common.{Some, None}
 use Rattle.std.proofs.Common.{Result, Ok, Err, refl, sym, ap, subst, subst₂, ◌∙◌, arith, append_assoc, append-nil, length-append, inl}
 use Rattle.std.proofs.Common.{inr}
@@ -21,14 +21,14 @@ use Rattle.wasm_parser.specs.ParseAnswer.{report_of, is_end}
 use Rattle.wasm_parser.specs.SkipNext.{Skip, SkipCame, skip_in}
 use Rattle.wasm_parser.specs.declared.payload.Payload.{Payload}
 use Rattle.wasm_parser.proofs.ForCallers.{answers_go_along}
-use Rattle.wasm_feeder.specs.Beside.{beside, lending, seen, IsAlike, FillsAlike}
+use Rattle.wasm_feeder.specs.Beside.{beside, lending, seen, unseen, IsAlike, FillsAlike}
 use Rattle.wasm_feeder.specs.Cursors.{feed_of}
 use Rattle.wasm_feeder.specs.Feed.{Feed, new_feed, pushed, finished}
 use Rattle.wasm_feeder.specs.Lists.{IsEndedBy, IsWhole}
 use Rattle.wasm_feeder.specs.Passing.{SkipsHere, held_by, if_stays}
 use Rattle.wasm_feeder.specs.Progress.{weight}
 use Rattle.wasm_feeder.specs.Step.{chunk_of, Stepped, Steps}
-use Rattle.wasm_feed.specs.StripStream.{IsStreamed, PassesHere, ReadsOrPasses, StopsHere, StripsHead, piece_after}
+use Rattle.wasm_feed.specs.StripStream.{IsPartial, IsStreamed, PassesHere, ReadsOrPasses, StopsHere, StripsHead, piece_after}
 use Rattle.wasm_feeder.specs.Fates.{head_stays}
 use Rattle.wasm_feed.specs.Stripped.{event_stays, kept_bytes}
 use Rattle.wasm_feeder.specs.Fates.{report_stays}
@@ -142,9 +142,9 @@ module _ (keeps : List ℕ → Bool) (source rest taken written : Option (List �
 
   -- the call is given up after more bytes
   pub gave_up : (rest' written' : Option (List ℕ)) (more partial unread : List ℕ) → Consumes rest rest' more
-      → f.held ++ more ≡ partial ++ unread → WritesHead written written' (page ++ partial)
-      → StripsHead keeps (from_to source rest') (from_to taken written')
-  gave_up rest' written' more partial unread g same w = record {
+      → f.held ++ more ≡ partial ++ unread → IsPartial keeps (p.given ++ more) p.events partial
+      → WritesHead written written' (page ++ partial) → StripsHead keeps (from_to source rest') (from_to taken written')
+  gave_up rest' written' more partial unread g same stays w = record {
     given = p.given ++ more;
     first = p.events;
     partial = partial;
@@ -153,6 +153,7 @@ module _ (keeps : List ℕ → Bool) (source rest taken written : Option (List �
     begins = answers_go_along.first 0 all_features p.given f.state f.held p.events false p.is_along (p.given ++ more) (more, refl);
     parts = ap (λ (l : List ℕ). l ++ more) (answers_go_along.consumed 0 all_features p.given f.state f.held p.events p.is_along)
         ∙ (append_assoc (consumed_by p.events) f.held more ∙ ap (λ (l : List ℕ). consumed_by p.events ++ l) same);
+    stays = stays;
     wrote = record {
       moved = p.lines ++ w.moved;
       unwritten = w.unwritten;
@@ -165,7 +166,7 @@ module _ (keeps : List ℕ → Bool) (source rest taken written : Option (List �
   -- nothing more was written
   pub gave_up_at_once : (rest' : Option (List ℕ)) (more : List ℕ) → Consumes rest rest' more
       → StripsHead keeps (from_to source rest') (from_to taken written)
-  gave_up_at_once rest' more g = gave_up rest' written more [] (f.held ++ more) g refl
+  gave_up_at_once rest' more g = gave_up rest' written more [] (f.held ++ more) g refl (inl refl)
       (record { moved = []; unwritten = page ++ []; parts = refl; wrote = Appends-nil written })
 
   module _ (g : Feed) where
@@ -207,23 +208,56 @@ module _ (keeps : List ℕ → Bool) (source rest taken written : Option (List �
           rw s.eof (omega (arith, ends_at, o, n, some, given_below (Parsed bytes payload) s)),
         )
 
-    -- the bytes of a step that stay are the first that are held
-    piece_of : (x : Result Step Error) → Steps f x g → (unread : List ℕ) × (f.held ≡ piece_after keeps x ++ unread)
-    piece_of (Ok (Parsed bytes payload)) s = by_end (is_end (report_of payload)) (report_stays keeps (report_of payload))
-      where
-        by_end : (b k : Bool) → (unread : List ℕ) × (f.held ≡ (if b then [] else if_stays k bytes.now) ++ unread)
-        by_end true k = (f.held, refl)
-        by_end false true = (g.held, s.shows)
-        by_end false false = (f.held, refl)
-    piece_of (Ok (NeedMoreData hint)) s = (f.held, refl)
-    piece_of (Err e) s = (f.held, refl)
+    -- a step that forwards nothing: what waited could not be written
+    wrote_what_waited : (written' : Option (List ℕ)) → WritesHead written written' page
+        → StripsHead keeps (from_to source rest) (from_to taken written')
+    wrote_what_waited written' w = gave_up rest written' [] [] (f.held ++ []) (Consumes-nil rest) refl (inl refl)
+        (rw (append-nil page) w)
+
+    -- a whole part could not be put
+    wrote_to_event : (bytes : _) (payload : Payload) → Steps f (Ok (Parsed bytes payload)) g → is_end (report_of payload) ≡ false
+        → (written' : Option (List ℕ)) → WritesHead written written' (page ++ if_stays (report_stays keeps (report_of payload)) bytes.now)
+        → StripsHead keeps (from_to source rest) (from_to taken written')
+    wrote_to_event bytes payload s n written' w =
+        let came : Came 0 all_features f.eof p.given p.events bytes.now payload g.state g.held =
+        stepped (Ok (Parsed bytes payload)) s (given_below (Parsed bytes payload) s) in
+        let after = (came.goes_on n).0 in
+        let events = p.events ++ came.event ∷ [] in
+        let k : kept_bytes keeps (came.event ∷ []) ≡ if_stays (report_stays keeps (report_of payload)) bytes.now =
+        kept_one keeps came.event (report_stays keeps (report_of payload)) (ap (report_stays keeps) (sym came.is_payload.0))
+        ∙ ap (if_stays (report_stays keeps (report_of payload))) came.consumed in
+        record {
+          given = p.given;
+          first = events;
+          partial = [];
+          unread = g.held;
+          gave = p.gave;
+          begins = answers_go_along.first 0 all_features p.given g.state g.held events true after p.given refl;
+          parts = answers_go_along.consumed 0 all_features p.given g.state g.held events after;
+          stays = inl refl;
+          wrote = record {
+            moved = p.lines ++ w.moved;
+            unwritten = w.unwritten;
+            parts = append-nil (kept_bytes keeps events) ∙ (kept_more keeps p.events (came.event ∷ [])
+                ∙ ((λ i. p.parts i ++ k i)
+                ∙ (append_assoc p.lines page (if_stays (report_stays keeps (report_of payload)) bytes.now)
+                ∙ (ap (λ (l : List ℕ). p.lines ++ l) w.parts ∙ sym (append_assoc p.lines w.moved w.unwritten)))));
+            wrote = Appends-trans taken written written' p.lines w.moved p.wrote w.wrote;
+          };
+        }
 
     -- the bytes of a step could not be put, or were put and could not be written
     wrote_up_to : (x : Result Step Error) → Steps f x g → (written' : Option (List ℕ))
         → WritesHead written written' (page ++ piece_after keeps x) → StripsHead keeps (from_to source rest) (from_to taken written')
-    wrote_up_to x s written' w =
-        let (unread, same) = piece_of x s in
-        gave_up rest written' [] (piece_after keeps x) unread (Consumes-nil rest) (append-nil f.held ∙ same) w
+    wrote_up_to (Ok (Parsed bytes payload)) s written' w = by_end (is_end (report_of payload)) refl w
+      where
+        by_end : (b : Bool) → is_end (report_of payload) ≡ b
+            → WritesHead written written' (page ++ (if b then [] else if_stays (report_stays keeps (report_of payload)) bytes.now))
+            → StripsHead keeps (from_to source rest) (from_to taken written')
+        by_end true e w = wrote_what_waited written' (rw (append-nil page) at w)
+        by_end false e w = wrote_to_event bytes payload s e written' w
+    wrote_up_to (Ok (NeedMoreData hint)) s written' w = wrote_what_waited written' (rw (append-nil page) at w)
+    wrote_up_to (Err e) s written' w = wrote_what_waited written' (rw (append-nil page) at w)
 
     pub cut : (x : Result Step Error) → Steps f x g → (written' : Option (List ℕ)) (e : ListError)
         → IsCut written written' (page ++ piece_after keeps x) e → StripsHead keeps (from_to source rest) (from_to taken written')
@@ -350,6 +384,7 @@ module _ (keeps : List ℕ → Bool) (source rest taken written : Option (List �
           unread = f.held;
           gave = p.gave;
           parts = answers_go_along.consumed 0 all_features p.given f.state f.held p.events p.is_along;
+          stays = inl refl;
           wrote = subst (Appends taken written'') all (Appends-trans taken written' written'' (p.lines ++ w.moved) page'
               (Appends-trans taken written written' p.lines w.moved p.wrote w.writes) v);
           ends = a.ends;
@@ -451,6 +486,25 @@ held_parts keeps source rest taken written c stored chunk page q passing skipped
     ∙ (parts ∙ (ap (λ (l : List ℕ). l ++ left) (sym (both_parts passing.stays part))
     ∙ append_assoc (if_stays passing.stays part) (dropped passing.stays part) left))
 
+-- what is forwarded of it is of a part that stays
+partial_stays : (keeps : List ℕ → Bool) (source rest taken written : Option (List ℕ)) (c : Cursor) (stored chunk page : List ℕ)
+    (q : StripProgress keeps source rest taken written (lending stored chunk c) page) (passing : Passing) (skipped : Cursor)
+    → SkipsHere (head_stays keeps) c (seen stored chunk) passing skipped → (fetched part : List ℕ) (b : Bool) → passing.stays ≡ b
+    → IsPartial keeps (q.given ++ fetched) q.events (if_stays b part)
+partial_stays keeps source rest taken written c stored chunk page q passing skipped skips fetched part false is = inl refl
+partial_stays keeps source rest taken written c stored chunk page q passing skipped skips fetched part true is = inr (record {
+  state = c.parser;
+  held = held_by c stored chunk ++ fetched;
+  seen = drop c.mark (seen stored chunk);
+  later = unseen stored chunk ++ fetched;
+  along = answers_go_along.more 0 all_features q.given c.parser (held_by c stored chunk) q.events fetched q.is_along;
+  parts = append_assoc (drop c.mark (seen stored chunk)) (unseen stored chunk) fetched;
+  skip = skips.skip;
+  next = skipped.parser;
+  skips = skips.skips;
+  stays = sym skips.stays ∙ is;
+})
+
 module _ (keeps : List ℕ → Bool) (source rest taken written : Option (List ℕ)) (c : Cursor) (stored chunk page : List ℕ)
     (w : StripWants keeps source rest taken written (lending stored chunk c) page) (rest' written' : Option (List ℕ))
     (how_cut : Option Error)
@@ -520,6 +574,8 @@ module _ (keeps : List ℕ → Bool) (source rest taken written : Option (List �
         parts = ap (λ (l : List ℕ). l ++ x.passes.fetched) (consumed ∙ ap (λ (l : List ℕ). consumed_by q.events ++ l) (sym same))
             ∙ (append_assoc (consumed_by q.events) (held_by x.skipped stored chunk) x.passes.fetched
             ∙ ap (λ (l : List ℕ). consumed_by q.events ++ l) (whole ∙ sym (both_parts x.passing.stays x.passes.part)));
+        stays = partial_stays keeps source rest taken written c stored chunk page q x.passing x.skipped x.skips x.passes.fetched
+            x.passes.part x.passing.stays refl;
         wrote = subst (Appends taken written'') all_written (Appends-trans taken written' written'' (q.lines ++ x.passes.puts.moved) page'
             (Appends-trans taken written written' q.lines x.passes.puts.moved q.wrote x.passes.puts.writes) v);
         ends = at;
@@ -546,6 +602,8 @@ module _ (keeps : List ℕ → Bool) (source rest taken written : Option (List �
       (if_stays x.passing.stays x.passes.part) (dropped x.passing.stays x.passes.part ++ x.left) x.passes.gave
       (held_parts keeps source rest taken written c stored chunk page q x.passing x.skipped x.skips x.passes.fetched x.passes.part x.left
       x.passes.parts)
+      (partial_stays keeps source rest taken written c stored chunk page q x.passing x.skipped x.skips x.passes.fetched x.passes.part
+      x.passing.stays refl)
       (head_after written written' written'' page (if_stays x.passing.stays x.passes.part) page' x.passes.puts
       (head_of_cut written' written'' page' e v))
 
@@ -593,4 +651,6 @@ stopped_here keeps source rest taken written c stored chunk page w rest' written
     gave_up keeps source rest taken written (lending stored chunk c) page w.progress rest' written' x.up.given
     (if_stays x.passing.stays x.up.passed) (dropped x.passing.stays x.up.passed ++ x.left) x.up.gave
     (held_parts keeps source rest taken written c stored chunk page w.progress x.passing x.skipped x.skips x.up.given x.up.passed x.left
-    x.up.parts) (head_before written written' x.passing.stays x.passing.size page x.up.passed x.left x.page e x.up.ends)
+    x.up.parts)
+    (partial_stays keeps source rest taken written c stored chunk page w.progress x.passing x.skipped x.skips x.up.given x.up.passed
+    x.passing.stays refl) (head_before written written' x.passing.stays x.passing.size page x.up.passed x.left x.page e x.up.ends)

@@ -1,5 +1,5 @@
 -- Stripping a stream while it is read.
-use Rattle.std.specs.Prelude.{◌≡◌, ◌⊎◌, ℕ, ◌<◌, ◌≤◌, ◌^◌, Bool, List, [], ◌∷◌, ◌++◌, length}
+use Rattle.std.specs.Prelude.{◌≡◌, ◌⊎◌, ℕ, ◌<◌, ◌≤◌, ◌^◌, Bool, true, List, [], ◌∷◌, ◌++◌, length}
 use Rattle.std.specs.Prelude.{Option}
 use Rattle.std.specs.Prelude.{Some, None, Result, Ok, Err, if◌then◌else◌}
 use Rattle.std.specs.Io.KnownBytes.{Consumes, Appends}
@@ -10,7 +10,9 @@ use Rattle.wasm_grammar.specs.Reading.{Event, last_event, Stream}
 use Rattle.wasm_text.specs.Calls.{Change, Device, bytes_of, input_failed, output_failed}
 use Rattle.wasm_text.specs.Page.{IsCut, PutsBytes, WritesHead}
 use Rattle.wasm_base.specs.Features.{all_features}
-use Rattle.wasm_parser.specs.Along.{ReadingBegins}
+use Rattle.wasm_parser.specs.Along.{Along, ReadingBegins}
+use Rattle.wasm_parser.specs.ParserState.{ParserState}
+use Rattle.wasm_parser.specs.SkipNext.{Skip, SkipsPart}
 use Rattle.wasm_text.specs.declared.devices.ListError.{ListError}
 use Rattle.wasm_parser.specs.ParseAnswer.{report_of, is_end}
 use Rattle.wasm_feeder.specs.Beside.{seen, lending, FillsAlike}
@@ -97,6 +99,23 @@ abbrev pub StopsHere : (keeps : List ℕ → Bool) (source rest taken written : 
 StopsHere keeps source rest taken written old stored chunk waiting e =
     ReadsNot source rest taken written ⊎ PassesNot keeps source rest taken written old stored chunk waiting e
 
+-- The part that comes after these events stays, by its first fields.
+pub record NextStays (keeps : List ℕ → Bool) (given : List ℕ) (first : List Event) : Type 0 where
+  pub state : ParserState
+  pub held : List ℕ
+  pub seen : List ℕ
+  pub later : List ℕ
+  pub along : Along 0 all_features given state held first
+  pub parts : held ≡ seen ++ later
+  pub skip : Skip
+  pub next : ParserState
+  pub skips : SkipsPart state seen skip next
+  pub stays : head_stays keeps skip.head ≡ true
+
+-- what may have been written of the next part
+abbrev pub IsPartial : (keeps : List ℕ → Bool) (given : List ℕ) (first : List Event) (partial : List ℕ) → Type 0
+IsPartial keeps given first partial = (partial ≡ []) ⊎ NextStays keeps given first
+
 -- A call was given up. What was written is a prefix of the bytes of these events that stay, and of the first bytes of
 -- the next part, if it stays.
 pub record StripsHead (keeps : List ℕ → Bool) (input output : Change) : Type 0 where
@@ -107,6 +126,7 @@ pub record StripsHead (keeps : List ℕ → Bool) (input output : Change) : Type
   pub gave : Consumes input.before input.after given
   pub begins : ReadingBegins 0 all_features given first
   pub parts : given ≡ consumed_by first ++ (partial ++ unread)
+  pub stays : IsPartial keeps given first partial
   pub wrote : WritesHead output.before output.after (kept_bytes keeps first ++ partial)
 
 -- What was read and written of a stream that ended so. A fault may come after the first bytes of a part, which were
@@ -119,6 +139,7 @@ pub record IsStreamed (keeps : List ℕ → Bool) (input output : Change) (how :
   pub unread : List ℕ
   pub gave : Consumes input.before input.after given
   pub parts : given ≡ consumed_by first ++ (partial ++ unread)
+  pub stays : IsPartial keeps given first partial
   pub wrote : Appends output.before output.after (kept_bytes keeps first ++ partial)
   pub ends : IsEndedBy how end
   pub within : length given < 2 ^ 64 → IsWhole input.before given (first ++ last_event end ∷ [])

@@ -89,10 +89,10 @@ fn read_or_pass<A: Allocator, R: Source, W: Sink>(
 /// written, and the first fields of a part. The parts of a well-formed stream are not buffered, however large they are.
 ///
 /// Bytes are written before the end of the stream is known. To write nothing if the stream has a fault, read it twice:
-/// first with an output that drops its bytes. `strip_in` checks and copies a stream in memory.
+/// first into `std::io::sink()`. `strip_in` checks and copies a stream in memory.
 ///
-/// A fault of the stream is no error: `Ended::Fault` is returned, and the parts before it have been written, perhaps
-/// with the first bytes of the part that it cuts.
+/// A fault of the stream is no error: `Ended::Fault` is returned, and the parts before it that stay have been written,
+/// perhaps with the first bytes of the part that it cuts.
 ///
 /// # Errors
 ///

@@ -1,9 +1,9 @@
 // A sink that colors a dump.
 ghost use Rattle.std.specs.Prelude.{◌≡◌, ◌≢◌, ℕ, ◌≤◌, ◌<◌, ◌+◌, ◌++◌, ◌∷◌, [], true, length, take, IfOk, OnErr, is_ok, if◌then◌else◌};
 ghost use Rattle.std.specs.Io.KnownBytes.{Appends, WriteAppends};
-ghost use Rattle.wasm_cli.specs.Colors.{plain};
+ghost use Rattle.wasm_cli.specs.Colors.{plain, without_colors};
 
-use super::gathered::gather;
+use super::gathered::{Run, gather};
 use super::inks::{Spot, sequence};
 use super::plain::{ESC, count_plain};
 use wasm_feed::{Failed, Sink, write_all};
@@ -82,10 +82,36 @@ fn write_escape<W: Sink>(output: &mut W) -> Result<usize, Failed>
     write_after(output, &[ESC], b"\\")
 }
 
-// Writes a prefix of a text that does not begin with an ESC. Returns its length.
+// Returns the length without colors of the first `written` bytes of what was gathered.
+fn count_written(run: &Run, written: usize) -> usize
+    requires within { written ≤ length run.now.text }
+    requires count { run.now.count ≡ length (without_colors run.now.text) }
+    ensures { result ≡ length (without_colors (take written run.now.text)) }
+{
+    let bytes = run.text.as_bytes();
+    if written == bytes.len() {
+        run.count
+    } else {
+        count_plain(&bytes[..written])
+    }
+}
+
+// Returns the position after `count` bytes of a text, of which the first led to `start`.
+fn spot_after(run: &Run, start: Spot, later: &[u8], count: usize) -> Spot {
+    if count == run.count {
+        return run.spot;
+    }
+    let mut spot = start;
+    for byte in later.iter().take(count.saturating_sub(1)) {
+        spot = spot.after(*byte);
+    }
+    spot
+}
+
+// Writes a prefix of a text that does not begin with an ESC, and moves the position after it. Returns its length.
 fn write_colors<W: Sink>(
     output: &mut W,
-    spot: Spot,
+    spot: &mut Spot,
     first: u8,
     later: &[u8],
 ) -> Result<usize, Failed>
@@ -97,23 +123,16 @@ fn write_colors<W: Sink>(
     ensures failed { W.has_failed output.new
         ≡ (if is_ok result then W.has_failed output.old else true) }
 {
-    let gathered = gather(spot, first, later);
-    let ink = spot.after(first).ink();
-    let written = write_after(output, sequence(ink), gathered.as_bytes())?;
-    Ok(count_plain(&gathered.as_bytes()[..written]))
+    let start = spot.after(first);
+    let run = gather(*spot, first, later);
+    let written = write_after(output, sequence(start.ink()), run.text.as_bytes())?;
+    let count = count_written(&run, written);
+    *spot = spot_after(&run, start, later, count);
+    Ok(count)
 }
 
-// Returns the position after these bytes.
-fn pass(spot: Spot, bytes: &[u8]) -> Spot {
-    let mut spot = spot;
-    for byte in bytes {
-        spot = spot.after(*byte);
-    }
-    spot
-}
-
-// Writes a prefix of a text with its colors. Returns its length.
-fn write_colored<W: Sink>(output: &mut W, spot: Spot, buf: &[u8]) -> Result<usize, Failed>
+// Writes a prefix of a text with its colors, and moves the position after it. Returns its length.
+fn write_colored<W: Sink>(output: &mut W, spot: &mut Spot, buf: &[u8]) -> Result<usize, Failed>
     ensures bound { IfOk result (λ n. n ≤ length buf.now) }
     ensures some { IfOk result (λ n. 0 < length buf.now → 0 < n) }
     ensures bytes { WriteAppends (plain (W.taken output.old)) (plain (W.taken output.new))
@@ -125,7 +144,9 @@ fn write_colored<W: Sink>(output: &mut W, spot: Spot, buf: &[u8]) -> Result<usiz
         return Ok(0);
     };
     if *first == ESC {
-        write_escape(output)
+        let count = write_escape(output)?;
+        *spot = spot.after(ESC);
+        Ok(count)
     } else {
         write_colors(output, spot, *first, later)
     }
@@ -144,9 +165,7 @@ impl<W: Sink> Sink for Colored<W> {
         if !self.is_colored {
             return self.inner.write(buf);
         }
-        let count = write_colored(&mut self.inner, self.spot, buf)?;
-        self.spot = pass(self.spot, &buf[..count]);
-        Ok(count)
+        write_colored(&mut self.inner, &mut self.spot, buf)
     }
 
     fn failed(&self) -> bool {

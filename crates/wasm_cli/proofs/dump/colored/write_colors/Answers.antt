@@ -10,11 +10,11 @@ returns-in_err-written-clause-bytes g c =
 
 pub returns-clause-bound : goal.returns-clause-bound
 returns-clause-bound g c =
-    rw (c.count_plain.ensures, c.as_bytes-2.ensures.bytes)
-    (colored_bound c.args.first c.in_ok-written.written c.args.later.now c.gather-gathered.result c.gather-gathered.ensures)
+    rw c.count_written-count.ensures
+    (colored_bound c.args.first c.in_ok-written.written c.args.later.now c.gather-run.result.text c.gather-run.ensures.colored)
 
 pub returns-clause-bytes : goal.returns-clause-bytes
 returns-clause-bytes g c =
-    rw (c.count_plain.ensures, c.as_bytes-2.ensures.bytes)
-    (colored_written c.args.first c.in_ok-written.written c.args.later.now c.sequence.result.now c.gather-gathered.result _ _
-    c.sequence.ensures.sets c.gather-gathered.ensures (rw c.as_bytes.ensures.bytes at c.in_ok-written.ensures.ok))
+    rw c.count_written-count.ensures
+    (colored_written c.args.first c.in_ok-written.written c.args.later.now c.sequence.result.now c.gather-run.result.text _ _
+    c.sequence.ensures.sets c.gather-run.ensures.colored (rw c.as_bytes.ensures.bytes at c.in_ok-written.ensures.ok))

@@ -4,6 +4,8 @@ use Rattle.wasm_cli.proofs.Coloring.{gathers_next}
 use Rattle.wasm_cli.proofs.dump.gathered.gather.Goals as goal
 
 pub loop-byte-preserved : goal.loop-byte-preserved
-loop-byte-preserved c =
-    gathers_next c.args.first c.loop-byte.byte-index _ c.args.later.now _ _ c.loop-byte.invariant c.put_byte.ensures (omega arith)
-    (get_or_default c.args.later.now c.loop-byte.byte-index _ _ (omega arith))
+loop-byte-preserved c = record {
+  gathers = gathers_next c.args.first c.loop-byte.byte-index _ c.args.later.now _ _ c.loop-byte.invariant.gathers c.put_byte.ensures
+      (omega arith) (get_or_default c.args.later.now c.loop-byte.byte-index _ _ (omega arith));
+  counts = omega (arith, c.loop-byte.invariant.counts);
+}
