@@ -1,8 +1,9 @@
 // Dumps with colors.
+use crate::tests::same_at;
 use std::alloc::Global;
 use std::test::Fail;
 use wasm_cli::dump::Colored;
-use wasm_feed::{BoundedSink, Sink, write_all};
+use wasm_feed::{BoundedSink, Failed, Sink, write_all};
 
 // What a sink with room for this many bytes has after this text was written through colors, and whether all was.
 fn written(alloc: Global, room: usize, text: &[u8]) -> Result<(BoundedSink, bool), Fail> {
@@ -47,6 +48,73 @@ fn stops_where_the_other_sink_does(rt: HostRuntime) -> Result<(), Fail> {
         assert!(rt; !whole);
         assert!(rt; sink.failed());
         assert!(rt; wanted.starts_with(sink.written()));
+    }
+    Ok(())
+}
+
+// A sink that takes a few bytes a call.
+#[derive(Drop)]
+struct Slow {
+    inner: BoundedSink,
+    step: usize,
+}
+
+impl Sink for Slow {
+    ghost use Rattle.std.specs.Prelude.{Some};
+
+    ghost taken = { λ s. Some s.inner.bytes.items };
+
+    ghost has_failed = { λ s. s.inner.failed };
+
+    fn write(&mut self, buf: &[u8]) -> Result<usize, Failed> {
+        self.inner.write(&buf[..buf.len().min(self.step)])
+    }
+
+    fn failed(&self) -> bool {
+        self.inner.failed()
+    }
+}
+
+// The bytes of a text with colors, each before a number that its color has. A sequence that is cut short is followed by another.
+fn shades(alloc: Global, bytes: &[u8]) -> Result<Vec<u8>, Fail> {
+    let mut shades = Vec::new(alloc);
+    let mut color = 0_u8;
+    let mut rest = bytes;
+    while let Some((first, after)) = rest.split_first() {
+        rest = after;
+        if *first != 0x1b || after.starts_with(b"\\") {
+            shades.push(*first)?;
+            shades.push(color)?;
+            continue;
+        }
+        color = 0;
+        while let Some((next, later)) = rest.split_first() {
+            if *next == 0x1b {
+                break;
+            }
+            rest = later;
+            if *next == b'm' {
+                break;
+            }
+            color = color.wrapping_add(*next);
+        }
+    }
+    Ok(shades)
+}
+
+// However many bytes the other sink takes at once, each byte of the text has its color.
+#[test]
+fn colors_through_a_slow_sink(rt: HostRuntime) -> Result<(), Fail> {
+    let text = b"end 8\n  8 a=\"b c\" 2 \x1b[1m\n  fault 8 a \"b\": 2\nfunc[0]\n".as_slice();
+    let (whole, _) = written(rt.alloc(), 1000, text)?;
+    let wanted = shades(rt.alloc(), whole.written())?;
+    for step in 1..60 {
+        let inner = BoundedSink::new(rt.alloc(), 1000)?;
+        let mut colored = Colored::new(Slow { inner, step }, true);
+        assert!(rt; write_all(&mut colored, text).is_ok());
+        let Slow { inner, .. } = colored.into_inner();
+        let seen = shades(rt.alloc(), inner.written())?;
+        same_at(&rt, seen.as_slice(), wanted.as_slice(), &step);
     }
     Ok(())
 }
