@@ -1,28 +1,23 @@
 -- How far a dump has come. Its outline is what a listing by the lines that are shown would have written.
-use Rattle.std.proofs.Common.{◌≡◌, ℕ, ◌<◌, Bool, true, false, if◌then◌else◌, List, [], ◌++◌, Option, Some, None, Result, Ok, Err, refl}
-use Rattle.std.proofs.Common.{sym}
-use Rattle.std.proofs.Common.{◌∷◌, ◌^◌, ap, subst, subst₂, ◌∙◌, append-nil, append_assoc, length, length-append, drop, inl, inr, arith}
-use Rattle.std.proofs.Common.{nat_eq}
+use Rattle.std.proofs.Common.{◌≡◌, ℕ, ◌<◌, Bool, true, false, if◌then◌else◌, List, [], ◌++◌, Option, Some, None, Result, Ok, Err, refl, sym}
+use Rattle.std.proofs.Common.{◌∷◌, ap, subst, subst₂, ◌∙◌, append-nil, append_assoc, length, length-append, drop, arith}
 use Rattle.std.specs.Io.KnownBytes.{Appends, Consumes}
 use Rattle.std.proofs.KnownBytes.{Appends-nil, Consumes-nil, Consumes-trans, Consumes-kept}
 use Rattle.wasm_text.specs.Calls.{Change, Device, bytes_of, from_to, input_failed, output_failed}
 use Rattle.wasm_feeder.specs.Feed.{Feed, new_feed}
-use Rattle.wasm_feeder.specs.Beside.{beside, lending, seen, FillsAlike, IsAlike, ReadsEnough}
+use Rattle.wasm_feeder.specs.Beside.{beside, lending, seen, FillsAlike, ReadsEnough}
 use Rattle.wasm_feeder.specs.Cursors.{feed_of}
 use Rattle.wasm_feeder.specs.Lists.{IsHead, ListsBy, Refills}
 use Rattle.wasm_feeder.specs.declared.feeder.Cursor.{Cursor}
-use Rattle.wasm_feeder.specs.FeedersLaws.{IsAlong}
-use Rattle.wasm_parser.specs.Along.{Came}
-use Rattle.wasm_parser.specs.declared.payload.Payload.{Payload}
-use Rattle.wasm_parser.proofs.ForCallers.{answers_go_along, end_consumes_all}
-use Rattle.wasm_parser.specs.GivesNextEvent.{MayBe}
+use Rattle.wasm_parser.proofs.ForCallers.{end_consumes_all}
+use Rattle.wasm_grammar.specs.Content.{Ending}
+use Rattle.wasm_lines.specs.Listing.{listing_by}
 use Rattle.wasm_grammar.specs.EventRanges.{consumed_by}
-use Rattle.wasm_grammar.specs.Reading.{Report, Event, Reading}
-use Rattle.wasm_feeder.proofs.ForCallers.{feeders_go_along}
+use Rattle.wasm_grammar.specs.Reading.{Report, Event, last_event, Reading}
 use Rattle.wasm_text.specs.Page.{WritesHead, PutsBytes}
 use Rattle.wasm_base.specs.declared.error.Error.{Error}
-use Rattle.wasm_parser.specs.ParseAnswer.{report_of, is_end, ParseAnswer}
-use Rattle.wasm_feeder.specs.Step.{answer_of, chunk_of, is_request, shown, Steps}
+use Rattle.wasm_parser.specs.ParseAnswer.{report_of, ParseAnswer}
+use Rattle.wasm_feeder.specs.Step.{answer_of, is_request, shown, Steps}
 use Rattle.wasm_feeder.specs.Turns.{text_after, turn_after}
 use Rattle.wasm_feeder.specs.declared.feeder.Step.{Step}
 use Rattle.wasm_feeder.specs.declared.feeder.Step.TheVariants.{NeedMoreData, Parsed}
@@ -32,8 +27,9 @@ use Rattle.wasm_text.specs.declared.devices.ListError.{ListError}
 use Rattle.wasm_text.specs.declared.devices.ListError.TheVariants.{Input, Output, Memory}
 use Rattle.wasm_feeder.specs.declared.turns.Turn.{Turn}
 use Rattle.wasm_feeder.specs.declared.turns.Turn.TheVariants as turn
-use Rattle.wasm_feeder.specs.Progress.{weight, Progress, Wants}
+use Rattle.wasm_feeder.specs.Progress.{weight, Reached, Asks, Progress, Wants}
 use Rattle.wasm_feeder.proofs.ForCallers as progress
+use Rattle.wasm_feeder.proofs.ForCallers.{AtEnd, IsEnding, IsEvent, all_given, begins_with, consumed, next_asks, next_ends, next_event, reads_on}
 use Rattle.wasm_dumper.specs.Chosen.{chosen_line, is_chosen}
 use Rattle.wasm_tree.specs.Numbers.{Number}
 use Rattle.wasm_dumper.specs.Counting.{after, after_all, no_counts}
@@ -42,7 +38,6 @@ use Rattle.wasm_dumper.proofs.Numbering.{all_more, events_begin, events_more, en
 use Rattle.wasm_dumper.specs.Dump.{AreOf, AreOfEvents, AreOfSource, bytes_of_answer, bytes_of_event, bytes_of_events, shown_bytes, is_whole}
 use Rattle.std.specs.Prelude.{flat_map}
 use Rattle.std.proofs.lemmas.Grind.{flat_map-append}
-use Rattle.std.proofs.lemmas.Bool.Decides.{nat_tests}
 use Rattle.wasm_dumper.specs.Dump.{WritesWhole, WritesSome, AreOfAnswer, ShowsAnswer, after_answer, origin, DumpsFrom, DumpsInto}
 use Rattle.wasm_dumper.specs.Dump.{DumpsByTree, Writes, stopped_by}
 use Rattle.wasm_tree.specs.Tree as Tree
@@ -66,6 +61,10 @@ IsFresh w taken failed = IsWritten (origin w.style taken failed [] [] []) w
 abbrev pub source : (full rest : Option (List ℕ)) (had has : Bool) → Device
 source full rest had has = record { before = full; after = rest; had_failed = had; has_failed = has }
 
+-- the lines of the first level of these events
+abbrev pub outline_of : Style → List Only → List Event → List ℕ
+outline_of style only events = listing_by (chosen_line style only) events
+
 -- what was written with these events, and their numbers, where the tree has not stopped
 abbrev pub WrittenWith : (why : Option ListError) → List Only → (has_bytes : Bool) → List Event → Style
     → (taken : Option (List ℕ)) (failed : Bool) (outline : List ℕ) → Writing → Type 0
@@ -80,87 +79,45 @@ Continues only has_bytes c x old new = ((why : Option ListError) (numbers shown 
     → AreOfEvents why only no_counts new (numbers ++ shown))
     × (bytes_of_events has_bytes only new ≡ bytes_of_events has_bytes only old ++ bytes_of_answer has_bytes only x)
 
--- where the feeder is along what the source gave, and what is counted of its events
-pub record Counting (full rest : Option (List ℕ)) (f : Feed) (c : Counts) : Type 0 where
-  pub given : List ℕ
-  pub events : List Event
-  pub gave : Consumes full rest given
-  pub along : IsAlong 0 all_features given f events
-  pub counted : c ≡ after_all no_counts events
+-- the tree has written these events since it was fresh
+abbrev pub HasWritten : List Only → (has_bytes : Bool) → (before : Writing) (events : List Event) (now : Writing) → Type 0
+HasWritten only has_bytes before events now = (taken : Option (List ℕ)) (failed : Bool) → IsFresh before taken failed
+    → WrittenWith None only has_bytes events before.style taken failed (outline_of before.style only events) now
 
--- the outline so far, the listing that has written it, what is counted, and what was written with it
+-- where the feeder is along what the source gave, what is counted of its events, and what was written of them
 pub record Dumping (only : List Only) (has_bytes : Bool) (full rest : Option (List ℕ)) (before : Writing) (f : Feed) (c : Counts)
     (now : Writing) : Type 0 where
-  pub outline : List ℕ
-  pub listing : Progress (chosen_line before.style only) (from_to full rest) (from_to (Some []) (Some outline)) f []
-  pub counting : Counting full rest f c
-  pub writing : (taken : Option (List ℕ)) (failed : Bool) → IsFresh before taken failed
-      → WrittenWith None only has_bytes counting.events before.style taken failed outline now
+  pub events : List Event
+  pub reached : Reached full rest f events
+  pub counted : c ≡ after_all no_counts events
+  pub writing : HasWritten only has_bytes before events now
 
--- the same where the feeder is asked for more
+-- the same where the feeder asks for more
 pub record Wanting (only : List Only) (has_bytes : Bool) (full rest : Option (List ℕ)) (before : Writing) (f : Feed) (c : Counts)
     (now : Writing) : Type 0 where
-  pub outline : List ℕ
-  pub listing : Wants (chosen_line before.style only) (from_to full rest) (from_to (Some []) (Some outline)) f []
-  pub counting : Counting full rest f c
-  pub writing : (taken : Option (List ℕ)) (failed : Bool) → IsFresh before taken failed
-      → WrittenWith None only has_bytes counting.events before.style taken failed outline now
-
--- no event yet
-abbrev counts_nothing : (full : Option (List ℕ)) → Counting full full (new_feed 0 all_features) no_counts
-counts_nothing full = record {
-  given = [];
-  events = [];
-  gave = Consumes-nil full;
-  along = feeders_go_along.begins 0 all_features;
-  counted = refl;
-}
+  pub events : List Event
+  pub asks : Asks full rest f events
+  pub counted : c ≡ after_all no_counts events
+  pub writing : HasWritten only has_bytes before events now
 
 none_of_events : (has_bytes : Bool) (only : List Only) → [] ≡ bytes_of_events has_bytes only []
 none_of_events true only = refl
 none_of_events false only = refl
 
-starts : (only : List Only) (has_bytes : Bool) (full : Option (List ℕ)) (w : Writing)
-    → Dumping only has_bytes full full w (new_feed 0 all_features) no_counts w
-starts only has_bytes full w = record {
-  outline = [];
-  listing = progress.begun (chosen_line w.style only) full (Some []);
-  counting = counts_nothing full;
-  writing = λ taken failed i. (
-    [],
-    refl,
-    subst (λ (x : List ℕ). IsWritten (origin w.style taken failed [] [] x) w)
-        (none_of_events has_bytes only) i,
-  );
-}
-
--- the same of a feeder in the same place, with the same bytes
-like : (only : List Only) (has_bytes : Bool) (full rest : Option (List ℕ)) (before : Writing) (f g : Feed) (c : Counts) (now : Writing)
-    → IsAlike f g → Dumping only has_bytes full rest before f c now → Dumping only has_bytes full rest before g c now
-like only has_bytes full rest before f g c now a d = record {
-  outline = d.outline;
-  listing = progress.alike (chosen_line before.style only) (from_to full rest) (from_to (Some []) (Some d.outline)) f g [] a d.listing;
-  counting = record {
-    given = d.counting.given;
-    events = d.counting.events;
-    gave = d.counting.gave;
-    along = rw (← a.state, ← a.held) d.counting.along;
-    counted = d.counting.counted;
-  };
-  writing = d.writing;
-}
-
 -- the dump begins with nothing stored, and nothing read
 pub starts_beside : (only : List Only) (has_bytes : Bool) (full : Option (List ℕ)) (w : Writing) (stored piece : List ℕ) (cursor : Cursor)
     (c : Counts) → stored ≡ [] → piece ≡ [] → feed_of [] cursor ≡ new_feed 0 all_features → c ≡ no_counts
     → Dumping only has_bytes full full w (beside (feed_of stored cursor) piece) c w
-starts_beside only has_bytes full w stored piece cursor c none no_piece new none_counted =
-    rw (none, no_piece, none_counted) (like only has_bytes full full w (new_feed 0 all_features) (beside (feed_of [] cursor) [])
-    no_counts w (record {
-      state = sym (ap (λ (f : Feed). f.state) new);
-      held = sym (append-nil (drop cursor.mark []) ∙ ap (λ (f : Feed). f.held) new);
-      eof = sym (ap (λ (f : Feed). f.eof) new);
-    }) (starts only has_bytes full w))
+starts_beside only has_bytes full w stored piece cursor c none no_piece new none_counted = record {
+  events = [];
+  reached = progress.begun_beside full stored piece cursor none no_piece new;
+  counted = none_counted;
+  writing = λ taken failed i. (
+    [],
+    refl,
+    subst (λ (x : List ℕ). IsWritten (origin w.style taken failed [] [] x) w) (none_of_events has_bytes only) i,
+  );
+}
 
 -- ---- what is counted
 
@@ -168,38 +125,20 @@ starts_beside only has_bytes full w stored piece cursor c none no_piece new none
 pub not_whole : (left : List ℕ) → false ≡ true → left ≡ []
 not_whole left e = cc
 
--- the numbers of what the source gave
-numbers_at : (why : Option ListError) (whole : Bool) (only : List Only) (has_bytes : Bool) (full rest : Option (List ℕ)) (f : Feed)
-    (c : Counts) (k : Counting full rest f c) (numbers : List Number) → (whole ≡ true → f.held ≡ [])
-    → AreOfEvents why only no_counts k.events numbers
-    → AreOfSource why whole only has_bytes (from_to full rest) numbers (bytes_of_events has_bytes only k.events)
-numbers_at why whole only has_bytes full rest f c k numbers none a = record {
+-- the numbers of what the source gave, perhaps with more bytes than were pushed
+pub numbers_of : (why : Option ListError) (whole : Bool) (only : List Only) (has_bytes : Bool) (full rest : Option (List ℕ)) (f : Feed)
+    (events : List Event) → Reached full rest f events → (rest' : Option (List ℕ)) (piece : List ℕ) → Consumes rest rest' piece
+    → (numbers : List Number) → (whole ≡ true → f.held ++ piece ≡ []) → AreOfEvents why only no_counts events numbers
+    → AreOfSource why whole only has_bytes (from_to full rest') numbers (bytes_of_events has_bytes only events)
+numbers_of why whole only has_bytes full rest f events r rest' piece more numbers none a = record {
   none_left = none;
-  given = k.given;
-  events = k.events;
-  gave = k.gave;
-  left = f.held;
-  consumed = answers_go_along.consumed 0 all_features k.given f.state f.held k.events k.along;
-  are_bytes = refl;
-  begins = answers_go_along.first 0 all_features k.given f.state f.held k.events true k.along k.given refl;
-  are_of = a;
-}
-
--- more bytes were read and not pushed
-pub numbers_after : (why : Option ListError) (only : List Only) (has_bytes : Bool) (full rest rest' : Option (List ℕ)) (f : Feed)
-    (c : Counts) (k : Counting full rest f c) (piece : List ℕ)
-    → Consumes rest rest' piece → (numbers : List Number) → AreOfEvents why only no_counts k.events numbers
-    → AreOfSource why false only has_bytes (from_to full rest') numbers (bytes_of_events has_bytes only k.events)
-numbers_after why only has_bytes full rest rest' f c k piece more numbers a = record {
-  none_left = not_whole (f.held ++ piece);
-  given = k.given ++ piece;
-  events = k.events;
+  given = r.given ++ piece;
+  events = events;
   left = f.held ++ piece;
-  consumed = ap (λ (x : List ℕ). x ++ piece) (answers_go_along.consumed 0 all_features k.given f.state f.held k.events k.along)
-      ∙ append_assoc (consumed_by k.events) f.held piece;
+  consumed = ap (λ (x : List ℕ). x ++ piece) (consumed full rest f events r) ∙ append_assoc (consumed_by events) f.held piece;
   are_bytes = refl;
-  gave = Consumes-trans full rest rest' k.given piece k.gave more;
-  begins = answers_go_along.first 0 all_features k.given f.state f.held k.events false k.along (k.given ++ piece) (piece, refl);
+  gave = Consumes-trans full rest rest' r.given piece r.gave more;
+  begins = begins_with full rest f events r piece;
   are_of = a;
 }
 
@@ -213,15 +152,6 @@ bytes_more true only events e r bytes same is = flat_map-append (λ x. bytes_of_
     ∙ ap (λ (x : List ℕ). if is_chosen only r then x else []) is))
 bytes_more false only events e r bytes same is = refl
 
--- the bytes so far may be all
-may_be : (eof : Bool) (given : List ℕ) → MayBe eof given given
-may_be true given = refl
-may_be false given = ([], sym (append-nil given))
-
-empty : (bytes : List ℕ) → length bytes ≡ 0 → bytes ≡ []
-empty [] e = refl
-empty (b ∷ bytes) e = absurd (omega arith)
-
 abbrev nothing : List ℕ
 nothing = []
 
@@ -233,125 +163,51 @@ none_shown : (has_bytes : Bool) (only : List Only) (r : Report) (bytes : List �
 none_shown true only r bytes e = ap (λ (x : List ℕ). if is_chosen only r then x else nothing) e ∙ nothing_either (is_chosen only r)
 none_shown false only r bytes e = refl
 
-module _ (only : List Only) (has_bytes : Bool) (full rest : Option (List ℕ)) (f : Feed) (c : Counts) (k : Counting full rest f c)
-    (g : Feed) where
-  below : (step : Step) → Steps f (Ok step) g → length k.given < 2 ^ 64
-  below step s =
-      let o = answers_go_along.below f.state g.state f.eof f.held (chunk_of step) s.parses in
-      let e = answers_go_along.ends 0 all_features k.given f.state f.held k.events k.along in
-      omega (arith, o, e)
-
-  -- a payload that isn't the end is the next event
-  next_event : (bytes : _) (payload : Payload) → Steps f (Ok (Parsed bytes payload)) g → is_end (report_of payload) ≡ false
-      → (e : Event) × (report_of payload ≡ e.report) × IsAlong 0 all_features k.given g (k.events ++ e ∷ [])
-      × (e.consumed ≡ bytes.now)
-  next_event bytes payload s n =
-      let came : Came 0 all_features f.eof k.given k.events bytes.now payload g.state g.held =
-      feeders_go_along.steps 0 all_features k.given f g k.events (Ok (Parsed bytes payload)) k.along
-      (omega (arith, below (Parsed bytes payload) s)) s in
-      let (after, some) = came.goes_on n in
-      (came.event, came.is_payload.0, after, came.consumed)
-
-  -- what is counted after a step that goes on
-  counted_on : (x : Result Step Error) → turn.Advance ≡ turn_after x → Steps f x g
-      → (k' : Counting full rest g (after_answer c x)) × Continues only has_bytes c x k.events k'.events
-  counted_on (Ok (NeedMoreData hint)) t s = cc
-  counted_on (Err e) t s = cc
-  counted_on (Ok (Parsed bytes payload)) t s =
-      let (e, same, along, consumed) = next_event bytes payload s (goes_on (is_end (report_of payload)) t) in (
-        record {
-          given = k.given;
-          events = k.events ++ e ∷ [];
-          gave = k.gave;
-          along = along;
-          counted = ap (λ (r : Report). after c r) same ∙ (ap (λ (d : Counts). after d e.report) k.counted
-              ∙ sym (all_more no_counts k.events e));
-        },
-        (
-          λ why numbers shown a b. events_more why only no_counts k.events numbers e shown a
-              (subst₂ (λ (d : Counts) (r : Report). AreOf why only d r shown) k.counted same b),
-          bytes_more has_bytes only k.events e (report_of payload) bytes.now same consumed,
-        ),
-      )
-    where
-      goes_on : (b : Bool) → turn.Advance ≡ (if b then turn.End End else turn.Advance) → b ≡ false
-      goes_on true e = cc
-      goes_on false e = refl
-
-  -- after a request
-  counted_still : (x : Result Step Error) → turn.Read ≡ turn_after x → Steps f x g
-      → (k' : Counting full rest g (after_answer c x)) × Continues only has_bytes c x k.events k'.events
-  counted_still (Ok (NeedMoreData hint)) t s = (
-    record {
-      given = k.given;
-      events = k.events;
-      gave = k.gave;
-      along = (feeders_go_along.steps 0 all_features k.given f g k.events (Ok (NeedMoreData hint)) k.along
-          (omega (arith, below (NeedMoreData hint) s)) s).1;
-      counted = k.counted;
-    },
+module _ (only : List Only) (has_bytes : Bool) (events : List Event) (c : Counts) (k : c ≡ after_all no_counts events) where
+  -- after an event
+  counted_on : (x : Result Step Error) (e : Event) → IsEvent x e
+      → (after_answer c x ≡ after_all no_counts (events ++ e ∷ [])) × Continues only has_bytes c x events (events ++ e ∷ [])
+  counted_on (Ok (Parsed bytes payload)) e (n, says, is) = (
+    ap (λ (r : Report). after c r) says ∙ (ap (λ (d : Counts). after d e.report) k ∙ sym (all_more no_counts events e)),
     (
-      λ why numbers shown a b. subst (AreOfEvents why only no_counts k.events)
-          (sym (ap (λ (y : List Number). numbers ++ y) b ∙ append-nil numbers)) a,
-      sym (append-nil (bytes_of_events has_bytes only k.events)),
+      λ why numbers shown a b. events_more why only no_counts events numbers e shown a
+          (subst₂ (λ (d : Counts) (r : Report). AreOf why only d r shown) k says b),
+      bytes_more has_bytes only events e (report_of payload) bytes.now says is,
     ),
   )
-  counted_still (Err e) t s = cc
-  counted_still (Ok (Parsed bytes payload)) t s = absurd (by_end (is_end (report_of payload)) t)
-    where
-      by_end : (b : Bool) → turn.Read ≡ (if b then turn.End End else turn.Advance) → ⊥
-      by_end true e = cc
-      by_end false e = cc
+  counted_on _ e is = absurd is
 
-  -- at an end
-  ends : (how : Ended) (b : Bool) → turn.End how ≡ (if b then turn.End End else turn.Advance) → b ≡ true
-  ends how true e = refl
-  ends how false e = cc
-
-  no_number : (x : Result Step Error) (how : Ended) → turn.End how ≡ turn_after x → (why : Option ListError) (shown : List Number)
-      → AreOfAnswer why only c x shown → shown ≡ []
-  no_number (Ok (NeedMoreData hint)) how t why shown b = b
-  no_number (Err e) how t why shown b = b
-  no_number (Ok (Parsed bytes payload)) how t why shown b =
-      end_none why only c (report_of payload) shown (ends how (is_end (report_of payload)) t) b
-
-  zero_is : (n : ℕ) (b : Bool) → nat_eq n 0 ≡ b → b ≡ true → n ≡ 0
-  zero_is n b e t = let is : nat_eq n 0 ≡ true = e ∙ t in grind (arith, nat_tests)
-
-  no_byte : (x : Result Step Error) (how : Ended) → turn.End how ≡ turn_after x → Steps f x g → bytes_of_answer has_bytes only x ≡ []
-  no_byte (Ok (NeedMoreData hint)) how t s = refl
-  no_byte (Err e) how t s = refl
-  no_byte (Ok (Parsed bytes payload)) how t s =
-      let consumes = answers_go_along.consumes f.state g.state f.eof f.held (Ok (chunk_of (Parsed bytes payload))) s.parses in
-      none_shown has_bytes only (report_of payload) bytes.now (empty bytes.now
-      (zero_is (length bytes.now) (is_end (report_of payload)) consumes.1 (ends how (is_end (report_of payload)) t)))
-
-  counted_last : (x : Result Step Error) (how : Ended) → turn.End how ≡ turn_after x → Steps f x g
-      → Continues only has_bytes c x k.events k.events
-  counted_last x how t s = (
-    λ why numbers shown a b. subst (AreOfEvents why only no_counts k.events)
-        (sym (ap (λ (y : List Number). numbers ++ y) (no_number x how t why shown b) ∙ append-nil numbers)) a,
-    sym (ap (λ (y : List ℕ). bytes_of_events has_bytes only k.events ++ y) (no_byte x how t s)
-        ∙ append-nil (bytes_of_events has_bytes only k.events)),
+  -- where nothing is shown
+  counted_still : (x : Result Step Error) → ((why : Option ListError) (shown : List Number) → AreOfAnswer why only c x shown → shown ≡ [])
+      → bytes_of_answer has_bytes only x ≡ [] → Continues only has_bytes c x events events
+  counted_still x none no_byte = (
+    λ why numbers shown a b. subst (AreOfEvents why only no_counts events)
+        (sym (ap (λ (y : List Number). numbers ++ y) (none why shown b) ∙ append-nil numbers)) a,
+    sym (ap (λ (y : List ℕ). bytes_of_events has_bytes only events ++ y) no_byte ∙ append-nil (bytes_of_events has_bytes only events)),
   )
 
-  -- at the stream's end nothing is held
-  held_none : (x : Result Step Error) → turn.End End ≡ turn_after x → Steps f x g → f.held ≡ []
-  held_none (Ok (NeedMoreData hint)) t s = cc
-  held_none (Err e) t s = cc
-  held_none (Ok (Parsed bytes payload)) t s =
-      let is = ends End (is_end (report_of payload)) t in
-      let came : Came 0 all_features f.eof k.given k.events bytes.now payload g.state g.held =
-      feeders_go_along.steps 0 all_features k.given f g k.events (Ok (Parsed bytes payload)) k.along
-      (omega (arith, below (Parsed bytes payload) s)) s in
-      let (offset, last) = came.last is in
-      let reading = subst (λ (e : Event). Reading k.given 0 all_features (k.events ++ e ∷ [])) last
-      (came.ends is k.given (may_be f.eof k.given)) in
-      let all = end_consumes_all k.given 0 all_features k.events offset reading in
-      let parts = answers_go_along.consumed 0 all_features k.given f.state f.held k.events k.along in
-      let same : length (consumed_by k.events) ≡ length (consumed_by k.events ++ f.held) =
-      ap (λ (x : List ℕ). length x) (sym all ∙ parts) in
-      empty f.held (omega (arith, length-append (consumed_by k.events) f.held))
+  -- at an end
+  counted_last : (x : Result Step Error) (end : Ending) → IsEnding x end → Continues only has_bytes c x events events
+  counted_last (Ok (NeedMoreData hint)) end is = absurd is
+  counted_last (Ok (Parsed bytes payload)) end is = counted_still (Ok (Parsed bytes payload))
+      (λ why shown b. end_none why only c (report_of payload) shown is.0 b) (none_shown has_bytes only (report_of payload) bytes.now is.2)
+  counted_last (Err e) end is = counted_still (Err e) (λ why shown b. b) refl
+
+empty : (bytes : List ℕ) → length bytes ≡ 0 → bytes ≡ []
+empty [] e = refl
+empty (b ∷ bytes) e = absurd (omega arith)
+
+-- at the stream's end nothing is held
+held_none : (full rest : Option (List ℕ)) (f : Feed) (events : List Event) (r : Reached full rest f events) (how : Ended)
+    → AtEnd r.given events f.eof how → is_whole (Ok how) ≡ true → f.held ++ [] ≡ []
+held_none full rest f events r End a w =
+    let (offset, e, l) = a.whole refl in
+    let reading = subst (λ (y : Ending). Reading r.given 0 all_features (events ++ last_event y ∷ [])) e
+    (a.within l r.given (all_given f.eof r.given)) in
+    let same : length (consumed_by events) ≡ length (consumed_by events ++ f.held) =
+    ap (λ (x : List ℕ). length x) (sym (end_consumes_all r.given 0 all_features events offset reading) ∙ consumed full rest f events r) in
+    append-nil f.held ∙ empty f.held (omega (arith, same, length-append (consumed_by events) f.held))
+held_none full rest f events r (Fault e) a w = cc
 
 -- ---- what was written, at an end
 
@@ -458,25 +314,30 @@ cut_off style only has_bytes full rest had has h taken failed outline numbers by
 nothing_cut : (outline : Option (List ℕ)) → WritesHead outline outline []
 nothing_cut outline = record { moved = []; unwritten = []; parts = refl; wrote = Appends-nil outline }
 
+-- all of these events are listed
+abbrev listed : (only : List Only) (style : Style) (full rest : Option (List ℕ)) (f : Feed) (events : List Event)
+    → Reached full rest f events
+    → Progress (listing_by (chosen_line style only)) (from_to full rest) (from_to (Some []) (Some (outline_of style only events))) f []
+listed only style full rest f events r = record {
+  events = events;
+  reached = r;
+  puts = record { moved = outline_of style only events; writes = refl; waits = sym (append-nil (outline_of style only events)) };
+}
+
 -- the tree has stopped before a step
 pub stopped_before : (only : List Only) (has_bytes : Bool) (full rest : Option (List ℕ)) (before : Writing) (f : Feed) (c : Counts)
     (now : Writing) → Dumping only has_bytes full rest before f c now → (had has : Bool) → has ≡ had → (last : Writing)
     (why : ListError) → Adds now last → last.why ≡ Some why → DumpsInto only has_bytes (source full rest had has) before (Err why) last
 stopped_before only has_bytes full rest before f c now d had has h last why a w taken failed i =
     let (numbers, are, going) = d.writing taken failed i in
-    let bytes = bytes_of_events has_bytes only d.counting.events in
-    cut_off before.style only has_bytes full rest had has h taken failed d.outline numbers bytes why last
-    (progress.cut (chosen_line before.style only) full rest (Some []) (Some d.outline) f [] d.listing (Some d.outline) Output
-    (nothing_cut (Some d.outline)))
-    (source_begins None false why only has_bytes _ numbers bytes
-    (numbers_at None false only has_bytes full rest f c d.counting numbers (not_whole f.held) are)) (as_short _ last why w (a _ going))
+    let outline = outline_of before.style only d.events in
+    cut_off before.style only has_bytes full rest had has h taken failed outline numbers (bytes_of_events has_bytes only d.events) why last
+    (progress.cut (chosen_line before.style only) full rest (Some []) (Some outline) f []
+    (listed only before.style full rest f d.events d.reached) (Some outline) Output (nothing_cut (Some outline)))
+    (source_begins None false why only has_bytes _ numbers _ (numbers_of None false only has_bytes full rest f d.events d.reached rest []
+    (Consumes-nil rest) numbers (not_whole (f.held ++ [])) are)) (as_short _ last why w (a _ going))
 
 -- ---- a step
-
--- the same counts
-abbrev as_counted : (full rest : Option (List ℕ)) (f : Feed) (c d : Counts) → c ≡ d → Counting full rest f c → Counting full rest f d
-as_counted full rest f c d e k =
-    record { given = k.given; events = k.events; gave = k.gave; along = k.along; counted = sym e ∙ k.counted }
 
 -- the lines of a listing by what is shown, all of which are written
 puts : (outline line : List ℕ) → PutsBytes (Some outline) (Some (outline ++ line)) [] line []
@@ -511,89 +372,87 @@ shows_step only has_bytes c c' f stored piece items rest bytes old new x now rea
 module _ (only : List Only) (has_bytes : Bool) (full rest : Option (List ℕ)) (before : Writing) (f : Feed) (c : Counts) (now : Writing)
     (d : Dumping only has_bytes full rest before f c now) (g : Feed) (c' : Counts) (new : Writing) (next : Turn)
     (s : ShowsStep only has_bytes c c' f g now new next) where
-  -- the outline with the lines of the result
+  abbrev line_of : Report → List ℕ
+  line_of = chosen_line before.style only
+
+  -- the outline, and with the lines of the result
+  abbrev outlined : List ℕ
+  outlined = outline_of before.style only d.events
+
   abbrev outline : List ℕ
-  outline = d.outline ++ text_after (chosen_line before.style only) s.answer
+  outline = outlined ++ text_after line_of s.answer
 
   -- what was written, with the numbers of events that go on as these by what is shown
-  written : (events : List Event) → Continues only has_bytes c s.answer d.counting.events events
-      → (taken : Option (List ℕ)) (failed : Bool) → IsFresh before taken failed
-      → WrittenWith new.why only has_bytes events before.style taken failed outline new
+  written : (events : List Event) → Continues only has_bytes c s.answer d.events events → (taken : Option (List ℕ)) (failed : Bool)
+      → IsFresh before taken failed → WrittenWith new.why only has_bytes events before.style taken failed outline new
   written events more taken failed i =
       let (numbers, are, going) = d.writing taken failed i in
-      let was = bytes_of_events has_bytes only d.counting.events in
-      let (shown, of, after) = s.shows (origin before.style taken failed d.outline numbers was) going in (
+      let (shown, of, after) = s.shows (origin before.style taken failed outlined numbers (bytes_of_events has_bytes only d.events))
+      going in (
         numbers ++ shown,
-        more.0 new.why numbers shown (events_are new.why only no_counts d.counting.events numbers are) of,
+        more.0 new.why numbers shown (events_are new.why only no_counts d.events numbers are) of,
         subst (λ (x : List ℕ). IsWritten (origin before.style taken failed outline (numbers ++ shown) x) new) (sym more.1) after,
       )
 
-  put : PutsBytes (Some d.outline) (Some outline) [] (text_after (chosen_line before.style only) s.answer) []
-  put = puts d.outline (text_after (chosen_line before.style only) s.answer)
-
   -- the same, where the tree goes on
-  going_on : new.why ≡ None → (events : List Event) → Continues only has_bytes c s.answer d.counting.events events
-      → (taken : Option (List ℕ)) (failed : Bool) → IsFresh before taken failed
-      → WrittenWith None only has_bytes events before.style taken failed outline new
-  going_on going events more taken failed i =
-      subst (λ (why : Option ListError). WrittenWith why only has_bytes events before.style taken failed outline new) going
+  going_on : new.why ≡ None → (events : List Event) → outline ≡ outline_of before.style only events
+      → Continues only has_bytes c s.answer d.events events → HasWritten only has_bytes before events new
+  going_on going events same more taken failed i =
+      subst₂ (λ (why : Option ListError) (o : List ℕ). WrittenWith why only has_bytes events before.style taken failed o new) going same
       (written events more taken failed i)
+
+  still : (hint : ℕ) → s.answer ≡ Ok (NeedMoreData hint) → Continues only has_bytes c s.answer d.events d.events
+  still hint is = rw is (counted_still only has_bytes d.events c d.counted (Ok (NeedMoreData hint)) (λ why shown b. b) refl)
 
   pub advanced : new.why ≡ None → next ≡ turn.Advance → Dumping only has_bytes full rest before g c' new × (weight g < weight f)
   advanced going t =
-      let (listing, less) =
-      progress.advanced (chosen_line before.style only) full rest (Some []) (Some d.outline) f [] d.listing g s.answer s.steps _ _
-      put (sym t ∙ s.turns) in
-      let (k, more) = counted_on only has_bytes full rest f c d.counting g s.answer (sym t ∙ s.turns) s.steps in (
+      let (e, is, after, less) = next_event full rest f d.events d.reached g s.answer s.steps (sym t ∙ s.turns) in
+      let (k, more) = counted_on only has_bytes d.events c d.counted s.answer e is in (
         record {
-          outline = outline;
-          listing = listing;
-          counting = as_counted full rest g (after_answer c s.answer) c' (sym s.counted) k;
-          writing = going_on going k.events more;
+          events = d.events ++ e ∷ [];
+          reached = after;
+          counted = s.counted ∙ k;
+          writing = going_on going (d.events ++ e ∷ []) (sym (progress.text_of_event line_of s.answer d.events e is)) more;
         },
         less,
       )
 
   pub asked : new.why ≡ None → next ≡ turn.Read → Wanting only has_bytes full rest before g c' new × (weight g ≡ weight f)
   asked going t =
-      let (listing, same) =
-      progress.asked (chosen_line before.style only) full rest (Some []) (Some d.outline) f [] d.listing g s.answer s.steps _ _ put
-      (sym t ∙ s.turns) in
-      let (k, more) = counted_still only has_bytes full rest f c d.counting g s.answer (sym t ∙ s.turns) s.steps in (
+      let (hint, is, asks, same) = next_asks full rest f d.events d.reached g s.answer s.steps (sym t ∙ s.turns) in (
         record {
-          outline = outline;
-          listing = listing;
-          counting = as_counted full rest g (after_answer c s.answer) c' (sym s.counted) k;
-          writing = going_on going k.events more;
+          events = d.events;
+          asks = asks;
+          counted = s.counted ∙ (ap (λ (x : Result Step Error). after_answer c x) is ∙ d.counted);
+          writing = going_on going d.events (rw is (append-nil outlined)) (still hint is);
         },
         same,
       )
 
-  begins : (t : Turn) → next ≡ t → IsHead (chosen_line before.style only) (from_to full rest) (from_to (Some []) (Some outline))
+  -- the listing of what was shown
+  abbrev all_listed : Progress (listing_by line_of) (from_to full rest) (from_to (Some []) (Some outlined)) f []
+  all_listed = listed only before.style full rest f d.events d.reached
+
+  put : PutsBytes (Some outlined) (Some outline) [] (text_after line_of s.answer) []
+  put = puts outlined (text_after line_of s.answer)
+
+  begins : (t : Turn) → next ≡ t → IsHead line_of (from_to full rest) (from_to (Some []) (Some outline))
   begins turn.Advance t =
-      let (listing, less) =
-      progress.advanced (chosen_line before.style only) full rest (Some []) (Some d.outline) f [] d.listing g s.answer s.steps _ _
-      put (sym t ∙ s.turns) in
-      progress.cut (chosen_line before.style only) full rest (Some []) (Some outline) g [] listing (Some outline) Output
-      (nothing_cut (Some outline))
+      let p = (progress.line_advanced line_of full rest (Some []) (Some outlined) f [] all_listed g s.answer s.steps (Some outline) [] put
+      (sym t ∙ s.turns)).0 in
+      progress.cut line_of full rest (Some []) (Some outline) g [] p (Some outline) Output (nothing_cut (Some outline))
   begins turn.Read t =
-      let (wants, same) =
-      progress.asked (chosen_line before.style only) full rest (Some []) (Some d.outline) f [] d.listing g s.answer s.steps _ _ put
-      (sym t ∙ s.turns) in
-      progress.cut (chosen_line before.style only) full rest (Some []) (Some outline) g [] wants.progress (Some outline) Output
+      let w = (progress.line_asked line_of full rest (Some []) (Some outlined) f [] all_listed g s.answer s.steps (Some outline) [] put
+      (sym t ∙ s.turns)).0 in
+      progress.cut line_of full rest (Some []) (Some outline) g [] (progress.progress_of w) (Some outline) Output
       (nothing_cut (Some outline))
-  begins (turn.End how) t =
-      progress.end_cut (chosen_line before.style only) full rest (Some []) (Some d.outline) f [] d.listing g s.answer s.steps _ _ put how
-      (sym t ∙ s.turns) (Some outline) Output (nothing_cut (Some outline))
+  begins (turn.End how) t = progress.end_cut line_of full rest (Some []) (Some outlined) f [] all_listed g s.answer s.steps (Some outline) []
+      put how (sym t ∙ s.turns) (Some outline) Output (nothing_cut (Some outline))
 
   -- whether all of the stream was read, by what is done next
   abbrev ends_whole : Turn → Bool
   ends_whole (turn.End how) = is_whole (Ok how)
   ends_whole other = false
-
-  none_held : (how : Ended) → next ≡ turn.End how → is_whole (Ok how) ≡ true → f.held ≡ []
-  none_held End t w = held_none only has_bytes full rest f c d.counting g s.answer (sym t ∙ s.turns) s.steps
-  none_held (Fault e) t w = cc
 
   -- what was written, with the numbers of what the source gave
   abbrev AllWritten : (whole : Bool) (taken : Option (List ℕ)) (failed : Bool) → Type 0
@@ -601,32 +460,29 @@ module _ (only : List Only) (has_bytes : Bool) (full rest : Option (List ℕ)) (
       × AreOfSource new.why whole only has_bytes (from_to full rest) numbers bytes
       × IsWritten (origin before.style taken failed outline numbers bytes) new
 
-  written_on : (k : Counting full rest g (after_answer c s.answer)) → Continues only has_bytes c s.answer d.counting.events k.events
-      → (taken : Option (List ℕ)) (failed : Bool) → IsFresh before taken failed → AllWritten false taken failed
-  written_on k more taken failed i =
-      let (numbers, are, going) = written k.events more taken failed i in (
+  written_of : (whole : Bool) (h : Feed) (events : List Event) → Reached full rest h events → (whole ≡ true → h.held ++ [] ≡ [])
+      → Continues only has_bytes c s.answer d.events events → (taken : Option (List ℕ)) (failed : Bool) → IsFresh before taken failed
+      → AllWritten whole taken failed
+  written_of whole h events r none more taken failed i =
+      let (numbers, are, going) = written events more taken failed i in (
         numbers,
-        bytes_of_events has_bytes only k.events,
-        numbers_at new.why false only has_bytes full rest g (after_answer c s.answer) k numbers (not_whole g.held) are,
+        bytes_of_events has_bytes only events,
+        numbers_of new.why whole only has_bytes full rest h events r rest [] (Consumes-nil rest) numbers none are,
         going,
       )
 
   all_written : (t : Turn) → next ≡ t → (taken : Option (List ℕ)) (failed : Bool) → IsFresh before taken failed
       → AllWritten (ends_whole t) taken failed
-  all_written turn.Advance t taken failed i =
-      let (k, more) = counted_on only has_bytes full rest f c d.counting g s.answer (sym t ∙ s.turns) s.steps in
-      written_on k more taken failed i
-  all_written turn.Read t taken failed i =
-      let (k, more) = counted_still only has_bytes full rest f c d.counting g s.answer (sym t ∙ s.turns) s.steps in
-      written_on k more taken failed i
-  all_written (turn.End how) t taken failed i =
-      let last = counted_last only has_bytes full rest f c d.counting g s.answer how (sym t ∙ s.turns) s.steps in
-      let (numbers, are, going) = written d.counting.events last taken failed i in (
-        numbers,
-        bytes_of_events has_bytes only d.counting.events,
-        numbers_at new.why (is_whole (Ok how)) only has_bytes full rest f c d.counting numbers (none_held how t) are,
-        going,
-      )
+  all_written turn.Advance t =
+      let (e, is, after, less) = next_event full rest f d.events d.reached g s.answer s.steps (sym t ∙ s.turns) in
+      written_of false g (d.events ++ e ∷ []) after (not_whole (g.held ++ [])) (counted_on only has_bytes d.events c d.counted s.answer e is).1
+  all_written turn.Read t =
+      let (hint, is, asks, same) = next_asks full rest f d.events d.reached g s.answer s.steps (sym t ∙ s.turns) in
+      written_of false g d.events asks.reached (not_whole (g.held ++ [])) (still hint is)
+  all_written (turn.End how) t =
+      let (a, is) = next_ends full rest f d.events d.reached g s.answer s.steps how (sym t ∙ s.turns) in
+      written_of (is_whole (Ok how)) f d.events d.reached (held_none full rest f d.events d.reached how a)
+      (counted_last only has_bytes d.events c d.counted s.answer a.end is)
 
   -- the tree has stopped
   pub stopped : (had has : Bool) → has ≡ had → (why : ListError) → new.why ≡ Some why
@@ -652,8 +508,8 @@ module _ (only : List Only) (has_bytes : Bool) (full rest : Option (List ℕ)) (
       let o = origin before.style taken failed outline numbers bytes in
       let all = a o wrote in
       dumped outline numbers bytes
-      (progress.listed_all (chosen_line before.style only) full rest (Some []) (Some d.outline) f [] d.listing g s.answer s.steps _ _ put
-      how (sym t ∙ s.turns) (Some outline) (Appends-nil (Some outline)))
+      (progress.listed_all line_of full rest (Some []) (Some outlined) f [] all_listed g s.answer s.steps (Some outline) [] put how
+      (sym t ∙ s.turns) (Some outline) (Appends-nil (Some outline)))
       (subst (λ (why : Option ListError). AreOfSource why (is_whole (Ok how)) only has_bytes (from_to full rest) numbers bytes) went are)
       (whole o last going out all) h (has_failed o last going all)
 
@@ -665,77 +521,46 @@ same_going only has_bytes full rest before e f g c now same p = rw same p
 
 -- ---- a read
 
--- more bytes, or the end
-module _ (full rest : Option (List ℕ)) (f : Feed) (c : Counts) (k : Counting full rest f c) where
-  counted_filled : (rest' : Option (List ℕ)) (g : Feed) → FillsAlike rest rest' f g
-      → (k' : Counting full rest' g c) × (k'.events ≡ k.events)
-  counted_filled rest' g (inl (nothing, at_end, a)) = (
-    record {
-      given = k.given ++ [];
-      events = k.events;
-      gave = Consumes-trans full rest rest' k.given [] k.gave nothing;
-      along = rw (append-nil k.given, ← a.state, ← a.held) (feeders_go_along.finishes 0 all_features k.given f k.events k.along);
-      counted = k.counted;
-    },
-    refl,
-  )
-  counted_filled rest' g (inr (piece, more, some, a)) = (
-    record {
-      given = k.given ++ piece;
-      events = k.events;
-      gave = Consumes-trans full rest rest' k.given piece k.gave more;
-      along = rw (← a.state, ← a.held) (feeders_go_along.pushes 0 all_features k.given f k.events piece k.along);
-      counted = k.counted;
-    },
-    refl,
-  )
-
 module _ (only : List Only) (has_bytes : Bool) (full rest : Option (List ℕ)) (before : Writing) (f : Feed) (c : Counts) (now last : Writing)
     (d : Wanting only has_bytes full rest before f c now) (a : Adds now last) (out : IsOut last) (going : last.why ≡ None) where
-  pub all : (events : List Event) → events ≡ d.counting.events → (taken : Option (List ℕ)) (failed : Bool)
-      → IsFresh before taken failed
-      → WrittenWith None only has_bytes events before.style taken failed d.outline last
-  all events same taken failed i =
-      let (numbers, are, wrote) = d.writing taken failed i in (
-        numbers,
-        subst (λ (es : List Event). AreOfEvents None only no_counts es numbers) (sym same) are,
-        subst (λ (es : List Event). IsWritten (origin before.style taken failed d.outline numbers (bytes_of_events has_bytes only es)) last)
-            (sym same) (a _ wrote),
-      )
+  -- what was to be written is written
+  pub all : HasWritten only has_bytes before d.events last
+  all taken failed i = let (numbers, are, wrote) = d.writing taken failed i in (numbers, are, a _ wrote)
 
   pub filled : (rest' : Option (List ℕ)) (g : Feed) → FillsAlike rest rest' f g → Dumping only has_bytes full rest' before g c last
       × (weight g < weight f)
   filled rest' g r =
-      let (listing, less) =
-      progress.filled_alike (chosen_line before.style only) full rest (Some []) (Some d.outline) rest' f g d.listing r in
-      let (k, same) = counted_filled full rest f c d.counting rest' g r in
-      (record { outline = d.outline; listing = listing; counting = k; writing = all k.events same }, less)
+      let (after, less) = reads_on full rest f d.events d.asks rest' g r in
+      (record { events = d.events; reached = after; counted = d.counted; writing = all }, less)
+
+  abbrev outline : List ℕ
+  outline = outline_of before.style only d.events
+
+  lists : (rest' : Option (List ℕ)) (g : Feed) (e : ListError) → Refills rest rest' f g (Err e)
+      → ListsBy (chosen_line before.style only) (from_to full rest') (from_to (Some []) (Some outline)) (Err e)
+  lists rest' g e r =
+      progress.not_filled (chosen_line before.style only) full rest (Some []) (Some outline) f (record {
+        events = d.events;
+        asks = d.asks;
+        puts = (listed only before.style full rest f d.events d.asks.reached).puts;
+      }) rest' g e r
 
   pub not_filled : (had mid has : Bool) → mid ≡ had → (rest' : Option (List ℕ)) (g : Feed) (e : ListError)
       → Refills rest rest' f g (Err e)
       → has ≡ input_failed {A = Unit {0}} (Err e) mid → DumpsInto only has_bytes (source full rest' had has) before (Err e) last
   not_filled had mid has m rest' g Input r h taken failed i =
-      let (numbers, are, wrote) = all d.counting.events refl taken failed i in
-      let bytes = bytes_of_events has_bytes only d.counting.events in
-      let o = origin before.style taken failed d.outline numbers bytes in
-      let k = d.counting in
-      dumped d.outline numbers bytes
-      (progress.not_filled (chosen_line before.style only) full rest (Some []) (Some d.outline) f d.listing rest' g Input r)
-      (numbers_at None false only has_bytes full rest' f c (record {
-        given = k.given;
-        events = k.events;
-        gave = Consumes-kept full rest rest' k.given k.gave r;
-        along = k.along;
-        counted = k.counted;
-      }) numbers (not_whole f.held) are) (whole o last going out wrote) h (has_failed o last going wrote)
+      let (numbers, are, wrote) = all taken failed i in
+      let bytes = bytes_of_events has_bytes only d.events in
+      let o = origin before.style taken failed outline numbers bytes in
+      dumped outline numbers bytes (lists rest' g Input r) (numbers_of None false only has_bytes full rest f d.events d.asks.reached rest' []
+      (Consumes-kept rest rest rest' [] (Consumes-nil rest) r) numbers (not_whole (f.held ++ [])) are) (whole o last going out wrote) h
+      (has_failed o last going wrote)
   not_filled had mid has m rest' g Memory r h taken failed i =
-      let (numbers, are, wrote) = all d.counting.events refl taken failed i in
-      let bytes = bytes_of_events has_bytes only d.counting.events in
-      let o = origin before.style taken failed d.outline numbers bytes in
-      dumped d.outline numbers bytes
-      (progress.not_filled (chosen_line before.style only) full rest (Some []) (Some d.outline) f d.listing rest' g Memory r)
-      (numbers_after (Some Memory) only has_bytes full rest rest' f c d.counting r.0 r.1 numbers
-      (events_begin None Memory only no_counts d.counting.events numbers are))
+      let (numbers, are, wrote) = all taken failed i in
+      let bytes = bytes_of_events has_bytes only d.events in
+      let o = origin before.style taken failed outline numbers bytes in
+      dumped outline numbers bytes (lists rest' g Memory r) (numbers_of (Some Memory) false only has_bytes full rest f d.events d.asks.reached
+      rest' r.0 r.1 numbers (not_whole (f.held ++ r.0)) (events_begin None Memory only no_counts d.events numbers are))
       (some_of o last (whole o last going out wrote)) (h ∙ m) (has_failed o last going wrote)
   not_filled had mid has m rest' g Output r h taken failed i = absurd r
 
@@ -780,15 +605,13 @@ nothing_shaped Objects = refl
 
 -- no memory to begin with
 pub no_room : (style : Style) (only : List Only) (has_bytes : Bool) (full : Option (List ℕ)) (had : Bool) (taken : Option (List ℕ))
-    (failed : Bool)
-    (w : Writing) → w ≡ Tree.starts_in style taken failed
-    → DumpsFrom style only has_bytes (source full full had had) taken failed
-    (Err Memory) w
+    (failed : Bool) (w : Writing) → w ≡ Tree.starts_in style taken failed
+    → DumpsFrom style only has_bytes (source full full had had) taken failed (Err Memory) w
 no_room style only has_bytes full had taken failed w e =
+    let none = progress.nothing_read full in
     subst (DumpsFrom style only has_bytes (source full full had had) taken failed (Err Memory)) (sym e) (dumped [] [] []
     (progress.no_memory (chosen_line style only) full full (Some []) (Some []) (new_feed 0 all_features) []
-    (progress.begun (chosen_line style only) full (Some [])) full [] (Consumes-nil full))
+    (listed only style full full (new_feed 0 all_features) [] none) full [] (Consumes-nil full))
     (subst (AreOfSource (Some Memory) false only has_bytes (from_to full full) []) (sym (none_of_events has_bytes only))
-    (numbers_at (Some Memory) false only has_bytes full full (new_feed 0 all_features) no_counts (counts_nothing full) []
-    (not_whole []) refl))
-    (record { text = []; unwritten = []; shaped = nothing_shaped style; wrote = Appends-nil taken }) refl refl)
+    (numbers_of (Some Memory) false only has_bytes full full (new_feed 0 all_features) [] none full [] (Consumes-nil full) [] (not_whole [])
+    refl)) (record { text = []; unwritten = []; shaped = nothing_shaped style; wrote = Appends-nil taken }) refl refl)

@@ -1,5 +1,5 @@
 -- Stripping a stream while it is read.
-use Rattle.std.specs.Prelude.{◌≡◌, ◌⊎◌, ℕ, ◌<◌, ◌≤◌, ◌^◌, Bool, true, List, [], ◌∷◌, ◌++◌, length}
+use Rattle.std.specs.Prelude.{◌≡◌, ◌⊎◌, ℕ, ◌+◌, ◌<◌, ◌≤◌, ◌^◌, Bool, true, List, [], ◌∷◌, ◌++◌, length}
 use Rattle.std.specs.Prelude.{Option}
 use Rattle.std.specs.Prelude.{Some, None, Result, Ok, Err, if◌then◌else◌}
 use Rattle.std.specs.Io.KnownBytes.{Consumes, Appends}
@@ -99,8 +99,8 @@ abbrev pub StopsHere : (keeps : List ℕ → Bool) (source rest taken written : 
 StopsHere keeps source rest taken written old stored chunk waiting e =
     ReadsNot source rest taken written ⊎ PassesNot keeps source rest taken written old stored chunk waiting e
 
--- The part that comes after these events stays, by its first fields.
-pub record NextStays (keeps : List ℕ → Bool) (given : List ℕ) (first : List Event) : Type 0 where
+-- The part that comes after these events stays, by its first fields, and these are at most its bytes.
+pub record NextStays (keeps : List ℕ → Bool) (given : List ℕ) (first : List Event) (partial : List ℕ) : Type 0 where
   pub state : ParserState
   pub held : List ℕ
   pub seen : List ℕ
@@ -111,10 +111,11 @@ pub record NextStays (keeps : List ℕ → Bool) (given : List ℕ) (first : Lis
   pub next : ParserState
   pub skips : SkipsPart state seen skip next
   pub stays : head_stays keeps skip.head ≡ true
+  pub within : state.offset + length partial ≤ skip.to
 
 -- what may have been written of the next part
 abbrev pub IsPartial : (keeps : List ℕ → Bool) (given : List ℕ) (first : List Event) (partial : List ℕ) → Type 0
-IsPartial keeps given first partial = (partial ≡ []) ⊎ NextStays keeps given first
+IsPartial keeps given first partial = (partial ≡ []) ⊎ NextStays keeps given first partial
 
 -- A call was given up. What was written is a prefix of the bytes of these events that stay, and of the first bytes of
 -- the next part, if it stays.

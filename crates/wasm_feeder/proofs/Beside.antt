@@ -1,10 +1,8 @@
 -- That what a step returns beside a chunk is what it returns on all of the chunk.
 use Rattle.std.proofs.Common.{◌≡◌, ℕ, ◌+◌, ◌-◌, ◌<◌, ◌≤◌, Bool, true, false, List, [], ◌∷◌, ◌++◌, length, drop, Result, Ok, Err}
-use Rattle.std.proofs.Common.{refl, sym, ap, subst₂, ◌∙◌, arith, append_assoc, append-nil, length-append, inl, inr, Option}
+use Rattle.std.proofs.Common.{refl, sym, ap, subst₂, ◌∙◌, arith, append_assoc, append-nil, length-append}
 use Rattle.std.proofs.lemmas.List.{append_cancel_right, length-drop, drop-drop}
 use Rattle.wasm_base.specs.declared.error.Error.{Error}
-use Rattle.wasm_base.specs.Features.{all_features}
-use Rattle.wasm_grammar.specs.Reading.{Report}
 use Rattle.wasm_grammar.specs.Waiting.{enough as decides_all, waiting}
 use Rattle.wasm_parser.specs.Along.{is_last, SaysTheSame}
 use Rattle.wasm_parser.specs.ParseAnswer.{IsRequest, ParseAnswer}
@@ -13,16 +11,13 @@ use Rattle.wasm_parser.specs.ParserState.{ParserState, grammar_of}
 use Rattle.wasm_parser.specs.declared.payload.Chunk.{Chunk}
 use Rattle.wasm_parser.specs.declared.payload.Chunk.TheVariants as chunk
 use Rattle.wasm_parser.proofs.ForCallers.{answers_go_along}
-use Rattle.wasm_feeder.specs.Beside.{beside, seen, lending, SeesEnough, AreEnough, ReadsEnough, MakesReady, IsAlike, FillsAlike}
+use Rattle.wasm_feeder.specs.Beside.{beside, seen, lending, SeesEnough, AreEnough, ReadsEnough, MakesReady}
 use Rattle.wasm_feeder.specs.Beside.{Bounds, HasDecided, StaysIdle, StepsOver}
-use Rattle.wasm_text.specs.Calls.{Change, from_to}
 use Rattle.wasm_feeder.specs.Cursors.{feed_of}
-use Rattle.wasm_feeder.specs.Feed.{Feed, new_feed, pushed, finished}
-use Rattle.wasm_feeder.specs.Progress.{weight, Progress, Wants}
+use Rattle.wasm_feeder.specs.Feed.{Feed}
 use Rattle.wasm_feeder.specs.Step.{answer_of, shown, is_request, Steps}
 use Rattle.wasm_feeder.specs.declared.feeder.Cursor.{Cursor}
 use Rattle.wasm_feeder.specs.declared.feeder.Step.{Step}
-use Rattle.wasm_feeder.proofs.Progress.{begun, filled}
 use Rattle.wasm_feeder.proofs.Stepping.{none_passed, steps_from}
 
 -- ---- enough bytes
@@ -93,35 +88,6 @@ both f stored piece items rest bytes old new x from sees read items_are rest_is 
   where
     same : bytes ≡ seen stored piece
     same = cc
-
--- ---- a listing
-
--- progress depends only on the feeder's position, the bytes it holds, and whether the end was reported
-pub alike : (text_of : Report → List ℕ) (input output : Change) (f g : Feed) (page : List ℕ) → IsAlike f g
-    → Progress text_of input output f page → Progress text_of input output g page
-alike text_of input output f g page a p = grind arith
-
-pub begun_beside : (text_of : Report → List ℕ) (source taken : Option (List ℕ)) (stored piece : List ℕ) (c : Cursor) → stored ≡ []
-    → piece ≡ [] → feed_of [] c ≡ new_feed 0 all_features
-    → Progress text_of (from_to source source) (from_to taken taken) (beside (feed_of stored c) piece) []
-begun_beside text_of source taken stored piece c none no_piece new = grind (arith, alike, append-nil, begun)
-
-alike_lighter : (text_of : Report → List ℕ) (input output : Change) (e f g : Feed) (page : List ℕ) → IsAlike f g
-    → Progress text_of input output f page × (weight f < weight e) → Progress text_of input output g page × (weight g < weight e)
-alike_lighter text_of input output e f g page a (p, less) = grind (arith, alike)
-
-pub same_lighter : (text_of : Report → List ℕ) (input output : Change) (e f g : Feed) (page : List ℕ) → g ≡ f
-    → Progress text_of input output f page × (weight f < weight e) → Progress text_of input output g page × (weight g < weight e)
-same_lighter text_of input output e f g page same p = rw same p
-
--- what comes next was read, or the source ended
-pub filled_alike : (text_of : Report → List ℕ) (source rest taken written rest' : Option (List ℕ)) (f g : Feed)
-    → Wants text_of (from_to source rest) (from_to taken written) f [] → FillsAlike rest rest' f g
-    → Progress text_of (from_to source rest') (from_to taken written) g [] × (weight g < weight f)
-filled_alike text_of source rest taken written rest' f g w (inl (none, at_end, a)) = grind (arith, alike_lighter, filled)
-filled_alike text_of source rest taken written rest' f g w (inr (piece, gave, some, a)) =
-    alike_lighter text_of (from_to source rest') (from_to taken written) f (pushed f piece) g [] a
-    (filled text_of source rest taken written f w rest' (pushed f piece) (inr (piece, gave, some, refl)))
 
 -- ---- a step over a chunk
 

@@ -5,6 +5,7 @@ pub mod ForCallers
 pub mod Joining
 pub mod PassedParts
 pub mod Progress
+pub mod Reached
 pub mod Resting
 pub mod Skipping
 pub mod Stepping

@@ -44,15 +44,45 @@ head_of_cut taken written waiting Output w = w
 head_of_cut taken written waiting Memory w = w
 head_of_cut taken written waiting Input w = absurd w
 
--- bytes were put, and then a prefix of those that waited was written
-pub head_after : (taken mid written : Option (List ℕ)) (waiting bytes page : List ℕ) → PutsBytes taken mid waiting bytes page
-    → WritesHead mid written page → WritesHead taken written (waiting ++ bytes)
-head_after taken mid written waiting bytes page p w = record {
+-- bytes were put, and more after them
+pub puts_more : (taken mid written : Option (List ℕ)) (waiting bytes page more new : List ℕ) → PutsBytes taken mid waiting bytes page
+    → PutsBytes mid written page more new → PutsBytes taken written waiting (bytes ++ more) new
+puts_more taken mid written waiting bytes page more new p q = record {
+  moved = p.moved ++ q.moved;
+  writes = Appends-trans taken mid written p.moved q.moved p.writes q.writes;
+  waits = sym (append_assoc waiting bytes more) ∙ (ap (λ (l : List ℕ). l ++ more) p.waits
+      ∙ (append_assoc p.moved page more ∙ (ap (λ (l : List ℕ). p.moved ++ l) q.waits ∙ sym (append_assoc p.moved q.moved new))));
+}
+
+-- and all of them were written
+pub puts_out : (taken mid written : Option (List ℕ)) (waiting bytes page : List ℕ) → PutsBytes taken mid waiting bytes page
+    → Appends mid written page → PutsBytes taken written waiting bytes []
+puts_out taken mid written waiting bytes page p a = record {
+  moved = p.moved ++ page;
+  writes = Appends-trans taken mid written p.moved page p.writes a;
+  waits = p.waits ∙ sym (append-nil (p.moved ++ page));
+}
+
+-- what waits is unwritten
+pub head_of_puts : (taken written : Option (List ℕ)) (waiting bytes page : List ℕ) → PutsBytes taken written waiting bytes page
+    → WritesHead taken written (waiting ++ bytes)
+head_of_puts taken written waiting bytes page p = record { moved = p.moved; unwritten = page; parts = p.waits; wrote = p.writes }
+
+-- bytes were put, and then a prefix of those that waited, and of more, was written
+pub head_past : (taken mid written : Option (List ℕ)) (waiting bytes page more : List ℕ) → PutsBytes taken mid waiting bytes page
+    → WritesHead mid written (page ++ more) → WritesHead taken written ((waiting ++ bytes) ++ more)
+head_past taken mid written waiting bytes page more p w = record {
   moved = p.moved ++ w.moved;
   unwritten = w.unwritten;
-  parts = p.waits ∙ (ap (λ (l : List ℕ). p.moved ++ l) w.parts ∙ sym (append_assoc p.moved w.moved w.unwritten));
+  parts = ap (λ (l : List ℕ). l ++ more) p.waits ∙ (append_assoc p.moved page more
+      ∙ (ap (λ (l : List ℕ). p.moved ++ l) w.parts ∙ sym (append_assoc p.moved w.moved w.unwritten)));
   wrote = Appends-trans taken mid written p.moved w.moved p.writes w.wrote;
 }
+
+pub head_after : (taken mid written : Option (List ℕ)) (waiting bytes page : List ℕ) → PutsBytes taken mid waiting bytes page
+    → WritesHead mid written page → WritesHead taken written (waiting ++ bytes)
+head_after taken mid written waiting bytes page p w =
+    rw (append-nil (waiting ++ bytes)) at (head_past taken mid written waiting bytes page [] p (rw (append-nil page) w))
 
 -- what was written before an error is a prefix of what waited and of the bytes that were passed and stay
 pub head_before : (taken written : Option (List ℕ)) (stays : Bool) (missing : ℕ) (waiting passed left new : List ℕ) (e : ListError)

@@ -1,12 +1,13 @@
--- The progress of a listing that reads a stream by a feeder and writes a text for what each event reports.
-use Rattle.std.specs.Prelude.{◌≡◌, ℕ, ◌+◌, ◌-◌, ◌<◌, ◌^◌, true, List, ◌++◌, length, if◌then◌else◌, Option, Some, None}
+-- The progress of a caller that reads a stream by a feeder, and writes a text of its events.
+use Rattle.std.specs.Prelude.{◌≡◌, ℕ, ◌+◌, ◌-◌, ◌<◌, ◌^◌, true, List, [], length, if◌then◌else◌, Option, Some, None}
 use Rattle.std.specs.Prelude.{Result, Ok, Err}
-use Rattle.std.specs.Io.KnownBytes.{Consumes, Appends, IsAtEnd}
+use Rattle.std.specs.Io.KnownBytes.{Consumes, IsAtEnd}
 use Rattle.wasm_parser.specs.Along.{Along}
 use Rattle.wasm_parser.specs.GivesNextEvent.{IsUndecided}
 use Rattle.wasm_grammar.specs.Reading.{Report, Event}
 use Rattle.wasm_base.specs.declared.error.Error.{Error}
 use Rattle.wasm_text.specs.Calls.{Change, from_to}
+use Rattle.wasm_text.specs.Page.{PutsBytes}
 use Rattle.wasm_text.specs.declared.devices.ListError.{ListError}
 use Rattle.wasm_feeder.specs.Feed.{Feed}
 use Rattle.wasm_feeder.specs.Lists.{IsListed, ListsBy}
@@ -18,29 +19,38 @@ use Rattle.wasm_base.specs.Features.{all_features}
 abbrev pub weight : Feed → ℕ
 weight f = (2 ^ 64 - f.state.offset) + ((2 ^ 64 - (f.state.offset + length f.held)) + (if f.eof then 0 else 1))
 
--- The lines of what the feeder has passed are written, or wait on the page.
-pub record Progress (text_of : Report → List ℕ) (input output : Change) (f : Feed) (page : List ℕ) : Type 0 where
+-- Where a feeder is along what a source gave, after these events.
+pub record Reached (source rest : Option (List ℕ)) (f : Feed) (events : List Event) : Type 0 where
   pub given : List ℕ
-  pub events : List Event
   pub is_along : Along 0 all_features given f.state f.held events
-  pub gave : Consumes input.before input.after given
-  pub at_end : f.eof ≡ true → IsAtEnd input.after
-  pub lines : List ℕ
-  pub listed : Appends output.before output.after lines
-  pub parts : listing_by text_of events ≡ lines ++ page
+  pub gave : Consumes source rest given
+  pub at_end : f.eof ≡ true → IsAtEnd rest
 
 -- More may come, the parser is undecided on the held bytes, and the bytes so far are below the largest offset.
-pub record Wants (text_of : Report → List ℕ) (input output : Change) (f : Feed) (page : List ℕ) : Type 0 where
-  pub progress : Progress text_of input output f page
+pub record Asks (source rest : Option (List ℕ)) (f : Feed) (events : List Event) : Type 0 where
+  pub reached : Reached source rest f events
   pub hint : ℕ
   pub undecided : IsUndecided f.state f.eof f.held hint
-  pub below : length progress.given < 2 ^ 64
+  pub below : length reached.given < 2 ^ 64
+
+-- The text of the events that the feeder has passed is written, or waits on the page.
+pub record Progress (text : List Event → List ℕ) (input output : Change) (f : Feed) (page : List ℕ) : Type 0 where
+  pub events : List Event
+  pub reached : Reached input.before input.after f events
+  pub puts : PutsBytes output.before output.after [] (text events) page
+
+-- The same, where the feeder asks for more.
+pub record Wants (text : List Event → List ℕ) (input output : Change) (f : Feed) (page : List ℕ) : Type 0 where
+  pub events : List Event
+  pub asks : Asks input.before input.after f events
+  pub puts : PutsBytes output.before output.after [] (text events) page
 
 -- A caller that wanted more read on: it is further along; or the stream ended within a part that was skipped, and all
 -- of it is listed; or the call was given up.
 abbrev pub ReadOn : (text_of : Report → List ℕ) (input output : Change) (old new : Feed) (page : List ℕ)
     → Result (Option Error) ListError → Type 0
-ReadOn text_of input output old new page (Ok None) = Progress text_of input output new page × (weight new < weight old)
+ReadOn text_of input output old new page (Ok None) = Progress (listing_by text_of) input output new page
+    × (weight new < weight old)
 ReadOn text_of input output old new page (Ok (Some e)) = IsListed text_of input output (Fault e)
 ReadOn text_of input output old new page (Err e) = ListsBy text_of input output (Err e)
 
@@ -48,5 +58,5 @@ ReadOn text_of input output old new page (Err e) = ListsBy text_of input output 
 abbrev pub ReadsOn : (text_of : Report → List ℕ) (input output : Change) (old : Feed) (waiting : List ℕ) (new : Feed)
     (page : List ℕ) → Result (Option Error) ListError → Type 0
 ReadsOn text_of input output old waiting new page result = (source taken : Option (List ℕ))
-    → Wants text_of (from_to source input.before) (from_to taken output.before) old waiting
+    → Wants (listing_by text_of) (from_to source input.before) (from_to taken output.before) old waiting
     → ReadOn text_of (from_to source input.after) (from_to taken output.after) old new page result

@@ -48,7 +48,7 @@ hides_so g c =
 -- the source ended within the part: what the feeder then holds is the fault
 abbrev cut_feed : (g : Over) (c : After-show_answer g) → Feed
 cut_feed g c = record (pushed (lending c.make_ready.new.stored.items c.make_ready.new.ahead c.parse_next-answer.new.cursor)
-    c.in_ok-cut-in-Read.ensures.drops.fetched) { eof = true; wants_more = false }
+    c.in_ok-cut-in-Read.ensures.drops.fetched) { eof = true }
 
 cut_so : (g : Over) (c : After-show_answer g) → Dumping c.args.shown.only.now c.args.shown.has_bytes
     (g.R.Source.remaining c.args.input.now) (g.R.Source.remaining c.drop_hidden.new.input) (g.O.Tree.writing c.args.out.now)

@@ -5,10 +5,10 @@ use Rattle.std.proofs.KnownBytes.{Consumes-nil}
 use Rattle.wasm_feeder.specs.Beside.{beside, lending}
 use Rattle.wasm_feeder.specs.Cursors.{feed_of}
 use Rattle.wasm_feeder.specs.Feed.{empty_feed}
-use Rattle.wasm_lines.specs.Listing.{line_of}
-use Rattle.wasm_feeder.proofs.ForCallers.{both, begun_beside, same_lighter}
+use Rattle.wasm_lines.specs.Listing.{line_of, listing_by}
+use Rattle.wasm_feeder.proofs.ForCallers.{begun, begun_beside, both, cut, end_cut, line_advanced, line_asked, listed_all, no_memory}
 use Rattle.wasm_text.proofs.ForCallers.{cut_of}
-use Rattle.wasm_feeder.proofs.ForCallers.{begun, no_memory, cut, advanced, asked, listed_all, end_cut}
+use Rattle.wasm_feeder.proofs.ForCallers.{nothing_read, same_lighter}
 use Rattle.wasm_feeder.specs.Progress.{Wants, weight}
 use Rattle.wasm_feeder.specs.Step.{Steps}
 use Rattle.wasm_text.specs.Calls.{from_to}
@@ -26,7 +26,7 @@ steps_so g c =
     a.wants
 
 -- it asks for more
-asks_so : (g : Over) (c : In-Read g) → Wants line_of (from_to (g.R.Source.remaining c.args.input.now) (g.R.Source.remaining c.events.input))
+asks_so : (g : Over) (c : In-Read g) → Wants (listing_by line_of) (from_to (g.R.Source.remaining c.args.input.now) (g.R.Source.remaining c.events.input))
     (from_to (g.W.Sink.taken c.args.output.now) (g.W.Sink.taken c.put_answer-turn.new.output))
     (lending c.make_ready.new.stored.items c.make_ready.new.self c.parse_next-answer.new.cursor) c.put_answer-turn.new.page
     × (weight (lending c.make_ready.new.stored.items c.make_ready.new.self c.parse_next-answer.new.cursor)
@@ -34,21 +34,21 @@ asks_so : (g : Over) (c : In-Read g) → Wants line_of (from_to (g.R.Source.rema
 asks_so g c =
     let s = steps_so g (goal.at.In-Read g c).In_ok-turn in
     let t = c.in_ok-turn.ensures.takes in
-    asked line_of _ _ _ _ _ _ c.events.invariant.progress _ _ s _ _ t.0 (sym c.in-Read.is ∙ t.1)
+    line_asked line_of _ _ _ _ _ _ c.events.invariant.progress _ _ s _ _ t.0 (sym c.in-Read.is ∙ t.1)
 
 pub returns-in_err-vec : goal.returns-in_err-vec
 returns-in_err-vec g c =
     let e = err_from_is_err_and c.from_residual.result c.from_residual.ensures.1 in
     record {
-      lists = rw (e.1, e.2) (no_memory line_of _ _ _ _ _ _ (begun line_of _ _) _ _ (Consumes-nil _));
+      lists = rw (e.1, e.2) (no_memory line_of _ _ _ _ _ _ (begun (listing_by line_of) refl _ _ _ (nothing_read _)) _ _ (Consumes-nil _));
       source = grind (arith, common_steps);
       sink = grind (arith, common_steps);
     }
 
 pub events-init : goal.events-init
 events-init g c = record {
-  progress = rw c.new-page.ensures (begun_beside line_of _ _ _ _ _ c.new-stored.ensures.items c.new-ahead.ensures
-      (c.new-cursor.ensures ∙ ap empty_feed c.new.ensures));
+  progress = rw c.new-page.ensures (begun (listing_by line_of) refl _ _ _ (begun_beside _ _ _ _
+      c.new-stored.ensures.items c.new-ahead.ensures (c.new-cursor.ensures ∙ ap empty_feed c.new.ensures)));
   input = refl;
   output = refl;
 }
@@ -76,18 +76,18 @@ pub events-smaller-in-Advance : goal.events-smaller-in-Advance
 events-smaller-in-Advance g c =
     let s = steps_so g (goal.at.events-smaller-in-Advance g c).In_ok-turn in
     let t = c.in_ok-turn.ensures.takes in
-    (same_lighter line_of _ _ (beside (feed_of c.events.stored.items c.events.cursor) c.events.ahead) _ _ _
+    (same_lighter (listing_by line_of) _ _ (beside (feed_of c.events.stored.items c.events.cursor) c.events.ahead) _ _ _
     (rw c.deref-in-Advance.ensures.value at c.pass_borrowed.ensures)
-    (advanced line_of _ _ _ _ _ _ c.events.invariant.progress _ _ s _ _ t.0 (sym c.in-Advance.is ∙ t.1))).1
+    (line_advanced line_of _ _ _ _ _ _ c.events.invariant.progress _ _ s _ _ t.0 (sym c.in-Advance.is ∙ t.1))).1
 
 pub events-preserved-in-Advance : goal.events-preserved-in-Advance
 events-preserved-in-Advance g c =
     let s = steps_so g (goal.at.events-preserved-in-Advance g c).In_ok-turn in
     let t = c.in_ok-turn.ensures.takes in
     record {
-      progress = (same_lighter line_of _ _ (beside (feed_of c.events.stored.items c.events.cursor) c.events.ahead) _ _ _
+      progress = (same_lighter (listing_by line_of) _ _ (beside (feed_of c.events.stored.items c.events.cursor) c.events.ahead) _ _ _
           (rw c.deref-in-Advance.ensures.value at c.pass_borrowed.ensures)
-          (advanced line_of _ _ _ _ _ _ c.events.invariant.progress _ _ s _ _ t.0 (sym c.in-Advance.is ∙ t.1))).0;
+          (line_advanced line_of _ _ _ _ _ _ c.events.invariant.progress _ _ s _ _ t.0 (sym c.in-Advance.is ∙ t.1))).0;
       input = c.events.invariant.input;
       output = grind (arith, common_steps);
     }

@@ -2,7 +2,7 @@ use Rattle.std.proofs.Common.{◌≡◌}
 use Rattle.wasm_feeder.specs.Beside.{beside}
 use Rattle.wasm_text.specs.Calls.{from_to}
 use Rattle.wasm_feeder.specs.Cursors.{feed_of}
-use Rattle.wasm_lines.specs.Listing.{line_of}
+use Rattle.wasm_lines.specs.Listing.{line_of, listing_by}
 use Rattle.wasm_feeder.specs.Progress.{Progress, weight}
 use Rattle.wasm_feed.proofs.listing.list_in.Given as goal
 
@@ -12,7 +12,7 @@ invariant-events g l =
     let source = g.R.Source in
     let sink = g.W.Sink in
     record {
-      progress : Progress line_of (from_to (source.remaining l.initial.input) (source.remaining l.input))
+      progress : Progress (listing_by line_of) (from_to (source.remaining l.initial.input) (source.remaining l.input))
           (from_to (sink.taken l.initial.output) (sink.taken l.output))
           (beside (feed_of l.stored.items l.cursor) l.ahead) l.page;
       input : source.has_failed l.input ≡ source.has_failed l.initial.input;

@@ -5,12 +5,14 @@ use Rattle.std.proofs.lemmas.Result.{err_from_is_err_and}
 use Rattle.wasm_feeder.specs.Beside.{beside, lending}
 use Rattle.wasm_feeder.specs.Cursors.{feed_of}
 use Rattle.wasm_feeder.specs.Feed.{empty_feed}
-use Rattle.wasm_feeder.proofs.ForCallers.{both}
-use Rattle.wasm_feed.proofs.StripProgress.{StripWants, begun, begun_beside, advanced, asked, cut, cut_after, cut_page, gave_up_at_once}
-use Rattle.wasm_feed.proofs.StripProgress.{same_lighter, stopped_here, streamed, was_cut, went_past}
+use Rattle.wasm_feeder.proofs.ForCallers.{begun, begun_beside, both, nothing_read, same_lighter}
+use Rattle.wasm_feed.proofs.StripProgress.{advanced, asked, cut, cut_after, cut_page, gave_up_at_once, stopped_here, streamed, was_cut}
+use Rattle.wasm_feed.proofs.StripProgress.{went_past}
+use Rattle.wasm_feed.specs.Stripped.{kept_bytes}
 use Rattle.wasm_text.proofs.ForCallers.{cut_of}
 use Rattle.wasm_feeder.specs.Fates.{stays_by}
-use Rattle.wasm_feeder.specs.Progress.{weight}
+use Rattle.wasm_feeder.specs.Progress.{Wants, weight}
+use Rattle.wasm_text.specs.Calls.{from_to}
 use Rattle.wasm_feeder.specs.Step.{Steps}
 use Rattle.wasm_feed.proofs.streaming.strip_stream.Given.{Over}
 use Rattle.wasm_feed.proofs.streaming.strip_stream.Goals as goal
@@ -26,8 +28,9 @@ steps_so g c =
     a.wants
 
 -- it asks for more
-asks_so : (g : Over) (c : In-Read g) → StripWants (stays_by c.args.keep) (g.R.Source.remaining c.args.input.now)
-    (g.R.Source.remaining c.parts.input) (g.W.Sink.taken c.args.output.now) (g.W.Sink.taken c.put_part-turn.new.output)
+asks_so : (g : Over) (c : In-Read g) → Wants (kept_bytes (stays_by c.args.keep))
+    (from_to (g.R.Source.remaining c.args.input.now) (g.R.Source.remaining c.parts.input))
+    (from_to (g.W.Sink.taken c.args.output.now) (g.W.Sink.taken c.put_part-turn.new.output))
     (lending c.make_ready.new.stored.items c.make_ready.new.self c.parse_next-answer.new.cursor) c.put_part-turn.new.page
     × (weight (lending c.make_ready.new.stored.items c.make_ready.new.self c.parse_next-answer.new.cursor)
     ≡ weight (beside (feed_of c.parts.stored.items c.parts.cursor) c.parts.ahead))
@@ -40,15 +43,16 @@ pub returns-in_err-vec : goal.returns-in_err-vec
 returns-in_err-vec g c =
     let e = err_from_is_err_and c.from_residual.result c.from_residual.ensures.1 in
     record {
-      strips = rw e.1 (gave_up_at_once _ _ _ _ _ _ _ (begun _ _ _) _ [] (Consumes-nil _));
+      strips = rw e.1 (gave_up_at_once _ _ _ _ _ _ _ (begun (kept_bytes _) refl _ _ _ (nothing_read _)) _ []
+          (Consumes-nil _));
       source = grind (arith, common_steps);
       sink = grind (arith, common_steps);
     }
 
 pub parts-init : goal.parts-init
 parts-init g c = record {
-  progress = rw c.new-page.ensures (begun_beside _ _ _ _ _ _ c.new-stored.ensures.items c.new-ahead.ensures
-      (c.new-cursor.ensures ∙ ap empty_feed c.new.ensures));
+  progress = rw c.new-page.ensures (begun (kept_bytes _) refl _ _ _ (begun_beside _ _ _ _ c.new-stored.ensures.items
+      c.new-ahead.ensures (c.new-cursor.ensures ∙ ap empty_feed c.new.ensures)));
   input = refl;
   output = refl;
 }
@@ -76,7 +80,7 @@ pub parts-smaller-in-Advance : goal.parts-smaller-in-Advance
 parts-smaller-in-Advance g c =
     let s = steps_so g (goal.at.parts-smaller-in-Advance g c).After-put_part-turn in
     let t = c.in_ok-turn.ensures.takes in
-    (same_lighter _ _ _ _ _ (beside (feed_of c.parts.stored.items c.parts.cursor) c.parts.ahead) _ _ _
+    (same_lighter (kept_bytes _) _ _ (beside (feed_of c.parts.stored.items c.parts.cursor) c.parts.ahead) _ _ _
     (rw c.deref-in-Advance.ensures.value at c.pass_borrowed.ensures)
     (advanced _ _ _ _ _ _ _ c.parts.invariant.progress _ _ s _ _ t.0 (sym c.in-Advance.is ∙ t.1))).1
 
@@ -85,7 +89,7 @@ parts-preserved-in-Advance g c =
     let s = steps_so g (goal.at.parts-preserved-in-Advance g c).After-put_part-turn in
     let t = c.in_ok-turn.ensures.takes in
     record {
-      progress = (same_lighter _ _ _ _ _ (beside (feed_of c.parts.stored.items c.parts.cursor) c.parts.ahead) _ _ _
+      progress = (same_lighter (kept_bytes _) _ _ (beside (feed_of c.parts.stored.items c.parts.cursor) c.parts.ahead) _ _ _
           (rw c.deref-in-Advance.ensures.value at c.pass_borrowed.ensures)
           (advanced _ _ _ _ _ _ _ c.parts.invariant.progress _ _ s _ _ t.0 (sym c.in-Advance.is ∙ t.1))).0;
       input = c.parts.invariant.input;
@@ -98,7 +102,7 @@ returns-in_err-write_out-in-End g c =
     let t = c.in_ok-turn.ensures.takes in
     let e = err_from_is_err_and c.from_residual-in_err-write_out-in-End.result c.from_residual-in_err-write_out-in-End.ensures.1 in
     record {
-      strips = rw e.1 (cut_page _ _ _ _ _ _ _ c.parts.invariant.progress _ _ s _ _ _ _ t.0
+      strips = rw e.1 (cut_page _ _ _ _ _ _ _ c.parts.invariant.progress _ _ s _ _ t.0 _ _
           (cut_of _ _ _ _ c.in_err-write_out-in-End.ensures.writes));
       source = grind (arith, common_steps);
       sink = grind (arith, common_steps);
@@ -119,7 +123,7 @@ returns-in_err-write_out-in-Read g c =
     let (asks, same) = asks_so g (goal.at.returns-in_err-write_out-in-Read g c).In-Read in
     let e = err_from_is_err_and c.from_residual-in_err-write_out-in-Read.result c.from_residual-in_err-write_out-in-Read.ensures.1 in
     record {
-      strips = rw e.1 (cut_after _ _ _ _ _ _ _ _ _ asks _ _ _ _ _ c.in_ok-fault-in-Read.ensures.reads _ c.in-Some.is _ _
+      strips = rw e.1 (cut_after _ _ _ _ _ _ _ _ _ asks _ _ _ _ _ _ c.in-Some.is _ c.in_ok-fault-in-Read.ensures.reads _
           (cut_of _ _ _ _ c.in_err-write_out-in-Read.ensures.writes));
       source = grind (arith, common_steps);
       sink = grind (arith, common_steps);
@@ -129,7 +133,7 @@ pub returns-in-Some : goal.returns-in-Some
 returns-in-Some g c =
     let (asks, same) = asks_so g (goal.at.returns-in-Some g c).In-Read in
     record {
-      strips = was_cut _ _ _ _ _ _ _ _ _ asks _ _ _ _ _ c.in_ok-fault-in-Read.ensures.reads _ c.in-Some.is _
+      strips = was_cut _ _ _ _ _ _ _ _ _ asks _ _ _ _ _ _ c.in-Some.is _ c.in_ok-fault-in-Read.ensures.reads
           c.in_ok-write_out-in-Read.ensures.writes.0;
       source = grind (arith, common_steps);
       sink = grind (arith, common_steps);

@@ -1,9 +1,10 @@
 use Rattle.std.proofs.Common.{◌≡◌}
 use Rattle.wasm_feeder.specs.Beside.{beside}
 use Rattle.wasm_feeder.specs.Cursors.{feed_of}
-use Rattle.wasm_feeder.specs.Progress.{weight}
+use Rattle.wasm_feeder.specs.Progress.{Progress, weight}
+use Rattle.wasm_text.specs.Calls.{from_to}
 use Rattle.wasm_feeder.specs.Fates.{stays_by}
-use Rattle.wasm_feed.proofs.StripProgress.{StripProgress}
+use Rattle.wasm_feed.specs.Stripped.{kept_bytes}
 use Rattle.wasm_feed.proofs.streaming.strip_stream.Given as goal
 
 -- how far the stream is stripped
@@ -12,8 +13,8 @@ invariant-parts g l =
     let source = g.R.Source in
     let sink = g.W.Sink in
     record {
-      progress : StripProgress (stays_by l.keep) (source.remaining l.initial.input) (source.remaining l.input)
-          (sink.taken l.initial.output) (sink.taken l.output) (beside (feed_of l.stored.items l.cursor) l.ahead) l.page;
+      progress : Progress (kept_bytes (stays_by l.keep)) (from_to (source.remaining l.initial.input) (source.remaining l.input))
+          (from_to (sink.taken l.initial.output) (sink.taken l.output)) (beside (feed_of l.stored.items l.cursor) l.ahead) l.page;
       input : source.has_failed l.input ≡ source.has_failed l.initial.input;
       output : sink.has_failed l.output ≡ sink.has_failed l.initial.output;
     }

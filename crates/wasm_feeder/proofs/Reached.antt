@@ -1,0 +1,223 @@
+-- What each call does to where a feeder is along what a source gave.
+use Rattle.std.proofs.Common.{◌≡◌, ℕ, ◌+◌, ◌^◌, ◌<◌, ◌≤◌, Bool, true, false, if◌then◌else◌, List, [], ◌∷◌, ◌++◌, length, Option, Result, Ok}
+use Rattle.std.proofs.Common.{Err, refl, sym, ap, subst, ◌∙◌, arith, append-nil, length-append, inl, inr}
+use Rattle.std.specs.Io.KnownBytes.{Consumes, IsAtEnd}
+use Rattle.std.proofs.KnownBytes.{Consumes-nil, Consumes-trans}
+use Rattle.wasm_base.specs.FaultAt.{fault_at, at_offset}
+use Rattle.wasm_base.specs.Features.{all_features}
+use Rattle.wasm_base.specs.declared.error.Error.{Error}
+use Rattle.wasm_base.specs.declared.fault.Fault.TheVariants.{OffsetRange}
+use Rattle.wasm_grammar.specs.Content.{Ending, fault, ended}
+use Rattle.wasm_grammar.specs.EventRanges.{consumed_by}
+use Rattle.wasm_grammar.specs.Reading.{Event, last_event, Reading}
+use Rattle.wasm_parser.specs.Along.{ReadingBegins, ReadsEach, Came}
+use Rattle.wasm_parser.specs.GivesNextEvent.{MayBe}
+use Rattle.wasm_parser.specs.ParseAnswer.{report_of, is_end}
+use Rattle.wasm_parser.specs.declared.payload.Payload.{Payload}
+use Rattle.wasm_parser.proofs.ForCallers.{answers_go_along}
+use Rattle.wasm_feeder.specs.Beside.{beside, FillsAlike, IsAlike}
+use Rattle.wasm_feeder.specs.Cursors.{feed_of}
+use Rattle.wasm_feeder.specs.Feed.{Feed, new_feed, pushed, finished}
+use Rattle.wasm_feeder.specs.Lists.{IsEndedBy, IsWhole}
+use Rattle.wasm_feeder.specs.Progress.{weight, Reached, Asks}
+use Rattle.wasm_feeder.specs.Step.{chunk_of, Stepped, Steps}
+use Rattle.wasm_feeder.specs.Turns.{turn_after}
+use Rattle.wasm_feeder.specs.declared.feeder.Cursor.{Cursor}
+use Rattle.wasm_feeder.specs.declared.feeder.Step.{Step}
+use Rattle.wasm_feeder.specs.declared.feeder.Step.TheVariants.{NeedMoreData, Parsed}
+use Rattle.wasm_feeder.specs.declared.turns.Ended.{Ended}
+use Rattle.wasm_feeder.specs.declared.turns.Ended.TheVariants.{End, Fault}
+use Rattle.wasm_feeder.specs.declared.turns.Turn.{Turn}
+use Rattle.wasm_feeder.specs.declared.turns.Turn.TheVariants as turn
+use Rattle.wasm_feeder.proofs.Stepping.{stepped as step_along}
+
+pub nothing_read : (source : Option (List ℕ)) → Reached source source (new_feed 0 all_features) []
+nothing_read source = record {
+  given = [];
+  is_along = answers_go_along.begins 0 all_features;
+  gave = Consumes-nil source;
+  at_end = λ e. let no : true ≡ false = sym e in cc;
+}
+
+-- it depends only on the feeder's position, the bytes it holds, and whether the end was reported
+pub alike : (source rest : Option (List ℕ)) (events : List Event) (f g : Feed) → IsAlike f g → Reached source rest f events
+    → Reached source rest g events
+alike source rest events f g a r = grind arith
+
+pub begun_beside : (source : Option (List ℕ)) (stored piece : List ℕ) (c : Cursor) → stored ≡ [] → piece ≡ []
+    → feed_of [] c ≡ new_feed 0 all_features → Reached source source (beside (feed_of stored c) piece) []
+begun_beside source stored piece c none no_piece new = grind (arith, alike, append-nil, nothing_read)
+
+-- ---- results
+
+-- This event is the result, and not the last one.
+abbrev pub IsEvent : Result Step Error → Event → Type 0
+IsEvent (Ok (NeedMoreData hint)) e = ⊥
+IsEvent (Ok (Parsed bytes payload)) e = (is_end (report_of payload) ≡ false) × (report_of payload ≡ e.report) × (e.consumed ≡ bytes.now)
+IsEvent (Err error) e = ⊥
+
+-- The result is this ending.
+abbrev pub IsEnding : Result Step Error → Ending → Type 0
+IsEnding (Ok (NeedMoreData hint)) end = ⊥
+IsEnding (Ok (Parsed bytes payload)) end = (is_end (report_of payload) ≡ true) × (report_of payload ≡ (last_event end).report)
+    × (bytes.now ≡ [])
+IsEnding (Err error) end = end ≡ fault (fault_at error)
+
+-- A stream ends so after these events, and a run as it does.
+pub record AtEnd (given : List ℕ) (events : List Event) (eof : Bool) (how : Ended) : Type 0 where
+  pub end : Ending
+  pub ends : IsEndedBy how end
+  pub within : length given < 2 ^ 64 → ReadsEach 0 all_features eof given (events ++ last_event end ∷ [])
+  pub past_the_top : 2 ^ 64 ≤ length given → end ≡ fault (at_offset OffsetRange (length (consumed_by events)))
+  pub whole : how ≡ End → (offset : ℕ) × (end ≡ ended offset) × (length given < 2 ^ 64)
+
+pub all_given : (eof : Bool) (given : List ℕ) → MayBe eof given given
+all_given eof given = grind (arith, append-nil)
+
+-- what is done after a payload, by whether it is the end
+if_end : (b : Bool) → turn.Advance ≡ (if b then turn.End End else turn.Advance) → b ≡ false
+if_end true t = cc
+if_end false t = refl
+
+no_read : (b : Bool) → turn.Read ≡ (if b then turn.End End else turn.Advance) → ⊥
+no_read true t = cc
+no_read false t = cc
+
+at_end : (b : Bool) (how : Ended) → turn.End how ≡ (if b then turn.End End else turn.Advance) → (b ≡ true) × (how ≡ End)
+at_end true how t = (refl, cc)
+at_end false how t = cc
+
+-- ---- where the feeder is
+
+module _ (source rest : Option (List ℕ)) (f : Feed) (events : List Event) (r : Reached source rest f events) where
+  pub ends_at : f.state.offset + length f.held ≡ length r.given
+  ends_at = let o : f.state.offset + length f.held ≡ 0 + length r.given =
+      answers_go_along.ends 0 all_features r.given f.state f.held events r.is_along in omega (arith, o)
+
+  pub consumed : r.given ≡ consumed_by events ++ f.held
+  consumed = answers_go_along.consumed 0 all_features r.given f.state f.held events r.is_along
+
+  -- the parser is where the events end
+  passed : f.state.offset ≡ length (consumed_by events)
+  passed =
+      let n : length r.given ≡ length (consumed_by events) + length f.held =
+      ap (λ (x : List ℕ). length x) consumed ∙ length-append (consumed_by events) f.held in
+      omega (arith, n, ends_at)
+
+  -- with more bytes too, the reading begins with these events
+  pub begins_with : (more : List ℕ) → ReadingBegins 0 all_features (r.given ++ more) events
+  begins_with more = answers_go_along.first 0 all_features r.given f.state f.held events false r.is_along (r.given ++ more) (more, refl)
+
+  pub begins : ReadingBegins 0 all_features r.given events
+  begins = answers_go_along.first 0 all_features r.given f.state f.held events true r.is_along r.given refl
+
+  -- the source's whole input is one of the streams that begin with what it gave
+  pub whole_input : (all : List Event) → ReadsEach 0 all_features f.eof r.given all → IsWhole source r.given all
+  whole_input all e = grind (arith, all_given, append-nil)
+
+  -- ---- a step
+
+  module _ (g : Feed) where
+    -- what it says, if the given bytes are below the top
+    stepped : (x : Result Step Error) → Steps f x g → length r.given < 2 ^ 64
+        → Stepped 0 all_features f.eof r.given events x g.state g.held
+    stepped x s l = step_along 0 all_features r.given f.state f.held events r.is_along f.eof x g.state g.held (omega (arith, l))
+        s.parses s.shows
+
+    below : (step : Step) → Steps f (Ok step) g → length r.given < 2 ^ 64
+    below step s = let o = answers_go_along.below f.state g.state f.eof f.held (chunk_of step) s.parses in omega (arith, o, ends_at)
+
+    came : (bytes : _) (payload : Payload) → Steps f (Ok (Parsed bytes payload)) g
+        → Came 0 all_features f.eof r.given events bytes.now payload g.state g.held
+    came bytes payload s = stepped (Ok (Parsed bytes payload)) s (below (Parsed bytes payload) s)
+
+    -- an event that isn't the last one: there is less to consume
+    pub next_event : (x : Result Step Error) → Steps f x g → turn.Advance ≡ turn_after x
+        → (e : Event) × IsEvent x e × Reached source rest g (events ++ e ∷ []) × (weight g < weight f)
+    next_event (Ok (NeedMoreData hint)) s t = cc
+    next_event (Ok (Parsed bytes payload)) s t =
+        let n = if_end (is_end (report_of payload)) t in
+        let came = came bytes payload s in
+        let (after, some) = came.goes_on n in
+        let o : g.state.offset + length g.held ≡ 0 + length r.given =
+        answers_go_along.ends 0 all_features r.given g.state g.held (events ++ came.event ∷ []) after in
+        let l : length f.held ≡ length bytes.now + length g.held = grind (arith, length-append) in (
+          came.event,
+          (n, came.is_payload.0, came.consumed),
+          record { given = r.given; is_along = after; gave = r.gave; at_end = λ e. r.at_end (sym s.eof ∙ e) },
+          rw s.eof (omega (arith, ends_at, o, l, some, below (Parsed bytes payload) s)),
+        )
+    next_event (Err e) s t = cc
+
+    -- a request: the parser is undecided
+    pub next_asks : (x : Result Step Error) → Steps f x g → turn.Read ≡ turn_after x
+        → (hint : ℕ) × (x ≡ Ok (NeedMoreData hint)) × Asks source rest g events × (weight g ≡ weight f)
+    next_asks (Ok (NeedMoreData hint)) s t =
+        let l = below (NeedMoreData hint) s in
+        let (u, a) = stepped (Ok (NeedMoreData hint)) s l in
+        let stays : g.state ≡ f.state = cc in (
+          hint,
+          refl,
+          record {
+            reached = record { given = r.given; is_along = a; gave = r.gave; at_end = λ e. r.at_end (sym s.eof ∙ e) };
+            hint = hint;
+            undecided = rw s.eof u;
+            below = l;
+          },
+          rw (stays, sym s.shows, s.eof) refl,
+        )
+    next_asks (Ok (Parsed bytes payload)) s t = absurd (no_read (is_end (report_of payload)) t)
+    next_asks (Err e) s t = cc
+
+    pub next_ends : (x : Result Step Error) → Steps f x g → (how : Ended) → turn.End how ≡ turn_after x
+        → (a : AtEnd r.given events f.eof how) × IsEnding x a.end
+    next_ends (Ok (NeedMoreData hint)) s how t = cc
+    next_ends (Ok (Parsed bytes payload)) s how t =
+        let (e, is_it) = at_end (is_end (report_of payload)) how t in
+        let l = below (Parsed bytes payload) s in
+        let came = came bytes payload s in
+        let (offset, last) = came.last e in (
+          record {
+            end = ended offset;
+            ends = subst (λ (h : Ended). IsEndedBy h (ended offset)) (sym is_it) tt;
+            within = λ _. subst (λ (y : Event). ReadsEach 0 all_features f.eof r.given (events ++ y ∷ [])) last (came.ends e);
+            past_the_top = λ h. absurd (omega (arith, h, l));
+            whole = λ _. (offset, refl, l);
+          },
+          (e, came.is_payload.0 ∙ ap (λ (y : Event). y.report) last, sym came.consumed ∙ ap (λ (y : Event). y.consumed) last),
+        )
+    next_ends (Err e) s how t =
+        let is_it : how ≡ Fault e = cc in (
+          record {
+            end = fault (fault_at e);
+            ends = rw is_it refl;
+            within = λ l. (stepped (Err e) s l).0;
+            past_the_top = grind (arith, ends_at, passed);
+            whole = λ z. let no : Fault e ≡ End = sym is_it ∙ z in cc;
+          },
+          refl,
+        )
+
+-- ---- a read
+
+module _ (source rest : Option (List ℕ)) (f : Feed) (events : List Event) (a : Asks source rest f events) (rest' : Option (List ℕ)) where
+  -- more bytes arrived, or none: the end
+  abbrev pub arrived : (piece : List ℕ) (eof : Bool) → Consumes rest rest' piece → (eof ≡ true → IsAtEnd rest')
+      → Reached source rest' (record (pushed f piece) { eof = eof }) events
+  arrived piece eof gave end = record {
+    given = a.reached.given ++ piece;
+    is_along = answers_go_along.more 0 all_features a.reached.given f.state f.held events piece a.reached.is_along;
+    gave = Consumes-trans source rest rest' a.reached.given piece a.reached.gave gave;
+    at_end = end;
+  }
+
+  pub reads_on : (g : Feed) → FillsAlike rest rest' f g → Reached source rest' g events × (weight g < weight f)
+  reads_on g (inl (none, end, alikes)) = (
+    alike source rest' events (record (pushed f []) { eof = true }) g (grind (arith, append-nil)) (arrived [] true none (λ e. end)),
+    grind arith,
+  )
+  reads_on g (inr (piece, gave, some, alikes)) = (
+    alike source rest' events (record (pushed f piece) { eof = f.eof }) g (grind arith) (arrived piece f.eof gave
+        (λ e. let no : true ≡ false = sym e ∙ a.undecided.0 in cc)),
+    grind (arith, ends_at, length-append),
+  )
