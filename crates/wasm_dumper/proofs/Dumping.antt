@@ -199,15 +199,15 @@ empty (b ∷ bytes) e = absurd (omega arith)
 
 -- at the stream's end nothing is held
 held_none : (full rest : Option (List ℕ)) (f : Feed) (events : List Event) (r : Reached full rest f events) (how : Ended)
-    → AtEnd r.given events f.eof how → is_whole (Ok how) ≡ true → f.held ++ [] ≡ []
-held_none full rest f events r End a w =
+    (end : Ending) → AtEnd r.given events f.eof how end → is_whole (Ok how) ≡ true → f.held ++ [] ≡ []
+held_none full rest f events r End end a w =
     let (offset, e, l) = a.whole refl in
     let reading = subst (λ (y : Ending). Reading r.given 0 all_features (events ++ last_event y ∷ [])) e
     (a.within l r.given (all_given f.eof r.given)) in
     let same : length (consumed_by events) ≡ length (consumed_by events ++ f.held) =
     ap (λ (x : List ℕ). length x) (sym (end_consumes_all r.given 0 all_features events offset reading) ∙ consumed full rest f events r) in
     append-nil f.held ∙ empty f.held (omega (arith, same, length-append (consumed_by events) f.held))
-held_none full rest f events r (Fault e) a w = cc
+held_none full rest f events r (Fault e) end a w = cc
 
 -- ---- what was written, at an end
 
@@ -480,9 +480,9 @@ module _ (only : List Only) (has_bytes : Bool) (full rest : Option (List ℕ)) (
       let (hint, is, asks, same) = next_asks full rest f d.events d.reached g s.answer s.steps (sym t ∙ s.turns) in
       written_of false g d.events asks.reached (not_whole (g.held ++ [])) (still hint is)
   all_written (turn.End how) t =
-      let (a, is) = next_ends full rest f d.events d.reached g s.answer s.steps how (sym t ∙ s.turns) in
-      written_of (is_whole (Ok how)) f d.events d.reached (held_none full rest f d.events d.reached how a)
-      (counted_last only has_bytes d.events c d.counted s.answer a.end is)
+      let (end, a, is) = next_ends full rest f d.events d.reached g s.answer s.steps how (sym t ∙ s.turns) in
+      written_of (is_whole (Ok how)) f d.events d.reached (held_none full rest f d.events d.reached how end a)
+      (counted_last only has_bytes d.events c d.counted s.answer end is)
 
   -- the tree has stopped
   pub stopped : (had has : Bool) → has ≡ had → (why : ListError) → new.why ≡ Some why
@@ -533,13 +533,13 @@ module _ (only : List Only) (has_bytes : Bool) (full rest : Option (List ℕ)) (
       let (after, less) = reads_on full rest f d.events d.asks rest' g r in
       (record { events = d.events; reached = after; counted = d.counted; writing = all }, less)
 
-  abbrev outline : List ℕ
-  outline = outline_of before.style only d.events
+  abbrev shown_lines : List ℕ
+  shown_lines = outline_of before.style only d.events
 
   lists : (rest' : Option (List ℕ)) (g : Feed) (e : ListError) → Refills rest rest' f g (Err e)
-      → ListsBy (chosen_line before.style only) (from_to full rest') (from_to (Some []) (Some outline)) (Err e)
+      → ListsBy (chosen_line before.style only) (from_to full rest') (from_to (Some []) (Some shown_lines)) (Err e)
   lists rest' g e r =
-      progress.not_filled (chosen_line before.style only) full rest (Some []) (Some outline) f (record {
+      progress.not_filled (chosen_line before.style only) full rest (Some []) (Some shown_lines) f (record {
         events = d.events;
         asks = d.asks;
         puts = (listed only before.style full rest f d.events d.asks.reached).puts;
@@ -551,15 +551,15 @@ module _ (only : List Only) (has_bytes : Bool) (full rest : Option (List ℕ)) (
   not_filled had mid has m rest' g Input r h taken failed i =
       let (numbers, are, wrote) = all taken failed i in
       let bytes = bytes_of_events has_bytes only d.events in
-      let o = origin before.style taken failed outline numbers bytes in
-      dumped outline numbers bytes (lists rest' g Input r) (numbers_of None false only has_bytes full rest f d.events d.asks.reached rest' []
+      let o = origin before.style taken failed shown_lines numbers bytes in
+      dumped shown_lines numbers bytes (lists rest' g Input r) (numbers_of None false only has_bytes full rest f d.events d.asks.reached rest' []
       (Consumes-kept rest rest rest' [] (Consumes-nil rest) r) numbers (not_whole (f.held ++ [])) are) (whole o last going out wrote) h
       (has_failed o last going wrote)
   not_filled had mid has m rest' g Memory r h taken failed i =
       let (numbers, are, wrote) = all taken failed i in
       let bytes = bytes_of_events has_bytes only d.events in
-      let o = origin before.style taken failed outline numbers bytes in
-      dumped outline numbers bytes (lists rest' g Memory r) (numbers_of (Some Memory) false only has_bytes full rest f d.events d.asks.reached
+      let o = origin before.style taken failed shown_lines numbers bytes in
+      dumped shown_lines numbers bytes (lists rest' g Memory r) (numbers_of (Some Memory) false only has_bytes full rest f d.events d.asks.reached
       rest' r.0 r.1 numbers (not_whole (f.held ++ r.0)) (events_begin None Memory only no_counts d.events numbers are))
       (some_of o last (whole o last going out wrote)) (h ∙ m) (has_failed o last going wrote)
   not_filled had mid has m rest' g Output r h taken failed i = absurd r

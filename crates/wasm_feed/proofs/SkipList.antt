@@ -113,7 +113,7 @@ module _ (source rest taken written : Option (List ℕ)) (c : Cursor) (stored ch
       ends : (length x.part < passing.size) × IsAtEnd rest' × (left ≡ []) × (fault_at error ≡ at_offset UnexpectedEof passing.from)
       ends = rw cuts at x.ends
 
-      at_end : AtEnd (w.asks.reached.given ++ x.fetched) w.events true (Fault error)
+      at_end : AtEnd (w.asks.reached.given ++ x.fetched) w.events true (Fault error) (fault (fault_at error))
       at_end = cut_within stays_if source rest w.events c stored chunk w.asks passing skipped k x.fetched (is_short stays_if source rest
           w.events c stored chunk w.asks passing skipped k x.fetched x.part left x.parts ends.0 ends.2) error ends.3
 
@@ -123,11 +123,11 @@ module _ (source rest taken written : Option (List ℕ)) (c : Cursor) (stored ch
       pub listed_short : (written'' : Option (List ℕ)) → Appends written' written'' page'
           → IsListed line_of (from_to source rest') (from_to taken written'') (Fault error)
       listed_short written'' u = listed_to_end line_of source rest' taken mid
-          (record (pushed (lending stored chunk c) x.fetched) { eof = true }) [] (so_far true (λ _. ends.1)) (Fault error) at_end
+          (record (pushed (lending stored chunk c) x.fetched) { eof = true }) [] (so_far true (λ _. ends.1)) (Fault error) (fault (fault_at error)) at_end
           (line_of (stream_end (fault (fault_at error)))) refl written' page' put written'' u
 
       pub short_cut : (written'' : Option (List ℕ)) (e : ListError) → IsCut written' written'' page' e
           → ListsBy line_of (from_to source rest') (from_to taken written'') (Err e)
       short_cut written'' e u = cut_at_end line_of source rest' taken mid
-          (record (pushed (lending stored chunk c) x.fetched) { eof = true }) [] (so_far true (λ _. ends.1)) (Fault error) at_end
+          (record (pushed (lending stored chunk c) x.fetched) { eof = true }) [] (so_far true (λ _. ends.1)) (Fault error) (fault (fault_at error)) at_end
           (line_of (stream_end (fault (fault_at error)))) refl written' page' put written'' e u

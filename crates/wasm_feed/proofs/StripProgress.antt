@@ -5,7 +5,8 @@ use Rattle.std.specs.Io.KnownBytes.{Consumes, Appends}
 use Rattle.std.proofs.KnownBytes.{Consumes-nil, Consumes-trans}
 use Rattle.wasm_base.specs.Features.{all_features}
 use Rattle.wasm_base.specs.declared.error.Error.{Error}
-use Rattle.wasm_grammar.specs.Content.{Ending}
+use Rattle.wasm_base.specs.FaultAt.{fault_at}
+use Rattle.wasm_grammar.specs.Content.{Ending, fault}
 use Rattle.wasm_grammar.specs.EventRanges.{consumed_by}
 use Rattle.wasm_grammar.specs.Reading.{Report, Event, last_event, Reading, custom_section, counted, unknown_section, code_entry}
 use Rattle.wasm_text.specs.Calls.{from_to}
@@ -59,14 +60,14 @@ kept_event keeps _ es e is = absurd is
 -- only an event has bytes
 nothing_after : (keeps : List ℕ → Bool) (x : Result Step Error) (t : Turn) → t ≡ turn_after x → (t ≡ turn.Advance → ⊥)
     → piece_after keeps x ≡ []
-nothing_after keeps (Ok (Parsed bytes payload)) t is no = by_end (is_end (report_of payload)) is
+nothing_after keeps (Ok (Parsed bytes payload)) t is other = by_end (is_end (report_of payload)) is
   where
     by_end : (b : Bool) → t ≡ (if b then turn.End End else turn.Advance)
         → (if b then [] else if_stays (report_stays keeps (report_of payload)) bytes.now) ≡ []
     by_end true is = refl
-    by_end false is = absurd (no is)
-nothing_after keeps (Ok (NeedMoreData hint)) t is no = refl
-nothing_after keeps (Err e) t is no = refl
+    by_end false is = absurd (other is)
+nothing_after keeps (Ok (NeedMoreData hint)) t is other = refl
+nothing_after keeps (Err e) t is other = refl
 
 -- a part with these first fields stays if its event does
 same_stays : (keeps : List ℕ → Bool) (report : Report) (s : Skip) → skip_in report ≡ Some s → report_stays keeps report
@@ -99,13 +100,13 @@ module _ (keeps : List ℕ → Bool) (source rest : Option (List ℕ)) (f : Feed
   }
 
   -- the stream ends, perhaps within a part
-  streamed_so : (how : Ended) → AtEnd r.given events f.eof how → f.held ≡ partial ++ unread → IsPartial keeps r.given events partial
+  streamed_so : (how : Ended) (end : Ending) → AtEnd r.given events f.eof how end → f.held ≡ partial ++ unread → IsPartial keeps r.given events partial
       → (how ≡ End → partial ≡ []) → Appends taken written (kept_bytes keeps events ++ partial)
       → IsStreamed keeps (from_to source rest) (from_to taken written) how
-  streamed_so how a same stays none wrote = record {
+  streamed_so how end a same stays none wrote = record {
     given = r.given;
     first = events;
-    end = a.end;
+    end = end;
     partial = partial;
     unread = unread;
     gave = r.gave;
@@ -113,7 +114,7 @@ module _ (keeps : List ℕ → Bool) (source rest : Option (List ℕ)) (f : Feed
     stays = stays;
     wrote = wrote;
     ends = a.ends;
-    within = λ l. whole_input source rest f events r (events ++ last_event a.end ∷ []) (a.within l);
+    within = λ l. whole_input source rest f events r (events ++ last_event end ∷ []) (a.within l);
     past_the_top = λ h. record { begins = begins source rest f events r; is_fault = a.past_the_top h };
     strips = λ z stream.
         let (offset, e, l) = a.whole z in
@@ -175,11 +176,11 @@ module _ (keeps : List ℕ → Bool) (source rest taken written : Option (List �
       pub streamed : (how : Ended) → turn.End how ≡ turn_after x → (written'' : Option (List ℕ)) → Appends written' written'' page'
           → IsStreamed keeps (from_to source rest) (from_to taken written'') how
       streamed how t written'' v =
-          let a = (progress.next_ends source rest f p.events p.reached g x s how t).0 in
+          let (end, a, is) = progress.next_ends source rest f p.events p.reached g x s how t in
           let o = puts_out taken written' written'' [] (kept_bytes keeps p.events ++ piece_after keeps x) page'
           (puts_more taken written written' [] (kept_bytes keeps p.events) page (piece_after keeps x) page' p.puts w) v in
           let none = nothing_after keeps x (turn.End how) t (λ z. cc) in
-          streamed_so keeps source rest f p.events p.reached taken written'' [] f.held how a refl (inl refl) (λ _. refl)
+          streamed_so keeps source rest f p.events p.reached taken written'' [] f.held how end a refl (inl refl) (λ _. refl)
           (rw none at (rw (sym (o.waits ∙ append-nil o.moved)) at o.writes))
 
 -- ---- a part that is skipped
@@ -264,7 +265,7 @@ module _ (keeps : List ℕ → Bool) (source rest taken written : Option (List �
         x.passes.puts) v in
         streamed_so keeps source rest' (record (pushed (lending stored chunk c) x.passes.fetched) { eof = true }) w.events
         (arrived source rest (lending stored chunk c) w.events w.asks rest' x.passes.fetched true x.passes.gave (λ _. end)) taken written''
-        (if_stays x.passing.stays x.passes.part) (dropped x.passing.stays x.passes.part ++ x.left) (Fault e)
+        (if_stays x.passing.stays x.passes.part) (dropped x.passing.stays x.passes.part ++ x.left) (Fault e) (fault (fault_at e))
         (cut_within (head_stays keeps) source rest w.events c stored chunk w.asks x.passing x.skipped x.skips x.passes.fetched short e at)
         (held_parts x.passing x.skipped x.skips x.passes.fetched x.passes.gave x.passes.part x.left x.passes.parts (omega (arith, less)))
         (partial_stays x.passing x.skipped x.skips x.passes.fetched x.passes.gave x.passes.part x.left x.passes.parts (omega (arith, less))

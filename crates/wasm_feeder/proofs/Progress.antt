@@ -137,13 +137,14 @@ module _ (text_of : Report → List ℕ) where
 
     -- ---- the end
 
-    module _ (how : Ended) (a : AtEnd p.reached.given p.events f.eof how) (line : List ℕ) (same : line ≡ text_of (stream_end a.end))
-        (written' : Option (List ℕ)) (page' : List ℕ) (w : PutsBytes written written' page line page') where
+    module _ (how : Ended) (end : Ending) (a : AtEnd p.reached.given p.events f.eof how end) (line : List ℕ)
+        (same : line ≡ text_of (stream_end end)) (written' : Option (List ℕ)) (page' : List ℕ)
+        (w : PutsBytes written written' page line page') where
       abbrev all : List Event
-      all = p.events ++ last_event a.end ∷ []
+      all = p.events ++ last_event end ∷ []
 
       puts : PutsBytes taken written' [] (listing_by text_of all) page'
-      puts = rw (one_more p.events (last_event a.end), sym same)
+      puts = rw (one_more p.events (last_event end), sym same)
           (puts_more taken written written' [] (listing_by text_of p.events) page line page' p.puts w)
 
       -- all is written, and the run ends
@@ -152,7 +153,7 @@ module _ (text_of : Report → List ℕ) where
       listed_to_end written'' v = record {
         given = p.reached.given;
         first = p.events;
-        end = a.end;
+        end = end;
         gave = p.reached.gave;
         listed = let o = puts_out taken written' written'' [] (listing_by text_of all) page' puts v in
             rw (sym (o.waits ∙ append-nil o.moved)) at o.writes;
@@ -198,14 +199,14 @@ module _ (text_of : Report → List ℕ) where
         pub listed_all : (written'' : Option (List ℕ)) → Appends written' written'' page'
             → IsListed text_of (from_to source rest) (from_to taken written'') how
         listed_all written'' v =
-            let (a, is) = next_ends source rest f p.events p.reached g x s how t in
-            listed_to_end how a (text_after text_of x) (text_of_ending x a.end is) written' page' w written'' v
+            let (end, a, is) = next_ends source rest f p.events p.reached g x s how t in
+            listed_to_end how end a (text_after text_of x) (text_of_ending x end is) written' page' w written'' v
 
         pub end_cut : (written'' : Option (List ℕ)) (e : ListError) → IsCut written' written'' page' e
             → ListsBy text_of (from_to source rest) (from_to taken written'') (Err e)
         end_cut written'' e v =
-            let (a, is) = next_ends source rest f p.events p.reached g x s how t in
-            cut_at_end how a (text_after text_of x) (text_of_ending x a.end is) written' page' w written'' e v
+            let (end, a, is) = next_ends source rest f p.events p.reached g x s how t in
+            cut_at_end how end a (text_after text_of x) (text_of_ending x end is) written' page' w written'' e v
 
   -- ---- a read
 

@@ -64,8 +64,7 @@ IsEnding (Ok (Parsed bytes payload)) end = (is_end (report_of payload) ≡ true)
 IsEnding (Err error) end = end ≡ fault (fault_at error)
 
 -- A stream ends so after these events, and a run as it does.
-pub record AtEnd (given : List ℕ) (events : List Event) (eof : Bool) (how : Ended) : Type 0 where
-  pub end : Ending
+pub record AtEnd (given : List ℕ) (events : List Event) (eof : Bool) (how : Ended) (end : Ending) : Type 0 where
   pub ends : IsEndedBy how end
   pub within : length given < 2 ^ 64 → ReadsEach 0 all_features eof given (events ++ last_event end ∷ [])
   pub past_the_top : 2 ^ 64 ≤ length given → end ≡ fault (at_offset OffsetRange (length (consumed_by events)))
@@ -170,15 +169,15 @@ module _ (source rest : Option (List ℕ)) (f : Feed) (events : List Event) (r :
     next_asks (Err e) s t = cc
 
     pub next_ends : (x : Result Step Error) → Steps f x g → (how : Ended) → turn.End how ≡ turn_after x
-        → (a : AtEnd r.given events f.eof how) × IsEnding x a.end
+        → (end : Ending) × AtEnd r.given events f.eof how end × IsEnding x end
     next_ends (Ok (NeedMoreData hint)) s how t = cc
     next_ends (Ok (Parsed bytes payload)) s how t =
         let (e, is_it) = at_end (is_end (report_of payload)) how t in
         let l = below (Parsed bytes payload) s in
         let came = came bytes payload s in
         let (offset, last) = came.last e in (
+          ended offset,
           record {
-            end = ended offset;
             ends = subst (λ (h : Ended). IsEndedBy h (ended offset)) (sym is_it) tt;
             within = λ _. subst (λ (y : Event). ReadsEach 0 all_features f.eof r.given (events ++ y ∷ [])) last (came.ends e);
             past_the_top = λ h. absurd (omega (arith, h, l));
@@ -188,8 +187,8 @@ module _ (source rest : Option (List ℕ)) (f : Feed) (events : List Event) (r :
         )
     next_ends (Err e) s how t =
         let is_it : how ≡ Fault e = cc in (
+          fault (fault_at e),
           record {
-            end = fault (fault_at e);
             ends = rw is_it refl;
             within = λ l. (stepped (Err e) s l).0;
             past_the_top = grind (arith, ends_at, passed);

@@ -51,9 +51,9 @@ module _ (stays_if : Head → Bool) (source rest : Option (List ℕ)) (events : 
         let top = k.skips.fits in
         omega (arith, few, h, z, s, top, here)
 
-    pub cut_within : (e : Error) → fault_at e ≡ at_offset UnexpectedEof passing.from → AtEnd (given ++ fetched) events true (Fault e)
+    pub cut_within : (e : Error) → fault_at e ≡ at_offset UnexpectedEof passing.from
+        → AtEnd (given ++ fetched) events true (Fault e) (fault (fault_at e))
     cut_within e is = record {
-      end = fault (fault_at e);
       ends = refl;
       within = λ l stream m. rw (m, is) reads_short;
       past_the_top = λ h. absurd (omega (arith, h, below));
