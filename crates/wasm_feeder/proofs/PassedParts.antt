@@ -9,7 +9,7 @@ use Rattle.wasm_text.specs.Page.{IsCut, PutsBytes, WritesHead}
 use Rattle.wasm_text.specs.declared.devices.ListError.{ListError}
 use Rattle.wasm_text.specs.declared.devices.ListError.TheVariants.{Input, Output, Memory}
 use Rattle.wasm_feeder.specs.Passing.{EndsBefore, FillsChunk, GivesUp, PassesMissing, PassesPart, PutsAll, Settles, SettlesNot}
-use Rattle.wasm_feeder.specs.Passing.{TakesSome, held_by, if_stays}
+use Rattle.wasm_feeder.specs.Passing.{PartEnds, TakesSome, held_by, if_stays}
 use Rattle.wasm_base.specs.FaultAt.{fault_at, at_offset}
 use Rattle.wasm_base.specs.declared.error.Error.{Error}
 use Rattle.wasm_base.specs.declared.fault.Fault.TheVariants.{UnexpectedEof}
@@ -40,9 +40,8 @@ cuts_after taken mid written waiting bytes n a b = record {
 -- a prefix was written
 pub head_of_cut : (taken written : Option (List ℕ)) (waiting : List ℕ) (e : ListError) → IsCut taken written waiting e
     → WritesHead taken written waiting
-head_of_cut taken written waiting Output w = w
-head_of_cut taken written waiting Memory w = w
 head_of_cut taken written waiting Input w = absurd w
+head_of_cut taken written waiting _ w = w
 
 -- bytes were put, and more after them
 pub puts_more : (taken mid written : Option (List ℕ)) (waiting bytes page more new : List ℕ) → PutsBytes taken mid waiting bytes page
@@ -88,9 +87,8 @@ head_after taken mid written waiting bytes page p w =
 pub head_before : (taken written : Option (List ℕ)) (stays : Bool) (missing : ℕ) (waiting passed left new : List ℕ) (e : ListError)
     → EndsBefore taken written stays missing waiting passed left new e → WritesHead taken written (waiting ++ if_stays stays passed)
 head_before taken written stays missing waiting passed left new Input w =
-    record { moved = w.0.moved; unwritten = new; parts = w.0.waits; wrote = w.0.writes }
-head_before taken written stays missing waiting passed left new Output w = rw w.3 w.0
-head_before taken written stays missing waiting passed left new Memory w = rw w.3 w.0
+    head_of_puts taken written waiting (if_stays stays passed) new w.0
+head_before taken written stays missing waiting passed left new _ w = rw w.3 w.0
 
 -- ---- bytes that are taken from a chunk
 
@@ -152,10 +150,8 @@ dropped_before taken written stays missing waiting passed left new chunk given I
       let n = ap (λ (x : List ℕ). length x) none in
       omega (arith, l, a, b, n, few),
 )
-dropped_before taken written stays missing waiting passed left new chunk given Output (w, none, few, y) parts s =
-    absurd (let no : true ≡ false = sym y ∙ s in cc)
-dropped_before taken written stays missing waiting passed left new chunk given Memory (w, none, few, y) parts s =
-    absurd (let no : true ≡ false = sym y ∙ s in cc)
+dropped_before taken written stays missing waiting passed left new chunk given _ w parts s =
+    absurd (let no : true ≡ false = sym w.3 ∙ s in cc)
 
 -- the first bytes of a chunk, and the others
 pub cut_from : (chunk fetched filled seen left : List ℕ) (count : ℕ) → filled ≡ chunk ++ fetched → seen ≡ filled
@@ -188,21 +184,12 @@ none_passed source taken stays missing chunk waiting = record {
   puts = puts_none taken waiting stays;
 }
 
--- bytes that stay or not, in two parts
-stays_both : (stays : Bool) (xs ys : List ℕ) → if_stays stays (xs ++ ys) ≡ if_stays stays xs ++ if_stays stays ys
-stays_both true xs ys = refl
-stays_both false xs ys = refl
-
--- bytes that are put in two parts
-pub puts_both : (taken mid written : Option (List ℕ)) (waiting page new xs ys : List ℕ) → PutsBytes taken mid waiting xs page
-    → PutsBytes mid written page ys new → PutsBytes taken written waiting (xs ++ ys) new
-puts_both taken mid written waiting page new xs ys a b = record {
-  moved = a.moved ++ b.moved;
-  writes = Appends-trans taken mid written a.moved b.moved a.writes b.writes;
-  waits =
-      sym (append_assoc waiting xs ys) ∙ (ap (λ (l : List ℕ). l ++ ys) a.waits ∙ (append_assoc a.moved page ys
-      ∙ (ap (λ (l : List ℕ). a.moved ++ l) b.waits ∙ sym (append_assoc a.moved b.moved new))));
-}
+-- bytes that are put if they stay, in two parts
+puts_stay : (taken mid written : Option (List ℕ)) (stays : Bool) (waiting xs page ys new : List ℕ)
+    → PutsBytes taken mid waiting (if_stays stays xs) page → PutsBytes mid written page (if_stays stays ys) new
+    → PutsBytes taken written waiting (if_stays stays (xs ++ ys)) new
+puts_stay taken mid written true waiting xs page ys new p q = puts_more taken mid written waiting xs page ys new p q
+puts_stay taken mid written false waiting xs page ys new p q = puts_more taken mid written waiting [] page [] new p q
 
 -- bytes of a chunk in two parts, each with what was fetched for it
 joined : (chunk fetched part ahead more later left : List ℕ) → chunk ++ fetched ≡ part ++ ahead → ahead ++ more ≡ later ++ left
@@ -219,8 +206,7 @@ module _ (source rest taken written rest' written' : Option (List ℕ)) (stays :
   parts_join = joined chunk p.fetched p.part ahead t.fetched t.part ahead' p.parts t.parts
 
   puts_join : PutsBytes taken written' waiting (if_stays stays (p.part ++ t.part)) page'
-  puts_join = subst (λ (x : List ℕ). PutsBytes taken written' waiting x page') (sym (stays_both stays p.part t.part))
-      (puts_both taken written written' waiting page page' (if_stays stays p.part) (if_stays stays t.part) p.puts t.puts)
+  puts_join = puts_stay taken written written' stays waiting p.part page t.part page' p.puts t.puts
 
   pub passed_more : Passed source rest' taken written' stays missing chunk waiting (left - count) ahead' page'
   passed_more = record {
@@ -268,26 +254,13 @@ module _ (taken mid written : Option (List ℕ)) (stays : Bool) (missing left : 
   longer = length-append xs ys
 
   heads_both : stays ≡ true → WritesHead mid written (page ++ ys) → WritesHead taken written (waiting ++ (xs ++ ys))
-  heads_both s w =
-      let put : waiting ++ xs ≡ p.moved ++ page = rw s at p.waits in
-      record {
-        moved = p.moved ++ w.moved;
-        unwritten = w.unwritten;
-        parts = sym (append_assoc waiting xs ys) ∙ (ap (λ (l : List ℕ). l ++ ys) put ∙ (append_assoc p.moved page ys
-            ∙ (ap (λ (l : List ℕ). p.moved ++ l) w.parts ∙ sym (append_assoc p.moved w.moved w.unwritten))));
-        wrote = Appends-trans taken mid written p.moved w.moved p.writes w.wrote;
-      }
+  heads_both s w = rw (append_assoc waiting xs ys) at (head_past taken mid written waiting xs page ys (rw s at p) w)
 
   ends_later : (e : ListError) → EndsBefore mid written stays left page ys rest new e
       → EndsBefore taken written stays missing waiting (xs ++ ys) rest new e
-  ends_later Input (w, few, none) = (
-    subst (λ (x : List ℕ). PutsBytes taken written waiting x new) (sym (stays_both stays xs ys))
-        (puts_both taken mid written waiting page new (if_stays stays xs) (if_stays stays ys) p w),
-    omega (arith, longer, size, few),
-    none,
-  )
-  ends_later Output (w, none, few, s) = (heads_both s w, none, omega (arith, longer, size, few), s)
-  ends_later Memory (w, none, few, s) = (heads_both s w, none, omega (arith, longer, size, few), s)
+  ends_later Input (w, few, none) =
+      (puts_stay taken mid written stays waiting xs page ys new p w, omega (arith, longer, size, few), none)
+  ends_later _ w = (heads_both w.3 w.0, w.1, (let few = w.2 in omega (arith, longer, size, few)), w.3)
 
 pub passed_up : (source rest taken written rest' written' : Option (List ℕ)) (stays : Bool) (missing left : ℕ)
     (chunk waiting ahead page ahead' page' : List ℕ) (e : ListError)
@@ -309,45 +282,28 @@ module _ (source rest taken mid written : Option (List ℕ)) (passing : Passing)
     (count : ℕ) (s : Settles taken mid passing.stays c stored chunk waiting count ahead page)
     (whole : Bool) (m : PassesMissing source rest mid written passing.stays (passing.size - count) ahead page whole left new)
     (fewer : length (drop c.mark (seen stored chunk)) < passing.size) where
-  parts_of : held_by c stored chunk ++ m.fetched ≡ (s.front ++ m.part) ++ left
-  parts_of =
-      ap (λ (l : List ℕ). l ++ m.fetched) s.parts ∙ (append_assoc s.front ahead m.fetched
-      ∙ (ap (λ (l : List ℕ). s.front ++ l) m.parts ∙ sym (append_assoc s.front m.part left)))
-
-  puts_of : PutsBytes taken written waiting (if_stays passing.stays (s.front ++ m.part)) new
-  puts_of = subst (λ (x : List ℕ). PutsBytes taken written waiting x new) (sym (stays_both passing.stays s.front m.part))
-      (puts_both taken mid written waiting page new (if_stays passing.stays s.front) (if_stays passing.stays m.part) s.puts m.puts)
-
-  pub part_passed : whole ≡ true → PassesPart source rest taken written passing c stored chunk waiting None left new
-  part_passed w = record {
+  passed_so : (fault : Option Error) → PartEnds passing (length (s.front ++ m.part)) fault rest left
+      → PassesPart source rest taken written passing c stored chunk waiting fault left new
+  passed_so fault ends = record {
     fetched = m.fetched;
     part = s.front ++ m.part;
     gave = m.gave;
-    parts = parts_of;
-    puts = puts_of;
-    ends =
-        let n = length-append s.front m.part in
-        let f = s.size in
-        let k = m.all w in
-        let i = s.within in
-        omega (arith, n, f, k, i, fewer);
+    parts = joined (held_by c stored chunk) [] s.front ahead m.fetched m.part left (append-nil (held_by c stored chunk) ∙ s.parts) m.parts;
+    puts = puts_stay taken mid written passing.stays waiting s.front page m.part new s.puts m.puts;
+    ends = ends;
   }
+
+  longer_part : length (s.front ++ m.part) ≡ count + length m.part
+  longer_part = let n = length-append s.front m.part in let f = s.size in omega (arith, n, f)
+
+  pub part_passed : whole ≡ true → PassesPart source rest taken written passing c stored chunk waiting None left new
+  part_passed w = passed_so None (let k = m.all w in let i = s.within in omega (arith, longer_part, k, i, fewer))
 
   pub part_cut : (e : Error) → whole ≡ false → fault_at e ≡ at_offset UnexpectedEof passing.from
       → PassesPart source rest taken written passing c stored chunk waiting (Some e) left new
-  part_cut e w f = record {
-    fetched = m.fetched;
-    part = s.front ++ m.part;
-    gave = m.gave;
-    parts = parts_of;
-    puts = puts_of;
-    ends =
-        let n = length-append s.front m.part in
-        let z = s.size in
-        let k = (m.some w).0 in
-        let i = s.within in
-        (omega (arith, n, z, k, i, fewer), (m.some w).1, (m.some w).2, f);
-  }
+  part_cut e w f =
+      let (less, end, none) = m.some w in
+      passed_so (Some e) ((let i = s.within in omega (arith, longer_part, less, i, fewer)), end, none, f)
 
 module _ (source rest taken mid written : Option (List ℕ)) (stays : Bool) (c : Cursor)
     (stored chunk waiting ahead page left new : List ℕ) (count size : ℕ) (e : ListError)
