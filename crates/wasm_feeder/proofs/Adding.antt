@@ -1,29 +1,17 @@
 -- What a step adds to the events so far.
-use Rattle.std.proofs.Common.{◌≡◌, ℕ, ◌+◌, ◌^◌, ◌<◌, Bool, true, false, List, [], ◌∷◌, ◌++◌, length, take, drop, slice_index_or, Bor, Some}
-use Rattle.std.proofs.Common.{None, Result, Ok, Err, refl, sym, ap, subst₂, ◌∙◌, arith, length-append}
-use Rattle.std.proofs.lemmas.Bool.Decides.{nat_tests}
+use Rattle.wasm_feeder.proofs.Common.{◌≡◌, ℕ, ◌+◌, ◌^◌, ◌<◌, Bool, true, false, List, [], ◌∷◌, ◌++◌, length, take, drop, slice_index_or}
+use Rattle.wasm_feeder.proofs.Common.{Bor, Some, None, Result, Ok, Err, refl, sym, ap, subst₂, ◌∙◌, arith, length-append, nat_tests}
+use Rattle.wasm_feeder.proofs.Common.{fault_at, Error, fault, last_event, answers_go_along, Came, report_of, is_end, ParseAnswer, Payload}
+use Rattle.wasm_feeder.proofs.Common.{feed_of, Feed, new_feed, pushed, finished, joined, HasCome, HasEnded, answer_of, shown, is_request}
+use Rattle.wasm_feeder.proofs.Common.{Steps, Cursor, Step, NeedMoreData, Parsed}
 use Rattle.std.specs.List.{AllZip}
-use Rattle.wasm_base.specs.FaultAt.{fault_at}
-use Rattle.wasm_base.specs.declared.error.Error.{Error}
-use Rattle.wasm_grammar.specs.Content.{fault}
-use Rattle.wasm_parser.specs.ParseAnswer.{report_of, is_end, ParseAnswer}
-use Rattle.wasm_grammar.specs.Reading as reading
-use Rattle.wasm_grammar.specs.Reading.{last_event}
-use Rattle.wasm_parser.specs.declared.payload.Payload.{Payload}
-use Rattle.wasm_parser.proofs.ForCallers.{answers_go_along}
-use Rattle.wasm_parser.specs.Along.{Came}
-use Rattle.wasm_feeder.specs.Cursors.{feed_of}
 use Rattle.wasm_feeder.specs.Events.{IsKindOf, IsEvent, is_last, IsEventOfStep}
-use Rattle.wasm_feeder.specs.Feed.{Feed, new_feed, pushed, finished}
-use Rattle.wasm_feeder.specs.Pieces.{joined, IsReading, HasCome, HasEnded, GivenTo, ReadsHeld}
-use Rattle.wasm_feeder.specs.Step.{answer_of, shown, is_request, Steps}
+use Rattle.wasm_feeder.specs.Pieces.{IsReading, GivenTo, ReadsHeld}
 use Rattle.wasm_feeder.specs.declared.events.Event.{Event}
 use Rattle.wasm_feeder.specs.declared.events.EventKind.{EventKind}
-use Rattle.wasm_feeder.specs.declared.feeder.Cursor.{Cursor}
-use Rattle.wasm_feeder.specs.declared.feeder.Step.{Step}
-use Rattle.wasm_feeder.specs.declared.feeder.Step.TheVariants.{NeedMoreData, Parsed}
-use Rattle.wasm_feeder.proofs.Stepping.{stepped}
 use Rattle.wasm_feeder.proofs.Joining.{joined_more, joined_parts}
+use Rattle.wasm_feeder.proofs.Stepping.{stepped}
+use Rattle.wasm_grammar.specs.Reading as reading
 
 -- the end alone is the last payload
 last_is_end : (payload : Payload) (kind : EventKind) → IsKindOf (report_of payload) kind → is_last kind ≡ is_end (report_of payload)

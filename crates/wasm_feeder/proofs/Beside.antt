@@ -1,24 +1,15 @@
 -- That what a step returns beside a chunk is what it returns on all of the chunk.
-use Rattle.std.proofs.Common.{◌≡◌, ℕ, ◌+◌, ◌-◌, ◌<◌, ◌≤◌, Bool, true, false, List, [], ◌∷◌, ◌++◌, length, drop, Result, Ok, Err}
-use Rattle.std.proofs.Common.{refl, sym, ap, subst₂, ◌∙◌, arith, append_assoc, append-nil, length-append}
-use Rattle.std.proofs.lemmas.List.{append_cancel_right, length-drop, drop-drop}
-use Rattle.wasm_base.specs.declared.error.Error.{Error}
-use Rattle.wasm_grammar.specs.Waiting.{enough as decides_all, waiting}
-use Rattle.wasm_parser.specs.Along.{is_last, SaysTheSame}
-use Rattle.wasm_parser.specs.ParseAnswer.{IsRequest, ParseAnswer}
+use Rattle.wasm_feeder.proofs.Common.{◌≡◌, ℕ, ◌+◌, ◌<◌, Bool, true, false, List, [], ◌∷◌, ◌++◌, length, drop, Result, Ok, Err, refl, sym}
+use Rattle.wasm_feeder.proofs.Common.{ap, subst₂, ◌∙◌, arith, length-append, ◌-◌, ◌≤◌, append_assoc, append-nil, append_cancel_right}
+use Rattle.wasm_feeder.proofs.Common.{length-drop, drop-drop, Error, waiting, answers_go_along, is_last, SaysTheSame, ParseAnswer}
+use Rattle.wasm_feeder.proofs.Common.{IsRequest, ParserState, grammar_of, beside, seen, lending, StepsOver, feed_of, Feed, answer_of, shown}
+use Rattle.wasm_feeder.proofs.Common.{is_request, Steps, Cursor, Step}
+use Rattle.wasm_feeder.specs.Beside.{SeesEnough, AreEnough, ReadsEnough, MakesReady, Bounds, HasDecided, StaysIdle}
+use Rattle.wasm_grammar.specs.Waiting.{enough as decides_all}
 use Rattle.wasm_parser.specs.ParserLaws.{AnswersLast}
-use Rattle.wasm_parser.specs.ParserState.{ParserState, grammar_of}
 use Rattle.wasm_parser.specs.declared.payload.Chunk.{Chunk}
-use Rattle.wasm_parser.specs.declared.payload.Chunk.TheVariants as chunk
-use Rattle.wasm_parser.proofs.ForCallers.{answers_go_along}
-use Rattle.wasm_feeder.specs.Beside.{beside, seen, lending, SeesEnough, AreEnough, ReadsEnough, MakesReady}
-use Rattle.wasm_feeder.specs.Beside.{Bounds, HasDecided, StaysIdle, StepsOver}
-use Rattle.wasm_feeder.specs.Cursors.{feed_of}
-use Rattle.wasm_feeder.specs.Feed.{Feed}
-use Rattle.wasm_feeder.specs.Step.{answer_of, shown, is_request, Steps}
-use Rattle.wasm_feeder.specs.declared.feeder.Cursor.{Cursor}
-use Rattle.wasm_feeder.specs.declared.feeder.Step.{Step}
 use Rattle.wasm_feeder.proofs.Stepping.{none_passed, steps_from}
+use Rattle.wasm_parser.specs.declared.payload.Chunk.TheVariants as chunk
 
 -- ---- enough bytes
 

@@ -1,6 +1,7 @@
 pub mod Adding
 pub mod Beside
 pub mod ByHand
+pub mod Common
 pub mod ForCallers
 pub mod Joining
 pub mod PassedParts

@@ -1,21 +1,12 @@
 -- A part that is forwarded or dropped chunk by chunk, after its first fields.
-use Rattle.std.proofs.Common.{◌≡◌, ℕ, ◌+◌, ◌-◌, ◌<◌, ◌≤◌, Bool, true, false, length, Some, None, List, [], ◌∷◌, ◌++◌, take, drop}
-use Rattle.std.proofs.Common.{Option, Err}
-use Rattle.std.proofs.Common.{refl, sym, ap, subst, ◌∙◌, arith, append-nil, append_assoc, length-append, length-take, min}
-use Rattle.std.proofs.lemmas.List.{take-append-drop}
-use Rattle.std.specs.Io.KnownBytes.{Appends, Consumes}
-use Rattle.std.proofs.KnownBytes.{Appends-nil, Appends-trans, Consumes-kept, Consumes-nil, Consumes-trans}
-use Rattle.wasm_text.specs.Page.{IsCut, PutsBytes, WritesHead}
-use Rattle.wasm_text.specs.declared.devices.ListError.{ListError}
-use Rattle.wasm_text.specs.declared.devices.ListError.TheVariants.{Input, Output, Memory}
-use Rattle.wasm_feeder.specs.Passing.{EndsBefore, FillsChunk, GivesUp, PassesMissing, PassesPart, PutsAll, Settles, SettlesNot}
-use Rattle.wasm_feeder.specs.Passing.{PartEnds, TakesSome, held_by, if_stays}
-use Rattle.wasm_base.specs.FaultAt.{fault_at, at_offset}
-use Rattle.wasm_base.specs.declared.error.Error.{Error}
-use Rattle.wasm_base.specs.declared.fault.Fault.TheVariants.{UnexpectedEof}
-use Rattle.wasm_feeder.specs.Beside.{seen}
-use Rattle.wasm_feeder.specs.declared.feeder.Cursor.{Cursor}
-use Rattle.wasm_feeder.specs.declared.passing.Passing.{Passing}
+use Rattle.wasm_feeder.proofs.Common.{◌≡◌, ℕ, ◌+◌, ◌<◌, Bool, true, false, List, [], ◌∷◌, ◌++◌, length, take, drop, Some, None, Err, refl}
+use Rattle.wasm_feeder.proofs.Common.{sym, ap, ◌∙◌, arith, length-append, ◌-◌, ◌≤◌, append_assoc, append-nil, Option, min, Consumes-kept}
+use Rattle.wasm_feeder.proofs.Common.{Consumes-nil, Consumes-trans, take-append-drop, Appends, Consumes, fault_at, at_offset, Error}
+use Rattle.wasm_feeder.proofs.Common.{UnexpectedEof, IsCut, PutsBytes, WritesHead, ListError, Input, seen, held_by, Cursor, Passing}
+use Rattle.std.proofs.Common.{length-take}
+use Rattle.std.proofs.KnownBytes.{Appends-trans}
+use Rattle.wasm_feeder.specs.Passing.{EndsBefore, FillsChunk, GivesUp, PassesMissing, PassesPart, PutsAll, Settles, SettlesNot, PartEnds}
+use Rattle.wasm_feeder.specs.Passing.{TakesSome, if_stays}
 
 -- ---- bytes that are put
 
@@ -40,8 +31,7 @@ cuts_after taken mid written waiting bytes n a b = record {
 -- a prefix was written
 pub head_of_cut : (taken written : Option (List ℕ)) (waiting : List ℕ) (e : ListError) → IsCut taken written waiting e
     → WritesHead taken written waiting
-head_of_cut taken written waiting Input w = absurd w
-head_of_cut taken written waiting _ w = w
+head_of_cut taken written waiting e w = grind arith
 
 -- bytes were put, and more after them
 pub puts_more : (taken mid written : Option (List ℕ)) (waiting bytes page more new : List ℕ) → PutsBytes taken mid waiting bytes page
@@ -70,13 +60,7 @@ head_of_puts taken written waiting bytes page p = record { moved = p.moved; unwr
 -- bytes were put, and then a prefix of those that waited, and of more, was written
 pub head_past : (taken mid written : Option (List ℕ)) (waiting bytes page more : List ℕ) → PutsBytes taken mid waiting bytes page
     → WritesHead mid written (page ++ more) → WritesHead taken written ((waiting ++ bytes) ++ more)
-head_past taken mid written waiting bytes page more p w = record {
-  moved = p.moved ++ w.moved;
-  unwritten = w.unwritten;
-  parts = ap (λ (l : List ℕ). l ++ more) p.waits ∙ (append_assoc p.moved page more
-      ∙ (ap (λ (l : List ℕ). p.moved ++ l) w.parts ∙ sym (append_assoc p.moved w.moved w.unwritten)));
-  wrote = Appends-trans taken mid written p.moved w.moved p.writes w.wrote;
-}
+head_past taken mid written waiting bytes page more p w = grind (arith, ap, append_assoc)
 
 pub head_after : (taken mid written : Option (List ℕ)) (waiting bytes page : List ℕ) → PutsBytes taken mid waiting bytes page
     → WritesHead mid written page → WritesHead taken written (waiting ++ bytes)
@@ -86,15 +70,12 @@ head_after taken mid written waiting bytes page p w =
 -- what was written before an error is a prefix of what waited and of the bytes that were passed and stay
 pub head_before : (taken written : Option (List ℕ)) (stays : Bool) (missing : ℕ) (waiting passed left new : List ℕ) (e : ListError)
     → EndsBefore taken written stays missing waiting passed left new e → WritesHead taken written (waiting ++ if_stays stays passed)
-head_before taken written stays missing waiting passed left new Input w =
-    head_of_puts taken written waiting (if_stays stays passed) new w.0
-head_before taken written stays missing waiting passed left new _ w = rw w.3 w.0
+head_before taken written stays missing waiting passed left new e w = grind (arith, head_of_puts)
 
 -- ---- bytes that are taken from a chunk
 
 puts_none : (taken : Option (List ℕ)) (waiting : List ℕ) (stays : Bool) → PutsBytes taken taken waiting (if_stays stays []) waiting
-puts_none taken waiting true = record { moved = []; writes = Appends-nil taken; waits = append-nil waiting }
-puts_none taken waiting false = record { moved = []; writes = Appends-nil taken; waits = append-nil waiting }
+puts_none taken waiting stays = grind (arith, append-nil)
 
 -- the source failed where nothing had been taken
 pub not_filled : (source rest taken : Option (List ℕ)) (stays : Bool) (most : ℕ) (chunk waiting left : List ℕ)
@@ -111,22 +92,14 @@ not_filled source rest taken stays most chunk waiting left (k, none, nothing) so
 could_not : (taken written : Option (List ℕ)) (missing : ℕ) (waiting bytes left new : List ℕ) (e : ListError)
     → PutsAll taken written waiting bytes new (Err e) → length bytes ≤ missing
     → EndsBefore taken written true missing waiting bytes left new e
-could_not taken written missing waiting bytes left new Output (w, none) few = (w, none, few, refl)
-could_not taken written missing waiting bytes left new Memory (w, none) few = (w, none, few, refl)
-could_not taken written missing waiting bytes left new Input (w, none) few = absurd w
+could_not taken written missing waiting bytes left new e h8 few = grind (arith, refl)
 
 -- bytes that stay could not be put
 pub not_put : (source rest taken written : Option (List ℕ)) (stays : Bool) (missing : ℕ)
     (chunk waiting fetched bytes left new : List ℕ) (e : ListError) → Consumes source rest fetched
     → PutsAll taken written waiting (if_stays stays bytes) new (Err e) → stays ≡ true → chunk ++ fetched ≡ bytes ++ left
     → length bytes ≤ missing → GivesUp source rest taken written stays missing chunk waiting e left new
-not_put source rest taken written stays missing chunk waiting fetched bytes left new e g w s parts few = record {
-  given = fetched;
-  passed = bytes;
-  gave = g;
-  parts = parts;
-  ends = rw s (could_not taken written missing waiting bytes left new e (rw s at w) few);
-}
+not_put source rest taken written stays missing chunk waiting fetched bytes left new e g w s parts few = grind (arith, could_not)
 
 nil_both : (xs ys : List ℕ) → [] ≡ xs ++ ys → (xs ≡ []) × (ys ≡ [])
 nil_both [] ys e = (refl, sym e)
@@ -150,8 +123,7 @@ dropped_before taken written stays missing waiting passed left new chunk given I
       let n = ap (λ (x : List ℕ). length x) none in
       omega (arith, l, a, b, n, few),
 )
-dropped_before taken written stays missing waiting passed left new chunk given _ w parts s =
-    absurd (let no : true ≡ false = sym w.3 ∙ s in cc)
+dropped_before taken written stays missing waiting passed left new chunk given _ w parts s = grind arith
 
 -- the first bytes of a chunk, and the others
 pub cut_from : (chunk fetched filled seen left : List ℕ) (count : ℕ) → filled ≡ chunk ++ fetched → seen ≡ filled
@@ -194,9 +166,7 @@ puts_stay taken mid written false waiting xs page ys new p q = puts_more taken m
 -- bytes of a chunk in two parts, each with what was fetched for it
 joined : (chunk fetched part ahead more later left : List ℕ) → chunk ++ fetched ≡ part ++ ahead → ahead ++ more ≡ later ++ left
     → chunk ++ (fetched ++ more) ≡ (part ++ later) ++ left
-joined chunk fetched part ahead more later left one two =
-    sym (append_assoc chunk fetched more) ∙ (ap (λ (l : List ℕ). l ++ more) one ∙ (append_assoc part ahead more
-    ∙ (ap (λ (l : List ℕ). part ++ l) two ∙ sym (append_assoc part later left))))
+joined chunk fetched part ahead more later left one two = grind (arith, append_assoc, ap)
 
 module _ (source rest taken written rest' written' : Option (List ℕ)) (stays : Bool) (missing left count : ℕ)
     (chunk waiting ahead page ahead' page' : List ℕ)
@@ -237,15 +207,7 @@ module _ (source rest taken written rest' written' : Option (List ℕ)) (stays :
 pub passed_all : (source rest taken written : Option (List ℕ)) (stays : Bool) (missing left : ℕ) (chunk waiting ahead page : List ℕ)
     → Passed source rest taken written stays missing chunk waiting left ahead page → left ≡ 0
     → PassesMissing source rest taken written stays missing chunk waiting true ahead page
-passed_all source rest taken written stays missing left chunk waiting ahead page p z = record {
-  fetched = p.fetched;
-  part = p.part;
-  gave = p.gave;
-  parts = p.parts;
-  puts = p.puts;
-  all = λ e. (let s = p.size in omega (arith, s, z));
-  some = λ e. absurd (let no : true ≡ false = e in cc);
-}
+passed_all source rest taken written stays missing left chunk waiting ahead page p z = grind arith
 
 -- after these bytes were put, more were, up to an error
 module _ (taken mid written : Option (List ℕ)) (stays : Bool) (missing left : ℕ) (waiting page xs ys rest new : List ℕ)
@@ -258,8 +220,7 @@ module _ (taken mid written : Option (List ℕ)) (stays : Bool) (missing left : 
 
   ends_later : (e : ListError) → EndsBefore mid written stays left page ys rest new e
       → EndsBefore taken written stays missing waiting (xs ++ ys) rest new e
-  ends_later Input (w, few, none) =
-      (puts_stay taken mid written stays waiting xs page ys new p w, omega (arith, longer, size, few), none)
+  ends_later Input (w, few, none) = grind (arith, puts_stay, longer)
   ends_later _ w = (heads_both w.3 w.0, w.1, (let few = w.2 in omega (arith, longer, size, few)), w.3)
 
 pub passed_up : (source rest taken written rest' written' : Option (List ℕ)) (stays : Bool) (missing left : ℕ)
@@ -301,9 +262,7 @@ module _ (source rest taken mid written : Option (List ℕ)) (passing : Passing)
 
   pub part_cut : (e : Error) → whole ≡ false → fault_at e ≡ at_offset UnexpectedEof passing.from
       → PassesPart source rest taken written passing c stored chunk waiting (Some e) left new
-  part_cut e w f =
-      let (less, end, none) = m.some w in
-      passed_so (Some e) ((let i = s.within in omega (arith, longer_part, less, i, fewer)), end, none, f)
+  part_cut e w f = grind (arith, passed_so, longer_part)
 
 module _ (source rest taken mid written : Option (List ℕ)) (stays : Bool) (c : Cursor)
     (stored chunk waiting ahead page left new : List ℕ) (count size : ℕ) (e : ListError)

@@ -1,32 +1,20 @@
 -- How far a caller has come that writes a text of the events it reads, and what each turn does to it.
-use Rattle.std.proofs.Common.{◌≡◌, ℕ, ◌+◌, ◌^◌, ◌<◌, ◌≤◌, Bool, true, false, List, [], ◌∷◌, ◌++◌, length, Option, Result, Ok, Err, refl, sym}
-use Rattle.std.proofs.Common.{ap, subst, ◌∙◌, arith, append_assoc, append-nil}
-use Rattle.std.specs.Io.KnownBytes.{Consumes, Appends, Keeps}
-use Rattle.std.proofs.KnownBytes.{Consumes-nil, Consumes-kept, Consumes-trans, Appends-nil, Appends-trans}
-use Rattle.wasm_base.specs.Features.{all_features}
-use Rattle.wasm_base.specs.FaultAt.{fault_at}
-use Rattle.wasm_base.specs.declared.error.Error.{Error}
-use Rattle.wasm_grammar.specs.Content.{Ending, fault}
-use Rattle.wasm_grammar.specs.Reading.{Report, stream_end, Event, last_event, Reading}
-use Rattle.wasm_parser.specs.Along.{ReadingBegins}
-use Rattle.wasm_parser.proofs.ForCallers.{answers_go_along}
-use Rattle.wasm_text.specs.Calls.{Change, from_to}
-use Rattle.wasm_text.specs.Page.{WritesHead, IsCut, PutsBytes}
-use Rattle.wasm_text.specs.declared.devices.ListError.{ListError}
-use Rattle.wasm_text.specs.declared.devices.ListError.TheVariants.{Input, Output, Memory}
-use Rattle.wasm_lines.specs.Listing.{listing_by}
-use Rattle.wasm_feeder.specs.Beside.{FillsAlike}
-use Rattle.wasm_feeder.specs.Feed.{Feed}
+use Rattle.wasm_feeder.proofs.Common.{◌≡◌, ℕ, ◌<◌, List, [], ◌∷◌, ◌++◌, Result, Ok, Err, refl, sym, ap, ◌∙◌, arith, append_assoc}
+use Rattle.wasm_feeder.proofs.Common.{append-nil, Option, Consumes-kept, Consumes-nil, Consumes-trans, Appends, Consumes, all_features}
+use Rattle.wasm_feeder.proofs.Common.{Error, Ending, last_event, Event, answers_go_along, ReadingBegins, IsCut, PutsBytes, WritesHead}
+use Rattle.wasm_feeder.proofs.Common.{ListError, Input, FillsAlike, Feed, weight, Reached, Steps, turn_after, Step, NeedMoreData, Ended}
+use Rattle.std.proofs.KnownBytes.{Appends-nil}
+use Rattle.std.specs.Io.KnownBytes.{Keeps}
 use Rattle.wasm_feeder.specs.Lists.{IsListed, Begins, IsHead, Refills, ListsBy}
-use Rattle.wasm_feeder.specs.Progress.{weight, Reached, Progress, Wants}
-use Rattle.wasm_feeder.specs.Step.{Steps}
-use Rattle.wasm_feeder.specs.Turns.{text_after, turn_after}
-use Rattle.wasm_feeder.specs.declared.feeder.Step.{Step}
-use Rattle.wasm_feeder.specs.declared.feeder.Step.TheVariants.{NeedMoreData, Parsed}
-use Rattle.wasm_feeder.specs.declared.turns.Ended.{Ended}
-use Rattle.wasm_feeder.specs.declared.turns.Turn.TheVariants as turn
+use Rattle.wasm_feeder.specs.Progress.{Progress, Wants}
+use Rattle.wasm_feeder.specs.Turns.{text_after}
+use Rattle.wasm_grammar.specs.Reading.{Report, stream_end}
+use Rattle.wasm_lines.specs.Listing.{listing_by}
+use Rattle.wasm_text.specs.Calls.{Change, from_to}
+use Rattle.wasm_text.specs.declared.devices.ListError.TheVariants.{Output, Memory}
 use Rattle.wasm_feeder.proofs.PassedParts.{head_after, head_of_cut, head_of_puts, puts_more, puts_out}
 use Rattle.wasm_feeder.proofs.Reached.{AtEnd, IsEnding, IsEvent, all_given, begins_with, next_ends, whole_input}
+use Rattle.wasm_feeder.specs.declared.turns.Turn.TheVariants as turn
 use Rattle.wasm_feeder.proofs.Reached as reached
 
 -- ---- any text
@@ -91,13 +79,10 @@ module _ (text_of : Report → List ℕ) where
 
   pub text_of_event : (x : Result Step Error) (es : List Event) (e : Event) → IsEvent x e
       → listing_by text_of (es ++ e ∷ []) ≡ listing_by text_of es ++ text_after text_of x
-  text_of_event (Ok (Parsed bytes payload)) es e is = rw is.1 (one_more es e)
-  text_of_event _ es e is = absurd is
+  text_of_event x es e is = grind (arith, one_more)
 
   text_of_ending : (x : Result Step Error) (end : Ending) → IsEnding x end → text_after text_of x ≡ text_of (stream_end end)
-  text_of_ending (Ok (Parsed bytes payload)) end is = ap text_of is.1
-  text_of_ending (Err e) end is = rw is refl
-  text_of_ending _ end is = absurd is
+  text_of_ending x end is = grind (arith, ap, refl)
 
   -- a prefix of the listing, of a stream whose reading begins with these events
   begins_listing : (stream : List ℕ) (events : List Event) (lines more : List ℕ) → ReadingBegins 0 all_features stream events

@@ -1,35 +1,22 @@
 -- What each call does to where a feeder is along what a source gave.
-use Rattle.std.proofs.Common.{◌≡◌, ℕ, ◌+◌, ◌^◌, ◌<◌, ◌≤◌, Bool, true, false, if◌then◌else◌, List, [], ◌∷◌, ◌++◌, length, Option, Result, Ok}
-use Rattle.std.proofs.Common.{Err, refl, sym, ap, subst, ◌∙◌, arith, append-nil, length-append, inl, inr}
-use Rattle.std.specs.Io.KnownBytes.{Consumes, IsAtEnd}
-use Rattle.std.proofs.KnownBytes.{Consumes-nil, Consumes-trans}
-use Rattle.wasm_base.specs.FaultAt.{fault_at, at_offset}
-use Rattle.wasm_base.specs.Features.{all_features}
-use Rattle.wasm_base.specs.declared.error.Error.{Error}
-use Rattle.wasm_base.specs.declared.fault.Fault.TheVariants.{OffsetRange}
-use Rattle.wasm_grammar.specs.Content.{Ending, fault, ended}
-use Rattle.wasm_grammar.specs.EventRanges.{consumed_by}
-use Rattle.wasm_grammar.specs.Reading.{Event, last_event, Reading}
-use Rattle.wasm_parser.specs.Along.{ReadingBegins, ReadsEach, Came}
-use Rattle.wasm_parser.specs.GivesNextEvent.{MayBe}
-use Rattle.wasm_parser.specs.ParseAnswer.{report_of, is_end}
-use Rattle.wasm_parser.specs.declared.payload.Payload.{Payload}
-use Rattle.wasm_parser.proofs.ForCallers.{answers_go_along}
-use Rattle.wasm_feeder.specs.Beside.{beside, FillsAlike, IsAlike}
-use Rattle.wasm_feeder.specs.Cursors.{feed_of}
-use Rattle.wasm_feeder.specs.Feed.{Feed, new_feed, pushed, finished}
+use Rattle.wasm_feeder.proofs.Common.{◌≡◌, ℕ, ◌+◌, ◌^◌, ◌<◌, Bool, true, false, List, [], ◌∷◌, ◌++◌, length, Result, Ok, Err, refl, sym, ap}
+use Rattle.wasm_feeder.proofs.Common.{◌∙◌, arith, length-append, ◌≤◌, append-nil, Option, subst, inl, inr, Consumes-nil, Consumes-trans}
+use Rattle.wasm_feeder.proofs.Common.{Consumes, fault_at, at_offset, all_features, Error, OffsetRange, fault, Ending, last_event, Event}
+use Rattle.wasm_feeder.proofs.Common.{answers_go_along, Came, ReadingBegins, report_of, is_end, Payload, beside, FillsAlike, feed_of, Feed}
+use Rattle.wasm_feeder.proofs.Common.{new_feed, pushed, weight, Reached, Asks, Steps, Stepped, turn_after, Cursor, Step, NeedMoreData}
+use Rattle.wasm_feeder.proofs.Common.{Parsed, Ended, Fault}
+use Rattle.std.specs.Io.KnownBytes.{IsAtEnd}
+use Rattle.std.specs.Prelude.{if◌then◌else◌}
+use Rattle.wasm_feeder.specs.Beside.{IsAlike}
 use Rattle.wasm_feeder.specs.Lists.{IsEndedBy, IsWhole}
-use Rattle.wasm_feeder.specs.Progress.{weight, Reached, Asks}
-use Rattle.wasm_feeder.specs.Step.{chunk_of, Stepped, Steps}
-use Rattle.wasm_feeder.specs.Turns.{turn_after}
-use Rattle.wasm_feeder.specs.declared.feeder.Cursor.{Cursor}
-use Rattle.wasm_feeder.specs.declared.feeder.Step.{Step}
-use Rattle.wasm_feeder.specs.declared.feeder.Step.TheVariants.{NeedMoreData, Parsed}
-use Rattle.wasm_feeder.specs.declared.turns.Ended.{Ended}
-use Rattle.wasm_feeder.specs.declared.turns.Ended.TheVariants.{End, Fault}
-use Rattle.wasm_feeder.specs.declared.turns.Turn.{Turn}
-use Rattle.wasm_feeder.specs.declared.turns.Turn.TheVariants as turn
+use Rattle.wasm_feeder.specs.Step.{chunk_of}
+use Rattle.wasm_feeder.specs.declared.turns.Ended.TheVariants.{End}
+use Rattle.wasm_grammar.specs.Content.{ended}
+use Rattle.wasm_grammar.specs.EventRanges.{consumed_by}
+use Rattle.wasm_parser.specs.Along.{ReadsEach}
+use Rattle.wasm_parser.specs.GivesNextEvent.{MayBe}
 use Rattle.wasm_feeder.proofs.Stepping.{stepped as step_along}
+use Rattle.wasm_feeder.specs.declared.turns.Turn.TheVariants as turn
 
 pub nothing_read : (source : Option (List ℕ)) → Reached source source (new_feed 0 all_features) []
 nothing_read source = record {
@@ -75,16 +62,13 @@ all_given eof given = grind (arith, append-nil)
 
 -- what is done after a payload, by whether it is the end
 if_end : (b : Bool) → turn.Advance ≡ (if b then turn.End End else turn.Advance) → b ≡ false
-if_end true t = cc
-if_end false t = refl
+if_end b t = grind (arith, refl)
 
 no_read : (b : Bool) → turn.Read ≡ (if b then turn.End End else turn.Advance) → ⊥
-no_read true t = cc
-no_read false t = cc
+no_read b t = grind arith
 
 at_end : (b : Bool) (how : Ended) → turn.End how ≡ (if b then turn.End End else turn.Advance) → (b ≡ true) × (how ≡ End)
-at_end true how t = (refl, cc)
-at_end false how t = cc
+at_end b how t = grind (arith, refl)
 
 -- ---- where the feeder is
 
@@ -98,10 +82,7 @@ module _ (source rest : Option (List ℕ)) (f : Feed) (events : List Event) (r :
 
   -- the parser is where the events end
   passed : f.state.offset ≡ length (consumed_by events)
-  passed =
-      let n : length r.given ≡ length (consumed_by events) + length f.held =
-      ap (λ (x : List ℕ). length x) consumed ∙ length-append (consumed_by events) f.held in
-      omega (arith, n, ends_at)
+  passed = grind (arith, ap, consumed, length-append, ends_at)
 
   -- with more bytes too, the reading begins with these events
   pub begins_with : (more : List ℕ) → ReadingBegins 0 all_features (r.given ++ more) events
@@ -211,10 +192,7 @@ module _ (source rest : Option (List ℕ)) (f : Feed) (events : List Event) (a :
   }
 
   pub reads_on : (g : Feed) → FillsAlike rest rest' f g → Reached source rest' g events × (weight g < weight f)
-  reads_on g (inl (none, end, alikes)) = (
-    alike source rest' events (record (pushed f []) { eof = true }) g (grind (arith, append-nil)) (arrived [] true none (λ e. end)),
-    grind arith,
-  )
+  reads_on g (inl (none, end, alikes)) = grind (arith, alike, append-nil)
   reads_on g (inr (piece, gave, some, alikes)) = (
     alike source rest' events (record (pushed f piece) { eof = f.eof }) g (grind arith) (arrived piece f.eof gave
         (λ e. let no : true ≡ false = sym e ∙ a.undecided.0 in cc)),

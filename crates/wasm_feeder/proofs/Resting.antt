@@ -1,14 +1,14 @@
 -- `Rests` is what is said of a name at some value of which the fact holds.
-use seplogic.Ra.Ura.{Ura}
-use base.Logic.{ent, ex_i}
+use Rattle.wasm_feeder.proofs.Common.{Rests}
+use Rattle.std.specs.Prelude.{⊤}
 use base.Fml.{fres}
-use types.Logic.{Logic, sem}
+use base.Logic.{ent, ex_i}
+use denote.Follow.{such_by, follows_by}
 use denote.RattleType.{RattleType}
 use denote.Ref.{MutBor}
-use denote.Follow.{such_by, follows_by}
 use mathlib.Core.Option.{none}
-use Rattle.std.specs.Prelude.{⊤}
-use Rattle.std.specs.Io.BufRead.{Rests}
+use seplogic.Ra.Ura.{Ura}
+use types.Logic.{Logic, sem}
 
 module _ {M : Type 1} {𝓤 : Ura M} (𝓛 : Logic 𝓤) (R : RattleType) (s : MutBor R.Denot) (P : R.Denot → Type 0) where
   pub rests_close : (v : R.Denot) → P v → ent 𝓤 (sem 𝓛 (fres s.ghost_name (R.coded.code v))) (sem 𝓛 (Rests R s P))

@@ -1,24 +1,14 @@
 -- What is known of a stream after a part that was skipped by its first fields, and passed.
-use Rattle.std.proofs.Common.{◌≡◌, ℕ, ◌+◌, ◌<◌, ◌^◌, Bool, true, false, List, [], ◌∷◌, ◌++◌, length, drop, Option, Some, refl, sym, ap, subst, ◌∙◌}
-use Rattle.std.proofs.Common.{arith, length-append}
-use Rattle.std.specs.Io.KnownBytes.{Consumes}
-use Rattle.std.proofs.KnownBytes.{Consumes-trans}
-use Rattle.wasm_base.specs.FaultAt.{fault_at, at_offset}
-use Rattle.wasm_base.specs.Features.{all_features}
-use Rattle.wasm_base.specs.declared.error.Error.{Error}
-use Rattle.wasm_base.specs.declared.fault.Fault.TheVariants.{UnexpectedEof}
-use Rattle.wasm_grammar.specs.Content.{fault}
-use Rattle.wasm_grammar.specs.Reading.{Event, last_event, Reading}
+use Rattle.wasm_feeder.proofs.Common.{◌≡◌, ℕ, ◌+◌, ◌^◌, ◌<◌, Bool, true, false, List, [], ◌∷◌, ◌++◌, length, drop, Some, refl, sym, ap, ◌∙◌}
+use Rattle.wasm_feeder.proofs.Common.{arith, length-append, Option, subst, Consumes-trans, Consumes, fault_at, at_offset, all_features}
+use Rattle.wasm_feeder.proofs.Common.{Error, UnexpectedEof, fault, last_event, Event, seen, lending, Feed, held_by, weight, Reached, Asks}
+use Rattle.wasm_feeder.proofs.Common.{Cursor, Passing, Fault}
+use Rattle.wasm_feeder.specs.Beside.{unseen}
+use Rattle.wasm_feeder.specs.Passing.{SkipsHere}
+use Rattle.wasm_grammar.specs.Reading.{Reading}
 use Rattle.wasm_parser.specs.SkipNext.{Head, SkipCame, skip_in}
-use Rattle.wasm_parser.proofs.ForCallers.{answers_go_along, skipping_goes_along}
-use Rattle.wasm_feeder.specs.Beside.{seen, unseen, lending}
-use Rattle.wasm_feeder.specs.Feed.{Feed}
-use Rattle.wasm_feeder.specs.Passing.{SkipsHere, held_by}
-use Rattle.wasm_feeder.specs.Progress.{weight, Reached, Asks}
-use Rattle.wasm_feeder.specs.declared.feeder.Cursor.{Cursor}
-use Rattle.wasm_feeder.specs.declared.passing.Passing.{Passing}
-use Rattle.wasm_feeder.specs.declared.turns.Ended.TheVariants.{Fault}
 use Rattle.wasm_feeder.proofs.Reached.{AtEnd, ends_at}
+use Rattle.wasm_parser.proofs.ForCallers.{skipping_goes_along}
 
 -- The parser skipped a part where the feeder asked for more, and then these bytes were read.
 module _ (stays_if : Head → Bool) (source rest : Option (List ℕ)) (events : List Event) (c : Cursor) (stored chunk : List ℕ)

@@ -1,22 +1,18 @@
 -- What a step says of a feeder, and of the stream that it goes along.
-use Rattle.std.proofs.Common.{◌≡◌, ℕ, ◌+◌, ◌^◌, ◌<◌, ◌≤◌, Bool, true, false, List, [], ◌∷◌, ◌++◌, length, take, drop, nat_eq, Result, Ok}
-use Rattle.std.proofs.Common.{inl, inr, refl, arith, append_assoc, append-nil, length-append}
-use Rattle.std.proofs.lemmas.Bool.Decides.{nat_tests}
-use Rattle.std.proofs.lemmas.List.{append_cancel_right, drop_at, take-append-drop}
-use Rattle.wasm_base.specs.declared.error.Error.{Error}
-use Rattle.wasm_parser.specs.Along.{Along, is_last, taken_by, SaysTheSame}
-use Rattle.wasm_parser.specs.ParseAnswer.{IsRequest, ParseAnswer, state_after_answer}
-use Rattle.wasm_parser.specs.ParserState.{ParserState}
-use Rattle.wasm_grammar.specs.Reading.{Event}
-use Rattle.wasm_parser.proofs.ForCallers.{answers_go_along, answers_last}
-use Rattle.wasm_parser.specs.GivesNextEvent.{IsUndecided}
-use Rattle.wasm_parser.specs.declared.payload.Chunk.TheVariants as chunk
-use Rattle.wasm_feeder.specs.Beside.{MayCome, StepsOver}
-use Rattle.wasm_feeder.specs.Feed.{Feed, end_of}
+use Rattle.wasm_feeder.proofs.Common.{◌≡◌, ℕ, ◌+◌, ◌^◌, ◌<◌, Bool, true, false, List, [], ◌∷◌, ◌++◌, length, take, drop, Result, Ok, refl}
+use Rattle.wasm_feeder.proofs.Common.{arith, length-append, ◌≤◌, append_assoc, append-nil, inl, inr, nat_tests, append_cancel_right}
+use Rattle.wasm_feeder.proofs.Common.{take-append-drop, Error, Event, answers_go_along, is_last, SaysTheSame, ParseAnswer, IsRequest}
+use Rattle.wasm_feeder.proofs.Common.{ParserState, StepsOver, Feed, end_of, answer_of, shown, Steps, Stepped, GivesStep, Step, NeedMoreData}
+use Rattle.wasm_feeder.proofs.Common.{Parsed}
+use Rattle.std.proofs.Common.{nat_eq}
+use Rattle.std.proofs.lemmas.List.{drop_at}
+use Rattle.wasm_feeder.specs.Beside.{MayCome}
 use Rattle.wasm_feeder.specs.FeedersLaws.{IsAlong, SteppedOver, GoesOn, FeedersGoAlong}
-use Rattle.wasm_feeder.specs.Step.{answer_of, shown, Stepped, GivesStep, Steps}
-use Rattle.wasm_feeder.specs.declared.feeder.Step.{Step}
-use Rattle.wasm_feeder.specs.declared.feeder.Step.TheVariants.{NeedMoreData, Parsed}
+use Rattle.wasm_parser.specs.Along.{Along, taken_by}
+use Rattle.wasm_parser.specs.GivesNextEvent.{IsUndecided}
+use Rattle.wasm_parser.specs.ParseAnswer.{state_after_answer}
+use Rattle.wasm_parser.proofs.ForCallers.{answers_last}
+use Rattle.wasm_parser.specs.declared.payload.Chunk.TheVariants as chunk
 
 -- the parser after a step is the one that the result says
 becomes : (f g : Feed) (x : Result Step Error) → Steps f x g → g.state ≡ state_after_answer f.state (answer_of x)

@@ -1,20 +1,13 @@
 -- That a feeder wants more only where its parser is undecided.
-use Rattle.std.proofs.Common.{◌≡◌, ℕ, ◌+◌, ◌^◌, ◌<◌, ◌≤◌, false, List, [], length, Result, refl, arith, append-nil, length-append}
+use Rattle.wasm_feeder.proofs.Common.{◌≡◌, ℕ, ◌+◌, ◌^◌, ◌<◌, false, List, [], length, Result, refl, arith, length-append, ◌≤◌, append-nil}
+use Rattle.wasm_feeder.proofs.Common.{at_offset, Error, OffsetRange, enough, waiting, answers_go_along, grammar_of, StepsOver, Feed}
+use Rattle.wasm_feeder.proofs.Common.{new_feed, pushed, finished, end_of, answer_of, Steps, Step}
 use Rattle.std.proofs.lemmas.List.{drop_all}
-use Rattle.wasm_base.specs.FaultAt.{at_offset}
-use Rattle.wasm_base.specs.declared.fault.Fault.TheVariants.{OffsetRange}
-use Rattle.wasm_base.specs.declared.error.Error.{Error}
-use Rattle.wasm_grammar.specs.Grammar.{header_grammar}
-use Rattle.wasm_parser.specs.ParseAnswer.{refuses, said}
-use Rattle.wasm_parser.specs.ParserState.{grammar_of}
-use Rattle.wasm_grammar.specs.Waiting.{enough, wants, waiting}
-use Rattle.wasm_parser.proofs.ForCallers.{answers_go_along}
-use Rattle.wasm_feeder.specs.Feed.{Feed, new_feed, pushed, finished, end_of}
 use Rattle.wasm_feeder.specs.FeedersLaws.{WaitsUndecided, FeedersWait}
+use Rattle.wasm_grammar.specs.Grammar.{header_grammar}
+use Rattle.wasm_grammar.specs.Waiting.{wants}
+use Rattle.wasm_parser.specs.ParseAnswer.{refuses, said}
 use Rattle.wasm_feeder.proofs.Stepping.{asked, ends}
-use Rattle.wasm_feeder.specs.Beside.{StepsOver}
-use Rattle.wasm_feeder.specs.Step.{answer_of, Steps}
-use Rattle.wasm_feeder.specs.declared.feeder.Step.{Step}
 
 -- before the first byte
 nothing_decides : (offset : ℕ) → waiting (header_grammar offset) [] ≡ wants 4 4

@@ -1,4 +1,4 @@
-use Rattle.std.proofs.Common.{◌≡◌, false, take}
+use Rattle.wasm_feeder.proofs.Common.{◌≡◌, false, take}
 use Rattle.wasm_feeder.specs.Fates.{is_among}
 use Rattle.wasm_feeder.proofs.fates.is_among.Given as goal
 

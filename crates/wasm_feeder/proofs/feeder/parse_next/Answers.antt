@@ -1,6 +1,6 @@
-use Rattle.std.proofs.Common.{◌++◌, List, ℕ, take, drop, Ok, sym, ap, subst₂, ◌∙◌}
-use Rattle.std.proofs.lemmas.List.{drop-drop, length-take-le, take-append-drop}
-use Rattle.wasm_parser.specs.ParseAnswer.{Consumes, ParseAnswer}
+use Rattle.wasm_feeder.proofs.Common.{ℕ, List, ◌++◌, take, drop, Ok, sym, ap, subst₂, ◌∙◌, drop-drop, take-append-drop, ParseAnswer}
+use Rattle.std.proofs.lemmas.List.{length-take-le}
+use Rattle.wasm_parser.specs.ParseAnswer.{Consumes}
 use Rattle.wasm_parser.specs.declared.payload.Chunk.TheVariants.{Parsed}
 use Rattle.wasm_feeder.proofs.feeder.parse_next.Goals as goal
 

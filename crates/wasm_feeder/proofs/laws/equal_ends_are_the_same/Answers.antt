@@ -1,20 +1,16 @@
-use Rattle.std.proofs.Common.{◌≡◌, Some, refl, ap}
+use Rattle.wasm_feeder.proofs.Common.{◌≡◌, Some, refl, ap, arith}
 use Rattle.wasm_base.specs.Comparing.{DecidesWhether}
 use Rattle.wasm_base.specs.FaultAt.{FaultAt}
-use Rattle.wasm_parser.proofs.ForCallers.{equal_errors}
 use Rattle.wasm_feeder.specs.Ends.{fault_at_end}
+use Rattle.wasm_parser.proofs.ForCallers.{equal_errors}
 use Rattle.wasm_feeder.specs.contracts.turns.EndedPartialEq.TheImpl as Compared
-use Rattle.wasm_feeder.specs.declared.turns.Ended.TheVariants.{End, Fault}
 use Rattle.wasm_feeder.proofs.laws.equal_ends_are_the_same.Goals as goal
 
 some_is : (a b : FaultAt) → Some a ≡ Some b → a ≡ b
 some_is a b h = cc
 
 ended : DecidesWhether (λ one other. fault_at_end one ≡ fault_at_end other) (Compared.ghosts).eq
-ended End End = (λ h. refl, λ h. refl)
-ended End (Fault f) = (λ h. cc, λ h. cc)
-ended (Fault e) End = (λ h. cc, λ h. cc)
-ended (Fault e) (Fault f) = (λ h. ap Some ((equal_errors e f).0 h), λ h. (equal_errors e f).1 (some_is _ _ h))
+ended h0 h1 = grind (arith, refl, ap, equal_errors, some_is)
 
 pub returns-clause-ended : goal.returns-clause-ended
 returns-clause-ended c = ended

@@ -1,5 +1,4 @@
-use Rattle.std.proofs.Common.{refl, ◌∙◌}
-use Rattle.std.proofs.lemmas.Result.{err_from_is_err_and}
+use Rattle.wasm_feeder.proofs.Common.{refl, arith, err_from_is_err_and}
 use Rattle.wasm_feeder.proofs.PassedParts.{none_passed, passed_more, passed_end, passed_up}
 use Rattle.wasm_feeder.proofs.passing.pass_missing.Goals as goal
 
@@ -17,8 +16,4 @@ returns-then-count-eq0-clause-passes g c =
     c.if-count-eq0.true
 
 pub chunks-preserved : goal.chunks-preserved
-chunks-preserved g c = record {
-  passed = passed_more _ _ _ _ _ _ _ _ _ _ _ _ _ _ _ _ c.chunks.invariant.passed c.in_ok-count.ensures.takes;
-  input = c.in_ok-count.ensures.source ∙ c.chunks.invariant.input;
-  output = c.in_ok-count.ensures.sink ∙ c.chunks.invariant.output;
-}
+chunks-preserved g c = grind (arith, passed_more)

@@ -1,4 +1,4 @@
-use Rattle.std.proofs.Common.{◌≡◌}
+use Rattle.wasm_feeder.proofs.Common.{◌≡◌}
 use Rattle.wasm_feeder.proofs.PassedParts.{Passed}
 use Rattle.wasm_feeder.proofs.passing.pass_missing.Given as goal
 

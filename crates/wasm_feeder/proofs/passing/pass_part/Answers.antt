@@ -1,4 +1,4 @@
-use Rattle.std.proofs.lemmas.Result.{err_from_is_err_and}
+use Rattle.wasm_feeder.proofs.Common.{err_from_is_err_and}
 use Rattle.wasm_feeder.proofs.PassedParts.{part_passed, part_cut, settled_up, unsettled_up}
 use Rattle.wasm_feeder.proofs.passing.pass_part.Goals as goal
 

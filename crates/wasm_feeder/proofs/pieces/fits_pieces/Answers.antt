@@ -1,6 +1,4 @@
-use Rattle.std.proofs.Common.{arith, ap, length, take, refl, length-append, slice_index_or, List, Bor, ℕ, []}
-use Rattle.std.proofs.lemmas.List.{take_all}
-use Rattle.wasm_feeder.specs.Pieces.{joined}
+use Rattle.wasm_feeder.proofs.Common.{ℕ, List, [], length, take, slice_index_or, Bor, refl, ap, arith, length-append, take_all, joined}
 use Rattle.wasm_feeder.proofs.Joining.{joined_more, joined_within}
 use Rattle.wasm_feeder.proofs.pieces.fits_pieces.Goals as goal
 
@@ -8,10 +6,7 @@ abbrev none : Bor (List ℕ)
 none = record { ref_ptr = (0, 0); now = [] }
 
 pub returns-then-not-fits : goal.returns-then-not-fits
-returns-then-not-fits c =
-    let within = joined_within c.args.pieces.now c.pieces.piece-index none c.pieces-test.true in
-    let end = c.pieces.invariant.end in
-    (λ t. cc, λ l. rw c.if-not-fits.true at (c.fits.ensures.1 (omega (arith, within, end, l))))
+returns-then-not-fits c = grind (arith, joined_within)
 
 pub pieces-preserved : goal.pieces-preserved
 pieces-preserved c =
@@ -25,8 +20,4 @@ pieces-preserved c =
     }
 
 pub returns : goal.returns
-returns c =
-    let all = ap (λ (x : List (Bor (List ℕ))). length (joined x)) (take_all c.pieces.piece-index c.args.pieces.now c.pieces-test.false) in
-    let end = c.pieces.invariant.end in
-    let within = c.pieces.invariant.within in
-    (λ t. omega (arith, all, end, within), λ l. refl)
+returns c = grind (arith, ap, joined, take_all, refl)

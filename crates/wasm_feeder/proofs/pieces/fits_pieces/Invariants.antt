@@ -1,5 +1,4 @@
-use Rattle.std.proofs.Common.{◌≡◌, ◌+◌, ◌<◌, ◌^◌, length, take}
-use Rattle.wasm_feeder.specs.Pieces.{joined}
+use Rattle.wasm_feeder.proofs.Common.{◌≡◌, ◌+◌, ◌^◌, ◌<◌, length, take, joined}
 use Rattle.wasm_feeder.proofs.pieces.fits_pieces.Given as goal
 
 abbrev pub invariant-pieces : goal.invariant-pieces

@@ -1,5 +1,4 @@
-use Rattle.std.proofs.Common.{Bool, List, sym, subst₂, ◌∙◌}
-use Rattle.wasm_feeder.specs.Pieces.{HasEnded}
+use Rattle.wasm_feeder.proofs.Common.{Bool, List, sym, subst₂, ◌∙◌, HasEnded}
 use Rattle.wasm_feeder.specs.declared.events.Event.{Event}
 use Rattle.wasm_feeder.proofs.Adding.{asks, adds, ends, fewer, steps_in}
 use Rattle.wasm_feeder.proofs.pieces.read_held.Goals as goal

@@ -1,6 +1,4 @@
-use Rattle.std.proofs.Common.{◌≡◌, ℕ, ◌+◌, ◌<◌, ◌^◌, List, length}
-use Rattle.wasm_feeder.specs.Cursors.{feed_of}
-use Rattle.wasm_feeder.specs.Pieces.{HasCome}
+use Rattle.wasm_feeder.proofs.Common.{◌≡◌, ℕ, ◌+◌, ◌^◌, ◌<◌, List, length, feed_of, HasCome}
 use Rattle.wasm_feeder.proofs.pieces.read_held.Given as goal
 
 -- the events since the start were added

@@ -1,12 +1,9 @@
-use Rattle.std.proofs.Common.{List, ℕ, [], Bor, sym, ap, subst₂, ◌∙◌, ◌≡◌, slice_index_or}
-use Rattle.std.proofs.lemmas.List.{take_all}
-use Rattle.wasm_feeder.specs.Cursors.{feed_of}
-use Rattle.wasm_feeder.specs.Feed.{Feed, empty_feed, new_feed, pushed, finished}
-use Rattle.wasm_feeder.specs.Pieces.{joined, HasCome}
+use Rattle.wasm_feeder.proofs.Common.{◌≡◌, ℕ, List, [], slice_index_or, Bor, sym, ap, subst₂, ◌∙◌, take_all, all_features, feed_of, Feed}
+use Rattle.wasm_feeder.proofs.Common.{new_feed, pushed, finished, joined, HasCome}
+use Rattle.wasm_feeder.specs.Feed.{empty_feed}
 use Rattle.wasm_feeder.specs.declared.events.Event.{Event}
 use Rattle.wasm_feeder.proofs.Adding.{come_begins, come_finished, next_piece, last_piece, ended_last}
 use Rattle.wasm_feeder.proofs.pieces.read_pieces_in.Goals as goal
-use Rattle.wasm_base.specs.Features.{all_features}
 
 abbrev none : Bor (List ℕ)
 none = record { ref_ptr = (0, 0); now = [] }

@@ -1,8 +1,5 @@
-use Rattle.std.proofs.Common.{◌≡◌, false, take}
-use Rattle.wasm_feeder.specs.Cursors.{feed_of}
-use Rattle.wasm_feeder.specs.Pieces.{joined, HasCome}
+use Rattle.wasm_feeder.proofs.Common.{◌≡◌, false, take, all_features, feed_of, joined, HasCome}
 use Rattle.wasm_feeder.proofs.pieces.read_pieces_in.Given as goal
-use Rattle.wasm_base.specs.Features.{all_features}
 
 -- the first chunks were given, and the last event has not arrived
 abbrev pub invariant-pieces : goal.invariant-pieces

@@ -1,5 +1,5 @@
-use Rattle.std.proofs.Common.{◌≡◌, ℕ, ◌+◌, ◌-◌, ◌≤◌, List, take, drop, length, min, sym, ap, ◌∙◌, arith}
-use Rattle.std.proofs.lemmas.List.{drop-drop, drop-take, length-take}
+use Rattle.wasm_feeder.proofs.Common.{◌≡◌, ℕ, ◌+◌, List, length, take, drop, sym, ap, ◌∙◌, arith, ◌-◌, ◌≤◌, min, drop-drop, length-take}
+use Rattle.std.proofs.lemmas.List.{drop-take}
 use Rattle.wasm_feeder.proofs.ahead.Ahead.pass.Goals as goal
 
 passed : (b : List ℕ) (start end count : ℕ) → count ≤ length (take (end - start) (drop start b))
@@ -13,6 +13,4 @@ passed b start end count l =
     ∙ ap (λ (k : ℕ). drop count (take k (drop start b))) size)
 
 pub returns : goal.returns
-returns g c = let s = c.self.inside in
-    let l = c.requires in
-    rw (sym c.self.view_is) (passed s.buffer.items s.start s.end c.args.count (rw (sym c.self.view_is) at l))
+returns g c = grind (arith, passed)

@@ -1,6 +1,5 @@
-use Rattle.std.proofs.Common.{arith}
+use Rattle.wasm_feeder.proofs.Common.{arith, feed_of}
 use Rattle.std.proofs.lemmas.List.{take_rest}
-use Rattle.wasm_feeder.specs.Cursors.{feed_of}
 use Rattle.wasm_feeder.proofs.Beside.{over}
 use Rattle.wasm_feeder.proofs.feeder.Feeder.step_over.Goals as goal
 

@@ -1,15 +1,11 @@
-use Rattle.std.proofs.Common.{◌≡◌, ℕ, ◌+◌, ◌-◌, List, ◌++◌, arith, ap, ◌∙◌, length, take, drop, append_assoc, append-nil, sym}
-use Rattle.std.proofs.lemmas.List.{length-take, length-drop}
+use Rattle.wasm_feeder.proofs.Common.{◌≡◌, ℕ, ◌+◌, List, ◌++◌, length, take, drop, ap, ◌∙◌, arith, ◌-◌, append_assoc, append-nil}
+use Rattle.wasm_feeder.proofs.Common.{length-drop, length-take, waiting, grammar_of}
 use Rattle.std.proofs.Math.Seq.{take-add}
-use Rattle.wasm_grammar.specs.Waiting.{waiting}
-use Rattle.wasm_parser.specs.ParserState.{grammar_of}
 use Rattle.wasm_feeder.proofs.feeder.lending.gather.Goals as goal
 
 more_put : (old held new part piece : List ℕ) (n m : ℕ) → held ≡ old ++ take n piece → new ≡ held ++ part
     → part ≡ take m (drop n piece) → new ≡ old ++ take (n + m) piece
-more_put old held new part piece n m was put is = put ∙ (ap (λ (l : List ℕ). l ++ part) was
-    ∙ (append_assoc old (take n piece) part ∙ ap (λ (l : List ℕ). old ++ l)
-    (ap (λ (l : List ℕ). take n piece ++ l) is ∙ sym (take-add n m piece))))
+more_put old held new part piece n m was put is = grind (arith, ap, append_assoc, take-add)
 
 nothing_put : (old held piece : List ℕ) (n : ℕ) → held ≡ old ++ take n piece → n ≡ 0 → held ≡ old
 nothing_put old held piece n was none = was ∙ (ap (λ (k : ℕ). old ++ take k piece) none ∙ append-nil old)

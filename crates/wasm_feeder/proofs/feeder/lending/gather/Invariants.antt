@@ -1,6 +1,5 @@
-use Rattle.std.proofs.Common.{length, ◌+◌, ◌-◌, ◌≡◌, ◌≤◌, ◌++◌, take, vec_len, vec_capacity}
-use Rattle.wasm_grammar.specs.Waiting.{enough, waiting}
-use Rattle.wasm_parser.specs.ParserState.{grammar_of}
+use Rattle.wasm_feeder.proofs.Common.{◌≡◌, ◌+◌, ◌++◌, length, take, ◌-◌, ◌≤◌, enough, waiting, grammar_of}
+use Rattle.std.proofs.Common.{vec_len, vec_capacity}
 use Rattle.wasm_feeder.proofs.feeder.lending.gather.Given as goal
 
 -- the first bytes of the chunk were appended

@@ -1,11 +1,9 @@
-use Rattle.std.proofs.Common.{Ok, ap, ◌∙◌}
+use Rattle.wasm_feeder.proofs.Common.{Ok, ap, ◌∙◌, arith}
 use Rattle.wasm_feeder.proofs.Beside.{enough, undecided}
 use Rattle.wasm_feeder.proofs.feeder.lending.missing.Goals as goal
 
 pub returns-in-Ok-NeedMoreData-clause-decided : goal.returns-in-Ok-NeedMoreData-clause-decided
-returns-in-Ok-NeedMoreData-clause-decided c = λ e. absurd (undecided c.args.parser.now c.parse.new.self c.args.bytes.now c.parse.result _
-    (rw (c.resume-trial.ensures ∙ c.checkpoint.ensures.state) at c.parse.ensures.answers)
-    (c.in-Ok-NeedMoreData.is ∙ ap Ok c.in-Ok-NeedMoreData.field-0-is) e)
+returns-in-Ok-NeedMoreData-clause-decided c = grind (arith, undecided, ap)
 
 pub returns-in-Ok-Parsed-clause-enough : goal.returns-in-Ok-Parsed-clause-enough
 returns-in-Ok-Parsed-clause-enough c = λ _. enough c.answers_last.ensures c.args.parser.now c.args.bytes.now c.parse.result

@@ -1,9 +1,6 @@
-use Rattle.std.proofs.Common.{◌≡◌, ℕ, List, ◌++◌, drop, take, refl, ap, ◌∙◌, append_assoc, arith}
+use Rattle.wasm_feeder.proofs.Common.{◌≡◌, ℕ, List, ◌++◌, take, drop, refl, ap, ◌∙◌, arith, append_assoc, length-drop, take-append-drop}
+use Rattle.wasm_feeder.proofs.Common.{waiting, grammar_of, feed_of}
 use Rattle.std.proofs.lemmas.Grind.{common_steps}
-use Rattle.std.proofs.lemmas.List.{length-drop, take-append-drop}
-use Rattle.wasm_grammar.specs.Waiting.{waiting}
-use Rattle.wasm_parser.specs.ParserState.{grammar_of}
-use Rattle.wasm_feeder.specs.Cursors.{feed_of}
 use Rattle.wasm_feeder.proofs.Beside.{ready}
 use Rattle.wasm_feeder.proofs.feeder.lending.reserve_and_gather.Goals as goal
 
