@@ -1,18 +1,12 @@
 -- How many numbers the items of a section have, those that were shown and the remaining ones.
-use Rattle.std.proofs.Common.{◌≡◌, ℕ, zero, suc, ◌+◌, ◌^◌, ◌<◌, Bool, true, false, List, [], ◌∷◌, ◌++◌, Some, None, Result, Ok, Err}
-use Rattle.std.proofs.Common.{refl, sym, ap, subst, subst₂, ◌∙◌, add-one, append-nil, arith}
-use Rattle.std.specs.Option.{is_some}
-use Rattle.wasm_base.specs.FaultAt.{fault_at}
-use Rattle.wasm_base.specs.Item.{ReadsAs}
-use Rattle.wasm_base.specs.Outcome.{Outcome}
-use Rattle.wasm_base.specs.Section.{Section, Items, all_items, NextItem, AtItsOffset}
-use Rattle.wasm_base.specs.Window.{Place, place}
-use Rattle.wasm_base.specs.declared.error.Error.{Error}
-use Rattle.wasm_dumper.specs.Counting.{one_number}
-use Rattle.wasm_tree.specs.Numbers.{Number, more, numbers_from, numbers_read, with_later}
+use Rattle.wasm_dumper.proofs.Common.{◌≡◌, ℕ, zero, suc, ◌+◌, ◌^◌, ◌<◌, Bool, true, false, List, [], ◌∷◌, ◌++◌, Some, None, Result, Ok, Err}
+use Rattle.wasm_dumper.proofs.Common.{refl, sym, ap, subst, subst₂, ◌∙◌, add-one, append-nil, arith, is_some, fault_at, ReadsAs, Outcome}
+use Rattle.wasm_dumper.proofs.Common.{Section, all_items, Place, place, Error, Number, more, numbers_from, numbers_read, Writing, IsWritten}
+use Rattle.wasm_dumper.proofs.Common.{with_numbers, AddsThese, AddsNumbers, Space, one_number}
+use Rattle.wasm_base.specs.Section.{Items, NextItem, AtItsOffset}
 use Rattle.wasm_dumper.specs.Counting.{number_found, after_found}
-use Rattle.wasm_tree.specs.Tree.{Writing, IsWritten, with_numbers, AddsThese, AddsNumbers, AddsItems}
-use Rattle.wasm_tree.specs.declared.numbers.Space.{Space}
+use Rattle.wasm_tree.specs.Numbers.{with_later}
+use Rattle.wasm_tree.specs.Tree.{AddsItems}
 use Rattle.wasm_dumper.proofs.Numbering.{joined, no_numbers, more_none, more_more, numbers_more, begin_shown, all_are}
 
 -- how many remain of an iterator

@@ -1,48 +1,29 @@
 -- How far a dump has come after a part of which nothing is shown, and which was dropped.
-use Rattle.std.proofs.Common.{◌≡◌, ℕ, ◌+◌, ◌^◌, ◌<◌, Bool, true, false, not, ◌&&◌, if◌then◌else◌, nat_eq, nat_lt, List, [], ◌∷◌, ◌++◌}
-use Rattle.std.proofs.Common.{length}
-use Rattle.std.proofs.Common.{Option, Some, None, Result, Ok, Err, refl, sym, ap, subst, ◌∙◌, arith, append-nil, append_assoc}
-use Rattle.std.proofs.Common.{length-append, drop}
+use Rattle.wasm_dumper.proofs.Common.{◌≡◌, ℕ, ◌+◌, ◌^◌, ◌<◌, Bool, true, false, List, [], ◌∷◌, ◌++◌, Some, None, Err, refl, sym, ap, subst}
+use Rattle.wasm_dumper.proofs.Common.{◌∙◌, append-nil, arith, nat_eq, length, Option, append_assoc, length-append, drop, Consumes-trans}
+use Rattle.wasm_dumper.proofs.Common.{list_any, if◌then◌else◌, fault_at, Error, seen, lending, Feed, pushed, weight, Steps, Cursor, Fault}
+use Rattle.wasm_dumper.proofs.Common.{fault, import_id, Report, counted, Event, last_event, input_failed, ListError, Input, Writing, Adds}
+use Rattle.wasm_dumper.proofs.Common.{IsOut, base_of, chosen_line, is_chosen, shown_line, after, after_all, no_counts, AreOfShown}
+use Rattle.wasm_dumper.proofs.Common.{DumpsInto, ShowsAnswer, bytes_of_events, origin, shown_bytes, FailsWithin, Hides, Counts, Only}
+use Rattle.std.proofs.Common.{not, ◌&&◌, nat_lt}
 use Rattle.std.proofs.lemmas.Bool.Decides.{nat_tests}
-use Rattle.std.specs.List.{list_any}
-use Rattle.std.specs.Io.KnownBytes.{Appends, Consumes, IsAtEnd}
-use Rattle.std.proofs.KnownBytes.{Consumes-trans}
-use Rattle.wasm_base.specs.FaultAt.{fault_at, at_offset}
-use Rattle.wasm_base.specs.Features.{all_features}
-use Rattle.wasm_base.specs.declared.error.Error.{Error}
+use Rattle.std.specs.Io.KnownBytes.{IsAtEnd}
+use Rattle.wasm_base.specs.FaultAt.{at_offset}
 use Rattle.wasm_base.specs.declared.fault.Fault.TheVariants.{UnexpectedEof}
-use Rattle.wasm_grammar.specs.Content.{fault}
-use Rattle.wasm_grammar.specs.Grammar.{final, verdict}
-use Rattle.wasm_grammar.specs.Ids.{import_id}
-use Rattle.wasm_grammar.specs.Reading.{Report, counted, code_entry, custom_section, unknown_section, Event, last_event}
-use Rattle.wasm_parser.specs.ParserState.{grammar_of}
-use Rattle.wasm_parser.specs.ParseAnswer.{answer_to}
-use Rattle.wasm_parser.specs.SkipNext.{Head, Skip, custom, items, unknown, body, report_with, skip_in}
-use Rattle.wasm_text.specs.Calls.{from_to, input_failed}
-use Rattle.wasm_text.specs.declared.devices.ListError.{ListError}
-use Rattle.wasm_text.specs.declared.devices.ListError.TheVariants.{Input}
-use Rattle.wasm_feeder.specs.Beside.{seen, unseen, lending}
-use Rattle.wasm_feeder.specs.Feed.{Feed, pushed}
-use Rattle.wasm_feeder.specs.Passing.{SkipsHere, held_by}
-use Rattle.wasm_feeder.specs.Progress.{weight}
-use Rattle.wasm_feeder.specs.Step.{Steps}
-use Rattle.wasm_feeder.specs.declared.feeder.Cursor.{Cursor}
-use Rattle.wasm_feeder.specs.declared.passing.Passing.{Passing}
-use Rattle.wasm_feeder.proofs.ForCallers.{arrived, is_short, one_more, past, reads_short, same_held}
-use Rattle.wasm_tree.specs.Numbers.{Number}
-use Rattle.wasm_tree.specs.Tree.{Adds, IsOut, IsWritten, Writing, base_of}
-use Rattle.wasm_dumper.specs.Chosen.{chosen_line, is_chosen, is_chosen_by, shown_line}
-use Rattle.wasm_dumper.specs.Counting.{after, after_all, no_counts}
-use Rattle.wasm_feeder.specs.declared.turns.Ended.TheVariants.{Fault}
-use Rattle.wasm_feeder.specs.declared.turns.Turn.TheVariants as turn
-use Rattle.wasm_dumper.specs.Dump.{AreOfEvents, AreOfShown, DumpsInto, ShowsAnswer, bytes_of_events, origin, shown_bytes}
-use Rattle.wasm_dumper.specs.Hiding.{DropsPart, FailsWithin, Hides, after_hidden, has_imports, is_body_head, is_hidden}
-use Rattle.wasm_dumper.specs.declared.counts.Counts.{Counts}
-use Rattle.wasm_dumper.specs.declared.events.Only.{Only}
+use Rattle.wasm_dumper.specs.Chosen.{is_chosen_by}
+use Rattle.wasm_dumper.specs.Hiding.{DropsPart, after_hidden, has_imports, is_body_head, is_hidden}
 use Rattle.wasm_dumper.specs.declared.hidden.Hidden.{Hidden}
+use Rattle.wasm_feeder.specs.Beside.{unseen}
+use Rattle.wasm_feeder.specs.Passing.{SkipsHere, held_by}
+use Rattle.wasm_grammar.specs.Grammar.{final, verdict}
+use Rattle.wasm_grammar.specs.Reading.{code_entry, custom_section, unknown_section}
+use Rattle.wasm_parser.specs.ParserState.{grammar_of}
+use Rattle.wasm_parser.specs.SkipNext.{Head, Skip, items, body, report_with, skip_in}
 use Rattle.wasm_dumper.proofs.Dumping.{Dumping, HasWritten, ShowsStep, Wanting, all, bytes_more, dumped, has_failed, numbers_of, outline_of}
 use Rattle.wasm_dumper.proofs.Dumping.{not_whole, source, whole}
 use Rattle.wasm_dumper.proofs.Numbering.{all_more, events_more, no_numbers}
+use Rattle.wasm_feeder.proofs.ForCallers.{arrived, is_short, one_more, past, reads_short, same_held}
+use Rattle.wasm_feeder.specs.declared.turns.Turn.TheVariants as turn
 
 -- ---- a part by its first fields as by its report
 

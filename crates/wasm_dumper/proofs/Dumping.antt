@@ -1,57 +1,47 @@
 -- How far a dump has come. Its outline is what a listing by the lines that are shown would have written.
-use Rattle.std.proofs.Common.{◌≡◌, ℕ, ◌<◌, Bool, true, false, if◌then◌else◌, List, [], ◌++◌, Option, Some, None, Result, Ok, Err, refl, sym}
-use Rattle.std.proofs.Common.{◌∷◌, ap, subst, subst₂, ◌∙◌, append-nil, append_assoc, length, length-append, drop, arith}
-use Rattle.std.specs.Io.KnownBytes.{Appends, Consumes}
-use Rattle.std.proofs.KnownBytes.{Appends-nil, Consumes-nil, Consumes-trans, Consumes-kept}
-use Rattle.wasm_text.specs.Calls.{Change, Device, bytes_of, from_to, input_failed, output_failed}
-use Rattle.wasm_feeder.specs.Feed.{Feed, new_feed}
-use Rattle.wasm_feeder.specs.Beside.{beside, lending, seen, FillsAlike, ReadsEnough}
-use Rattle.wasm_feeder.specs.Cursors.{feed_of}
-use Rattle.wasm_feeder.specs.Lists.{IsHead, ListsBy, Refills}
-use Rattle.wasm_feeder.specs.declared.feeder.Cursor.{Cursor}
-use Rattle.wasm_parser.proofs.ForCallers.{end_consumes_all}
-use Rattle.wasm_grammar.specs.Content.{Ending}
-use Rattle.wasm_lines.specs.Listing.{listing_by}
-use Rattle.wasm_grammar.specs.EventRanges.{consumed_by}
-use Rattle.wasm_grammar.specs.Reading.{Report, Event, last_event, Reading}
-use Rattle.wasm_text.specs.Page.{WritesHead, PutsBytes}
-use Rattle.wasm_base.specs.declared.error.Error.{Error}
-use Rattle.wasm_parser.specs.ParseAnswer.{report_of, ParseAnswer}
-use Rattle.wasm_feeder.specs.Step.{answer_of, is_request, shown, Steps}
-use Rattle.wasm_feeder.specs.Turns.{text_after, turn_after}
-use Rattle.wasm_feeder.specs.declared.feeder.Step.{Step}
-use Rattle.wasm_feeder.specs.declared.feeder.Step.TheVariants.{NeedMoreData, Parsed}
-use Rattle.wasm_feeder.specs.declared.turns.Ended.{Ended}
-use Rattle.wasm_feeder.specs.declared.turns.Ended.TheVariants.{End, Fault}
-use Rattle.wasm_text.specs.declared.devices.ListError.{ListError}
-use Rattle.wasm_text.specs.declared.devices.ListError.TheVariants.{Input, Output, Memory}
-use Rattle.wasm_feeder.specs.declared.turns.Turn.{Turn}
-use Rattle.wasm_feeder.specs.declared.turns.Turn.TheVariants as turn
-use Rattle.wasm_feeder.specs.Progress.{weight, Reached, Asks, Progress, Wants}
-use Rattle.wasm_feeder.proofs.ForCallers as progress
-use Rattle.wasm_feeder.proofs.ForCallers.{AtEnd, IsEnding, IsEvent, all_given, begins_with, consumed, next_asks, next_ends, next_event, reads_on}
-use Rattle.wasm_dumper.specs.Chosen.{chosen_line, is_chosen}
-use Rattle.wasm_tree.specs.Numbers.{Number}
-use Rattle.wasm_dumper.specs.Counting.{after, after_all, no_counts}
-use Rattle.wasm_dumper.specs.declared.counts.Counts.{Counts}
-use Rattle.wasm_dumper.proofs.Numbering.{all_more, events_begin, events_more, end_none}
-use Rattle.wasm_dumper.specs.Dump.{AreOf, AreOfEvents, AreOfSource, bytes_of_answer, bytes_of_event, bytes_of_events, shown_bytes, is_whole}
-use Rattle.std.specs.Prelude.{flat_map}
+use Rattle.wasm_dumper.proofs.Common.{◌≡◌, ℕ, ◌<◌, Bool, true, false, List, [], ◌∷◌, ◌++◌, Some, None, Result, Ok, Err, refl, sym, ap}
+use Rattle.wasm_dumper.proofs.Common.{subst, subst₂, ◌∙◌, append-nil, arith, length, Option, append_assoc, length-append, drop}
+use Rattle.wasm_dumper.proofs.Common.{Consumes-trans, if◌then◌else◌, Error, seen, lending, beside, feed_of, Feed, weight, Steps, turn_after}
+use Rattle.wasm_dumper.proofs.Common.{Cursor, Step, NeedMoreData, Parsed, Fault, End, Ending, Report, Event, last_event, report_of}
+use Rattle.wasm_dumper.proofs.Common.{input_failed, ListError, Input, Base, Number, Writing, IsWritten, Adds, IsOut, Origin, chosen_line}
+use Rattle.wasm_dumper.proofs.Common.{is_chosen, after, after_all, no_counts, DumpsInto, ShowsAnswer, bytes_of_events, origin, shown_bytes}
+use Rattle.wasm_dumper.proofs.Common.{AreOf, AreOfEvents, Counts, Only}
+use Rattle.std.proofs.KnownBytes.{Appends-nil, Consumes-nil, Consumes-kept}
 use Rattle.std.proofs.lemmas.Grind.{flat_map-append}
-use Rattle.wasm_dumper.specs.Dump.{WritesWhole, WritesSome, AreOfAnswer, ShowsAnswer, after_answer, origin, DumpsFrom, DumpsInto}
-use Rattle.wasm_dumper.specs.Dump.{DumpsByTree, Writes, stopped_by}
-use Rattle.wasm_tree.specs.Tree as Tree
-use Rattle.wasm_tree.specs.Tree.{IsOutlined, Part, Writing, Origin, begun, begun_numbers, IsGoingIn, IsCutShort, IsWritten, Adds, IsOut}
-use Rattle.wasm_tree.specs.Tree.{IsShaped, are_lines}
-use Rattle.wasm_text.specs.declared.digits.Base.{Base}
+use Rattle.std.specs.Io.KnownBytes.{Appends, Consumes}
+use Rattle.std.specs.Prelude.{flat_map}
+use Rattle.wasm_base.specs.Features.{all_features}
+use Rattle.wasm_dumper.specs.Dump.{AreOfSource, bytes_of_answer, bytes_of_event, is_whole, WritesWhole, WritesSome, AreOfAnswer}
+use Rattle.wasm_dumper.specs.Dump.{after_answer, DumpsFrom, DumpsByTree, Writes, stopped_by}
+use Rattle.wasm_feeder.specs.Beside.{FillsAlike, ReadsEnough}
+use Rattle.wasm_feeder.specs.Feed.{new_feed}
+use Rattle.wasm_feeder.specs.Lists.{IsHead, ListsBy, Refills}
+use Rattle.wasm_feeder.specs.Progress.{Reached, Asks, Progress}
+use Rattle.wasm_feeder.specs.Step.{answer_of, is_request, shown}
+use Rattle.wasm_feeder.specs.Turns.{text_after}
+use Rattle.wasm_feeder.specs.declared.turns.Ended.{Ended}
+use Rattle.wasm_feeder.specs.declared.turns.Turn.{Turn}
+use Rattle.wasm_grammar.specs.EventRanges.{consumed_by}
+use Rattle.wasm_grammar.specs.Reading.{Reading}
+use Rattle.wasm_lines.specs.Listing.{listing_by}
+use Rattle.wasm_parser.specs.ParseAnswer.{ParseAnswer}
+use Rattle.wasm_text.specs.Calls.{Change, Device, bytes_of, from_to, output_failed}
+use Rattle.wasm_text.specs.Page.{WritesHead, PutsBytes}
+use Rattle.wasm_text.specs.declared.devices.ListError.TheVariants.{Output, Memory}
 use Rattle.wasm_tree.specs.Json.{IsAt}
-use Rattle.wasm_tree.specs.Json as json
+use Rattle.wasm_tree.specs.Tree.{IsOutlined, Part, begun, begun_numbers, IsGoingIn, IsCutShort, IsShaped, are_lines}
 use Rattle.wasm_tree.specs.declared.objects.Spot.{Spot}
 use Rattle.wasm_tree.specs.declared.tree.Style.{Style}
 use Rattle.wasm_tree.specs.declared.tree.Style.TheVariants.{Lines, Objects}
-use Rattle.wasm_dumper.specs.declared.events.Only.{Only}
+use Rattle.wasm_dumper.proofs.Numbering.{all_more, events_begin, events_more, end_none}
+use Rattle.wasm_feeder.proofs.ForCallers.{AtEnd, IsEnding, IsEvent, all_given, begins_with, consumed, next_asks, next_ends, next_event}
+use Rattle.wasm_feeder.proofs.ForCallers.{reads_on}
+use Rattle.wasm_parser.proofs.ForCallers.{end_consumes_all}
 use Rattle.wasm_tree.proofs.ForCallers.{as_going, as_short}
-use Rattle.wasm_base.specs.Features.{all_features}
+use Rattle.wasm_feeder.specs.declared.turns.Turn.TheVariants as turn
+use Rattle.wasm_feeder.proofs.ForCallers as progress
+use Rattle.wasm_tree.specs.Tree as Tree
+use Rattle.wasm_tree.specs.Json as json
 
 -- a writer that has written nothing since this was taken
 abbrev pub IsFresh : Writing → (taken : Option (List ℕ)) (failed : Bool) → Type 0

@@ -1,15 +1,12 @@
 -- Each line of an event is one line of the first level, and begins with its text in a listing.
-use Rattle.std.proofs.Common.{◌≡◌, ℕ, zero, suc, ◌≤◌, List, [], ◌∷◌, ◌++◌, IfSome, option_map, slice_get, lit≤, length, codes}
-use Rattle.std.proofs.Common.{Option, Some, None, refl, sym, ap, ◌∙◌, append_assoc}
+use Rattle.wasm_dumper.proofs.Common.{◌≡◌, ℕ, zero, suc, List, [], ◌∷◌, ◌++◌, Some, None, refl, sym, ap, ◌∙◌, length, Option, append_assoc}
+use Rattle.wasm_dumper.proofs.Common.{option_map, Report, Base, shown_line, numbered_line, numbers_in_line, Counts}
+use Rattle.std.proofs.Common.{◌≤◌, IfSome, slice_get, lit≤, codes}
+use Rattle.wasm_dumper.specs.Chosen.{numbered_text, section_words, BeginAlike}
 use Rattle.wasm_grammar.specs.Ids.{names, name_of}
-use Rattle.wasm_grammar.specs.Reading.{Report}
 use Rattle.wasm_lines.specs.Listing.{report_text}
-use Rattle.wasm_text.specs.declared.digits.Base.{Base}
 use Rattle.wasm_tree.specs.Numbers.{blank_numbers}
-use Rattle.wasm_dumper.specs.Chosen.{numbered_line, numbered_text, section_words, shown_line, BeginAlike}
-use Rattle.wasm_dumper.specs.Counting.{numbers_in_line}
 use Rattle.wasm_tree.specs.Tree.{IsFirst}
-use Rattle.wasm_dumper.specs.declared.counts.Counts.{Counts}
 use Rattle.wasm_tree.proofs.ForCallers.{blank_before}
 
 -- ---- the text of a line, and what comes after it

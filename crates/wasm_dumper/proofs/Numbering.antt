@@ -1,54 +1,31 @@
 -- The numbers of items, as they are counted and shown.
-use Rattle.std.proofs.Common.{◌≡◌, ℕ, zero, suc, ◌+◌, ◌^◌, ◌<◌, Bool, true, false, nat_eq, List, [], ◌∷◌, ◌++◌, Option, Some, None}
-use Rattle.std.proofs.Common.{Result, Ok, Err, refl, sym, ap, subst, subst₂, ◌∙◌}
-use Rattle.std.proofs.Common.{append_assoc, append-nil, if◌then◌else◌, add-zero, add-one, add-suc, arith}
+use Rattle.wasm_dumper.proofs.Common.{◌≡◌, ℕ, zero, suc, ◌+◌, ◌^◌, ◌<◌, Bool, true, false, List, [], ◌∷◌, ◌++◌, Some, None, Result, Ok, Err}
+use Rattle.wasm_dumper.proofs.Common.{refl, sym, ap, subst, subst₂, ◌∙◌, add-one, append-nil, arith, nat_eq, Option, append_assoc, is_some}
+use Rattle.wasm_dumper.proofs.Common.{if◌then◌else◌, fault_at, ReadsAs, unsigned_at, Outcome, Section, Place, place, Error, VarU32}
+use Rattle.wasm_dumper.proofs.Common.{turn_after, Step, NeedMoreData, Parsed, End, fault, Ending, import_id, Report, counted, Event}
+use Rattle.wasm_dumper.proofs.Common.{stream_end, line_in, report_of, ListError, Base, Number, more, numbers_from, numbers_read, Writing}
+use Rattle.wasm_dumper.proofs.Common.{IsWritten, with_numbers, AddsThese, AddsNumbers, Adds, base_of, Origin, AddsFirst, AddsUpTo, Space}
+use Rattle.wasm_dumper.proofs.Common.{Types, is_chosen, shown_line, numbered_line, one_number, after, after_all, numbers_in_line, Found}
+use Rattle.wasm_dumper.proofs.Common.{import_numbers, count_of, item_at, AreOfShown, ShowsAnswer, shown_bytes, AreOf, AreOfEvents, Counts}
+use Rattle.wasm_dumper.proofs.Common.{Only}
+use Rattle.std.proofs.Common.{add-zero, add-suc}
 use Rattle.std.proofs.Math.Nat.{min-eq_left}
-use Rattle.std.specs.Option.{is_some}
-use Rattle.wasm_text.specs.declared.devices.ListError.{ListError}
-use Rattle.wasm_base.specs.Window.{Window, Place, place}
-use Rattle.wasm_base.specs.declared.error.Error.{Error}
-use Rattle.wasm_grammar.specs.Ids.{import_id}
-use Rattle.wasm_grammar.specs.Reading.{Report, counted}
-use Rattle.wasm_grammar.specs.Reading.{stream_end, Event}
-use Rattle.wasm_grammar.specs.Content.{Ending, fault, ended}
-use Rattle.wasm_base.specs.FaultAt.{fault_at}
-use Rattle.wasm_parser.specs.ParseAnswer.{BeginsAfterCount, counted_by, report_of, is_end, unread}
-use Rattle.wasm_parser.specs.declared.payload.Payload.{Payload}
-use Rattle.wasm_parser.specs.declared.payload.Payload.TheVariants.{TypeSection, ImportSection, FunctionSection, TableSection}
-use Rattle.wasm_parser.specs.declared.payload.Payload.TheVariants.{MemorySection, TagSection, GlobalSection}
-use Rattle.wasm_parser.specs.declared.payload.Payload.TheVariants.{ElementSection, DataSection}
-use Rattle.wasm_lines.specs.Listing.{line_in}
-use Rattle.wasm_text.specs.declared.digits.Base.{Base}
-use Rattle.wasm_feeder.specs.declared.feeder.Step.{Step}
-use Rattle.wasm_feeder.specs.declared.feeder.Step.TheVariants.{NeedMoreData, Parsed}
-use Rattle.wasm_feeder.specs.Turns.{turn_after}
-use Rattle.wasm_feeder.specs.declared.turns.Ended.TheVariants.{End}
-use Rattle.wasm_feeder.specs.declared.turns.Turn.TheVariants as turn
+use Rattle.wasm_base.specs.Item.{outcome_map}
+use Rattle.wasm_base.specs.Window.{Window}
+use Rattle.wasm_dumper.specs.Counting.{with_import, import_number, imports_in, space_defined, AreNext, AreOfSection, AreOfItems}
+use Rattle.wasm_dumper.specs.Counting.{after_number, numbers_in, one_at}
+use Rattle.wasm_dumper.specs.Dump.{ShowsItems, ShowsReport}
+use Rattle.wasm_grammar.specs.Content.{ended}
 use Rattle.wasm_items.specs.Flattened.{NextImport, found_at}
 use Rattle.wasm_items.specs.declared.imports.Import.{Import}
-use Rattle.wasm_tree.specs.Numbers.{Number, more}
-use Rattle.wasm_dumper.specs.Counting.{Found, with_import, import_number}
-use Rattle.wasm_dumper.specs.Counting.{import_numbers}
-use Rattle.wasm_tree.specs.Numbers.{numbers_from, AreShown}
-use Rattle.wasm_dumper.specs.Counting.{imports_in, space_defined, AreNext, AreOfSection, AreOfItems}
-use Rattle.wasm_dumper.specs.Counting.{numbers_in_line, after, after_all}
-use Rattle.wasm_dumper.specs.Chosen.{is_chosen, shown_line, numbered_line}
-use Rattle.wasm_dumper.specs.Dump.{AreOfShown, AreOf, AreOfEvents, ShowsItems, ShowsReport, ShowsAnswer, shown_bytes}
-use Rattle.wasm_dumper.specs.declared.events.Only.{Only}
+use Rattle.wasm_parser.specs.ParseAnswer.{BeginsAfterCount, counted_by, is_end, unread}
+use Rattle.wasm_parser.specs.declared.payload.Payload.{Payload}
+use Rattle.wasm_parser.specs.declared.payload.Payload.TheVariants.{TypeSection, ImportSection, FunctionSection, TableSection, MemorySection}
+use Rattle.wasm_parser.specs.declared.payload.Payload.TheVariants.{TagSection, GlobalSection, ElementSection, DataSection}
+use Rattle.wasm_tree.specs.Numbers.{AreShown}
+use Rattle.wasm_tree.specs.Tree.{with_line, AddsNumber, AddsAll, AddsBytes, with_bytes}
 use Rattle.wasm_dumper.proofs.Lines.{line_is_first}
-use Rattle.wasm_tree.specs.Tree.{Writing, Origin, IsWritten, with_line, with_numbers, Adds, AddsFirst, AddsThese, AddsNumber, AddsNumbers}
-use Rattle.wasm_tree.specs.Tree.{AddsAll, AddsBytes, AddsUpTo, base_of, with_bytes}
-use Rattle.wasm_tree.specs.declared.numbers.Space.{Space}
-use Rattle.wasm_tree.specs.declared.numbers.Space.TheVariants.{Types}
-use Rattle.wasm_base.specs.Item.{ReadsAs, outcome_map}
-use Rattle.wasm_base.specs.Number.{unsigned_at}
-use Rattle.wasm_base.specs.Outcome.{Outcome}
-use Rattle.wasm_base.specs.Section.{Section}
-use Rattle.wasm_base.specs.declared.fault.NumberKind.TheVariants.{VarU32}
-use Rattle.wasm_dumper.specs.Counting.{after_number, count_of, item_at, numbers_in, one_at}
-use Rattle.wasm_dumper.specs.Counting.{one_number}
-use Rattle.wasm_tree.specs.Numbers.{numbers_read}
-use Rattle.wasm_dumper.specs.declared.counts.Counts.{Counts}
+use Rattle.wasm_feeder.specs.declared.turns.Turn.TheVariants as turn
 
 -- ---- numbers that are shown one after the other
 

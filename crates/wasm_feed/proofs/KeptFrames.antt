@@ -1,21 +1,19 @@
 -- The kept events of sections.
-use Rattle.std.proofs.Common.{◌≡◌, ℕ, ◌+◌, ◌⊎◌, inl, inr, Bool, true, false, List, [], ◌∷◌, ◌++◌, length, Some, refl, sym}
-use Rattle.std.proofs.Common.{subst, arith, length-append, append-nil, append_assoc, eqb-true}
-use Rattle.std.specs.List.{All, AllZip, filter, flat_map}
+use Rattle.wasm_feed.proofs.Common.{◌≡◌, ℕ, ◌+◌, ◌⊎◌, inl, inr, Bool, true, false, List, [], ◌∷◌, ◌++◌, length, Some, refl, sym, subst}
+use Rattle.wasm_feed.proofs.Common.{arith, length-append, append-nil, append_assoc, eqb-true, All-tail, All, filter, flat_map, SectionFrame}
+use Rattle.wasm_feed.proofs.Common.{frame_bytes, IsFrame, consumed_by, Event, Encoding, frame_stays, event_stays, kept_bytes}
 use Rattle.std.proofs.lemmas.Bool.{false_from_ne_true}
 use Rattle.std.proofs.lemmas.Grind.{flat_map-append}
-use Rattle.std.proofs.lemmas.List.Elements.{All-head, All-tail, filter-append}
+use Rattle.std.proofs.lemmas.List.Elements.{All-head, filter-append}
+use Rattle.std.specs.List.{AllZip}
 use Rattle.wasm_base.specs.Name.{named, name_limit, name}
-use Rattle.wasm_grammar.specs.Accepted.{Sized, sized_bytes, SectionFrame, frame_bytes, IsFrame, IsGood, IsFormed, CodeDivision}
+use Rattle.wasm_feed.specs.Stripped.{staying, IsMovedBack}
+use Rattle.wasm_grammar.specs.Accepted.{Sized, sized_bytes, IsGood, IsFormed, CodeDivision}
 use Rattle.wasm_grammar.specs.Content.{Kind, custom, code, kind_of, Form, whole}
-use Rattle.wasm_grammar.specs.EventRanges.{consumed_by}
 use Rattle.wasm_grammar.specs.FrameEvents.{section_event, body_events, code_events, KindEvents, FrameEvents, FramesEvents}
-use Rattle.wasm_grammar.specs.Reading.{Event}
-use Rattle.wasm_grammar.specs.Shifted.{shifted_events}
-use Rattle.wasm_grammar.specs.declared.encoding.Encoding.{Encoding}
-use Rattle.wasm_parser.proofs.ForCallers.{frames_read_the_same, custom_has_its_id}
-use Rattle.wasm_feed.specs.Stripped.{frame_stays, event_stays, kept_bytes, staying, IsMovedBack}
 use Rattle.wasm_grammar.specs.Ids.{custom_id}
+use Rattle.wasm_grammar.specs.Shifted.{shifted_events}
+use Rattle.wasm_parser.proofs.ForCallers.{frames_read_the_same, custom_has_its_id}
 
 -- ---- the events of one section
 

@@ -1,12 +1,9 @@
 -- The kept bytes of a stream, moved to its front.
-use Rattle.std.proofs.Common.{◌≡◌, ℕ, Bool, ◌+◌, ◌-◌, ◌≤◌, ◌<◌, List, ◌++◌, length, take, drop, sym, ap, ◌∙◌, arith}
-use Rattle.std.proofs.Common.{length-append, append_assoc}
-use Rattle.std.specs.List.{copy_within}
-use Rattle.std.proofs.lemmas.List.{take_at, drop-drop, length-drop, take-append-drop}
+use Rattle.wasm_feed.proofs.Common.{◌≡◌, ℕ, ◌+◌, Bool, List, ◌++◌, length, sym, arith, length-append, append_assoc, ◌-◌, ◌≤◌, ◌<◌, take}
+use Rattle.wasm_feed.proofs.Common.{drop, ap, ◌∙◌, take_at, copy_within, HasKept, feed_of, Cursor}
+use Rattle.std.proofs.lemmas.List.{drop-drop, length-drop, take-append-drop}
 use Rattle.std.proofs.lemmas.List.Edits.{take-paste, drop-paste}
-use Rattle.wasm_feeder.specs.Cursors.{feed_of}
-use Rattle.wasm_feed.specs.Strips.{HasKept, EndsAtMark}
-use Rattle.wasm_feeder.specs.declared.feeder.Cursor.{Cursor}
+use Rattle.wasm_feed.specs.Strips.{EndsAtMark}
 
 -- a part that is moved down, after what is at the front, changes nothing of what comes after it
 module _ (bytes part : List ℕ) (kept start end : ℕ) (order : kept ≤ start) (within : start ≤ length bytes)

@@ -1,26 +1,21 @@
 -- What a step over a stream that is stripped says of the bytes that are left.
-use Rattle.std.proofs.Common.{◌≡◌, ℕ, ◌+◌, ◌^◌, ◌<◌, ◌≤◌, Bool, true, false, List, [], ◌∷◌, ◌++◌, length, Bor, Ok, Err, refl}
-use Rattle.std.proofs.Common.{sym, ap, subst₂, ◌∙◌, arith, length-append, append-nil}
+use Rattle.wasm_feed.proofs.Common.{◌≡◌, ℕ, ◌+◌, Bool, true, false, List, [], ◌∷◌, ◌++◌, length, refl, sym, arith, length-append}
+use Rattle.wasm_feed.proofs.Common.{append-nil, ◌≤◌, ◌<◌, ap, ◌∙◌, ◌^◌, Ok, Err, subst₂, all_features, Error, consumed_by, Event}
+use Rattle.wasm_feed.proofs.Common.{answers_go_along, kept_bytes, EndsWithFault, HasKept, ReadsKept, Feed, Steps}
+use Rattle.std.proofs.Common.{Bor}
 use Rattle.std.proofs.lemmas.Bool.Decides.{nat_tests}
-use Rattle.wasm_base.specs.declared.error.Error.{Error}
-use Rattle.wasm_grammar.specs.EventRanges.{consumed_by}
-use Rattle.wasm_parser.specs.ParseAnswer.{report_of, is_end}
-use Rattle.wasm_grammar.specs.Reading.{Event}
-use Rattle.wasm_parser.specs.declared.payload.Payload.{Payload}
-use Rattle.wasm_parser.proofs.ForCallers.{answers_go_along}
-use Rattle.wasm_parser.specs.ParserState.{ParserState, initial_state}
-use Rattle.wasm_parser.specs.Along.{Along, Came}
-use Rattle.wasm_feeder.specs.Feed.{Feed}
-use Rattle.wasm_feeder.specs.Step.{answer_of, Steps}
-use Rattle.wasm_feed.specs.Stripped.{kept_bytes, EndsWithFault}
+use Rattle.wasm_feed.specs.Strips.{FateComes, IsFewer}
 use Rattle.wasm_feeder.specs.Fates.{IsFateOf}
-use Rattle.wasm_feed.specs.Strips.{FateComes, IsFewer, HasKept, ReadsKept}
-use Rattle.wasm_feeder.specs.declared.feeder.Step.TheVariants.{Parsed}
+use Rattle.wasm_feeder.specs.Step.{answer_of}
 use Rattle.wasm_feeder.specs.declared.fates.Fate.{Fate}
 use Rattle.wasm_feeder.specs.declared.fates.Fate.TheVariants.{Stays, Goes, End}
-use Rattle.wasm_feeder.proofs.ForCallers.{stepped}
+use Rattle.wasm_feeder.specs.declared.feeder.Step.TheVariants.{Parsed}
+use Rattle.wasm_parser.specs.Along.{Along, Came}
+use Rattle.wasm_parser.specs.ParseAnswer.{report_of, is_end}
+use Rattle.wasm_parser.specs.ParserState.{ParserState, initial_state}
+use Rattle.wasm_parser.specs.declared.payload.Payload.{Payload}
 use Rattle.wasm_feed.proofs.KeptFrames.{kept_more}
-use Rattle.wasm_base.specs.Features.{all_features}
+use Rattle.wasm_feeder.proofs.ForCallers.{stepped}
 
 -- fewer bytes are held after a part that isn't the end
 fewer : (f g : Feed) (bytes : Bor (List ℕ)) (payload : Payload) → Steps f (Ok (Parsed bytes payload)) g → is_end (report_of payload) ≡ false

@@ -1,3 +1,4 @@
+pub mod Common
 pub mod KeptFrames
 pub mod KeptInPlace
 pub mod KeptParts

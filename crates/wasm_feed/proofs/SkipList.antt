@@ -1,32 +1,23 @@
 -- How far a listing has come after a part that was skipped.
-use Rattle.std.proofs.Common.{◌≡◌, ℕ, ◌+◌, ◌<◌, Bool, true, false, List, [], ◌∷◌, ◌++◌, length, Option, Some, None, Err, codes, refl, sym, ap}
-use Rattle.std.proofs.Common.{◌∙◌, append-nil}
-use Rattle.std.specs.Io.KnownBytes.{Appends, Consumes, IsAtEnd}
-use Rattle.std.proofs.KnownBytes.{Appends-trans, Consumes-trans}
-use Rattle.wasm_base.specs.FaultAt.{fault_at, at_offset}
-use Rattle.wasm_base.specs.declared.error.Error.{Error}
+use Rattle.wasm_feed.proofs.Common.{◌≡◌, ℕ, Bool, true, false, List, [], ◌∷◌, ◌++◌, length, Some, refl, sym, append-nil, ◌<◌, ap, ◌∙◌, Err}
+use Rattle.wasm_feed.proofs.Common.{Option, None, Consumes-trans, Appends, fault_at, Error, fault, last_event, line_of, listing_by, skip_is}
+use Rattle.wasm_feed.proofs.Common.{from_to, IsCut, PutsBytes, ListError, AtEnd, arrived, cut, cut_within, is_short, past, puts_more, seen}
+use Rattle.wasm_feed.proofs.Common.{lending, Feed, pushed, GivesUp, SkipsHere, held_by, Progress, Wants, weight, Cursor, Passing, Fault}
+use Rattle.std.proofs.Common.{codes}
+use Rattle.std.proofs.KnownBytes.{Appends-trans}
+use Rattle.std.specs.Io.KnownBytes.{IsAtEnd}
+use Rattle.wasm_base.specs.FaultAt.{at_offset}
 use Rattle.wasm_base.specs.declared.fault.Fault.TheVariants.{UnexpectedEof}
-use Rattle.wasm_grammar.specs.Content.{fault}
-use Rattle.wasm_grammar.specs.Reading.{last_event, stream_end}
-use Rattle.wasm_text.specs.Calls.{from_to}
-use Rattle.wasm_text.specs.Page.{IsCut, PutsBytes}
-use Rattle.wasm_text.specs.declared.devices.ListError.{ListError}
-use Rattle.wasm_text.specs.declared.digits.Base.TheVariants.{Decimal}
-use Rattle.wasm_lines.specs.Listing.{line_of, listing_by, skip_text}
-use Rattle.wasm_lines.proofs.ForCallers.{skipped_text}
-use Rattle.wasm_parser.specs.SkipNext.{Head, skip_is}
-use Rattle.wasm_feeder.specs.Beside.{seen, lending}
-use Rattle.wasm_feeder.specs.Feed.{Feed, pushed}
-use Rattle.wasm_feeder.specs.Lists.{IsListed, ListsBy}
-use Rattle.wasm_feeder.specs.Passing.{GivesUp, PassesPart, SkipsHere, held_by}
-use Rattle.wasm_feeder.specs.Progress.{Progress, Wants, weight}
-use Rattle.wasm_feeder.specs.declared.feeder.Cursor.{Cursor}
-use Rattle.wasm_feeder.specs.declared.turns.Ended.TheVariants.{Fault}
-use Rattle.wasm_feeder.specs.declared.passing.Passing.{Passing}
-use Rattle.wasm_feeder.proofs.ForCallers.{AtEnd, arrived, cut, cut_at_end, cut_within, dropped_before, is_short, listed_to_end, none_put, one_more}
-use Rattle.wasm_feeder.proofs.ForCallers.{past, puts_more, reads_short}
 use Rattle.wasm_feed.specs.Dropping.{DropsHere}
 use Rattle.wasm_feed.specs.declared.listing.Dropped.{Dropped}
+use Rattle.wasm_feeder.specs.Lists.{IsListed, ListsBy}
+use Rattle.wasm_feeder.specs.Passing.{PassesPart}
+use Rattle.wasm_grammar.specs.Reading.{stream_end}
+use Rattle.wasm_lines.specs.Listing.{skip_text}
+use Rattle.wasm_parser.specs.SkipNext.{Head}
+use Rattle.wasm_text.specs.declared.digits.Base.TheVariants.{Decimal}
+use Rattle.wasm_feeder.proofs.ForCallers.{cut_at_end, dropped_before, listed_to_end, none_put, one_more, reads_short}
+use Rattle.wasm_lines.proofs.ForCallers.{skipped_text}
 
 -- the bytes of a step are those that it sees
 pub dropped_here : (old : Cursor) (stored chunk items rest bytes : List ℕ) (d : Dropped) (new : Cursor) → bytes ≡ seen items rest

@@ -1,24 +1,21 @@
 -- A stripped stream is accepted, and is read as the stream is but for what was dropped.
-use Rattle.std.proofs.Common.{◌≡◌, ℕ, ◌+◌, ◌<◌, ◌≤◌, ◌^◌, ◌⊎◌, inl, inr, Bool, true, false, cond, List, [], ◌∷◌, ◌++◌, length}
-use Rattle.std.proofs.Common.{take, Result, Ok, Err, refl, ◌∙◌, arith, length-append, eqb-true}
-use Rattle.std.specs.List.{All, filter, flat_map}
-use Rattle.std.proofs.lemmas.List.Elements.{All-append, All-tail}
-use Rattle.wasm_base.specs.FaultAt.{fault_at}
+use Rattle.wasm_feed.proofs.Common.{◌≡◌, ℕ, ◌+◌, ◌⊎◌, inl, inr, Bool, true, false, List, [], ◌∷◌, ◌++◌, length, refl, arith, length-append}
+use Rattle.wasm_feed.proofs.Common.{eqb-true, ◌≤◌, ◌<◌, take, ◌∙◌, ◌^◌, Ok, Err, Result, All-tail, All, filter, flat_map, fault_at}
+use Rattle.wasm_feed.proofs.Common.{all_features, Error, SectionFrame, frame_bytes, IsFrame, fault, Ending, Event, last_event, Reading}
+use Rattle.wasm_feed.proofs.Common.{Encoding, frame_stays, EndsWithFault, IsStripped, ReadsKept}
+use Rattle.std.proofs.Common.{cond}
+use Rattle.std.proofs.lemmas.List.Elements.{All-append}
 use Rattle.wasm_base.specs.Owned.{out_of_memory}
-use Rattle.wasm_base.specs.declared.error.Error.{Error}
-use Rattle.wasm_grammar.specs.Accepted.{header_bytes, SectionFrame, frame_bytes, IsFrame, IsAccepted}
-use Rattle.wasm_grammar.specs.Content.{Ending, fault, ended}
+use Rattle.wasm_feed.specs.Stripped.{stripped, AreKept, RefusesToStrip, LeavesStream, StripsToFront, StrippingTwiceIsOnce}
+use Rattle.wasm_feed.specs.Strips.{MovesKept}
+use Rattle.wasm_grammar.specs.Accepted.{header_bytes, IsAccepted}
+use Rattle.wasm_grammar.specs.Content.{ended}
 use Rattle.wasm_grammar.specs.FrameEvents.{header_event, TellsFrames}
 use Rattle.wasm_grammar.specs.Grammar.{Tile}
-use Rattle.wasm_grammar.specs.Reading.{Event, last_event, Reads, Reading, Stream}
-use Rattle.wasm_grammar.specs.declared.encoding.Encoding.{Encoding}
-use Rattle.wasm_parser.proofs.ForCallers.{reads_accepted, fault_ends, rankless_may_go, one_division, frames_give_events}
-use Rattle.wasm_grammar.proofs.PlainLists.{all_prefix, Spares, filter_twice, each_of}
-use Rattle.wasm_feed.specs.Stripped.{frame_stays, stripped, AreKept, IsStripped, EndsWithFault, RefusesToStrip, LeavesStream}
-use Rattle.wasm_feed.specs.Stripped.{StripsToFront, StrippingTwiceIsOnce}
-use Rattle.wasm_feed.specs.Strips.{MovesKept, ReadsKept}
+use Rattle.wasm_grammar.specs.Reading.{Reads, Stream}
 use Rattle.wasm_feed.proofs.KeptFrames.{bytes_of_frames, KeptOf, kept_of}
-use Rattle.wasm_base.specs.Features.{all_features}
+use Rattle.wasm_grammar.proofs.PlainLists.{all_prefix, Spares, filter_twice, each_of}
+use Rattle.wasm_parser.proofs.ForCallers.{reads_accepted, fault_ends, rankless_may_go, one_division, frames_give_events}
 
 -- ---- how a reading ends
 

@@ -1,82 +1,53 @@
 -- How far a stream is stripped while it is read, and what each turn does to it.
-use Rattle.std.proofs.Common.{◌≡◌, ℕ, ◌+◌, ◌^◌, ◌<◌, ◌≤◌, Bool, true, false, if◌then◌else◌, List, [], ◌∷◌, ◌++◌, drop, length, Option}
-use Rattle.std.proofs.Common.{Some, None, Result, Ok, Err, refl, sym, ap, subst, ◌∙◌, arith, append_assoc, append-nil, inl, inr}
-use Rattle.std.specs.Io.KnownBytes.{Consumes, Appends}
-use Rattle.std.proofs.KnownBytes.{Consumes-nil, Consumes-trans}
-use Rattle.wasm_base.specs.Features.{all_features}
-use Rattle.wasm_base.specs.declared.error.Error.{Error}
-use Rattle.wasm_base.specs.FaultAt.{fault_at}
-use Rattle.wasm_grammar.specs.Content.{Ending, fault}
-use Rattle.wasm_grammar.specs.EventRanges.{consumed_by}
-use Rattle.wasm_grammar.specs.Reading.{Report, Event, last_event, Reading, custom_section, counted, unknown_section, code_entry}
-use Rattle.wasm_text.specs.Calls.{from_to}
-use Rattle.wasm_text.specs.Page.{IsCut, PutsBytes, WritesHead}
-use Rattle.wasm_text.specs.declared.devices.ListError.{ListError}
-use Rattle.wasm_text.specs.declared.devices.ListError.TheVariants.{Input}
-use Rattle.wasm_parser.specs.ParseAnswer.{report_of, is_end}
-use Rattle.wasm_parser.specs.SkipNext.{Skip, skip_in}
-use Rattle.wasm_parser.proofs.ForCallers.{answers_go_along}
-use Rattle.wasm_feeder.specs.Beside.{lending, seen, unseen}
-use Rattle.wasm_feeder.specs.Fates.{head_stays, report_stays}
-use Rattle.wasm_feeder.specs.Feed.{Feed, pushed}
-use Rattle.wasm_feeder.specs.Passing.{EndsBefore, PartEnds, SkipsHere, held_by, if_stays}
-use Rattle.wasm_feeder.specs.Progress.{weight, Reached, Progress, Wants}
-use Rattle.wasm_feeder.specs.Step.{Steps}
+use Rattle.wasm_feed.proofs.Common.{◌≡◌, ℕ, inl, inr, Bool, true, false, List, [], ◌∷◌, ◌++◌, length, Some, refl, sym, subst, arith}
+use Rattle.wasm_feed.proofs.Common.{append-nil, append_assoc, ◌≤◌, ◌<◌, drop, ap, ◌∙◌, Option, None, Result, Consumes-trans, Consumes-nil}
+use Rattle.wasm_feed.proofs.Common.{Appends, fault_at, all_features, Error, fault, Ending, consumed_by, Event, last_event, Reading}
+use Rattle.wasm_feed.proofs.Common.{answers_go_along, from_to, IsCut, PutsBytes, ListError, StopsHere, event_stays, kept_bytes, AtEnd}
+use Rattle.wasm_feed.proofs.Common.{arrived, cut_within, is_short, past, puts_more, seen, lending, head_stays, Feed, pushed, SkipsHere}
+use Rattle.wasm_feed.proofs.Common.{held_by, Progress, Wants, weight, Steps, Cursor, Passing, Fault}
+use Rattle.std.specs.Io.KnownBytes.{Consumes}
+use Rattle.wasm_feed.specs.StripStream.{IsPartial, IsStreamed, PassesHere, ReadsOrPasses, StripsHead, piece_after}
+use Rattle.wasm_feeder.specs.Beside.{unseen}
+use Rattle.wasm_feeder.specs.Fates.{report_stays}
+use Rattle.wasm_feeder.specs.Passing.{EndsBefore, PartEnds, if_stays}
+use Rattle.wasm_feeder.specs.Progress.{Reached}
 use Rattle.wasm_feeder.specs.Turns.{turn_after}
-use Rattle.wasm_feeder.specs.declared.feeder.Cursor.{Cursor}
 use Rattle.wasm_feeder.specs.declared.feeder.Step.{Step}
-use Rattle.wasm_feeder.specs.declared.feeder.Step.TheVariants.{NeedMoreData, Parsed}
-use Rattle.wasm_feeder.specs.declared.passing.Passing.{Passing}
 use Rattle.wasm_feeder.specs.declared.turns.Ended.{Ended}
-use Rattle.wasm_feeder.specs.declared.turns.Ended.TheVariants.{End, Fault}
+use Rattle.wasm_feeder.specs.declared.turns.Ended.TheVariants.{End}
 use Rattle.wasm_feeder.specs.declared.turns.Turn.{Turn}
-use Rattle.wasm_feeder.specs.declared.turns.Turn.TheVariants as turn
-use Rattle.wasm_feeder.proofs.ForCallers as progress
-use Rattle.wasm_feeder.proofs.ForCallers.{AtEnd, IsEvent, all_given, arrived, begins, begins_with, consumed, cut_within, whole_input}
-use Rattle.wasm_feeder.proofs.ForCallers.{head_after, head_before, head_of_cut, head_of_puts, head_past, puts_more, puts_out, past, is_short}
-use Rattle.wasm_feeder.proofs.ForCallers.{same_held}
-use Rattle.wasm_feed.specs.StripStream.{IsPartial, IsStreamed, PassesHere, ReadsOrPasses, StopsHere, StripsHead, piece_after}
-use Rattle.wasm_feed.specs.Stripped.{event_stays, kept_bytes}
+use Rattle.wasm_grammar.specs.Reading.{Report}
+use Rattle.wasm_parser.specs.SkipNext.{Skip, skip_in}
+use Rattle.wasm_text.specs.Page.{WritesHead}
 use Rattle.wasm_feed.proofs.KeptFrames.{kept_more}
 use Rattle.wasm_feed.proofs.StripLaws.{strips_so}
+use Rattle.wasm_feeder.proofs.ForCallers.{IsEvent, all_given, begins, begins_with, consumed, whole_input, head_after, head_before}
+use Rattle.wasm_feeder.proofs.ForCallers.{head_of_cut, head_of_puts, head_past, puts_out, same_held}
+use Rattle.wasm_feeder.specs.declared.turns.Turn.TheVariants as turn
+use Rattle.wasm_feeder.proofs.ForCallers as progress
 
 -- ---- the bytes of one event more
 
 kept_one : (keeps : List ℕ → Bool) (e : Event) (b : Bool) → event_stays keeps e ≡ b → kept_bytes keeps (e ∷ []) ≡ if_stays b e.consumed
-kept_one keeps e true s = rw s (append-nil e.consumed)
-kept_one keeps e false s = rw s refl
+kept_one keeps e b s = grind (arith, append-nil, consumed)
 
 kept_by : (keeps : List ℕ → Bool) (es : List Event) (e : Event) (b : Bool) (bytes : List ℕ) → event_stays keeps e ≡ b → e.consumed ≡ bytes
     → kept_bytes keeps (es ++ e ∷ []) ≡ kept_bytes keeps es ++ if_stays b bytes
-kept_by keeps es e b bytes s is = kept_more keeps es (e ∷ [])
-    ∙ ap (λ (l : List ℕ). kept_bytes keeps es ++ l) (kept_one keeps e b s ∙ ap (if_stays b) is)
+kept_by keeps es e b bytes s is = grind (arith, kept_more, kept_one)
 
 kept_event : (keeps : List ℕ → Bool) (x : Result Step Error) (es : List Event) (e : Event) → IsEvent x e
     → kept_bytes keeps (es ++ e ∷ []) ≡ kept_bytes keeps es ++ piece_after keeps x
-kept_event keeps (Ok (Parsed bytes payload)) es e (n, says, is) =
-    rw n (kept_by keeps es e (report_stays keeps (report_of payload)) bytes.now (ap (report_stays keeps) (sym says)) is)
-kept_event keeps _ es e is = absurd is
+kept_event keeps x es e is = grind (arith, kept_by)
 
 -- only an event has bytes
 nothing_after : (keeps : List ℕ → Bool) (x : Result Step Error) (t : Turn) → t ≡ turn_after x → (t ≡ turn.Advance → ⊥)
     → piece_after keeps x ≡ []
-nothing_after keeps (Ok (Parsed bytes payload)) t is other = by_end (is_end (report_of payload)) is
-  where
-    by_end : (b : Bool) → t ≡ (if b then turn.End End else turn.Advance)
-        → (if b then [] else if_stays (report_stays keeps (report_of payload)) bytes.now) ≡ []
-    by_end true is = refl
-    by_end false is = absurd (other is)
-nothing_after keeps (Ok (NeedMoreData hint)) t is other = refl
-nothing_after keeps (Err e) t is other = refl
+nothing_after keeps x t is other = grind arith
 
 -- a part with these first fields stays if its event does
 same_stays : (keeps : List ℕ → Bool) (report : Report) (s : Skip) → skip_in report ≡ Some s → report_stays keeps report
     ≡ head_stays keeps s.head
-same_stays keeps (custom_section text data_offset window) s e = grind arith
-same_stays keeps (counted id count window) s e = grind arith
-same_stays keeps (unknown_section id contents from to) s e = grind arith
-same_stays keeps (code_entry window) s e = grind arith
-same_stays keeps _ s e = cc
+same_stays keeps report s e = grind arith
 
 -- ---- where it ends
 
@@ -191,8 +162,7 @@ dropped true xs = []
 dropped false xs = xs
 
 both_parts : (b : Bool) (xs : List ℕ) → if_stays b xs ++ dropped b xs ≡ xs
-both_parts true xs = append-nil xs
-both_parts false xs = refl
+both_parts b xs = grind (arith, append-nil)
 
 module _ (keeps : List ℕ → Bool) (source rest taken written : Option (List ℕ)) (c : Cursor) (stored chunk page : List ℕ)
     (w : Wants (kept_bytes keeps) (from_to source rest) (from_to taken written) (lending stored chunk c) page)
@@ -304,8 +274,7 @@ module _ (keeps : List ℕ → Bool) (source rest taken written : Option (List �
 
   few_before : (written' : Option (List ℕ)) (stays : Bool) (missing : ℕ) (passed left new : List ℕ) (e : ListError)
       → EndsBefore written written' stays missing page passed left new e → length passed ≤ missing
-  few_before written' stays missing passed left new Input w = omega (arith, w.1)
-  few_before written' stays missing passed left new _ w = w.2
+  few_before written' stays missing passed left new e w = grind arith
 
   -- a request could not be met
   pub stopped_here : (written' : Option (List ℕ)) (e : ListError) → StopsHere keeps rest rest' written written' c stored chunk page e

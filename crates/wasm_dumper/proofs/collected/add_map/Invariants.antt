@@ -1,4 +1,4 @@
-use Rattle.wasm_tree.specs.ItemNames.{KeepsNames}
+use Rattle.wasm_dumper.proofs.Common.{KeepsNames}
 use Rattle.wasm_dumper.proofs.collected.add_map.Given as goal
 
 abbrev pub invariant-names : goal.invariant-names

@@ -1,5 +1,5 @@
-use Rattle.std.proofs.Common.{◌≡◌, false, option_map, take}
-use Rattle.std.specs.List.{list_any}
+use Rattle.wasm_dumper.proofs.Common.{◌≡◌, false, option_map, list_any}
+use Rattle.std.proofs.Common.{take}
 use Rattle.wasm_dumper.specs.Chosen.{is_chosen_with}
 use Rattle.wasm_dumper.proofs.events.is_chosen_by_any.Given as goal
 

@@ -1,10 +1,5 @@
-use Rattle.std.proofs.Common.{◌≡◌, ap, sym, subst, ◌∙◌}
-use Rattle.wasm_text.specs.declared.digits.Base.{Base}
-use Rattle.wasm_parser.specs.ParseAnswer.{report_of}
-use Rattle.wasm_dumper.specs.Chosen.{numbered_line}
-use Rattle.wasm_tree.specs.Tree.{AddsFirst, base_of}
+use Rattle.wasm_dumper.proofs.Common.{◌≡◌, sym, ap, subst, ◌∙◌, report_of, Base, first_in_objects, base_of, AddsFirst, numbered_line}
 use Rattle.wasm_dumper.proofs.Lines.{text_fed}
-use Rattle.wasm_tree.proofs.ForCallers.{first_in_objects}
 use Rattle.wasm_dumper.proofs.events.show_event.Goals as goal
 
 pub returns-in-Lines : goal.returns-in-Lines

@@ -1,11 +1,5 @@
-use Rattle.std.proofs.Common.{◌≡◌, ap, sym, subst, ◌∙◌}
-use Rattle.wasm_base.specs.FaultAt.{fault_at}
-use Rattle.wasm_lines.specs.Listing.{line_in}
-use Rattle.wasm_text.specs.declared.digits.Base.{Base}
-use Rattle.wasm_grammar.specs.Content.{fault}
-use Rattle.wasm_grammar.specs.Reading.{stream_end}
-use Rattle.wasm_tree.specs.Tree.{AddsFirst, base_of}
-use Rattle.wasm_tree.proofs.ForCallers.{first_in_objects}
+use Rattle.wasm_dumper.proofs.Common.{◌≡◌, sym, ap, subst, ◌∙◌, fault_at, fault, stream_end, line_in, Base, first_in_objects, base_of}
+use Rattle.wasm_dumper.proofs.Common.{AddsFirst}
 use Rattle.wasm_dumper.proofs.events.show_last_fault.Goals as goal
 
 pub returns-in-Lines : goal.returns-in-Lines

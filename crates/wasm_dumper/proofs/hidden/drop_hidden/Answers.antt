@@ -1,10 +1,7 @@
-use Rattle.std.proofs.Common.{◌≡◌, ℕ, Bool, false, List, Option, Result, Ok, Err}
+use Rattle.wasm_dumper.proofs.Common.{◌≡◌, ℕ, Bool, false, List, Result, Ok, Err, Option, Error, ListError, FailsWithin}
 use Rattle.std.specs.Prelude.{IfErr}
-use Rattle.wasm_base.specs.declared.error.Error.{Error}
-use Rattle.wasm_text.specs.declared.devices.ListError.{ListError}
 use Rattle.wasm_feeder.specs.Passing.{GivesUp}
 use Rattle.wasm_feeder.proofs.ForCallers.{dropped_before}
-use Rattle.wasm_dumper.specs.Hiding.{FailsWithin}
 use Rattle.wasm_dumper.proofs.hidden.drop_hidden.Goals as goal
 
 fails_so : (source rest taken written : Option (List ℕ)) (stays : Bool) (size : ℕ) (held waiting left new : List ℕ)

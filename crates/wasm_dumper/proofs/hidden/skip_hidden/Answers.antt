@@ -1,4 +1,4 @@
-use Rattle.std.proofs.Common.{refl, arith, ◌∙◌, sym}
+use Rattle.wasm_dumper.proofs.Common.{refl, sym, ◌∙◌, arith}
 use Rattle.wasm_parser.specs.SkipNext.{skip_is}
 use Rattle.wasm_dumper.proofs.hidden.skip_hidden.Goals as goal
 

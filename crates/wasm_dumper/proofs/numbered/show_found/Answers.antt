@@ -1,5 +1,4 @@
-use Rattle.std.proofs.Common.{arith}
-use Rattle.wasm_tree.specs.declared.numbers.Space.TheVariants.{Types}
+use Rattle.wasm_dumper.proofs.Common.{arith, Types}
 use Rattle.wasm_dumper.proofs.Numbering.{up_to_here}
 use Rattle.wasm_dumper.proofs.numbered.show_found.Goals as goal
 

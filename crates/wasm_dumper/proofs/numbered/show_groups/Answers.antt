@@ -1,5 +1,5 @@
+use Rattle.wasm_dumper.proofs.Common.{Types}
 use Rattle.std.proofs.Common.{lit<}
-use Rattle.wasm_tree.specs.declared.numbers.Space.TheVariants.{Types}
 use Rattle.wasm_dumper.proofs.Numbering.{up_to_none, up_to_more}
 use Rattle.wasm_dumper.proofs.numbered.show_groups.Goals as goal
 

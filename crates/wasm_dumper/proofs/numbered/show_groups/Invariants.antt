@@ -1,5 +1,4 @@
-use Rattle.wasm_tree.specs.Tree.{AddsUpTo}
-use Rattle.wasm_tree.specs.declared.numbers.Space.TheVariants.{Types}
+use Rattle.wasm_dumper.proofs.Common.{AddsUpTo, Types}
 use Rattle.wasm_dumper.proofs.numbered.show_groups.Given as goal
 
 abbrev pub invariant-groups : goal.invariant-groups

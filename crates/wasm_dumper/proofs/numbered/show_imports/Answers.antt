@@ -1,12 +1,7 @@
-use Rattle.std.proofs.Common.{List, ap, subst, sym, ◌∙◌}
-use Rattle.wasm_base.specs.Section.{Section}
-use Rattle.wasm_base.specs.Window.{place}
-use Rattle.wasm_items.specs.Flattened.{flattened}
-use Rattle.wasm_dumper.specs.Counting.{Found, import_numbers}
-use Rattle.wasm_dumper.specs.declared.counts.Counts.{Counts}
+use Rattle.wasm_dumper.proofs.Common.{List, sym, ap, subst, ◌∙◌, Section, place, flattened, Found, import_numbers, Counts}
 use Rattle.wasm_dumper.proofs.Numbering.{AddsAllBut, none_shown, import_shown, all_shown, some_shown}
-use Rattle.wasm_dumper.proofs.numbered.show_imports.Goals as goal
 use Rattle.wasm_dumper.proofs.numbered.show_imports.Goals.{in-None, in-Some+then-has_stopped}
+use Rattle.wasm_dumper.proofs.numbered.show_imports.Goals as goal
 
 pub loop-import-init : goal.loop-import-init
 loop-import-init g c =

@@ -1,6 +1,4 @@
-use Rattle.wasm_base.specs.Window.{place}
-use Rattle.wasm_items.specs.Flattened.{flattened}
-use Rattle.wasm_dumper.specs.Counting.{import_numbers}
+use Rattle.wasm_dumper.proofs.Common.{place, flattened, import_numbers}
 use Rattle.wasm_dumper.proofs.Numbering.{AddsAllBut}
 use Rattle.wasm_dumper.proofs.numbered.show_imports.Given as goal
 

@@ -1,9 +1,7 @@
-use Rattle.std.proofs.Common.{ap, ℕ, arith, subst, sym, ◌∙◌}
-use Rattle.wasm_base.specs.Section.{Section, all_items}
-use Rattle.wasm_dumper.specs.Counting.{count_of}
+use Rattle.wasm_dumper.proofs.Common.{ℕ, sym, ap, subst, ◌∙◌, arith, Section, all_items, count_of}
 use Rattle.wasm_dumper.proofs.Counted.{AddsSoFar, none_so_far, one_so_far, so_far_all, so_far_some}
-use Rattle.wasm_dumper.proofs.numbered.show_numbered.Goals as goal
 use Rattle.wasm_dumper.proofs.numbered.show_numbered.Goals.{in-None, in-Some+then-has_stopped}
+use Rattle.wasm_dumper.proofs.numbered.show_numbered.Goals as goal
 
 pub loop-item-init : goal.loop-item-init
 loop-item-init g c =

@@ -1,4 +1,4 @@
-use Rattle.wasm_dumper.specs.Counting.{count_of}
+use Rattle.wasm_dumper.proofs.Common.{count_of}
 use Rattle.wasm_dumper.proofs.Counted.{AddsSoFar}
 use Rattle.wasm_dumper.proofs.numbered.show_numbered.Given as goal
 

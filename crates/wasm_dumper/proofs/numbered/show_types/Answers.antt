@@ -1,6 +1,4 @@
-use Rattle.std.proofs.Common.{ℕ, arith, subst, sym}
-use Rattle.wasm_tree.specs.Tree.{AddsUpTo}
-use Rattle.wasm_tree.specs.declared.numbers.Space.TheVariants.{Types}
+use Rattle.wasm_dumper.proofs.Common.{ℕ, sym, subst, arith, AddsUpTo, Types}
 use Rattle.wasm_dumper.proofs.Numbering.{up_to_none, up_to_one}
 use Rattle.wasm_dumper.proofs.numbered.show_types.Goals as goal
 

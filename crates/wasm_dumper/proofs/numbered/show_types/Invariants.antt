@@ -1,5 +1,4 @@
-use Rattle.wasm_tree.specs.Tree.{AddsUpTo}
-use Rattle.wasm_tree.specs.declared.numbers.Space.TheVariants.{Types}
+use Rattle.wasm_dumper.proofs.Common.{AddsUpTo, Types}
 use Rattle.wasm_dumper.proofs.numbered.show_types.Given as goal
 
 abbrev pub invariant-loop-ty : goal.invariant-loop-ty

@@ -1,16 +1,12 @@
-use Rattle.std.proofs.Common.{refl}
-use Rattle.wasm_base.specs.Number.{unsigned_at}
-use Rattle.wasm_base.specs.declared.fault.NumberKind.TheVariants.{VarU32}
+use Rattle.wasm_dumper.proofs.Common.{refl, unsigned_at, VarU32, report_of, item_at}
 use Rattle.wasm_grammar.specs.Ids.{function_id, table_id, memory_id, tag_id, global_id, element_id, data_id}
-use Rattle.wasm_tree.specs.declared.numbers.Space.TheVariants.{Functions, Tables, Memories, Tags, Globals, Elements, DataSegments}
 use Rattle.wasm_items.specs.Data.{data_at}
 use Rattle.wasm_items.specs.Elements.{element_at}
 use Rattle.wasm_items.specs.Globals.{global_at}
 use Rattle.wasm_items.specs.Memories.{memory_type_at}
 use Rattle.wasm_items.specs.Tables.{table_at}
 use Rattle.wasm_items.specs.Tags.{tag_type_at}
-use Rattle.wasm_dumper.specs.Counting.{item_at}
-use Rattle.wasm_parser.specs.ParseAnswer.{report_of}
+use Rattle.wasm_tree.specs.declared.numbers.Space.TheVariants.{Functions, Tables, Memories, Tags, Globals, Elements, DataSegments}
 use Rattle.wasm_dumper.proofs.Numbering.{none_numbered, shows_no_items, shows_defined, sized}
 use Rattle.wasm_dumper.proofs.payload.show_payload.Goals as goal
 

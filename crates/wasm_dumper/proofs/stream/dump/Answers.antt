@@ -1,4 +1,4 @@
-use Rattle.std.proofs.lemmas.Result.{err_from_is_err_and}
+use Rattle.wasm_dumper.proofs.Common.{err_from_is_err_and}
 use Rattle.wasm_dumper.proofs.Dumping.{by_tree, no_room}
 use Rattle.wasm_dumper.proofs.stream.dump.Goals as goal
 

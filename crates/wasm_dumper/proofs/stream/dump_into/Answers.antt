@@ -1,20 +1,13 @@
-use Rattle.std.proofs.Common.{true, false, ap, ◌∙◌, ◌++◌, ◌≡◌, drop, refl, subst, List, ℕ}
-use Rattle.std.proofs.lemmas.Result.{err_from_is_err_and}
-use Rattle.wasm_feeder.specs.Beside.{beside, lending, seen}
-use Rattle.wasm_feeder.specs.Cursors.{feed_of}
-use Rattle.wasm_feeder.specs.Feed.{Feed, empty_feed, pushed}
-use Rattle.wasm_feeder.specs.Progress.{weight}
-use Rattle.wasm_feeder.specs.declared.feeder.Cursor.{Cursor}
-use Rattle.wasm_feeder.specs.declared.turns.Ended.TheVariants.{Fault}
-use Rattle.wasm_feeder.specs.declared.turns.Turn.TheVariants as turn
-use Rattle.wasm_dumper.specs.Hiding.{Hides}
+use Rattle.wasm_dumper.proofs.Common.{◌≡◌, ℕ, true, List, ◌++◌, refl, ap, subst, ◌∙◌, drop, err_from_is_err_and, seen, lending, beside}
+use Rattle.wasm_dumper.proofs.Common.{feed_of, Feed, pushed, weight, Cursor, Fault, Hides}
+use Rattle.wasm_feeder.specs.Feed.{empty_feed}
 use Rattle.wasm_dumper.proofs.DroppedParts.{dropped, dumping_short, failed_within, hides_here, shows_fault}
 use Rattle.wasm_dumper.proofs.Dumping.{Dumping, ShowsStep, Wanting, starts_beside, shows_step, advanced, asked, same_going, stopped}
-use Rattle.wasm_dumper.proofs.Dumping.{stopped_at_last, stopped_before}
-use Rattle.wasm_dumper.proofs.Dumping.{ended, filled, not_filled}
+use Rattle.wasm_dumper.proofs.Dumping.{stopped_at_last, stopped_before, ended, filled, not_filled}
 use Rattle.wasm_dumper.proofs.stream.dump_into.Given.{Over}
-use Rattle.wasm_dumper.proofs.stream.dump_into.Goals as goal
 use Rattle.wasm_dumper.proofs.stream.dump_into.Goals.{After-show_answer, After-show_answer-turn, In-Read, In-Some}
+use Rattle.wasm_feeder.specs.declared.turns.Turn.TheVariants as turn
+use Rattle.wasm_dumper.proofs.stream.dump_into.Goals as goal
 
 -- the step of the parser was shown
 shows_so : (g : Over) (c : After-show_answer-turn g) → ShowsStep c.args.shown.only.now c.args.shown.has_bytes c.events.counts

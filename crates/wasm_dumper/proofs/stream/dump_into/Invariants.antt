@@ -1,7 +1,4 @@
-use Rattle.std.proofs.Common.{◌≡◌}
-use Rattle.wasm_feeder.specs.Beside.{beside}
-use Rattle.wasm_feeder.specs.Cursors.{feed_of}
-use Rattle.wasm_feeder.specs.Progress.{weight}
+use Rattle.wasm_dumper.proofs.Common.{◌≡◌, beside, feed_of, weight}
 use Rattle.wasm_dumper.proofs.Dumping.{Dumping}
 use Rattle.wasm_dumper.proofs.stream.dump_into.Given as goal
 

@@ -1,7 +1,7 @@
-use Rattle.std.proofs.Common.{rules, ◌≡◌}
-use Rattle.wasm_feeder.specs.Turns.{turn_after}
-use Rattle.wasm_feeder.specs.declared.turns.Turn.TheVariants as turn
+use Rattle.wasm_dumper.proofs.Common.{◌≡◌, turn_after}
+use Rattle.std.proofs.Common.{rules}
 use Rattle.wasm_dumper.proofs.Numbering.{shows_fault, shows_request}
+use Rattle.wasm_feeder.specs.declared.turns.Turn.TheVariants as turn
 use Rattle.wasm_dumper.proofs.stream.show_answer.Goals as goal
 
 pub returns-in-Ok-NeedMoreData-clause-shows : goal.returns-in-Ok-NeedMoreData-clause-shows

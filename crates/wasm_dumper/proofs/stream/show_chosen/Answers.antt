@@ -1,5 +1,4 @@
-use Rattle.std.proofs.Common.{sym, ◌∙◌}
-use Rattle.wasm_parser.specs.ParseAnswer.{report_of}
+use Rattle.wasm_dumper.proofs.Common.{sym, ◌∙◌, report_of}
 use Rattle.wasm_dumper.proofs.Numbering.{shows_chosen, shows_unchosen}
 use Rattle.wasm_dumper.proofs.stream.show_chosen.Goals as goal
 

@@ -1,20 +1,10 @@
-use Rattle.std.proofs.Common.{◌≡◌, refl, sym, ap, ◌∙◌, arith}
-use Rattle.std.proofs.lemmas.Grind.{common_steps}
-use Rattle.std.proofs.lemmas.Result.{err_from_is_err_and}
-use Rattle.std.proofs.KnownBytes.{Consumes-nil}
-use Rattle.wasm_feeder.specs.Beside.{beside, lending}
-use Rattle.wasm_feeder.specs.Cursors.{feed_of}
-use Rattle.wasm_feeder.specs.Feed.{empty_feed}
-use Rattle.wasm_lines.specs.Listing.{line_of, listing_by}
-use Rattle.wasm_feeder.proofs.ForCallers.{begun, begun_beside, both, cut, end_cut, line_advanced, line_asked, listed_all, no_memory}
-use Rattle.wasm_text.proofs.ForCallers.{cut_of}
-use Rattle.wasm_feeder.proofs.ForCallers.{nothing_read, same_lighter}
-use Rattle.wasm_feeder.specs.Progress.{Wants, weight}
-use Rattle.wasm_feeder.specs.Step.{Steps}
-use Rattle.wasm_text.specs.Calls.{from_to}
+use Rattle.wasm_feed.proofs.Common.{◌≡◌, refl, sym, arith, ◌∙◌, Consumes-nil, common_steps, err_from_is_err_and, line_of, listing_by}
+use Rattle.wasm_feed.proofs.Common.{cut_of, from_to, cut, begun, begun_beside, both, nothing_read, same_lighter, lending, beside, feed_of}
+use Rattle.wasm_feed.proofs.Common.{Wants, weight, Steps}
 use Rattle.wasm_feed.proofs.listing.list_in.Given.{Over}
-use Rattle.wasm_feed.proofs.listing.list_in.Goals as goal
 use Rattle.wasm_feed.proofs.listing.list_in.Goals.{In_ok-turn, In-Read}
+use Rattle.wasm_feeder.proofs.ForCallers.{end_cut, line_advanced, line_asked, listed_all, no_memory}
+use Rattle.wasm_feed.proofs.listing.list_in.Goals as goal
 
 -- the parser made a step
 steps_so : (g : Over) (c : In_ok-turn g) → Steps (beside (feed_of c.events.stored.items c.events.cursor) c.events.ahead)
@@ -46,12 +36,7 @@ returns-in_err-vec g c =
     }
 
 pub events-init : goal.events-init
-events-init g c = record {
-  progress = rw c.new-page.ensures (begun (listing_by line_of) refl _ _ _ (begun_beside _ _ _ _
-      c.new-stored.ensures.items c.new-ahead.ensures (c.new-cursor.ensures ∙ ap empty_feed c.new.ensures)));
-  input = refl;
-  output = refl;
-}
+events-init g c = grind (arith, begun, begun_beside)
 
 pub returns-in_err-make_ready : goal.returns-in_err-make_ready
 returns-in_err-make_ready g c =

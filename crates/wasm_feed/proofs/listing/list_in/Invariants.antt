@@ -1,9 +1,4 @@
-use Rattle.std.proofs.Common.{◌≡◌}
-use Rattle.wasm_feeder.specs.Beside.{beside}
-use Rattle.wasm_text.specs.Calls.{from_to}
-use Rattle.wasm_feeder.specs.Cursors.{feed_of}
-use Rattle.wasm_lines.specs.Listing.{line_of, listing_by}
-use Rattle.wasm_feeder.specs.Progress.{Progress, weight}
+use Rattle.wasm_feed.proofs.Common.{◌≡◌, line_of, listing_by, from_to, beside, feed_of, Progress, weight}
 use Rattle.wasm_feed.proofs.listing.list_in.Given as goal
 
 -- how far the listing has come

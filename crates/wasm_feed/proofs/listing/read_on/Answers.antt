@@ -1,12 +1,6 @@
-use Rattle.std.proofs.Common.{◌≡◌, ◌++◌, ap, drop}
-use Rattle.std.proofs.lemmas.Result.{err_from_is_err_and}
-use Rattle.wasm_lines.specs.Listing.{line_of, listing_by}
-use Rattle.wasm_text.proofs.ForCallers.{cut_of}
-use Rattle.wasm_feeder.specs.Beside.{beside}
-use Rattle.wasm_feeder.specs.Cursors.{feed_of}
-use Rattle.wasm_feeder.specs.declared.feeder.Cursor.{Cursor}
-use Rattle.wasm_feeder.proofs.ForCallers.{cut, filled, not_filled, progress_of, to_be_written}
+use Rattle.wasm_feed.proofs.Common.{◌≡◌, ◌++◌, drop, ap, err_from_is_err_and, line_of, listing_by, cut_of, cut, beside, feed_of, Cursor}
 use Rattle.wasm_feed.proofs.SkipList.{dropped_here, given_up, line_cut, line_put, listed_short, short_cut}
+use Rattle.wasm_feeder.proofs.ForCallers.{filled, not_filled, progress_of, to_be_written}
 use Rattle.wasm_feed.proofs.listing.read_on.Goals as goal
 
 pub returns-in_err-write_out-clause-reads : goal.returns-in_err-write_out-clause-reads

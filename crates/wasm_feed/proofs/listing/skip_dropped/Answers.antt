@@ -1,5 +1,4 @@
-use Rattle.std.proofs.Common.{refl, arith}
-use Rattle.wasm_parser.specs.SkipNext.{skip_is}
+use Rattle.wasm_feed.proofs.Common.{refl, arith, skip_is}
 use Rattle.wasm_feed.proofs.listing.skip_dropped.Goals as goal
 
 pub returns : goal.returns

@@ -1,22 +1,11 @@
-use Rattle.std.proofs.Common.{◌≡◌, [], refl, sym, ap, ◌∙◌, arith}
-use Rattle.std.proofs.KnownBytes.{Consumes-nil}
-use Rattle.std.proofs.lemmas.Grind.{common_steps}
-use Rattle.std.proofs.lemmas.Result.{err_from_is_err_and}
-use Rattle.wasm_feeder.specs.Beside.{beside, lending}
-use Rattle.wasm_feeder.specs.Cursors.{feed_of}
-use Rattle.wasm_feeder.specs.Feed.{empty_feed}
-use Rattle.wasm_feeder.proofs.ForCallers.{begun, begun_beside, both, nothing_read, same_lighter}
+use Rattle.wasm_feed.proofs.Common.{◌≡◌, [], refl, sym, arith, ◌∙◌, Consumes-nil, common_steps, err_from_is_err_and, cut_of, from_to}
+use Rattle.wasm_feed.proofs.Common.{kept_bytes, begun, begun_beside, both, nothing_read, same_lighter, lending, beside, feed_of, stays_by}
+use Rattle.wasm_feed.proofs.Common.{Wants, weight, Steps}
 use Rattle.wasm_feed.proofs.StripProgress.{advanced, asked, cut, cut_after, cut_page, gave_up_at_once, stopped_here, streamed, was_cut}
 use Rattle.wasm_feed.proofs.StripProgress.{went_past}
-use Rattle.wasm_feed.specs.Stripped.{kept_bytes}
-use Rattle.wasm_text.proofs.ForCallers.{cut_of}
-use Rattle.wasm_feeder.specs.Fates.{stays_by}
-use Rattle.wasm_feeder.specs.Progress.{Wants, weight}
-use Rattle.wasm_text.specs.Calls.{from_to}
-use Rattle.wasm_feeder.specs.Step.{Steps}
 use Rattle.wasm_feed.proofs.streaming.strip_stream.Given.{Over}
-use Rattle.wasm_feed.proofs.streaming.strip_stream.Goals as goal
 use Rattle.wasm_feed.proofs.streaming.strip_stream.Goals.{After-put_part-turn, In-Read}
+use Rattle.wasm_feed.proofs.streaming.strip_stream.Goals as goal
 
 -- the parser made a step
 steps_so : (g : Over) (c : After-put_part-turn g) → Steps (beside (feed_of c.parts.stored.items c.parts.cursor) c.parts.ahead)
@@ -50,12 +39,7 @@ returns-in_err-vec g c =
     }
 
 pub parts-init : goal.parts-init
-parts-init g c = record {
-  progress = rw c.new-page.ensures (begun (kept_bytes _) refl _ _ _ (begun_beside _ _ _ _ c.new-stored.ensures.items
-      c.new-ahead.ensures (c.new-cursor.ensures ∙ ap empty_feed c.new.ensures)));
-  input = refl;
-  output = refl;
-}
+parts-init g c = grind (arith, begun, begun_beside)
 
 pub returns-in_err-make_ready : goal.returns-in_err-make_ready
 returns-in_err-make_ready g c =

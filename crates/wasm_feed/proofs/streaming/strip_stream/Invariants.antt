@@ -1,10 +1,4 @@
-use Rattle.std.proofs.Common.{◌≡◌}
-use Rattle.wasm_feeder.specs.Beside.{beside}
-use Rattle.wasm_feeder.specs.Cursors.{feed_of}
-use Rattle.wasm_feeder.specs.Progress.{Progress, weight}
-use Rattle.wasm_text.specs.Calls.{from_to}
-use Rattle.wasm_feeder.specs.Fates.{stays_by}
-use Rattle.wasm_feed.specs.Stripped.{kept_bytes}
+use Rattle.wasm_feed.proofs.Common.{◌≡◌, from_to, kept_bytes, beside, feed_of, stays_by, Progress, weight}
 use Rattle.wasm_feed.proofs.streaming.strip_stream.Given as goal
 
 -- how far the stream is stripped

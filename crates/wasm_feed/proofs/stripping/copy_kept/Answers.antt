@@ -1,8 +1,5 @@
-use Rattle.std.proofs.Common.{◌≡◌, ℕ, [], ◌++◌, ◌∙◌, inl, drop, sym, ap, arith, append-nil, append_assoc}
-use Rattle.std.proofs.lemmas.Result.{err_from_is_err_and}
-use Rattle.std.proofs.lemmas.Grind.{common_steps}
-use Rattle.wasm_feeder.specs.Cursors.{feed_of}
-use Rattle.wasm_feeder.specs.Fates.{stays_by}
+use Rattle.wasm_feed.proofs.Common.{◌≡◌, ℕ, inl, [], ◌++◌, sym, arith, append-nil, append_assoc, drop, ap, ◌∙◌, common_steps}
+use Rattle.wasm_feed.proofs.Common.{err_from_is_err_and, feed_of, stays_by}
 use Rattle.wasm_feed.proofs.KeptParts.{nothing_left}
 use Rattle.wasm_feed.proofs.stripping.copy_kept.Goals as goal
 

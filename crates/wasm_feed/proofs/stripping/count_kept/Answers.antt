@@ -1,7 +1,4 @@
-use Rattle.std.proofs.Common.{ℕ, [], ◌++◌, ◌∙◌, drop, refl, ap, arith, length-append}
-use Rattle.std.proofs.lemmas.Result.{err_from_is_err_and}
-use Rattle.wasm_feeder.specs.Cursors.{feed_of}
-use Rattle.wasm_feeder.specs.Fates.{stays_by}
+use Rattle.wasm_feed.proofs.Common.{ℕ, [], ◌++◌, refl, arith, length-append, drop, ap, ◌∙◌, err_from_is_err_and, feed_of, stays_by}
 use Rattle.wasm_feed.proofs.KeptParts.{nothing_left, no_longer}
 use Rattle.wasm_feed.proofs.stripping.count_kept.Goals as goal
 

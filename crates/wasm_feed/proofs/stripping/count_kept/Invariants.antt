@@ -1,7 +1,4 @@
-use Rattle.std.proofs.Common.{◌≡◌, ◌≤◌, ◌-◌, true, ℕ, List, length}
-use Rattle.wasm_feeder.specs.Cursors.{feed_of}
-use Rattle.wasm_feed.specs.Strips.{HasKept}
-use Rattle.wasm_feeder.specs.Fates.{stays_by}
+use Rattle.wasm_feed.proofs.Common.{◌≡◌, ℕ, true, List, length, ◌-◌, ◌≤◌, HasKept, feed_of, stays_by}
 use Rattle.wasm_feed.proofs.stripping.count_kept.Given as goal
 
 -- the kept ones of the parts so far were counted

@@ -1,8 +1,5 @@
-use Rattle.std.proofs.Common.{ℕ, ◌+◌, ◌-◌, length, ◌∙◌, drop, take, refl, ap, arith}
-use Rattle.std.proofs.lemmas.Result.{err_from_is_err_and}
-use Rattle.std.specs.List.{copy_within}
-use Rattle.wasm_feeder.specs.Cursors.{feed_of}
-use Rattle.wasm_feeder.specs.Fates.{stays_by}
+use Rattle.wasm_feed.proofs.Common.{ℕ, ◌+◌, length, refl, arith, ◌-◌, take, drop, ap, ◌∙◌, err_from_is_err_and, copy_within, feed_of}
+use Rattle.wasm_feed.proofs.Common.{stays_by}
 use Rattle.wasm_feed.proofs.KeptInPlace.{moves_on}
 use Rattle.wasm_feed.proofs.KeptParts.{nothing_left}
 use Rattle.wasm_feed.proofs.stripping.move_kept.Goals as goal

@@ -1,6 +1,4 @@
-use Rattle.std.proofs.Common.{arith}
-use Rattle.std.proofs.lemmas.Result.{err_from_is_err_and}
-use Rattle.wasm_feeder.specs.Cursors.{feed_of}
+use Rattle.wasm_feed.proofs.Common.{arith, err_from_is_err_and, feed_of}
 use Rattle.wasm_feed.proofs.KeptInPlace.{mark_within, not_empty}
 use Rattle.wasm_feed.proofs.KeptParts.{stays_kept, goes_kept, all_kept}
 use Rattle.wasm_feed.proofs.stripping.next_kept.Goals as goal

@@ -1,8 +1,6 @@
-use Rattle.std.proofs.Common.{Err, Ok}
-use Rattle.std.proofs.lemmas.Result.{err_from_is_err_and}
-use Rattle.wasm_feeder.specs.Fates.{stays_by}
-use Rattle.wasm_feeder.proofs.ForCallers.{steps_in}
+use Rattle.wasm_feed.proofs.Common.{Ok, Err, err_from_is_err_and, stays_by}
 use Rattle.wasm_feed.proofs.KeptParts.{fault_comes, part_comes, part_goes_on}
+use Rattle.wasm_feeder.proofs.ForCallers.{steps_in}
 use Rattle.wasm_feed.proofs.stripping.next_part.Goals as goal
 
 pub returns-in_err-parse_next-clause-takes : goal.returns-in_err-parse_next-clause-takes

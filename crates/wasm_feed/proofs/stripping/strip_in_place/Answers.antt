@@ -1,7 +1,4 @@
-use Rattle.std.proofs.Common.{◌≡◌, ◌++◌, List, ℕ, take, drop, length, sym, ap, ◌∙◌, subst₂, arith}
-use Rattle.std.proofs.lemmas.List.{take_at}
-use Rattle.wasm_feeder.specs.Fates.{stays_by}
-use Rattle.wasm_feed.specs.Stripped.{IsStripped}
+use Rattle.wasm_feed.proofs.Common.{◌≡◌, ℕ, List, ◌++◌, length, sym, arith, take, drop, ap, ◌∙◌, subst₂, take_at, IsStripped, stays_by}
 use Rattle.wasm_feed.proofs.stripping.strip_in_place.Goals as goal
 
 pub returns : goal.returns

@@ -1,6 +1,4 @@
-use Rattle.std.proofs.Common.{refl}
-use Rattle.std.proofs.lemmas.Result.{err_from_is_err_and}
-use Rattle.wasm_feeder.specs.Fates.{stays_by}
+use Rattle.wasm_feed.proofs.Common.{refl, err_from_is_err_and, stays_by}
 use Rattle.wasm_feed.proofs.StripLaws.{left_as_it_was, strips_to_front}
 use Rattle.wasm_feed.proofs.stripping.strip_to_front.Goals as goal
 

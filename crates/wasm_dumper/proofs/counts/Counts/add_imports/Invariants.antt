@@ -1,6 +1,4 @@
-use Rattle.std.proofs.Common.{◌≡◌}
-use Rattle.wasm_base.specs.Window.{place}
-use Rattle.wasm_items.specs.Flattened.{flattened}
+use Rattle.wasm_dumper.proofs.Common.{◌≡◌, place, flattened}
 use Rattle.wasm_dumper.specs.Counting.{with_imports}
 use Rattle.wasm_dumper.proofs.counts.Counts.add_imports.Given as goal
 

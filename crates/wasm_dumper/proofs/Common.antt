@@ -1,0 +1,51 @@
+-- The names of std, of the crates below and of the specs that several of these proofs use.
+pub use Rattle.std.proofs.Common.{◌≡◌, ℕ, zero, suc, ◌+◌, ◌^◌, ◌<◌, Bool, true, false, List, [], ◌∷◌, ◌++◌, Some, None, Result, Ok, Err}
+pub use Rattle.std.proofs.Common.{refl, sym, ap, subst, subst₂, ◌∙◌, add-one, append-nil, arith, nat_eq, length, Option, append_assoc}
+pub use Rattle.std.proofs.Common.{length-append, drop, option_map}
+pub use Rattle.std.proofs.KnownBytes.{Consumes-trans}
+pub use Rattle.std.proofs.lemmas.Result.{err_from_is_err_and}
+pub use Rattle.std.specs.List.{list_any}
+pub use Rattle.std.specs.Option.{is_some}
+pub use Rattle.std.specs.Prelude.{if◌then◌else◌}
+pub use Rattle.wasm_base.specs.FaultAt.{fault_at}
+pub use Rattle.wasm_base.specs.Item.{ReadsAs}
+pub use Rattle.wasm_base.specs.Number.{unsigned_at}
+pub use Rattle.wasm_base.specs.Outcome.{Outcome}
+pub use Rattle.wasm_base.specs.Section.{Section, all_items}
+pub use Rattle.wasm_base.specs.Window.{Place, place}
+pub use Rattle.wasm_base.specs.declared.error.Error.{Error}
+pub use Rattle.wasm_base.specs.declared.fault.NumberKind.TheVariants.{VarU32}
+pub use Rattle.wasm_feeder.specs.Beside.{seen, lending, beside}
+pub use Rattle.wasm_feeder.specs.Cursors.{feed_of}
+pub use Rattle.wasm_feeder.specs.Feed.{Feed, pushed}
+pub use Rattle.wasm_feeder.specs.Progress.{weight}
+pub use Rattle.wasm_feeder.specs.Step.{Steps}
+pub use Rattle.wasm_feeder.specs.Turns.{turn_after}
+pub use Rattle.wasm_feeder.specs.declared.feeder.Cursor.{Cursor}
+pub use Rattle.wasm_feeder.specs.declared.feeder.Step.{Step}
+pub use Rattle.wasm_feeder.specs.declared.feeder.Step.TheVariants.{NeedMoreData, Parsed}
+pub use Rattle.wasm_feeder.specs.declared.turns.Ended.TheVariants.{Fault, End}
+pub use Rattle.wasm_grammar.specs.Content.{fault, Ending}
+pub use Rattle.wasm_grammar.specs.Ids.{import_id}
+pub use Rattle.wasm_grammar.specs.Reading.{Report, counted, Event, last_event, stream_end}
+pub use Rattle.wasm_items.specs.Flattened.{flattened}
+pub use Rattle.wasm_lines.specs.Listing.{line_in}
+pub use Rattle.wasm_parser.specs.ParseAnswer.{report_of}
+pub use Rattle.wasm_text.specs.Calls.{input_failed}
+pub use Rattle.wasm_text.specs.declared.devices.ListError.{ListError}
+pub use Rattle.wasm_text.specs.declared.devices.ListError.TheVariants.{Input}
+pub use Rattle.wasm_text.specs.declared.digits.Base.{Base}
+pub use Rattle.wasm_tree.proofs.ForCallers.{first_in_objects}
+pub use Rattle.wasm_tree.specs.ItemNames.{KeepsNames}
+pub use Rattle.wasm_tree.specs.Numbers.{Number, more, numbers_from, numbers_read}
+pub use Rattle.wasm_tree.specs.Tree.{Writing, IsWritten, with_numbers, AddsThese, AddsNumbers, Adds, IsOut, base_of, Origin, AddsFirst}
+pub use Rattle.wasm_tree.specs.Tree.{AddsUpTo}
+pub use Rattle.wasm_tree.specs.declared.numbers.Space.{Space}
+pub use Rattle.wasm_tree.specs.declared.numbers.Space.TheVariants.{Types}
+pub use Rattle.wasm_dumper.specs.Chosen.{chosen_line, is_chosen, shown_line, numbered_line}
+pub use Rattle.wasm_dumper.specs.Counting.{one_number, after, after_all, no_counts, numbers_in_line, Found, import_numbers, count_of}
+pub use Rattle.wasm_dumper.specs.Counting.{item_at}
+pub use Rattle.wasm_dumper.specs.Dump.{AreOfShown, DumpsInto, ShowsAnswer, bytes_of_events, origin, shown_bytes, AreOf, AreOfEvents}
+pub use Rattle.wasm_dumper.specs.Hiding.{FailsWithin, Hides}
+pub use Rattle.wasm_dumper.specs.declared.counts.Counts.{Counts}
+pub use Rattle.wasm_dumper.specs.declared.events.Only.{Only}
