@@ -134,8 +134,8 @@ module _ (only : List Only) (has_bytes : Bool) (full rest : Option (List ℕ)) (
         → (c' : Counts) → c' ≡ after_hidden c hidden.is_body
         → Dumping only has_bytes full rest' before new c' last × (weight new < weight (lending stored chunk cur))
     dropped n new state held eof c' counts =
-        let (e, says, is, reached, less) = past stays full rest d.events cur stored chunk d.asks hidden.passing skipped sk x.fetched x.part left
-        x.parts (rw n at x.ends) rest' x.gave new state held eof in (
+        let (e, says, is, reached, less) = past stays full rest d.events cur stored chunk d.asks hidden.passing skipped sk x.fetched
+        x.part left x.parts (rw n at x.ends) rest' x.gave new state held eof in (
           record {
             events = d.events ++ e ∷ [];
             reached = reached;

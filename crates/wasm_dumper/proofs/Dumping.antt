@@ -436,7 +436,8 @@ module _ (only : List Only) (has_bytes : Bool) (full rest : Option (List ℕ)) (
       (sym t ∙ s.turns)).0 in
       progress.cut line_of full rest (Some []) (Some outline) g [] (progress.progress_of w) (Some outline) Output
       (nothing_cut (Some outline))
-  begins (turn.End how) t = progress.end_cut line_of full rest (Some []) (Some outlined) f [] all_listed g s.answer s.steps (Some outline) []
+  begins (turn.End how) t = progress.end_cut line_of full rest (Some []) (Some outlined) f [] all_listed g s.answer s.steps
+      (Some outline) []
       put how (sym t ∙ s.turns) (Some outline) Output (nothing_cut (Some outline))
 
   -- whether all of the stream was read, by what is done next
@@ -465,7 +466,8 @@ module _ (only : List Only) (has_bytes : Bool) (full rest : Option (List ℕ)) (
       → AllWritten (ends_whole t) taken failed
   all_written turn.Advance t =
       let (e, is, after, less) = next_event full rest f d.events d.reached g s.answer s.steps (sym t ∙ s.turns) in
-      written_of false g (d.events ++ e ∷ []) after (not_whole (g.held ++ [])) (counted_on only has_bytes d.events c d.counted s.answer e is).1
+      written_of false g (d.events ++ e ∷ []) after (not_whole (g.held ++ []))
+      (counted_on only has_bytes d.events c d.counted s.answer e is).1
   all_written turn.Read t =
       let (hint, is, asks, same) = next_asks full rest f d.events d.reached g s.answer s.steps (sym t ∙ s.turns) in
       written_of false g d.events asks.reached (not_whole (g.held ++ [])) (still hint is)
@@ -542,14 +544,16 @@ module _ (only : List Only) (has_bytes : Bool) (full rest : Option (List ℕ)) (
       let (numbers, are, wrote) = all taken failed i in
       let bytes = bytes_of_events has_bytes only d.events in
       let o = origin before.style taken failed shown_lines numbers bytes in
-      dumped shown_lines numbers bytes (lists rest' g Input r) (numbers_of None false only has_bytes full rest f d.events d.asks.reached rest' []
+      dumped shown_lines numbers bytes (lists rest' g Input r)
+      (numbers_of None false only has_bytes full rest f d.events d.asks.reached rest' []
       (Consumes-kept rest rest rest' [] (Consumes-nil rest) r) numbers (not_whole (f.held ++ [])) are) (whole o last going out wrote) h
       (has_failed o last going wrote)
   not_filled had mid has m rest' g Memory r h taken failed i =
       let (numbers, are, wrote) = all taken failed i in
       let bytes = bytes_of_events has_bytes only d.events in
       let o = origin before.style taken failed shown_lines numbers bytes in
-      dumped shown_lines numbers bytes (lists rest' g Memory r) (numbers_of (Some Memory) false only has_bytes full rest f d.events d.asks.reached
+      dumped shown_lines numbers bytes (lists rest' g Memory r) (numbers_of
+      (Some Memory) false only has_bytes full rest f d.events d.asks.reached
       rest' r.0 r.1 numbers (not_whole (f.held ++ r.0)) (events_begin None Memory only no_counts d.events numbers are))
       (some_of o last (whole o last going out wrote)) (h ∙ m) (has_failed o last going wrote)
   not_filled had mid has m rest' g Output r h taken failed i = absurd r

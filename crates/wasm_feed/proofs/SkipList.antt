@@ -26,7 +26,8 @@ dropped_here old stored chunk items rest bytes d new read items_are rest_is h = 
 
 -- A caller has written the page, and the parser has skipped a part that is dropped.
 module _ (source rest taken written : Option (List ℕ)) (c : Cursor) (stored chunk : List ℕ)
-    (w : Wants (listing_by line_of) (from_to source rest) (from_to taken written) (lending stored chunk c) []) (dropped : Dropped) (skipped : Cursor)
+    (w : Wants (listing_by line_of) (from_to source rest) (from_to taken written) (lending stored chunk c) []) (dropped : Dropped)
+    (skipped : Cursor)
     (h : DropsHere c (seen stored chunk) dropped skipped) (waiting : List ℕ) (nothing : waiting ≡ []) (rest' : Option (List ℕ)) where
   abbrev passing : Passing
   passing = dropped.passing
@@ -63,7 +64,8 @@ module _ (source rest taken written : Option (List ℕ)) (c : Cursor) (stored ch
 
     -- nothing was written meanwhile
     abbrev so_far : (eof : Bool) → (eof ≡ true → IsAtEnd rest')
-        → Progress (listing_by line_of) (from_to source rest') (from_to taken mid) (record (pushed (lending stored chunk c) x.fetched) { eof = eof }) []
+        → Progress (listing_by line_of) (from_to source rest') (from_to taken mid) (record (pushed
+        (lending stored chunk c) x.fetched) { eof = eof }) []
     so_far eof end = record {
       events = w.events;
       reached = arrived source rest (lending stored chunk c) w.events w.asks rest' x.fetched eof x.gave end;
@@ -81,7 +83,8 @@ module _ (source rest taken written : Option (List ℕ)) (c : Cursor) (stored ch
     pub line_put : how_cut ≡ None → (written' : Option (List ℕ)) (page' : List ℕ)
         → PutsBytes mid written' page (skip_text Decimal (skip_is dropped.part) ++ codes "\n") page' → (new : Feed)
         → new.state ≡ skipped.parser → new.held ≡ left → new.eof ≡ skipped.is_finished
-        → Progress (listing_by line_of) (from_to source rest') (from_to taken written') new page' × (weight new < weight (lending stored chunk c))
+        → Progress (listing_by line_of) (from_to source rest') (from_to taken written') new page' × (weight new < weight
+        (lending stored chunk c))
     line_put n written' page' v new state held eof =
         let (e, says, is, after, less) = past stays_if source rest w.events c stored chunk w.asks passing skipped k x.fetched x.part left
         x.parts (rw n at x.ends) rest' x.gave new state held eof in
@@ -92,7 +95,8 @@ module _ (source rest taken written : Option (List ℕ)) (c : Cursor) (stored ch
           record {
             events = w.events ++ e ∷ [];
             reached = after;
-            puts = rw (one_more line_of w.events e, sym same) (puts_more taken mid written' [] (listing_by line_of w.events) [] line page' before.puts
+            puts = rw (one_more line_of w.events e, sym same) (puts_more taken mid written' []
+                (listing_by line_of w.events) [] line page' before.puts
                 (rw none.1 at v));
           },
           less,
@@ -114,11 +118,13 @@ module _ (source rest taken written : Option (List ℕ)) (c : Cursor) (stored ch
       pub listed_short : (written'' : Option (List ℕ)) → Appends written' written'' page'
           → IsListed line_of (from_to source rest') (from_to taken written'') (Fault error)
       listed_short written'' u = listed_to_end line_of source rest' taken mid
-          (record (pushed (lending stored chunk c) x.fetched) { eof = true }) [] (so_far true (λ _. ends.1)) (Fault error) (fault (fault_at error)) at_end
+          (record (pushed (lending stored chunk c) x.fetched) { eof = true }) [] (so_far true (λ _. ends.1)) (Fault error) (fault
+          (fault_at error)) at_end
           (line_of (stream_end (fault (fault_at error)))) refl written' page' put written'' u
 
       pub short_cut : (written'' : Option (List ℕ)) (e : ListError) → IsCut written' written'' page' e
           → ListsBy line_of (from_to source rest') (from_to taken written'') (Err e)
       short_cut written'' e u = cut_at_end line_of source rest' taken mid
-          (record (pushed (lending stored chunk c) x.fetched) { eof = true }) [] (so_far true (λ _. ends.1)) (Fault error) (fault (fault_at error)) at_end
+          (record (pushed (lending stored chunk c) x.fetched) { eof = true }) [] (so_far true (λ _. ends.1)) (Fault error) (fault
+          (fault_at error)) at_end
           (line_of (stream_end (fault (fault_at error)))) refl written' page' put written'' e u

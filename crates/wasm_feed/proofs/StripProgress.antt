@@ -71,7 +71,8 @@ module _ (keeps : List ℕ → Bool) (source rest : Option (List ℕ)) (f : Feed
   }
 
   -- the stream ends, perhaps within a part
-  streamed_so : (how : Ended) (end : Ending) → AtEnd r.given events f.eof how end → f.held ≡ partial ++ unread → IsPartial keeps r.given events partial
+  streamed_so : (how : Ended) (end : Ending) → AtEnd r.given events f.eof how end → f.held ≡ partial ++ unread
+      → IsPartial keeps r.given events partial
       → (how ≡ End → partial ≡ []) → Appends taken written (kept_bytes keeps events ++ partial)
       → IsStreamed keeps (from_to source rest) (from_to taken written) how
   streamed_so how end a same stays none wrote = record {

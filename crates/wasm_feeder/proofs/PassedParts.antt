@@ -92,7 +92,7 @@ not_filled source rest taken stays most chunk waiting left (k, none, nothing) so
 could_not : (taken written : Option (List ℕ)) (missing : ℕ) (waiting bytes left new : List ℕ) (e : ListError)
     → PutsAll taken written waiting bytes new (Err e) → length bytes ≤ missing
     → EndsBefore taken written true missing waiting bytes left new e
-could_not taken written missing waiting bytes left new e h8 few = grind (arith, refl)
+could_not taken written missing waiting bytes left new e w few = grind arith
 
 -- bytes that stay could not be put
 pub not_put : (source rest taken written : Option (List ℕ)) (stays : Bool) (missing : ℕ)
@@ -166,7 +166,7 @@ puts_stay taken mid written false waiting xs page ys new p q = puts_more taken m
 -- bytes of a chunk in two parts, each with what was fetched for it
 joined : (chunk fetched part ahead more later left : List ℕ) → chunk ++ fetched ≡ part ++ ahead → ahead ++ more ≡ later ++ left
     → chunk ++ (fetched ++ more) ≡ (part ++ later) ++ left
-joined chunk fetched part ahead more later left one two = grind (arith, append_assoc, ap)
+joined chunk fetched part ahead more later left one two = grind (arith, append_assoc)
 
 module _ (source rest taken written rest' written' : Option (List ℕ)) (stays : Bool) (missing left count : ℕ)
     (chunk waiting ahead page ahead' page' : List ℕ)

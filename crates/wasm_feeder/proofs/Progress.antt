@@ -37,22 +37,22 @@ module _ (text : List Event → List ℕ) (source rest taken written : Option (L
   module _ (p : Progress text (from_to source rest) (from_to taken written) f page) (written' : Option (List ℕ)) where
     -- what was put after the text of these events is that of one more
     module _ (g : Feed) (x : Result Step Error) (s : Steps f x g) (piece page' : List ℕ) (w : PutsBytes written written' page piece page')
-        where
-      pub advanced : turn.Advance ≡ turn_after x
-          → ((e : Event) → IsEvent x e → text (p.events ++ e ∷ []) ≡ text p.events ++ piece)
-          → Progress text (from_to source rest) (from_to taken written') g page' × (weight g < weight f)
-      advanced t more =
-          let (e, is, after, less) = reached.next_event source rest f p.events p.reached g x s t in
-          let puts = puts_more taken written written' [] (text p.events) page piece page' p.puts w in
-          (record { events = p.events ++ e ∷ []; reached = after; puts = rw (more e is) puts }, less)
+      where
+        pub advanced : turn.Advance ≡ turn_after x
+            → ((e : Event) → IsEvent x e → text (p.events ++ e ∷ []) ≡ text p.events ++ piece)
+            → Progress text (from_to source rest) (from_to taken written') g page' × (weight g < weight f)
+        advanced t more =
+            let (e, is, after, less) = reached.next_event source rest f p.events p.reached g x s t in
+            let puts = puts_more taken written written' [] (text p.events) page piece page' p.puts w in
+            (record { events = p.events ++ e ∷ []; reached = after; puts = rw (more e is) puts }, less)
 
-      pub asked : turn.Read ≡ turn_after x → ((hint : ℕ) → x ≡ Ok (NeedMoreData hint) → piece ≡ [])
-          → Wants text (from_to source rest) (from_to taken written') g page' × (weight g ≡ weight f)
-      asked t none =
-          let (hint, is, asks, same) = reached.next_asks source rest f p.events p.reached g x s t in
-          let puts = puts_more taken written written' [] (text p.events) page piece page' p.puts w in
-          let all : text p.events ++ piece ≡ text p.events = rw (none hint is) (append-nil (text p.events)) in
-          (record { events = p.events; asks = asks; puts = rw all at puts }, same)
+        pub asked : turn.Read ≡ turn_after x → ((hint : ℕ) → x ≡ Ok (NeedMoreData hint) → piece ≡ [])
+            → Wants text (from_to source rest) (from_to taken written') g page' × (weight g ≡ weight f)
+        asked t none =
+            let (hint, is, asks, same) = reached.next_asks source rest f p.events p.reached g x s t in
+            let puts = puts_more taken written written' [] (text p.events) page piece page' p.puts w in
+            let all : text p.events ++ piece ≡ text p.events = rw (none hint is) (append-nil (text p.events)) in
+            (record { events = p.events; asks = asks; puts = rw all at puts }, same)
 
   -- all that waited is written
   pub to_be_written : (written' : Option (List ℕ)) → Wants text (from_to source rest) (from_to taken written) f page
@@ -82,7 +82,7 @@ module _ (text_of : Report → List ℕ) where
   text_of_event x es e is = grind (arith, one_more)
 
   text_of_ending : (x : Result Step Error) (end : Ending) → IsEnding x end → text_after text_of x ≡ text_of (stream_end end)
-  text_of_ending x end is = grind (arith, ap, refl)
+  text_of_ending x end is = grind arith
 
   -- a prefix of the listing, of a stream whose reading begins with these events
   begins_listing : (stream : List ℕ) (events : List Event) (lines more : List ℕ) → ReadingBegins 0 all_features stream events
@@ -104,7 +104,8 @@ module _ (text_of : Report → List ℕ) where
       shown = w.moved;
       gave = Consumes-trans source rest rest' p.reached.given more p.reached.gave gave;
       listed = w.wrote;
-      begins = λ l. begins_listing (p.reached.given ++ more) p.events w.moved w.unwritten (begins_with source rest f p.events p.reached more)
+      begins = λ l. begins_listing (p.reached.given ++ more) p.events w.moved w.unwritten
+          (begins_with source rest f p.events p.reached more)
           w.parts;
     }
 

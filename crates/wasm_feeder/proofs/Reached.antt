@@ -62,13 +62,13 @@ all_given eof given = grind (arith, append-nil)
 
 -- what is done after a payload, by whether it is the end
 if_end : (b : Bool) → turn.Advance ≡ (if b then turn.End End else turn.Advance) → b ≡ false
-if_end b t = grind (arith, refl)
+if_end b t = grind arith
 
 no_read : (b : Bool) → turn.Read ≡ (if b then turn.End End else turn.Advance) → ⊥
 no_read b t = grind arith
 
 at_end : (b : Bool) (how : Ended) → turn.End how ≡ (if b then turn.End End else turn.Advance) → (b ≡ true) × (how ≡ End)
-at_end b how t = grind (arith, refl)
+at_end b how t = grind arith
 
 -- ---- where the feeder is
 
@@ -82,7 +82,7 @@ module _ (source rest : Option (List ℕ)) (f : Feed) (events : List Event) (r :
 
   -- the parser is where the events end
   passed : f.state.offset ≡ length (consumed_by events)
-  passed = grind (arith, ap, consumed, length-append, ends_at)
+  passed = grind (arith, consumed, length-append, ends_at)
 
   -- with more bytes too, the reading begins with these events
   pub begins_with : (more : List ℕ) → ReadingBegins 0 all_features (r.given ++ more) events

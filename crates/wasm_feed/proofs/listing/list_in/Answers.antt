@@ -16,7 +16,8 @@ steps_so g c =
     a.wants
 
 -- it asks for more
-asks_so : (g : Over) (c : In-Read g) → Wants (listing_by line_of) (from_to (g.R.Source.remaining c.args.input.now) (g.R.Source.remaining c.events.input))
+asks_so : (g : Over) (c : In-Read g) → Wants (listing_by line_of) (from_to (g.R.Source.remaining c.args.input.now)
+    (g.R.Source.remaining c.events.input))
     (from_to (g.W.Sink.taken c.args.output.now) (g.W.Sink.taken c.put_answer-turn.new.output))
     (lending c.make_ready.new.stored.items c.make_ready.new.self c.parse_next-answer.new.cursor) c.put_answer-turn.new.page
     × (weight (lending c.make_ready.new.stored.items c.make_ready.new.self c.parse_next-answer.new.cursor)

@@ -9,8 +9,8 @@ passes_not : (keeps : List ℕ → Bool) (source rest taken written : Option (Li
     → bytes ≡ seen items piece → items ≡ stored → piece ≡ chunk → SkipsHere (head_stays keeps) old bytes passing skipped
     → IfErr r (λ e. GivesUp source rest taken written passing.stays passing.size (held_by skipped stored chunk) waiting e left page)
     → IfErr r (λ e. StopsHere keeps source rest taken written old stored chunk waiting e)
-passes_not keeps source rest taken written old skipped stored chunk waiting items piece bytes left page passing r read items_are h19 h20 h21 =
-    grind arith
+passes_not keeps source rest taken written old skipped stored chunk waiting items piece bytes left page passing r read items_are piece_is
+    skips up = grind arith
 
 pub returns-in-Some-clause-stops : goal.returns-in-Some-clause-stops
 returns-in-Some-clause-stops g c = grind (arith, passes_not)

@@ -10,7 +10,7 @@ some_is : (a b : FaultAt) → Some a ≡ Some b → a ≡ b
 some_is a b h = cc
 
 ended : DecidesWhether (λ one other. fault_at_end one ≡ fault_at_end other) (Compared.ghosts).eq
-ended h0 h1 = grind (arith, refl, ap, equal_errors, some_is)
+ended one other = grind (arith, equal_errors, some_is)
 
 pub returns-clause-ended : goal.returns-clause-ended
 returns-clause-ended c = ended

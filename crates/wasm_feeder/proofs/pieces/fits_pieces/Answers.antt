@@ -20,4 +20,4 @@ pieces-preserved c =
     }
 
 pub returns : goal.returns
-returns c = grind (arith, ap, joined, take_all, refl)
+returns c = grind (arith, joined, take_all)

@@ -3,7 +3,7 @@ use Rattle.wasm_feeder.proofs.Beside.{enough, undecided}
 use Rattle.wasm_feeder.proofs.feeder.lending.missing.Goals as goal
 
 pub returns-in-Ok-NeedMoreData-clause-decided : goal.returns-in-Ok-NeedMoreData-clause-decided
-returns-in-Ok-NeedMoreData-clause-decided c = grind (arith, undecided, ap)
+returns-in-Ok-NeedMoreData-clause-decided c = grind (arith, undecided)
 
 pub returns-in-Ok-Parsed-clause-enough : goal.returns-in-Ok-Parsed-clause-enough
 returns-in-Ok-Parsed-clause-enough c = λ _. enough c.answers_last.ensures c.args.parser.now c.args.bytes.now c.parse.result
