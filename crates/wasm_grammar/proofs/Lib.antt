@@ -1,3 +1,4 @@
+mod Common
 pub mod PlainLists
 pub mod accepted
 pub mod endings

@@ -1,14 +1,10 @@
 -- A stream ends at its end if it is accepted, and otherwise with a fault.
-use Rattle.std.proofs.Common.{◌≡◌, ℕ, ◌+◌, List, [], length, subst}
-use Rattle.wasm_base.specs.FaultAt.{FaultAt}
-use Rattle.wasm_grammar.specs.Content.{Ending, fault, ended}
-use Rattle.wasm_grammar.specs.Grammar.{Tile}
+use Rattle.wasm_grammar.proofs.Common.{◌≡◌, List, [], ℕ, ◌+◌, length, subst, FaultAt, Ending, fault, ended, Tile, Reads}
 use Rattle.wasm_grammar.specs.Laws.{AcceptedEnds, FaultEnds}
-use Rattle.wasm_grammar.specs.Reading.{Reads}
-use Rattle.wasm_grammar.proofs.readings.EndToEnd.{ends_after_all}
-use Rattle.wasm_grammar.proofs.readings.Readings.{Onward, reads_all, reads_same}
 use Rattle.wasm_grammar.proofs.accepted.Frames.{reads_accepted}
 use Rattle.wasm_grammar.proofs.accepted.Walks.{accepted_reads}
+use Rattle.wasm_grammar.proofs.readings.EndToEnd.{ends_after_all}
+use Rattle.wasm_grammar.proofs.readings.Readings.{Onward, reads_all, reads_same}
 
 faulty : (stream : List ℕ) (start : ℕ) (tiles : List Tile) (end : Ending) → Reads stream start tiles end
     → ¬ ((ts : List Tile) × Reads stream start ts (ended (start + length stream)))

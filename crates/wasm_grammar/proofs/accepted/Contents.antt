@@ -1,11 +1,7 @@
 -- Nothing is wrong with a section's content exactly if it is good.
-use Rattle.std.proofs.Common.{◌≡◌, ℕ, ◌≤◌, List, length, None, arith}
-use Rattle.wasm_base.specs.Number.{Number, read, number}
-use Rattle.wasm_base.specs.declared.fault.Fault.{Fault}
-use Rattle.wasm_base.specs.declared.fault.NumberKind.TheVariants.{VarU32}
-use Rattle.wasm_base.proofs.NumberLaws.{number-used, Used}
-use Rattle.wasm_grammar.specs.Content.{wrong_single, wrong_content, Form}
-use Rattle.wasm_grammar.specs.Accepted.{IsNumber, IsFormed}
+use Rattle.wasm_grammar.proofs.Common.{◌≡◌, List, ℕ, length, ◌≤◌, None, arith, number-used, Used, Number, read, number, Fault, VarU32}
+use Rattle.wasm_grammar.proofs.Common.{IsNumber, IsFormed, Form, wrong_content}
+use Rattle.wasm_grammar.specs.Content.{wrong_single}
 
 -- good content has no fault
 pub good_to : (form : Form) (o : ℕ) (content : List ℕ) → IsFormed form content → wrong_content form o content ≡ None

@@ -1,16 +1,12 @@
 -- What the tiles before a section say to it, reported of the frames before it.
-use Rattle.std.proofs.Common.{◌≡◌, ℕ, ◌<◌, Bool, true, false, cond, not, ◌&&◌, ◌||◌, List, [], ◌∷◌, ◌++◌, length, refl, sym, ◌∙◌}
-use Rattle.std.proofs.Common.{nat_lt, nat_eq, eqb-true, eq-eqb, append-nil, append_assoc}
-use Rattle.std.specs.List.{All, list_all, list_any}
-use Rattle.std.proofs.Math.Bool.{and_comm, or_comm}
+use Rattle.wasm_grammar.proofs.Common.{◌≡◌, Bool, true, false, cond, List, [], ◌∷◌, ◌++◌, refl, ℕ, length, ◌<◌, not, ◌&&◌, ◌||◌, sym, ◌∙◌}
+use Rattle.wasm_grammar.proofs.Common.{nat_lt, nat_eq, eqb-true, eq-eqb, append-nil, append_assoc, and_comm, list_all-append, All, list_all}
+use Rattle.wasm_grammar.proofs.Common.{list_any, SectionFrame, frame_count, frame_rank, IsSection, SectionContext, code_id, data_count_id}
+use Rattle.wasm_grammar.proofs.Common.{data_id, function_id, Encoding, Module, Component}
+use Rattle.std.proofs.Math.Bool.{or_comm}
 use Rattle.std.proofs.Math.Dec.{eqb-suc-zero}
-use Rattle.std.proofs.lemmas.List.Folds.{list_all-append, list_any-append}
-use Rattle.wasm_grammar.specs.declared.encoding.Encoding.{Encoding}
-use Rattle.wasm_grammar.specs.declared.encoding.Encoding.TheVariants.{Module, Component}
-use Rattle.wasm_grammar.specs.Grammar.{SectionContext}
-use Rattle.wasm_grammar.specs.Accepted.{SectionFrame, frame_count, frame_rank, IsSection}
+use Rattle.std.proofs.lemmas.List.Folds.{list_any-append}
 use Rattle.wasm_grammar.proofs.PlainLists.{all_of, all_to}
-use Rattle.wasm_grammar.specs.Ids.{code_id, data_count_id, data_id, function_id}
 
 -- whether a frame is a module's section with this id
 abbrev pub is_section : Encoding → ℕ → SectionFrame → Bool

@@ -1,18 +1,12 @@
 -- A reading ends at the end exactly where no section misses its other section.
-use Rattle.std.proofs.Common.{◌≡◌, ℕ, ◌<◌, inl, inr, Bool, true, false, cond, ◌&&◌, List, length, nat_lt, nat_eq, refl, sym, ◌∙◌}
-use Rattle.std.proofs.Common.{ltb-true, lt-ltb}
-use Rattle.std.specs.List.{Any, list_any}
-use Rattle.std.proofs.lemmas.Bool.{and_parts, and_from, and_cases, and_right, false_from_ne_true}
-use Rattle.wasm_base.specs.FaultAt.{FaultAt, at_offset}
-use Rattle.wasm_base.specs.declared.fault.Fault.TheVariants.{FunctionWithoutCode, DataCountWithoutData}
-use Rattle.wasm_grammar.specs.declared.encoding.Encoding.{Encoding}
-use Rattle.wasm_grammar.specs.Content.{fault, ended}
-use Rattle.wasm_grammar.specs.Grammar.{SectionContext, end_at_section}
-use Rattle.wasm_grammar.specs.Accepted.{SectionFrame, frame_count, IsSection, IsMatched}
+use Rattle.wasm_grammar.proofs.Common.{◌≡◌, inl, inr, Bool, true, false, cond, List, refl, ℕ, length, ◌<◌, ◌&&◌, sym, ◌∙◌, nat_lt, nat_eq}
+use Rattle.wasm_grammar.proofs.Common.{ltb-true, lt-ltb, and_parts, and_from, Any, list_any, FaultAt, at_offset, FunctionWithoutCode}
+use Rattle.wasm_grammar.proofs.Common.{DataCountWithoutData, SectionFrame, frame_count, IsSection, IsMatched, fault, ended, SectionContext}
+use Rattle.wasm_grammar.proofs.Common.{end_at_section, data_count_id, function_id, Encoding}
+use Rattle.std.proofs.lemmas.Bool.{and_cases, and_right, false_from_ne_true}
 use Rattle.wasm_grammar.proofs.PlainLists.{any_of, none_of}
 use Rattle.wasm_grammar.proofs.accepted.Counts.{is_section, counts_of, Knows, section_yes, yes_section, any_counts, offends}
 use Rattle.wasm_grammar.proofs.accepted.Fits.{some_to, some_from}
-use Rattle.wasm_grammar.specs.Ids.{data_count_id, function_id}
 
 -- whether a section has a count above 0, and there is no other section
 abbrev pub misses : Encoding → ℕ → ℕ → List SectionFrame → Bool

@@ -1,20 +1,15 @@
 -- A section may follow other tiles exactly if it fits after their frames.
-use Rattle.std.proofs.Common.{◌≡◌, ℕ, ◌<◌, ◌⊎◌, ◌==◌, Bool, true, false, not, ◌&&◌, List, length, refl, ap}
-use Rattle.std.proofs.Common.{◌∙◌, arith, None, nat_lt, nat_eq, eqb-true, eq-eqb, ltb-true, lt-ltb}
-use Rattle.std.specs.List.{All, Any, list_all}
-use Rattle.wasm_base.specs.FaultAt.{FaultAt, at_offset}
+use Rattle.wasm_grammar.proofs.Common.{◌≡◌, ◌⊎◌, Bool, true, false, List, refl, ap, ℕ, length, None, arith, ◌<◌, not, ◌&&◌, ◌∙◌, nat_lt}
+use Rattle.wasm_grammar.proofs.Common.{nat_eq, eqb-true, eq-eqb, ltb-true, lt-ltb, All, Any, list_all, FaultAt, at_offset, SectionFrame}
+use Rattle.wasm_grammar.proofs.Common.{frame_count, frame_rank, IsSection, Form, items, kind_of, when, whole, SectionContext, wrong_count}
+use Rattle.wasm_grammar.proofs.Common.{wrong_data, data_count_id, data_id, function_id, Encoding, Module}
+use Rattle.std.proofs.Common.{◌==◌}
 use Rattle.wasm_base.specs.declared.fault.Fault.TheVariants.{DataCountDiffer}
-use Rattle.wasm_grammar.proofs.accepted.Tiles.{IsWhole, same_form}
-use Rattle.wasm_grammar.specs.declared.encoding.Encoding.{Encoding}
-use Rattle.wasm_grammar.specs.declared.encoding.Encoding.TheVariants.{Module}
-use Rattle.wasm_grammar.specs.Content.{items, kind_of, when, Form, whole}
-use Rattle.wasm_grammar.specs.Grammar.{SectionContext, wrong_count, wrong_data}
-use Rattle.wasm_grammar.specs.Accepted.{SectionFrame, frame_count, frame_rank, IsSection}
-use Rattle.wasm_grammar.proofs.parts.Placed.{Follows}
 use Rattle.wasm_grammar.proofs.PlainLists.{all_of, all_to, any_of, any_to}
 use Rattle.wasm_grammar.proofs.accepted.Counts.{is_section, counts_of, Knows, section_yes, yes_section, no_counts, HasCount, same_to}
 use Rattle.wasm_grammar.proofs.accepted.Counts.{same_of}
-use Rattle.wasm_grammar.specs.Ids.{data_count_id, data_id, function_id}
+use Rattle.wasm_grammar.proofs.accepted.Tiles.{IsWhole, same_form}
+use Rattle.wasm_grammar.proofs.parts.Placed.{Follows}
 
 -- a rank that is asked for only above 0
 follows_to : (r : ℕ) (b : Bool) → (0 < r → b ≡ true) → (nat_lt 0 r && not b) ≡ false

@@ -1,20 +1,15 @@
 -- A stream whose reading ends at its end is accepted.
-use Rattle.std.proofs.Common.{◌≡◌, ℕ, ◌+◌, ◌<◌, List, [], ◌∷◌, ◌++◌, length, nat_eq, refl, sym, ap, ◌∙◌, append-nil}
-use Rattle.std.specs.List.{All}
-use Rattle.wasm_grammar.specs.declared.encoding.Encoding.{Encoding}
-use Rattle.wasm_grammar.specs.Content.{ended}
-use Rattle.wasm_grammar.specs.Grammar.{version, Tile, tile, verdict, header_grammar}
-use Rattle.wasm_grammar.specs.Tiling.{bytes_of, context_of, bodies_left, bytes_left, encoding_of}
-use Rattle.wasm_grammar.specs.Reading.{Reads}
-use Rattle.wasm_grammar.specs.Accepted.{IsAccepted, IsMatched, header_bytes}
+use Rattle.wasm_grammar.proofs.Common.{◌≡◌, List, [], ◌∷◌, ◌++◌, refl, ap, ℕ, ◌+◌, length, ◌<◌, sym, ◌∙◌, nat_eq, append-nil, All}
+use Rattle.wasm_grammar.proofs.Common.{IsMatched, IsAccepted, header_bytes, ended, Tile, version, tile, verdict, header_grammar, Reads}
+use Rattle.wasm_grammar.proofs.Common.{bytes_of, context_of, bodies_left, bytes_left, encoding_of, Encoding}
 use Rattle.wasm_grammar.proofs.PlainLists.{all_prefix}
-use Rattle.wasm_grammar.proofs.readings.Endings.{header_end, inside_end}
 use Rattle.wasm_grammar.proofs.accepted.Endings.{end_from}
 use Rattle.wasm_grammar.proofs.accepted.Headers.{HeaderParts, header_parts}
 use Rattle.wasm_grammar.proofs.accepted.Knows.{knows_header}
-use Rattle.wasm_grammar.proofs.frames.OpenSections.{Goes, closed_at, sections_of_tiles}
 use Rattle.wasm_grammar.proofs.accepted.States.{Settled, Pending, settles, in_order_none, whole_settled, code_pending, body_pending}
 use Rattle.wasm_grammar.proofs.accepted.Tiles.{made, header_version}
+use Rattle.wasm_grammar.proofs.frames.OpenSections.{Goes, closed_at, sections_of_tiles}
+use Rattle.wasm_grammar.proofs.readings.Endings.{header_end, inside_end}
 
 -- a header alone
 header_settled : (start : ℕ) (t : Tile) → All (λ b. b < 256) t.bytes → verdict (header_grammar start) t.bytes ≡ tile t → Settled (t ∷ [])

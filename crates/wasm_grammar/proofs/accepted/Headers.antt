@@ -1,20 +1,14 @@
 -- The header's tile has the header's bytes.
-use Rattle.std.proofs.Common.{◌≡◌, ℕ, ◌+◌, ◌/◌, ◌%◌, ◌<◌, true, not, List, [], ◌∷◌, ◌++◌}
-use Rattle.std.proofs.Common.{length, Option, None, nat_eq, refl, arith, eqb-true}
-use Rattle.std.specs.List.{All}
-use Rattle.std.proofs.lemmas.Bool.{and_parts, not-false}
-use Rattle.wasm_base.specs.FaultAt.{at_offset}
-use Rattle.wasm_base.specs.Header.{magic, agree}
-use Rattle.wasm_base.specs.Name.{of_four}
-use Rattle.wasm_base.specs.declared.fault.Fault.TheVariants.{BadMagic}
-use Rattle.wasm_grammar.specs.declared.encoding.Encoding.{Encoding}
-use Rattle.wasm_grammar.specs.declared.encoding.Encoding.TheVariants.{Module, Component}
-use Rattle.wasm_grammar.specs.Content.{when}
-use Rattle.wasm_grammar.specs.Grammar.{version, Tile, tile, check, bytes, verdict, encoding_named, header_of, version_of, header_grammar}
-use Rattle.wasm_grammar.specs.Accepted.{header_bytes}
-use Rattle.wasm_grammar.proofs.parts.Placed.{none_when}
-use Rattle.wasm_grammar.proofs.accepted.Tiles.{made, header_version}
+use Rattle.wasm_grammar.proofs.Common.{◌≡◌, true, List, [], ◌∷◌, ◌++◌, refl, ℕ, ◌+◌, length, None, arith, ◌<◌, not, nat_eq, eqb-true}
+use Rattle.wasm_grammar.proofs.Common.{Option, and_parts, All, at_offset, magic, agree, of_four, BadMagic, header_bytes, when, Tile}
+use Rattle.wasm_grammar.proofs.Common.{version, tile, check, bytes, header_of, version_of, verdict, header_grammar, Encoding, Module}
+use Rattle.wasm_grammar.proofs.Common.{Component}
+use Rattle.std.proofs.Common.{◌/◌, ◌%◌}
+use Rattle.std.proofs.lemmas.Bool.{not-false}
+use Rattle.wasm_grammar.specs.Grammar.{encoding_named}
 use Rattle.wasm_grammar.proofs.accepted.Parts.{BytesParts, bytes_parts, refuse_parts, ends_there}
+use Rattle.wasm_grammar.proofs.accepted.Tiles.{made, header_version}
+use Rattle.wasm_grammar.proofs.parts.Placed.{none_when}
 
 -- the 32 bits after the magic
 abbrev pub header_bits : Encoding → ℕ

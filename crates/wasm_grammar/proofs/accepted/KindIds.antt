@@ -1,9 +1,7 @@
 -- What the kind of a section says of its id.
-use Rattle.std.proofs.Common.{◌≡◌, ℕ, zero, suc, refl, subst}
-use Rattle.wasm_grammar.specs.declared.encoding.Encoding.{Encoding}
-use Rattle.wasm_grammar.specs.declared.encoding.Encoding.TheVariants.{Module, Component}
-use Rattle.wasm_grammar.specs.Content.{Kind, custom, index, data_count, code, kind_of, whole}
-use Rattle.wasm_grammar.specs.Ids.{code_id, custom_id, data_count_id, start_id}
+use Rattle.wasm_grammar.proofs.Common.{◌≡◌, refl, ℕ, subst, zero, suc, kind_of, whole, Kind, custom, index, data_count, code, code_id}
+use Rattle.wasm_grammar.proofs.Common.{data_count_id, custom_id, Encoding, Module, Component}
+use Rattle.wasm_grammar.specs.Ids.{start_id}
 
 -- the ids that a section of this kind may have: a code section is a module's
 abbrev pub IdOf : Encoding → Kind → ℕ → Type 0

@@ -1,19 +1,13 @@
 -- What tiles say of the frames that they make, tile by tile.
-use Rattle.std.proofs.Common.{◌≡◌, ℕ, zero, suc, ◌+◌, ◌⊎◌, inl, inr, Bool, true, false, cond, ◌&&◌, List, [], ◌∷◌, ◌++◌, length, refl, sym}
-use Rattle.std.proofs.Common.{ap, subst, ◌∙◌, nat_lt, nat_eq, eqb-true, lt-ltb}
-use Rattle.std.specs.List.{list_all}
-use Rattle.std.proofs.lemmas.Bool.{and_from}
-use Rattle.std.proofs.Math.Bool.{and_comm}
-use Rattle.std.proofs.lemmas.List.Folds.{list_all-append}
-use Rattle.wasm_grammar.specs.declared.encoding.Encoding.{Encoding}
-use Rattle.wasm_grammar.specs.declared.encoding.Encoding.TheVariants.{Module, Component}
-use Rattle.wasm_grammar.specs.Content.{Kind, items, data_count, code, kind_of, rank_of, count_of, Form, whole}
-use Rattle.wasm_grammar.specs.Grammar.{version, section, code_start, code_entry, Tile, section_grammar, body_grammar}
-use Rattle.wasm_grammar.specs.Tiling.{bytes_of, grammar, context_of, tile_rank, count_in, counts, bodies_left, bytes_left, is_start}
-use Rattle.wasm_grammar.specs.Accepted.{SectionFrame, frame_count, frame_rank}
+use Rattle.wasm_grammar.proofs.Common.{◌≡◌, ◌⊎◌, inl, inr, Bool, true, false, cond, List, [], ◌∷◌, ◌++◌, refl, ap, ℕ, ◌+◌, length, subst}
+use Rattle.wasm_grammar.proofs.Common.{◌&&◌, sym, ◌∙◌, nat_lt, nat_eq, eqb-true, lt-ltb, zero, suc, and_comm, and_from, list_all-append}
+use Rattle.wasm_grammar.proofs.Common.{list_all, SectionFrame, frame_count, frame_rank, Form, items, kind_of, whole, Kind, data_count, code}
+use Rattle.wasm_grammar.proofs.Common.{rank_of, count_of, Tile, version, section, code_start, code_entry, section_grammar, body_grammar}
+use Rattle.wasm_grammar.proofs.Common.{code_id, data_count_id, data_id, function_id, bytes_of, context_of, bodies_left, bytes_left, grammar}
+use Rattle.wasm_grammar.proofs.Common.{tile_rank, is_start, Encoding, Module, Component}
+use Rattle.wasm_grammar.specs.Tiling.{count_in, counts}
 use Rattle.wasm_grammar.proofs.accepted.Counts.{one_count, counts_of, counts_push, Knows}
 use Rattle.wasm_grammar.proofs.accepted.Tiles.{made, IsWhole, header_version, not_code}
-use Rattle.wasm_grammar.specs.Ids.{code_id, data_count_id, data_id, function_id}
 
 -- what may come after tiles that are at the end of a section
 pub grammar_closed : (start : ℕ) (ts : List Tile) → is_start ts ≡ false → nat_eq (bodies_left ts + bytes_left ts) 0 ≡ true

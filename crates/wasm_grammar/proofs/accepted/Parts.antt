@@ -1,19 +1,13 @@
 -- Tiles are bytes in the textbook form.
-use Rattle.std.proofs.Common.{◌≡◌, ℕ, zero, suc, ◌+◌, ◌-◌, ◌<◌, ◌≤◌, Bool, cond, not, ◌&&◌, List, [], ◌∷◌, ◌++◌, length, take, drop, Option}
-use Rattle.std.proofs.Common.{None, nat_lt, nat_le, refl, arith, append-nil}
-use Rattle.std.proofs.lemmas.List.{length-take-le}
-use Rattle.wasm_base.specs.FaultAt.{FaultAt, at_offset}
-use Rattle.wasm_base.specs.Header.{magic, agree}
-use Rattle.wasm_base.specs.declared.fault.Fault.TheVariants.{MagicAtSection, UnexpectedEof}
-use Rattle.wasm_base.proofs.NumberLaws.{number-used}
-use Rattle.wasm_grammar.specs.Content.{Kind, kind_of, rank_of, Ending, fault, when, wrong_content, Form}
-use Rattle.wasm_grammar.specs.Grammar.{Shape, section, code_start, code_entry, Tile, tile, final, after, SectionContext, Grammar, accept}
-use Rattle.wasm_grammar.specs.Grammar.{check, u32_field, bytes, verdict, section_grammar, body_grammar, content_grammar, whole_grammar}
-use Rattle.wasm_grammar.specs.Grammar.{code_grammar, after_length, after_id, wrong_count, wrong_data}
-use Rattle.wasm_grammar.specs.Accepted.{IsNumber}
-use Rattle.wasm_grammar.proofs.parts.Placed.{Follows, none_when}
-use Rattle.wasm_grammar.proofs.parts.Guarded.{Numbered, numbered}
+use Rattle.wasm_grammar.proofs.Common.{◌≡◌, Bool, cond, List, [], ◌∷◌, ◌++◌, refl, ℕ, ◌+◌, length, ◌≤◌, None, arith, ◌<◌, not, ◌&&◌, nat_lt}
+use Rattle.wasm_grammar.proofs.Common.{append-nil, Option, zero, suc, ◌-◌, take, drop, nat_le, length-take-le, number-used, FaultAt}
+use Rattle.wasm_grammar.proofs.Common.{at_offset, magic, agree, MagicAtSection, UnexpectedEof, IsNumber, Ending, fault, Form, kind_of, when}
+use Rattle.wasm_grammar.proofs.Common.{Kind, rank_of, wrong_content, Tile, SectionContext, wrong_count, wrong_data, tile, check, bytes}
+use Rattle.wasm_grammar.proofs.Common.{section, code_start, code_entry, Shape, final, after, Grammar, accept, u32_field, content_grammar}
+use Rattle.wasm_grammar.proofs.Common.{whole_grammar, code_grammar, after_length, after_id, verdict, section_grammar, body_grammar}
 use Rattle.wasm_grammar.proofs.accepted.Tiles.{made, IsWhole}
+use Rattle.wasm_grammar.proofs.parts.Guarded.{Numbered, numbered}
+use Rattle.wasm_grammar.proofs.parts.Placed.{Follows, none_when}
 
 -- nothing is wrong before a tile
 pub refuse_parts : (e : Option FaultAt) (next : Grammar) (xs : List ℕ) (t : Tile) → verdict (check e next) xs ≡ tile t → (e ≡ None)

@@ -1,27 +1,20 @@
 -- The frames that tiles are, and the code section within which they end.
-use Rattle.std.proofs.Common.{◌≡◌, ℕ, ◌+◌, ◌-◌, ◌⊎◌, true, List, [], ◌∷◌, ◌++◌, length, None, nat_eq, refl, sym, ◌∙◌}
-use Rattle.std.proofs.Common.{arith, length-append, append-nil, append_assoc, lit<}
-use Rattle.std.specs.List.{All, flat_map}
-use Rattle.std.proofs.lemmas.List.{flat_map_more}
-use Rattle.std.proofs.lemmas.List.Elements.{All-nil, All-push}
-use Rattle.wasm_grammar.specs.declared.encoding.Encoding.{Encoding}
-use Rattle.wasm_grammar.specs.declared.encoding.Encoding.TheVariants.{Module}
-use Rattle.wasm_grammar.specs.Content.{code, kind_of, rank_of}
-use Rattle.wasm_grammar.specs.Grammar.{section, code_start, code_entry, Tile, tile, SectionContext, verdict, content_grammar, wrong_count}
-use Rattle.wasm_grammar.specs.Tiling.{bytes_of, context_of, bodies_left, bytes_left, encoding_of}
-use Rattle.wasm_grammar.specs.Accepted.{Sized, sized_bytes, IsNumber, IsSized, SectionFrame, frame_bytes, frame_count, frame_rank, IsFrame}
-use Rattle.wasm_grammar.specs.Accepted.{FitsAfter, CodeDivision, IsSection}
-use Rattle.wasm_grammar.proofs.parts.Placed.{Follows}
+use Rattle.wasm_grammar.proofs.Common.{◌≡◌, ◌⊎◌, true, List, [], ◌∷◌, ◌++◌, refl, ℕ, ◌+◌, length, None, arith, sym, ◌∙◌, nat_eq, append-nil}
+use Rattle.wasm_grammar.proofs.Common.{append_assoc, ◌-◌, length-append, lit<, flat_map_more, All-nil, All-push, All, flat_map, IsNumber}
+use Rattle.wasm_grammar.proofs.Common.{SectionFrame, frame_count, frame_rank, IsSection, Sized, sized_bytes, IsSized, frame_bytes, IsFrame}
+use Rattle.wasm_grammar.proofs.Common.{FitsAfter, CodeDivision, kind_of, code, rank_of, Tile, SectionContext, wrong_count, tile, section}
+use Rattle.wasm_grammar.proofs.Common.{code_start, code_entry, content_grammar, verdict, code_id, data_id, bytes_of, context_of}
+use Rattle.wasm_grammar.proofs.Common.{bodies_left, bytes_left, encoding_of, Encoding, Module}
 use Rattle.wasm_grammar.proofs.PlainLists.{split_last}
-use Rattle.wasm_grammar.proofs.accepted.Counts.{Knows}
 use Rattle.wasm_grammar.proofs.accepted.Contents.{good_from}
-use Rattle.wasm_grammar.proofs.accepted.KindIds.{code_has_its_id}
+use Rattle.wasm_grammar.proofs.accepted.Counts.{Knows}
 use Rattle.wasm_grammar.proofs.accepted.Fits.{rank_from, CodeFits, code_from, data_from}
-use Rattle.wasm_grammar.proofs.accepted.Tiles.{made, IsWhole, number_on, not_code}
-use Rattle.wasm_grammar.proofs.accepted.Parts.{SectionParts, WholeParts, content_parts, HeadParts, head_parts, BodyParts}
+use Rattle.wasm_grammar.proofs.accepted.KindIds.{code_has_its_id}
 use Rattle.wasm_grammar.proofs.accepted.Knows.{knows_section, knows_code, knows_body}
+use Rattle.wasm_grammar.proofs.accepted.Parts.{SectionParts, WholeParts, content_parts, HeadParts, head_parts, BodyParts}
+use Rattle.wasm_grammar.proofs.accepted.Tiles.{made, IsWhole, number_on, not_code}
 use Rattle.wasm_grammar.proofs.accepted.Walks.{stream_of, stream_more}
-use Rattle.wasm_grammar.specs.Ids.{code_id, data_id}
+use Rattle.wasm_grammar.proofs.parts.Placed.{Follows}
 
 -- good sections in their order
 pub record InOrder (encoding : Encoding) (fs : List SectionFrame) : Type 0 where

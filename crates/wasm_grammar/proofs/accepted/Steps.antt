@@ -1,25 +1,18 @@
 -- A good section that fits after other tiles is one tile more, or the head of a code section and its bodies.
-use Rattle.std.proofs.Common.{◌≡◌, ℕ, suc, ◌+◌, ◌-◌, ◌^◌, ◌<◌, ◌≤◌, true, false, List, [], ◌∷◌, ◌++◌, length, nat_eq, refl, ap}
-use Rattle.std.proofs.Common.{subst, ◌∙◌, arith, length-append, append-nil, append_assoc}
-use Rattle.std.specs.List.{All, flat_map}
+use Rattle.wasm_grammar.proofs.Common.{◌≡◌, true, false, List, [], ◌∷◌, ◌++◌, refl, ap, ℕ, ◌+◌, length, subst, ◌≤◌, arith, ◌<◌, ◌∙◌, nat_eq}
+use Rattle.wasm_grammar.proofs.Common.{append-nil, append_assoc, suc, ◌-◌, length-append, ◌^◌, All-head, All-tail, All, flat_map}
+use Rattle.wasm_grammar.proofs.Common.{SectionFrame, frame_count, Sized, sized_bytes, IsSized, frame_bytes, IsFrame, FitsAfter}
+use Rattle.wasm_grammar.proofs.Common.{CodeDivision, kind_of, count_of, body_events, Tile, SectionContext, tile, section, code_start}
+use Rattle.wasm_grammar.proofs.Common.{code_entry, verdict, section_grammar, code_id, events_of, bytes_of, context_of, bodies_left}
+use Rattle.wasm_grammar.proofs.Common.{bytes_left, grammar, is_start, Faultless, Encoding, Module}
 use Rattle.std.proofs.lemmas.Bool.{ne_eqb}
-use Rattle.std.proofs.lemmas.List.Elements.{All-head, All-tail}
-use Rattle.wasm_grammar.specs.declared.encoding.Encoding.{Encoding}
-use Rattle.wasm_grammar.specs.declared.encoding.Encoding.TheVariants.{Module}
-use Rattle.wasm_grammar.specs.Content.{kind_of, value_of, count_of}
-use Rattle.wasm_grammar.specs.FrameEvents.{body_events}
-use Rattle.wasm_grammar.specs.Grammar.{section, code_start, code_entry, Tile, tile, SectionContext, verdict, section_grammar}
-use Rattle.wasm_grammar.specs.Tiling.{bytes_of, grammar, Faultless, context_of, bodies_left, bytes_left, is_start}
-use Rattle.wasm_grammar.specs.Reading.{events_of}
-use Rattle.wasm_grammar.specs.Accepted.{Sized, sized_bytes, IsSized, SectionFrame, frame_bytes, frame_count, IsFrame}
-use Rattle.wasm_grammar.specs.Accepted.{FitsAfter, CodeDivision}
+use Rattle.wasm_grammar.specs.Content.{value_of}
+use Rattle.wasm_grammar.proofs.accepted.Contents.{good_to}
 use Rattle.wasm_grammar.proofs.accepted.Counts.{Knows}
 use Rattle.wasm_grammar.proofs.accepted.Fits.{rank_to, CodeFits, code_to, data_to}
-use Rattle.wasm_grammar.proofs.accepted.Contents.{good_to}
-use Rattle.wasm_grammar.proofs.accepted.Tiles.{made, IsWhole, HeadIsRight, number_on, section_tile, code_head_tile, body_tile}
 use Rattle.wasm_grammar.proofs.accepted.Knows.{grammar_open, knows_body}
+use Rattle.wasm_grammar.proofs.accepted.Tiles.{made, IsWhole, HeadIsRight, number_on, section_tile, code_head_tile, body_tile}
 use Rattle.wasm_grammar.proofs.frames.TileEvents.{body_tile_event}
-use Rattle.wasm_grammar.specs.Ids.{code_id}
 
 -- what comes before a good section's content is right, if the section fits
 head_of_frame : (p : SectionContext) (fs : List SectionFrame) (o : ℕ) (f : SectionFrame) → Knows p.encoding fs p → IsFrame p.encoding f

@@ -1,25 +1,15 @@
 -- Bytes in the textbook form are tiles.
-use Rattle.std.proofs.Common.{◌≡◌, ℕ, suc, ◌+◌, ◌-◌, ◌^◌, ◌<◌, ◌≤◌, ◌⊎◌, inl, inr, Bool, true, false, ◌&&◌, List, [], ◌∷◌, ◌++◌}
-use Rattle.std.proofs.Common.{length, Option, Some, None, nat_lt, nat_le, refl, ap, subst, arith, append-nil}
-use Rattle.std.proofs.Common.{length-append, le-leb, le-ltb, lt-ltb}
-use Rattle.std.proofs.lemmas.List.{take_at, drop_at}
-use Rattle.wasm_base.specs.FaultAt.{FaultAt}
-use Rattle.wasm_base.specs.Header.{magic, agree}
-use Rattle.wasm_base.specs.Name.{named, refused, name_limit, name}
-use Rattle.wasm_base.specs.Number.{read, number}
-use Rattle.wasm_base.specs.declared.fault.NumberKind.TheVariants.{VarU32}
-use Rattle.wasm_base.specs.declared.fault.Fault.TheVariants.{UnexpectedEof}
-use Rattle.wasm_base.proofs.NumberLaws.{number-more, number-used}
-use Rattle.wasm_grammar.specs.declared.encoding.Encoding.{Encoding}
-use Rattle.wasm_grammar.specs.declared.encoding.Encoding.TheVariants.{Module, Component}
-use Rattle.wasm_grammar.specs.Content.{Kind, code, kind_of, rank_of, Ending, when, wrong_content, Form, whole}
-use Rattle.wasm_grammar.specs.Grammar.{Shape, version, section, code_start, code_entry, Tile, tile, SectionContext, Grammar, accept, check}
-use Rattle.wasm_grammar.specs.Grammar.{u32_field, bytes, section_start, verdict, header_grammar, section_grammar, body_grammar}
-use Rattle.wasm_grammar.specs.Grammar.{content_grammar, whole_grammar, after_id, wrong_count, wrong_data}
-use Rattle.wasm_grammar.specs.Accepted.{IsNumber, header_bytes}
-use Rattle.wasm_grammar.proofs.parts.Placed.{Follows}
+use Rattle.wasm_grammar.proofs.Common.{◌≡◌, ◌⊎◌, inl, inr, Bool, true, false, List, [], ◌∷◌, ◌++◌, refl, ap, ℕ, ◌+◌, length, subst, ◌≤◌}
+use Rattle.wasm_grammar.proofs.Common.{None, arith, ◌<◌, ◌&&◌, nat_lt, append-nil, lt-ltb, Option, suc, ◌-◌, nat_le, length-append, ◌^◌}
+use Rattle.wasm_grammar.proofs.Common.{Some, le-leb, take_at, drop_at, number-used, number-more, FaultAt, magic, agree, named, refused}
+use Rattle.wasm_grammar.proofs.Common.{name_limit, name, read, number, UnexpectedEof, VarU32, IsNumber, header_bytes, Ending, Form, kind_of}
+use Rattle.wasm_grammar.proofs.Common.{when, whole, Kind, code, rank_of, wrong_content, Tile, SectionContext, wrong_count, wrong_data}
+use Rattle.wasm_grammar.proofs.Common.{version, tile, check, bytes, section, code_start, code_entry, Shape, Grammar, accept, u32_field}
+use Rattle.wasm_grammar.proofs.Common.{content_grammar, whole_grammar, after_id, section_start, verdict, header_grammar, section_grammar}
+use Rattle.wasm_grammar.proofs.Common.{body_grammar, code_id, custom_id, Encoding, Module, Component}
+use Rattle.std.proofs.Common.{le-ltb}
 use Rattle.wasm_grammar.proofs.parts.Guarded.{one_byte}
-use Rattle.wasm_grammar.specs.Ids.{custom_id, code_id}
+use Rattle.wasm_grammar.proofs.parts.Placed.{Follows}
 
 -- a tile of this shape with these bytes
 abbrev pub made : Shape → List ℕ → Tile

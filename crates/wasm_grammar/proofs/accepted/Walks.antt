@@ -1,27 +1,18 @@
 -- An accepted stream's reading ends at its end.
-use Rattle.std.proofs.Common.{◌≡◌, ℕ, ◌+◌, ◌-◌, ◌^◌, ◌<◌, ◌≤◌, inl, inr, true, false, List, [], ◌∷◌, ◌++◌, length, nat_eq, refl, sym, ap}
-use Rattle.std.proofs.Common.{subst, ◌∙◌, arith, length-append, append-nil, append_assoc}
-use Rattle.std.specs.List.{All, flat_map}
-use Rattle.std.proofs.lemmas.List.{flat_map_more}
-use Rattle.std.proofs.lemmas.Grind.{flat_map-append}
-use Rattle.std.proofs.lemmas.List.Elements.{All-head, All-tail}
-use Rattle.wasm_grammar.specs.declared.encoding.Encoding.{Encoding}
-use Rattle.wasm_grammar.specs.declared.encoding.Encoding.TheVariants.{Module}
-use Rattle.wasm_grammar.specs.Content.{code, kind_of, ended}
-use Rattle.wasm_grammar.specs.FrameEvents.{header_event, section_event, code_events, FrameEvents, FramesEvents}
-use Rattle.wasm_grammar.specs.Grammar.{version, section, code_start, Tile, tile, final, SectionContext, verdict, end_at_section}
-use Rattle.wasm_grammar.specs.Grammar.{section_grammar}
-use Rattle.wasm_grammar.specs.Tiling.{bytes_of, grammar, Faultless, context_of, bodies_left, bytes_left, is_start}
-use Rattle.wasm_grammar.specs.Reading.{Event, events_of, Reads}
-use Rattle.wasm_grammar.specs.Accepted.{sized_bytes, SectionFrame, frame_bytes, IsFrame, FitsAfter, CodeDivision, IsAccepted, header_bytes}
+use Rattle.wasm_grammar.proofs.Common.{◌≡◌, inl, inr, true, false, List, [], ◌∷◌, ◌++◌, refl, ap, ℕ, ◌+◌, length, subst, ◌≤◌, arith, ◌<◌}
+use Rattle.wasm_grammar.proofs.Common.{sym, ◌∙◌, nat_eq, append-nil, append_assoc, ◌-◌, length-append, ◌^◌, flat_map-append, flat_map_more}
+use Rattle.wasm_grammar.proofs.Common.{All-head, All-tail, All, flat_map, SectionFrame, IsAccepted, header_bytes, sized_bytes, frame_bytes}
+use Rattle.wasm_grammar.proofs.Common.{IsFrame, FitsAfter, CodeDivision, ended, kind_of, code, header_event, section_event, code_events}
+use Rattle.wasm_grammar.proofs.Common.{FrameEvents, FramesEvents, Tile, SectionContext, end_at_section, version, tile, section, code_start}
+use Rattle.wasm_grammar.proofs.Common.{final, verdict, section_grammar, code_id, Reads, events_of, Event, bytes_of, context_of, bodies_left}
+use Rattle.wasm_grammar.proofs.Common.{bytes_left, grammar, is_start, Faultless, Encoding, Module}
 use Rattle.wasm_grammar.proofs.accepted.Counts.{Knows}
-use Rattle.wasm_grammar.proofs.accepted.KindIds.{code_has_its_id}
 use Rattle.wasm_grammar.proofs.accepted.Endings.{end_to}
-use Rattle.wasm_grammar.proofs.accepted.Tiles.{made, IsWhole, whole_or_code, header_version, header_tile}
+use Rattle.wasm_grammar.proofs.accepted.KindIds.{code_has_its_id}
 use Rattle.wasm_grammar.proofs.accepted.Knows.{grammar_closed, knows_header, knows_section, knows_code}
 use Rattle.wasm_grammar.proofs.accepted.Steps.{section_step, code_step, division_count, division_length, Through, bodies_walk}
+use Rattle.wasm_grammar.proofs.accepted.Tiles.{made, IsWhole, whole_or_code, header_version, header_tile}
 use Rattle.wasm_grammar.proofs.frames.TileEvents.{header_tile_event, section_tile_event, start_tile_event, push_events}
-use Rattle.wasm_grammar.specs.Ids.{code_id}
 
 -- the bytes of a header and these frames
 abbrev pub stream_of : Encoding → List SectionFrame → List ℕ

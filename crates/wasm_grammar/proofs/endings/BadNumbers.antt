@@ -1,10 +1,8 @@
 -- Where numbers are bad, and what more of them would say.
-use Rattle.std.proofs.Common.{◌≡◌, ℕ, suc, Bool, true, false, cond, List, length, take, slice_index, Option, Some, None, nat_lt, sym, ap}
+use Rattle.wasm_grammar.proofs.Common.{◌≡◌, Bool, true, false, cond, List, ap, ℕ, length, None, sym, nat_lt, Option, suc, take, Some}
+use Rattle.wasm_grammar.proofs.Common.{slice_index, read, bad, short, ends_at, last_place, septets, is_unused_right, number, Fault, VarU32}
 use Rattle.wasm_base.specs.Hints.{hint_at}
-use Rattle.wasm_base.specs.Number.{read, bad, short, number, ends_at, last_place, septets, is_unused_right}
-use Rattle.wasm_base.specs.declared.fault.Fault.{Fault}
 use Rattle.wasm_base.specs.declared.fault.Fault.TheVariants.{NumberTooLong, NumberTooLarge}
-use Rattle.wasm_base.specs.declared.fault.NumberKind.TheVariants.{VarU32}
 
 -- a number that is wrong is no missing byte
 bad_ends : (xs : List ℕ) (i : Option ℕ) (f : Fault) (o : ℕ) → ends_at VarU32 xs i ≡ bad f o → hint_at 1 f ≡ None

@@ -1,31 +1,23 @@
 -- If bytes don't suffice, something else is there after the suffix that decides than where the stream ends.
-use Rattle.std.proofs.Common.{◌≡◌, ◌≢◌, ℕ, ◌+◌, ◌-◌, ◌<◌, Bool, true, false, cond, ◌&&◌, List, [], ◌∷◌, ◌++◌, length, take, drop}
-use Rattle.std.proofs.Common.{replicate, Option, Some, None, nat_lt, nat_le, nat_eq, refl, ◌∙◌, arith, length-append, leb-true, le-leb}
-use Rattle.std.specs.List.{list_any}
-use Rattle.std.proofs.lemmas.Bool.{leb-false, and_parts}
-use Rattle.std.proofs.lemmas.List.{append_cancel_left, take-append-le, drop-append-le, length-replicate, take_all, drop_all}
-use Rattle.wasm_base.specs.FaultAt.{FaultAt, at_offset}
-use Rattle.wasm_base.specs.Header.{magic, agree}
-use Rattle.wasm_base.specs.Name.{name_limit, name, after_size}
-use Rattle.wasm_base.specs.Number.{Number, read, bad, short, number}
-use Rattle.wasm_base.specs.declared.fault.Fault.TheVariants.{UnexpectedEof, BadMagic, MagicAtSection, MalformedSectionId}
-use Rattle.wasm_base.specs.declared.fault.Fault.TheVariants.{FunctionWithoutCode, DataCountWithoutData}
-use Rattle.wasm_base.specs.declared.fault.NumberKind.TheVariants.{VarU32}
-use Rattle.wasm_base.proofs.NumberLaws.{number-used, number-more, number-long}
-use Rattle.wasm_grammar.specs.Content.{Form, Kind, code, kind_of, Ending, fault, ended, when}
-use Rattle.wasm_grammar.specs.Content.{whole, wrong_name, wrong_content}
-use Rattle.wasm_grammar.specs.Grammar.{Shape, code_entry, Tile, Verdict, final, after, after_number, SectionContext, Grammar, accept, check}
-use Rattle.wasm_grammar.specs.Grammar.{u32_field, bytes, section_start, verdict, header_of, header_grammar, end_at_section, wrong_data}
-use Rattle.wasm_grammar.specs.Grammar.{content_grammar, after_id, section_grammar, body_grammar}
-use Rattle.wasm_grammar.specs.Tiling.{grammar}
-use Rattle.wasm_grammar.specs.Undecided.{ending_of_number, deciding_ending}
-use Rattle.wasm_grammar.specs.Waiting.{enough, wants, later, later_number, waiting}
-use Rattle.wasm_grammar.specs.declared.encoding.Encoding.{Encoding}
-use Rattle.wasm_grammar.proofs.parts.Bounds.{final_same}
-use Rattle.wasm_grammar.proofs.readings.Endings.{after_final}
-use Rattle.wasm_grammar.proofs.parts.Verdicts.{agree-more}
+use Rattle.wasm_grammar.proofs.Common.{◌≡◌, Bool, true, false, cond, List, [], ◌∷◌, ◌++◌, refl, ℕ, ◌+◌, length, None, arith, ◌<◌, ◌&&◌, ◌∙◌}
+use Rattle.wasm_grammar.proofs.Common.{nat_lt, nat_eq, Option, ◌-◌, take, drop, nat_le, length-append, Some, le-leb, ◌≢◌, replicate}
+use Rattle.wasm_grammar.proofs.Common.{leb-true, and_parts, append_cancel_left, take-append-le, drop-append-le, length-replicate, list_any}
+use Rattle.wasm_grammar.proofs.Common.{number-used, number-more, FaultAt, at_offset, magic, agree, name_limit, after_size, name, Number}
+use Rattle.wasm_grammar.proofs.Common.{read, bad, short, number, FunctionWithoutCode, DataCountWithoutData, BadMagic, MagicAtSection}
+use Rattle.wasm_grammar.proofs.Common.{UnexpectedEof, MalformedSectionId, VarU32, Ending, fault, ended, Form, kind_of, when, whole, Kind}
+use Rattle.wasm_grammar.proofs.Common.{code, wrong_content, Tile, SectionContext, end_at_section, wrong_data, check, bytes, header_of}
+use Rattle.wasm_grammar.proofs.Common.{code_entry, Shape, final, after, Grammar, accept, u32_field, content_grammar, after_id}
+use Rattle.wasm_grammar.proofs.Common.{section_start, Verdict, after_number, verdict, header_grammar, section_grammar, body_grammar}
+use Rattle.wasm_grammar.proofs.Common.{grammar, ending_of_number, deciding_ending, enough, wants, later, later_number, waiting, Encoding}
+use Rattle.std.proofs.lemmas.Bool.{leb-false}
+use Rattle.std.proofs.lemmas.List.{take_all, drop_all}
+use Rattle.wasm_base.proofs.NumberLaws.{number-long}
+use Rattle.wasm_grammar.specs.Content.{wrong_name}
 use Rattle.wasm_grammar.proofs.endings.BadNumbers.{bad_hint}
 use Rattle.wasm_grammar.proofs.endings.Waiting.{later-wants}
+use Rattle.wasm_grammar.proofs.parts.Bounds.{final_same}
+use Rattle.wasm_grammar.proofs.parts.Verdicts.{agree-more}
+use Rattle.wasm_grammar.proofs.readings.Endings.{after_final}
 
 -- ---- every grammar
 

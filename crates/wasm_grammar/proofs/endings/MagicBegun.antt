@@ -1,8 +1,7 @@
 -- Bytes that begin as a header does.
-use Rattle.std.proofs.Common.{◌≡◌, ℕ, ◌-◌, ◌<◌, ◌≤◌, Bool, true, false, cond, ◌&&◌, List, [], ◌∷◌, length, Some, None, nat_eq, nat_lt}
-use Rattle.std.proofs.Common.{sym, ap, ◌∙◌, arith, lt-ltb}
+use Rattle.wasm_grammar.proofs.Common.{◌≡◌, Bool, true, false, cond, List, [], ◌∷◌, ap, ℕ, length, ◌≤◌, None, arith, ◌<◌, ◌&&◌, sym, ◌∙◌}
+use Rattle.wasm_grammar.proofs.Common.{nat_lt, nat_eq, lt-ltb, ◌-◌, Some, magic, agree}
 use Rattle.std.specs.List.{starts_with}
-use Rattle.wasm_base.specs.Header.{magic, agree}
 use Rattle.wasm_grammar.specs.Waiting.{asked_at_section}
 
 -- bytes that others begin with agree with them

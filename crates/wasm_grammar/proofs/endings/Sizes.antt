@@ -1,19 +1,13 @@
 -- A suffix that decides consists of bytes, at most 2^32 of them.
-use Rattle.std.proofs.Common.{◌≡◌, ℕ, suc, ◌+◌, ◌-◌, ◌^◌, ◌<◌, ◌≤◌, ◌⊎◌, Bool, true, false, cond, All, List, [], ◌∷◌, length, take, drop}
-use Rattle.std.proofs.Common.{replicate, slice_index, Option, Some, None, nat_lt, refl, arith, add-one, lit≤}
-use Rattle.std.proofs.lemmas.List.{length-replicate, length-drop}
-use Rattle.std.proofs.lemmas.List.Elements.{All-nil, All-replicate, All-drop}
-use Rattle.wasm_base.specs.Name.{of_four}
-use Rattle.wasm_base.specs.Number.{Number, read, bad, number, last_place, ends_at, septets, is_unused_right}
-use Rattle.wasm_base.specs.declared.fault.Fault.{Fault}
-use Rattle.wasm_base.specs.declared.fault.NumberKind.TheVariants.{VarU32}
-use Rattle.wasm_base.proofs.NumberLaws.{last_place-lt}
+use Rattle.wasm_grammar.proofs.Common.{◌≡◌, ◌⊎◌, Bool, true, false, cond, List, [], ◌∷◌, refl, ℕ, ◌+◌, length, ◌≤◌, None, arith, ◌<◌}
+use Rattle.wasm_grammar.proofs.Common.{nat_lt, Option, suc, ◌-◌, take, drop, ◌^◌, Some, slice_index, replicate, length-replicate}
+use Rattle.wasm_grammar.proofs.Common.{length-drop, All-nil, All, last_place-lt, of_four, Number, read, bad, ends_at, last_place, septets}
+use Rattle.wasm_grammar.proofs.Common.{is_unused_right, number, Fault, VarU32, Tile, SectionContext, check, bytes, header_of, Grammar}
+use Rattle.wasm_grammar.proofs.Common.{u32_field, section_start, header_grammar, section_grammar, body_grammar, grammar, ending_of_number}
+use Rattle.wasm_grammar.proofs.Common.{deciding_ending, Encoding}
+use Rattle.std.proofs.Common.{add-one, lit≤}
+use Rattle.std.proofs.lemmas.List.Elements.{All-replicate, All-drop}
 use Rattle.wasm_base.proofs.Numbers.{sum_below}
-use Rattle.wasm_grammar.specs.Grammar.{Tile, SectionContext, Grammar, check, u32_field, bytes, section_start, header_of}
-use Rattle.wasm_grammar.specs.Grammar.{header_grammar, section_grammar, body_grammar}
-use Rattle.wasm_grammar.specs.Tiling.{grammar}
-use Rattle.wasm_grammar.specs.Undecided.{ending_of_number, deciding_ending}
-use Rattle.wasm_grammar.specs.declared.encoding.Encoding.{Encoding}
 
 -- ---- a number has 32 bits
 

@@ -1,20 +1,17 @@
 -- What comes next in streams that begin with the same bytes.
-use Rattle.std.proofs.Common.{◌≡◌, ◌≢◌, ℕ, ◌+◌, ◌^◌, ◌<◌, All, List, [], ◌∷◌, ◌++◌, length, refl, sym, ap, subst, ◌∙◌, arith}
-use Rattle.std.proofs.Common.{length-append, append_assoc, append-nil}
+use Rattle.wasm_grammar.proofs.Common.{◌≡◌, List, [], ◌∷◌, ◌++◌, refl, ap, ℕ, ◌+◌, length, subst, arith, ◌<◌, sym, ◌∙◌, append-nil}
+use Rattle.wasm_grammar.proofs.Common.{append_assoc, length-append, ◌^◌, ◌≢◌, All, Tile, tile, final, Verdict, verdict, NextEvent}
+use Rattle.wasm_grammar.proofs.Common.{events_of, Event, last_event, Reading, bytes_of, grammar, deciding_ending, wants, waiting}
 use Rattle.std.proofs.lemmas.List.Elements.{All-append}
-use Rattle.wasm_grammar.specs.NextEvent.{NextEvent}
-use Rattle.wasm_grammar.specs.Grammar.{Tile, Verdict, tile, final, verdict}
-use Rattle.wasm_grammar.specs.Reading.{Event, events_of, last_event, Reading, Stream}
-use Rattle.wasm_grammar.specs.Tiling.{bytes_of, grammar}
-use Rattle.wasm_grammar.specs.Undecided.{deciding_ending, ComesNext, IsTiledBy, OneComesNext, EnoughIsDecided, ShortIsUndecided, TwoStreams}
-use Rattle.wasm_grammar.specs.Waiting.{wants, waiting}
+use Rattle.wasm_grammar.specs.Reading.{Stream}
+use Rattle.wasm_grammar.specs.Undecided.{ComesNext, IsTiledBy, OneComesNext, EnoughIsDecided, ShortIsUndecided, TwoStreams}
 use Rattle.wasm_grammar.proofs.endings.Deciding.{differs, Differs-grammar}
 use Rattle.wasm_grammar.proofs.endings.Sizes.{IsSmall, ending_is_small}
-use Rattle.wasm_grammar.proofs.readings.NextEvents.{event_at, comes_next, next_there}
-use Rattle.wasm_grammar.proofs.parts.Verdicts.{verdict-more}
-use Rattle.wasm_grammar.proofs.readings.Readings.{Onward, reads_all}
-use Rattle.wasm_grammar.proofs.parts.Guarded.{Guarded-grammar, tile_least}
 use Rattle.wasm_grammar.proofs.endings.Waiting.{tile_decided}
+use Rattle.wasm_grammar.proofs.parts.Guarded.{Guarded-grammar, tile_least}
+use Rattle.wasm_grammar.proofs.parts.Verdicts.{verdict-more}
+use Rattle.wasm_grammar.proofs.readings.NextEvents.{event_at, comes_next, next_there}
+use Rattle.wasm_grammar.proofs.readings.Readings.{Onward, reads_all}
 
 -- ---- what comes next is what is there
 

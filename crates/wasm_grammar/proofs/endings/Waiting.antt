@@ -1,13 +1,10 @@
 -- Laws of bytes that don't decide yet what is there.
-use Rattle.std.proofs.Common.{◌≡◌, ℕ, ◌-◌, ◌+◌, ◌<◌, ◌≤◌, Bool, cond, List, [], ◌∷◌, ◌++◌, length, take, drop, None}
-use Rattle.std.proofs.Common.{nat_le, refl, arith, length-append, length-drop, leb-true}
-use Rattle.std.proofs.lemmas.List.{take-append-le, drop-append-le}
-use Rattle.wasm_base.specs.Header.{magic, agree}
-use Rattle.wasm_base.specs.Number.{Number, number}
-use Rattle.wasm_base.specs.declared.fault.NumberKind.TheVariants.{VarU32}
-use Rattle.wasm_base.proofs.NumberLaws.{number-more, number-short, number-used}
-use Rattle.wasm_grammar.specs.Grammar.{Tile, tile, Grammar, check, u32_field, bytes, section_start, verdict}
-use Rattle.wasm_grammar.specs.Waiting.{Waiting, enough, wants, later, later_number, waiting}
+use Rattle.wasm_grammar.proofs.Common.{◌≡◌, Bool, cond, List, [], ◌∷◌, ◌++◌, refl, ℕ, ◌+◌, length, ◌≤◌, None, arith, ◌<◌, ◌-◌, take, drop}
+use Rattle.wasm_grammar.proofs.Common.{nat_le, length-append, leb-true, take-append-le, drop-append-le, length-drop, number-used}
+use Rattle.wasm_grammar.proofs.Common.{number-more, magic, agree, Number, number, VarU32, Tile, tile, check, bytes, Grammar, u32_field}
+use Rattle.wasm_grammar.proofs.Common.{section_start, verdict, enough, wants, later, later_number, waiting}
+use Rattle.wasm_base.proofs.NumberLaws.{number-short}
+use Rattle.wasm_grammar.specs.Waiting.{Waiting}
 use Rattle.wasm_grammar.proofs.parts.Verdicts.{agree_same, agree-more, Guarded, Cut, verdict-cut}
 
 -- Bytes that suffice still do, whatever follows.

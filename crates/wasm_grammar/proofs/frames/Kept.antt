@@ -1,20 +1,16 @@
 -- Sections that have no rank may go, and come.
-use Rattle.std.proofs.Common.{◌≡◌, ℕ, ◌+◌, ◌<◌, inl, inr, Bool, true, false, cond, ◌||◌, List, [], ◌∷◌, ◌++◌, length, nat_lt, refl, sym, ap}
-use Rattle.std.proofs.Common.{subst, ◌∙◌, arith, ltb-true, ltb-false}
-use Rattle.std.specs.List.{All, Any, filter, list_any}
-use Rattle.std.proofs.lemmas.List.Elements.{All-nil, All-cons, All-head, All-tail, All-filter, All-weaker}
-use Rattle.wasm_grammar.specs.Accepted.{Sized, sized_bytes, SectionFrame, frame_count, frame_rank, IsSection}
-use Rattle.wasm_grammar.specs.Accepted.{FitsAfter, IsMatched, CodeDivision, IsAccepted}
-use Rattle.wasm_grammar.specs.Content.{Kind, code, kind_of, rank_of, whole}
-use Rattle.wasm_grammar.specs.FrameEvents.{body_event, body_events, code_events, KindEvents, has_rank, SayTheSame}
+use Rattle.wasm_grammar.proofs.Common.{◌≡◌, inl, inr, Bool, true, false, cond, List, [], ◌∷◌, ◌++◌, refl, ap, ℕ, ◌+◌, length, subst, arith}
+use Rattle.wasm_grammar.proofs.Common.{◌<◌, ◌||◌, sym, ◌∙◌, nat_lt, ltb-true, All-nil, All-cons, All-head, All-tail, All, Any, filter}
+use Rattle.wasm_grammar.proofs.Common.{list_any, SectionFrame, frame_count, frame_rank, IsSection, IsMatched, IsAccepted, Sized}
+use Rattle.wasm_grammar.proofs.Common.{sized_bytes, FitsAfter, CodeDivision, kind_of, whole, Kind, code, rank_of, body_events, code_events}
+use Rattle.wasm_grammar.proofs.Common.{body_event, KindEvents, data_count_id, function_id, Event, shifted_event, shifted_events, Encoding}
+use Rattle.wasm_grammar.proofs.Common.{Module}
+use Rattle.std.proofs.Common.{ltb-false}
+use Rattle.std.proofs.lemmas.List.Elements.{All-filter, All-weaker}
+use Rattle.wasm_grammar.specs.FrameEvents.{has_rank, SayTheSame}
 use Rattle.wasm_grammar.specs.FrameLaws.{FramesReadTheSame, RanklessMayGo}
-use Rattle.wasm_grammar.specs.Reading.{Event}
-use Rattle.wasm_grammar.specs.Shifted.{shifted_event, shifted_events}
-use Rattle.wasm_grammar.specs.declared.encoding.Encoding.{Encoding}
-use Rattle.wasm_grammar.specs.declared.encoding.Encoding.TheVariants.{Module}
-use Rattle.wasm_grammar.proofs.accepted.Counts.{is_section, section_yes, yes_section}
 use Rattle.wasm_grammar.proofs.PlainLists.{any_of, any_to, all_prefix, Spares, filter_twice}
-use Rattle.wasm_grammar.specs.Ids.{data_count_id, function_id}
+use Rattle.wasm_grammar.proofs.accepted.Counts.{is_section, section_yes, yes_section}
 
 -- ---- the remaining elements of lists
 

@@ -1,9 +1,7 @@
 -- Tiles one after the other are whole sections, or whole sections and a prefix of a code section.
-use Rattle.std.proofs.Common.{◌≡◌, ℕ, ◌+◌, ◌<◌, ◌⊎◌, inl, inr, Bool, true, false, cond, List, [], ◌∷◌, length, nat_eq, refl}
-use Rattle.std.specs.List.{All}
-use Rattle.wasm_grammar.specs.Content.{code, kind_of}
-use Rattle.wasm_grammar.specs.Grammar.{Tile, tile, verdict, section_grammar, body_grammar}
-use Rattle.wasm_grammar.specs.Tiling.{bytes_of, grammar, Faultless, context_of, encoding_of, bodies_left, bytes_left}
+use Rattle.wasm_grammar.proofs.Common.{◌≡◌, ◌⊎◌, inl, inr, Bool, true, false, cond, List, [], ◌∷◌, refl, ℕ, ◌+◌, length, ◌<◌, nat_eq, All}
+use Rattle.wasm_grammar.proofs.Common.{kind_of, code, Tile, tile, verdict, section_grammar, body_grammar, bytes_of, context_of, bodies_left}
+use Rattle.wasm_grammar.proofs.Common.{bytes_left, encoding_of, grammar, Faultless}
 use Rattle.wasm_grammar.proofs.PlainLists.{all_prefix}
 use Rattle.wasm_grammar.proofs.accepted.Parts.{SectionParts, section_parts, BodyParts, body_parts}
 use Rattle.wasm_grammar.proofs.accepted.Tiles.{IsWhole, whole_or_code}

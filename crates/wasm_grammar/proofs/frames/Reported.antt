@@ -1,18 +1,12 @@
 -- The sections that are reported of tiles.
-use Rattle.std.specs.declared.ops.Range.{Range}
-use Rattle.std.proofs.Common.{◌≡◌, ℕ, ◌+◌, ◌-◌, Bool, cond, List, [], ◌∷◌, ◌++◌, length, Option, Some, None, option_to_list}
-use Rattle.std.proofs.Common.{refl, ap, ◌∙◌, arith, length-append, append-nil}
+use Rattle.wasm_grammar.proofs.Common.{◌≡◌, Bool, cond, List, [], ◌∷◌, ◌++◌, refl, ap, ℕ, ◌+◌, length, None, arith, ◌∙◌, append-nil, Option}
+use Rattle.wasm_grammar.proofs.Common.{◌-◌, length-append, Some, option_to_list, Range, Ending, kind_of, whole, Kind, Tile, SectionContext}
+use Rattle.wasm_grammar.proofs.Common.{version, tile, section, code_start, code_entry, Shape, content_grammar, verdict, section_grammar}
+use Rattle.wasm_grammar.proofs.Common.{body_grammar, events_of, Event, last_event, tile_report, event_of, section_of, sections_of, bytes_of}
+use Rattle.wasm_grammar.proofs.Common.{encoding_of, grammar, Encoding, Module}
 use Rattle.std.proofs.lemmas.List.Elements.{filter_map-append}
-use Rattle.wasm_grammar.specs.declared.encoding.Encoding.{Encoding}
-use Rattle.wasm_grammar.specs.declared.encoding.Encoding.TheVariants.{Module}
-use Rattle.wasm_grammar.specs.Content.{Kind, kind_of, Ending, whole}
-use Rattle.wasm_grammar.specs.Grammar.{Shape, version, section, code_start, code_entry, Tile, tile, SectionContext, verdict}
-use Rattle.wasm_grammar.specs.Grammar.{section_grammar, body_grammar, content_grammar}
-use Rattle.wasm_grammar.specs.Reading.{Event, tile_report, event_of, last_event, events_of}
-use Rattle.wasm_grammar.specs.Sections.{section_of, sections_of}
-use Rattle.wasm_grammar.specs.Tiling.{bytes_of, grammar, encoding_of}
-use Rattle.wasm_grammar.proofs.readings.EndToEnd.{Closes, tile_closes}
 use Rattle.wasm_grammar.proofs.parts.Placed.{Each, each_tile, bodied, headed}
+use Rattle.wasm_grammar.proofs.readings.EndToEnd.{Closes, tile_closes}
 
 -- ---- a tile of an encoding
 

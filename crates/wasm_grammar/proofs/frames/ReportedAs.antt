@@ -1,13 +1,8 @@
 -- The sections of an accepted stream determine its reading, and there is one division into sections.
-use Rattle.std.proofs.Common.{◌≡◌, ℕ, ◌+◌, List, [], ◌∷◌, length, refl, sym, ◌∙◌, arith}
-use Rattle.std.specs.List.{All, flat_map}
-use Rattle.std.proofs.lemmas.List.Elements.{All-head, All-tail}
-use Rattle.wasm_grammar.specs.Accepted.{Sized, sized_bytes, IsSized, SectionFrame, frame_bytes, CodeDivision}
-use Rattle.wasm_grammar.specs.Content.{Kind, ended}
-use Rattle.wasm_grammar.specs.FrameEvents.{code_events, KindEvents, FramesEvents}
+use Rattle.wasm_grammar.proofs.Common.{◌≡◌, List, [], ◌∷◌, refl, ℕ, ◌+◌, length, arith, sym, ◌∙◌, All-head, All-tail, All, flat_map}
+use Rattle.wasm_grammar.proofs.Common.{SectionFrame, Sized, sized_bytes, IsSized, frame_bytes, CodeDivision, ended, Kind, code_events}
+use Rattle.wasm_grammar.proofs.Common.{FramesEvents, KindEvents, Reads, Event, Encoding}
 use Rattle.wasm_grammar.specs.FrameLaws.{OneDivision, FramesGiveEvents}
-use Rattle.wasm_grammar.specs.Reading.{Event, Reads}
-use Rattle.wasm_grammar.specs.declared.encoding.Encoding.{Encoding}
 use Rattle.wasm_grammar.proofs.accepted.Walks.{ReportedAs, Reached, accepted_walk, accepted_ends_there}
 use Rattle.wasm_grammar.proofs.frames.Same.{prefixes_same, numbers_same, sized_same, frames_same}
 use Rattle.wasm_grammar.proofs.readings.Readings.{reads_same}

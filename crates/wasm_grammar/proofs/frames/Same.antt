@@ -1,11 +1,7 @@
 -- Bytes are sections in one way.
-use Rattle.std.proofs.Common.{◌≡◌, ℕ, List, [], ◌∷◌, ◌++◌, length, refl, sym, ap, ◌∙◌, arith, append_assoc}
-use Rattle.std.specs.List.{All, flat_map}
-use Rattle.std.proofs.lemmas.List.{take_at, drop_at}
-use Rattle.std.proofs.lemmas.List.Elements.{All-head, All-tail}
-use Rattle.wasm_base.specs.Number.{read, number}
-use Rattle.wasm_base.specs.declared.fault.NumberKind.TheVariants.{VarU32}
-use Rattle.wasm_grammar.specs.Accepted.{IsNumber, Sized, sized_bytes, IsSized, SectionFrame, frame_bytes}
+use Rattle.wasm_grammar.proofs.Common.{◌≡◌, List, [], ◌∷◌, ◌++◌, refl, ap, ℕ, length, arith, sym, ◌∙◌, append_assoc, take_at, drop_at}
+use Rattle.wasm_grammar.proofs.Common.{All-head, All-tail, All, flat_map, read, number, VarU32, IsNumber, SectionFrame, Sized, sized_bytes}
+use Rattle.wasm_grammar.proofs.Common.{IsSized, frame_bytes}
 use Rattle.wasm_grammar.proofs.accepted.Tiles.{number_on}
 
 -- prefixes of one length are one

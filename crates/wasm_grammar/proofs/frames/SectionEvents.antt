@@ -1,26 +1,19 @@
 -- What the events of a reading say of sections and bodies is what their bytes are.
-use Rattle.std.specs.declared.ops.Range.{Range}
-use Rattle.std.proofs.Common.{◌≡◌, ℕ, ◌+◌, ◌-◌, Bool, true, false, cond, List, [], ◌∷◌, ◌++◌, length, Option, Some, None, sym}
-use Rattle.std.proofs.Common.{ap, subst, arith, length-append, inl, inr}
-use Rattle.std.specs.Prelude.{◌⊎◌}
-use Rattle.wasm_grammar.specs.Accepted.{IsNumber, IsFormed}
-use Rattle.wasm_grammar.specs.Content.{code, kind_of, Form}
-use Rattle.wasm_grammar.specs.Grammar
-use Rattle.wasm_grammar.specs.Grammar.{Shape, section, Tile, tile, SectionContext, verdict, section_grammar, body_grammar, content_grammar}
-use Rattle.wasm_grammar.specs.Grammar.{code_grammar}
+use Rattle.wasm_grammar.proofs.Common.{◌≡◌, ◌⊎◌, inl, inr, Bool, true, false, cond, List, [], ◌∷◌, ◌++◌, ap, ℕ, ◌+◌, length, subst, None}
+use Rattle.wasm_grammar.proofs.Common.{arith, sym, Option, ◌-◌, length-append, Some, Range, IsNumber, IsFormed, Form, kind_of, code}
+use Rattle.wasm_grammar.proofs.Common.{AtOffsets, Tile, SectionContext, tile, section, code_grammar, verdict, section_grammar, body_grammar}
+use Rattle.wasm_grammar.proofs.Common.{events_of, event_of, section_report, section_of, bytes_of, grammar, Faultless}
 use Rattle.wasm_grammar.specs.Laws.{EventsSayTheirBytes}
-use Rattle.wasm_grammar.specs.Reading.{Report, section_report, event_of, events_of}
+use Rattle.wasm_grammar.specs.Reading.{Report}
 use Rattle.wasm_grammar.specs.SectionEvents.{bytes_of_bodies, SaysContent, SaysItsBytes}
-use Rattle.wasm_grammar.specs.Sections.{section_of}
-use Rattle.wasm_grammar.specs.EventRanges.{AtOffsets}
-use Rattle.wasm_grammar.specs.Tiling.{bytes_of, grammar, Faultless}
-use Rattle.wasm_grammar.proofs.readings.EndToEnd.{at_offsets_more, tiles_consume}
-use Rattle.wasm_grammar.proofs.parts.Placed.{headed}
 use Rattle.wasm_grammar.proofs.accepted.Contents.{good_from}
 use Rattle.wasm_grammar.proofs.accepted.Parts.{SectionParts, section_parts, WholeParts, content_parts, HeadParts, head_parts, BodyParts}
 use Rattle.wasm_grammar.proofs.accepted.Parts.{body_parts}
 use Rattle.wasm_grammar.proofs.accepted.Tiles.{made, IsWhole, whole_or_code}
 use Rattle.wasm_grammar.proofs.frames.Reported.{section_at, report_after}
+use Rattle.wasm_grammar.proofs.parts.Placed.{headed}
+use Rattle.wasm_grammar.proofs.readings.EndToEnd.{at_offsets_more, tiles_consume}
+use Rattle.wasm_grammar.specs.Grammar
 
 -- ---- what is reported of good content
 

@@ -1,30 +1,23 @@
 -- The sections of a reading tile an accepted stream.
-use Rattle.std.specs.declared.ops.Range.{Range}
-use Rattle.std.proofs.Common.{◌≡◌, ℕ, ◌+◌, ◌-◌, ◌<◌, List, [], ◌∷◌, ◌++◌, length, map, nat_eq, refl, sym, ap}
-use Rattle.std.proofs.Common.{◌∙◌, arith, length-append, append-nil, append_assoc, eqb-true}
-use Rattle.std.specs.List.{All, flat_map}
-use Rattle.std.proofs.lemmas.List.{take_at, drop_at}
-use Rattle.std.proofs.lemmas.List.Elements.{All-push}
-use Rattle.wasm_grammar.specs.Accepted.{header_bytes, IsNumber, IsSized, SectionFrame, frame_bytes, IsAccepted}
-use Rattle.wasm_grammar.specs.Content.{code, kind_of, ended}
-use Rattle.wasm_grammar.specs.Grammar.{section, code_start, Tile, tile, verdict, content_grammar}
-use Rattle.wasm_grammar.specs.Reading.{events_of, Reads}
+use Rattle.wasm_grammar.proofs.Common.{◌≡◌, List, [], ◌∷◌, ◌++◌, refl, ap, ℕ, ◌+◌, length, arith, ◌<◌, sym, ◌∙◌, nat_eq, eqb-true}
+use Rattle.wasm_grammar.proofs.Common.{append-nil, append_assoc, ◌-◌, length-append, take_at, drop_at, All-push, All, flat_map, Range}
+use Rattle.wasm_grammar.proofs.Common.{IsNumber, SectionFrame, IsAccepted, header_bytes, IsSized, frame_bytes, ended, kind_of, code, Tile}
+use Rattle.wasm_grammar.proofs.Common.{tile, section, code_start, content_grammar, verdict, code_id, Reads, events_of, sections_of}
+use Rattle.wasm_grammar.proofs.Common.{bytes_of, context_of, bodies_left, bytes_left, encoding_of, grammar, Encoding}
+use Rattle.std.proofs.Common.{map}
 use Rattle.wasm_grammar.specs.SectionLaws.{SectionsTile}
-use Rattle.wasm_grammar.specs.Sections.{sections_of, bytes_in, id_and_bytes, id_and_content, places_of}
-use Rattle.wasm_grammar.specs.Tiling.{bytes_of, context_of, grammar, encoding_of, bodies_left, bytes_left}
-use Rattle.wasm_grammar.specs.declared.encoding.Encoding.{Encoding}
-use Rattle.wasm_grammar.proofs.readings.Endings.{header_end, inside_end}
-use Rattle.wasm_grammar.proofs.frames.Same.{frames_same}
-use Rattle.wasm_grammar.proofs.readings.Readings.{reads_same}
-use Rattle.wasm_grammar.proofs.accepted.KindIds.{code_has_its_id}
-use Rattle.wasm_grammar.proofs.accepted.Headers.{HeaderParts, header_parts}
+use Rattle.wasm_grammar.specs.Sections.{bytes_in, id_and_bytes, id_and_content, places_of}
 use Rattle.wasm_grammar.proofs.PlainLists.{all_prefix}
+use Rattle.wasm_grammar.proofs.accepted.Headers.{HeaderParts, header_parts}
+use Rattle.wasm_grammar.proofs.accepted.KindIds.{code_has_its_id}
 use Rattle.wasm_grammar.proofs.accepted.Parts.{SectionParts, WholeParts, content_parts, HeadParts, head_parts, BodyParts}
 use Rattle.wasm_grammar.proofs.accepted.Tiles.{made, IsWhole}
 use Rattle.wasm_grammar.proofs.accepted.Walks.{stream_of, stream_more, accepted_reads}
 use Rattle.wasm_grammar.proofs.frames.OpenSections.{Goes, closed_at, sections_of_tiles}
 use Rattle.wasm_grammar.proofs.frames.Reported.{section_at, sections_more, sections_all}
-use Rattle.wasm_grammar.specs.Ids.{code_id}
+use Rattle.wasm_grammar.proofs.frames.Same.{frames_same}
+use Rattle.wasm_grammar.proofs.readings.Endings.{header_end, inside_end}
+use Rattle.wasm_grammar.proofs.readings.Readings.{reads_same}
 
 -- ---- where sections are
 

@@ -1,23 +1,16 @@
 -- The sections of a reading ascend in rank.
-use Rattle.std.specs.declared.ops.Range.{Range}
-use Rattle.std.proofs.Common.{◌≡◌, ℕ, ◌+◌, ◌<◌, true, List, [], ◌∷◌, ◌++◌, length, get_or, option_to_list, nat_lt, sym, ap, ◌∙◌, subst}
-use Rattle.std.proofs.Common.{arith, append-nil, append_assoc, ltb-true}
-use Rattle.std.specs.List.{All, AllPairs, list_all}
-use Rattle.std.proofs.lemmas.Bool.{and_parts}
-use Rattle.std.proofs.lemmas.List.Elements.{All-push}
+use Rattle.wasm_grammar.proofs.Common.{◌≡◌, true, List, [], ◌∷◌, ◌++◌, ap, ℕ, ◌+◌, length, subst, arith, ◌<◌, sym, ◌∙◌, nat_lt, append-nil}
+use Rattle.wasm_grammar.proofs.Common.{append_assoc, ltb-true, option_to_list, and_parts, All-push, All, list_all, Range, Ending, kind_of}
+use Rattle.wasm_grammar.proofs.Common.{Kind, code, rank_of, Tile, section, Shape, code_id, events_of, Event, last_event, event_of}
+use Rattle.wasm_grammar.proofs.Common.{sections_of, bytes_of, encoding_of, tile_rank, Faultless, Encoding, Module}
+use Rattle.std.proofs.Common.{get_or}
 use Rattle.std.proofs.lemmas.List.Quantifiers.{all_pairs_push}
-use Rattle.wasm_grammar.specs.declared.encoding.Encoding.{Encoding}
-use Rattle.wasm_grammar.specs.declared.encoding.Encoding.TheVariants.{Module}
-use Rattle.wasm_grammar.specs.Content.{Kind, code, kind_of, Ending, rank_of}
-use Rattle.wasm_grammar.specs.Grammar
-use Rattle.wasm_grammar.specs.Grammar.{Shape, section, Tile}
-use Rattle.wasm_grammar.specs.Reading.{Event, event_of, last_event, events_of}
+use Rattle.std.specs.List.{AllPairs}
 use Rattle.wasm_grammar.specs.SectionLaws.{RanksAscend}
-use Rattle.wasm_grammar.specs.Sections.{sections_of, BeginsAs, rank_in, RanksBelow}
-use Rattle.wasm_grammar.specs.Tiling.{bytes_of, encoding_of, tile_rank, Faultless}
-use Rattle.wasm_grammar.proofs.parts.Placed.{Fresh, fresh}
+use Rattle.wasm_grammar.specs.Sections.{BeginsAs, rank_in, RanksBelow}
 use Rattle.wasm_grammar.proofs.frames.Reported.{Kinded, kinded, same_encoding, section_at, sections_more, sections_first, sections_all}
-use Rattle.wasm_grammar.specs.Ids.{code_id}
+use Rattle.wasm_grammar.proofs.parts.Placed.{Fresh, fresh}
+use Rattle.wasm_grammar.specs.Grammar
 
 -- the rank of the section that is reported of a tile is the tile's
 rank_report : (encoding : Encoding) (kind : Kind) (id : ℕ) → kind ≡ kind_of encoding id → rank_in encoding id ≡ rank_of kind id

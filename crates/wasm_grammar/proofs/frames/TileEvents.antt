@@ -1,16 +1,11 @@
 -- The events of a header's tile, and of the tiles of sections.
-use Rattle.std.proofs.Common.{◌≡◌, ℕ, ◌+◌, ◌-◌, List, [], ◌∷◌, ◌++◌, length, refl, sym, ap, subst, ◌∙◌, arith, length-append, append-nil}
-use Rattle.std.proofs.Common.{append_assoc}
-use Rattle.std.specs.List.{flat_map}
-use Rattle.wasm_grammar.specs.Accepted.{header_bytes, Sized, sized_bytes, SectionFrame, frame_bytes, CodeDivision}
-use Rattle.wasm_grammar.specs.Content.{Form}
-use Rattle.wasm_grammar.specs.FrameEvents.{header_event, section_event, start_event, body_event, FrameEvents, FramesEvents}
-use Rattle.wasm_grammar.specs.Grammar
-use Rattle.wasm_grammar.specs.Grammar.{section}
-use Rattle.wasm_grammar.specs.Reading.{Event, event_of}
-use Rattle.wasm_grammar.specs.declared.encoding.Encoding.{Encoding}
+use Rattle.wasm_grammar.proofs.Common.{◌≡◌, List, [], ◌∷◌, ◌++◌, refl, ap, ℕ, ◌+◌, length, subst, arith, sym, ◌∙◌, append-nil, append_assoc}
+use Rattle.wasm_grammar.proofs.Common.{◌-◌, length-append, flat_map, SectionFrame, header_bytes, Sized, sized_bytes, frame_bytes}
+use Rattle.wasm_grammar.proofs.Common.{CodeDivision, Form, header_event, section_event, FrameEvents, FramesEvents, body_event, section}
+use Rattle.wasm_grammar.proofs.Common.{code_id, Event, event_of, Encoding}
+use Rattle.wasm_grammar.specs.FrameEvents.{start_event}
 use Rattle.wasm_grammar.proofs.accepted.Tiles.{made, header_version}
-use Rattle.wasm_grammar.specs.Ids.{code_id}
+use Rattle.wasm_grammar.specs.Grammar
 
 -- a header's
 pub header_tile_event : (start features : ℕ) (encoding : Encoding)

@@ -1,19 +1,11 @@
 -- Where the faults of a grammar lie.
-use Rattle.std.proofs.Common.{◌≡◌, ℕ, ◌+◌, ◌≤◌, Bool, cond, List, [], ◌∷◌, length, take, drop}
-use Rattle.std.proofs.Common.{Option, Some, None, nat_le, refl, arith, le_refl, length-append}
-use Rattle.std.proofs.lemmas.List.{length-take-le, length-drop}
-use Rattle.wasm_base.specs.FaultAt.{FaultAt, at_offset}
-use Rattle.wasm_base.specs.Number.{Number, number}
-use Rattle.wasm_base.specs.declared.fault.Fault.TheVariants.{UnexpectedEof}
-use Rattle.wasm_base.specs.declared.fault.NumberKind.TheVariants.{VarU32}
-use Rattle.wasm_base.proofs.NumberLaws.{number-used}
-use Rattle.wasm_grammar.specs.Content.{Kind, code, kind_of, Ending, fault, ended, when}
-use Rattle.wasm_grammar.specs.Content.{wrong_content, Form, whole}
-use Rattle.wasm_grammar.specs.Grammar.{Tile, Verdict, final, Grammar, accept, reject, check, u32_field, bytes, section_start, after}
-use Rattle.wasm_grammar.specs.Grammar.{after_number, verdict, SectionContext, header_grammar, end_at_section, wrong_data, whole_grammar}
-use Rattle.wasm_grammar.specs.Grammar.{content_grammar, after_length, section_grammar, body_grammar}
+use Rattle.wasm_grammar.proofs.Common.{◌≡◌, Bool, cond, List, [], ◌∷◌, refl, ℕ, ◌+◌, length, ◌≤◌, None, arith, Option, take, drop, nat_le}
+use Rattle.wasm_grammar.proofs.Common.{length-append, Some, le_refl, length-take-le, length-drop, number-used, FaultAt, at_offset, Number}
+use Rattle.wasm_grammar.proofs.Common.{number, UnexpectedEof, VarU32, Ending, fault, ended, Form, kind_of, when, whole, Kind, code}
+use Rattle.wasm_grammar.proofs.Common.{wrong_content, Tile, SectionContext, end_at_section, wrong_data, check, bytes, final, after, Grammar}
+use Rattle.wasm_grammar.proofs.Common.{accept, u32_field, content_grammar, whole_grammar, after_length, section_start, Verdict}
+use Rattle.wasm_grammar.proofs.Common.{after_number, reject, verdict, header_grammar, section_grammar, body_grammar, bytes_of, grammar}
 use Rattle.wasm_grammar.specs.Laws.{FaultLiesWithin}
-use Rattle.wasm_grammar.specs.Tiling.{grammar, bytes_of}
 use Rattle.wasm_grammar.proofs.parts.Places.{number_place, name_place}
 
 -- an offset between these

@@ -1,18 +1,9 @@
 -- What each grammar of the stream keeps: its tiles are guarded, and take at least one byte.
-use Rattle.std.proofs.Common.{◌≡◌, ℕ, zero, suc, ◌+◌, ◌<◌, ◌≤◌, Bool, true, cond, List, ◌∷◌, ◌++◌, length, take, drop}
-use Rattle.std.proofs.Common.{Option, refl, arith, length-append, leb-true, eqb-true}
-use Rattle.std.proofs.lemmas.List.{length-take-le}
-use Rattle.std.proofs.lemmas.Bool.{and_parts}
-use Rattle.wasm_base.specs.FaultAt.{FaultAt}
-use Rattle.wasm_base.specs.Number.{read, number}
-use Rattle.wasm_grammar.specs.Content.{Kind, kind_of, Ending}
-use Rattle.wasm_base.specs.Header.{magic, agree}
-use Rattle.wasm_grammar.specs.Grammar.{Tile, tile, Grammar, check, u32_field, bytes, section_start}
-use Rattle.wasm_grammar.specs.Grammar.{verdict, SectionContext, header_grammar, content_grammar, after_length, after_id}
-use Rattle.wasm_grammar.specs.Grammar.{section_grammar, body_of, body_grammar}
-use Rattle.wasm_grammar.specs.Tiling.{grammar}
-use Rattle.wasm_base.specs.declared.fault.NumberKind.TheVariants.{VarU32}
-use Rattle.wasm_base.proofs.NumberLaws.{number-used}
+use Rattle.wasm_grammar.proofs.Common.{◌≡◌, Bool, true, cond, List, ◌∷◌, ◌++◌, refl, ℕ, ◌+◌, length, ◌≤◌, arith, ◌<◌, eqb-true, Option}
+use Rattle.wasm_grammar.proofs.Common.{zero, suc, take, drop, length-append, leb-true, and_parts, length-take-le, number-used, FaultAt}
+use Rattle.wasm_grammar.proofs.Common.{magic, agree, read, number, VarU32, Ending, kind_of, Kind, Tile, SectionContext, tile, check, bytes}
+use Rattle.wasm_grammar.proofs.Common.{Grammar, u32_field, content_grammar, after_length, after_id, section_start, body_of, verdict}
+use Rattle.wasm_grammar.proofs.Common.{header_grammar, section_grammar, body_grammar, grammar}
 use Rattle.wasm_grammar.proofs.parts.Verdicts.{Guarded, after-tile}
 
 Guarded-content : (p : SectionContext) (k : Kind) (id o n : ℕ) → Guarded (content_grammar p k id o n)

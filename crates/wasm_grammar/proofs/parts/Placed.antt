@@ -1,16 +1,10 @@
 -- What is at a place is what may come there.
-use Rattle.std.proofs.Common.{◌≡◌, ℕ, zero, suc, ◌+◌, ◌<◌, Bool, true, false, cond, not, ◌&&◌, List, [], ◌∷◌, length, Option}
-use Rattle.std.proofs.Common.{None, nat_lt, refl, sym, subst, arith, nat_le, take, drop}
-use Rattle.std.specs.List.{list_all}
-use Rattle.wasm_grammar.specs.declared.encoding.Encoding.{Encoding}
-use Rattle.wasm_base.specs.FaultAt.{FaultAt}
-use Rattle.wasm_base.specs.Number.{Number, number}
-use Rattle.wasm_grammar.specs.Content.{Kind, code, rank_of, kind_of, Ending, when, whole}
-use Rattle.wasm_grammar.specs.Grammar.{Shape, version, section, code_start, code_entry, Tile, Verdict, tile, final, after, after_number}
-use Rattle.wasm_grammar.specs.Grammar.{SectionContext, Grammar, accept, reject, check, u32_field, bytes, section_start, verdict}
-use Rattle.wasm_grammar.specs.Grammar.{header_grammar, section_grammar, body_grammar, content_grammar, header_of}
-use Rattle.wasm_grammar.specs.Tiling.{grammar, context_of, tile_rank}
-use Rattle.wasm_base.specs.declared.fault.NumberKind.TheVariants.{VarU32}
+use Rattle.wasm_grammar.proofs.Common.{◌≡◌, Bool, true, false, cond, List, [], ◌∷◌, refl, ℕ, ◌+◌, length, subst, None, arith, ◌<◌, not}
+use Rattle.wasm_grammar.proofs.Common.{◌&&◌, sym, nat_lt, Option, zero, suc, take, drop, nat_le, list_all, FaultAt, Number, number, VarU32}
+use Rattle.wasm_grammar.proofs.Common.{Ending, kind_of, when, whole, Kind, code, rank_of, Tile, SectionContext, version, tile, check, bytes}
+use Rattle.wasm_grammar.proofs.Common.{header_of, section, code_start, code_entry, Shape, final, after, Grammar, accept, u32_field}
+use Rattle.wasm_grammar.proofs.Common.{content_grammar, section_start, Verdict, after_number, reject, verdict, header_grammar}
+use Rattle.wasm_grammar.proofs.Common.{section_grammar, body_grammar, context_of, grammar, tile_rank, Encoding}
 use Rattle.wasm_grammar.proofs.parts.Verdicts.{after-tile}
 
 -- what each tile of a grammar is known to be

@@ -1,12 +1,9 @@
 -- What is wrong with bytes is wrong at one of them, or at their end.
-use Rattle.std.proofs.Common.{◌≡◌, ℕ, suc, ◌-◌, ◌<◌, ◌≤◌, Bool, cond, List, length, Option, Some, None, nat_lt, refl, arith}
-use Rattle.std.proofs.lemmas.List.{length-drop}
-use Rattle.wasm_base.specs.Name.{named, refused, name, after_size}
-use Rattle.wasm_base.specs.Number.{Number, read, bad, number, last_place, ends_at, most_bytes}
-use Rattle.wasm_base.specs.declared.fault.Fault.{Fault}
+use Rattle.wasm_grammar.proofs.Common.{◌≡◌, Bool, cond, List, refl, ℕ, length, ◌≤◌, None, arith, ◌<◌, nat_lt, Option, suc, ◌-◌, Some}
+use Rattle.wasm_grammar.proofs.Common.{length-drop, number-used, last_place-lt, named, refused, after_size, name, Number, read, bad}
+use Rattle.wasm_grammar.proofs.Common.{ends_at, last_place, number, Fault, VarU32}
+use Rattle.wasm_base.specs.Number.{most_bytes}
 use Rattle.wasm_base.specs.declared.fault.NumberKind.{NumberKind}
-use Rattle.wasm_base.specs.declared.fault.NumberKind.TheVariants.{VarU32}
-use Rattle.wasm_base.proofs.NumberLaws.{number-used, last_place-lt}
 
 some_place : (a b c : Bool) (w i m n p : ℕ) (f g h : Fault) → nat_lt m (suc i) ≡ b → i < n → 0 < m
     → cond a (read w (suc i)) (cond b (bad f (m - 1)) (cond c (read w (suc i)) (bad g i))) ≡ bad h p → p < n

@@ -1,17 +1,11 @@
 -- Laws of every grammar.
-use Rattle.std.proofs.Common.{◌≡◌, ℕ, ◌-◌, ◌≤◌, Bool, true, false, cond, ◌&&◌, List, [], ◌∷◌, ◌++◌, length, take, drop, None, nat_le}
-use Rattle.std.proofs.Common.{refl, arith, length-append, leb-true, le-leb, append_assoc}
-use Rattle.std.proofs.lemmas.List.{take-append-le, drop-append-le, take-append-drop, take_at, drop_at, length-take-le}
-use Rattle.wasm_base.specs.FaultAt.{at_offset}
-use Rattle.wasm_base.specs.Number.{Number, read, number}
-use Rattle.wasm_base.specs.Header.{magic, agree}
-use Rattle.wasm_grammar.specs.Grammar.{Tile, Verdict, tile, final, after, after_number, Grammar, accept, check, u32_field, bytes}
-use Rattle.wasm_grammar.specs.Grammar.{section_start, verdict}
-use Rattle.wasm_grammar.specs.Content.{Ending, fault}
-use Rattle.wasm_grammar.specs.Waiting.{enough, wants, later, later_number, waiting}
-use Rattle.wasm_base.specs.declared.fault.NumberKind.TheVariants.{VarU32}
-use Rattle.wasm_base.specs.declared.fault.Fault.TheVariants.{UnexpectedEof, MagicAtSection}
-use Rattle.wasm_base.proofs.NumberLaws.{number-more, number-used, Used}
+use Rattle.wasm_grammar.proofs.Common.{◌≡◌, Bool, true, false, cond, List, [], ◌∷◌, ◌++◌, refl, ℕ, length, ◌≤◌, None, arith, ◌&&◌}
+use Rattle.wasm_grammar.proofs.Common.{append_assoc, ◌-◌, take, drop, nat_le, length-append, le-leb, leb-true, length-take-le, take_at}
+use Rattle.wasm_grammar.proofs.Common.{drop_at, take-append-le, drop-append-le, number-used, Used, number-more, at_offset, magic, agree}
+use Rattle.wasm_grammar.proofs.Common.{Number, read, number, MagicAtSection, UnexpectedEof, VarU32, Ending, fault, Tile, tile, check, bytes}
+use Rattle.wasm_grammar.proofs.Common.{final, after, Grammar, accept, u32_field, section_start, Verdict, after_number, verdict, enough}
+use Rattle.wasm_grammar.proofs.Common.{wants, later, later_number, waiting}
+use Rattle.std.proofs.lemmas.List.{take-append-drop}
 
 -- lists that don't agree still don't, whatever follows
 pub agree-more : (xs ys zs : List ℕ) → agree xs zs ≡ false → agree (xs ++ ys) zs ≡ false

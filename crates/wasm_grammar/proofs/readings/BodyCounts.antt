@@ -1,21 +1,18 @@
 -- As many bodies follow the start of a code section as it counts, or a fault comes first.
-use Rattle.std.proofs.Common.{◌≡◌, ℕ, ◌+◌, ◌-◌, ◌⊎◌, inl, inr, Bool, true, false, cond, List, [], ◌∷◌, ◌++◌, length}
-use Rattle.std.proofs.Common.{nat_eq, refl, sym, ap, subst, ◌∙◌, arith, length-append, append_assoc, eqb-true}
-use Rattle.std.specs.List.{All}
-use Rattle.std.proofs.lemmas.List.{append_cancel_left}
-use Rattle.std.proofs.lemmas.List.Elements.{All-nil, All-push}
+use Rattle.wasm_grammar.proofs.Common.{◌≡◌, ◌⊎◌, inl, inr, Bool, true, false, cond, List, [], ◌∷◌, ◌++◌, refl, ap, ℕ, ◌+◌, length, subst}
+use Rattle.wasm_grammar.proofs.Common.{arith, sym, ◌∙◌, nat_eq, eqb-true, append_assoc, ◌-◌, length-append, append_cancel_left, All-nil}
+use Rattle.wasm_grammar.proofs.Common.{All-push, All, Ending, Tile, tile, final, verdict, section_grammar, body_grammar, events_of, Event}
+use Rattle.wasm_grammar.proofs.Common.{last_event, tile_report, event_of, stream_end, bytes_of, context_of, bodies_left, bytes_left}
+use Rattle.wasm_grammar.proofs.Common.{grammar, Faultless}
 use Rattle.wasm_base.specs.Window.{Window}
-use Rattle.wasm_grammar.specs.Content.{Ending}
-use Rattle.wasm_grammar.specs.Grammar
-use Rattle.wasm_grammar.specs.Grammar.{Shape, section, Tile, tile, final, SectionContext, verdict, section_grammar, body_grammar}
-use Rattle.wasm_grammar.specs.Reading.{code_start, code_entry, Event, tile_report, event_of, stream_end, last_event, events_of}
+use Rattle.wasm_grammar.specs.Reading.{code_start, code_entry}
 use Rattle.wasm_grammar.specs.SectionLaws.{BodiesFollowTheirCount}
 use Rattle.wasm_grammar.specs.Sections.{ReportsBody, BodiesFollow}
-use Rattle.wasm_grammar.specs.Tiling.{bytes_of, context_of, grammar, bodies_left, bytes_left, Faultless}
-use Rattle.wasm_grammar.proofs.readings.Endings.{inside_end}
-use Rattle.wasm_grammar.proofs.parts.Placed.{placed, headed}
 use Rattle.wasm_grammar.proofs.PlainLists.{split_last}
 use Rattle.wasm_grammar.proofs.accepted.Parts.{BodyParts, body_parts}
+use Rattle.wasm_grammar.proofs.parts.Placed.{placed, headed}
+use Rattle.wasm_grammar.proofs.readings.Endings.{inside_end}
+use Rattle.wasm_grammar.specs.Grammar
 
 -- where the last element of a list is, or an earlier one, with what is after it
 split_end : {X : Type 0} (xs earlier later : List X) (x y : X) → xs ++ x ∷ [] ≡ earlier ++ y ∷ later

@@ -1,26 +1,18 @@
 -- Events lie end to end.
-use Rattle.std.proofs.Common.{◌≡◌, ℕ, ◌+◌, ◌-◌, ◌≤◌, Bool, cond, ◌&&◌, List, [], ◌∷◌, ◌++◌, length, take, drop, None, nat_le, refl}
-use Rattle.std.proofs.Common.{sym, ap, subst, ◌∙◌, arith, length-append, append-nil, append_assoc}
-use Rattle.std.proofs.lemmas.List.{length-take-le, take_at, drop_at}
-use Rattle.std.proofs.lemmas.Grind.{flat_map-append}
-use Rattle.wasm_base.specs.FaultAt.{at_offset}
-use Rattle.wasm_base.specs.Header.{magic, agree}
-use Rattle.wasm_base.specs.Number.{Number, number}
-use Rattle.wasm_base.specs.declared.fault.Fault.TheVariants.{UnexpectedEof, MagicAtSection}
-use Rattle.wasm_base.specs.declared.fault.NumberKind.TheVariants.{VarU32}
-use Rattle.wasm_base.proofs.NumberLaws.{number-used}
-use Rattle.wasm_grammar.specs.Content.{Kind, custom, items, unknown, kind_of, Ending, fault, ended, Form}
-use Rattle.wasm_grammar.specs.Grammar.{Shape, version, section, code_start, code_entry, Tile, Verdict, tile, final, Grammar, accept, reject}
-use Rattle.wasm_grammar.specs.Grammar.{check, u32_field, bytes, section_start, after, after_number, verdict, SectionContext}
-use Rattle.wasm_grammar.specs.Grammar.{header_grammar, content_grammar, section_grammar, body_grammar}
+use Rattle.wasm_grammar.proofs.Common.{◌≡◌, Bool, cond, List, [], ◌∷◌, ◌++◌, refl, ap, ℕ, ◌+◌, length, subst, ◌≤◌, None, arith, ◌&&◌, sym}
+use Rattle.wasm_grammar.proofs.Common.{◌∙◌, append-nil, append_assoc, ◌-◌, take, drop, nat_le, length-append, flat_map-append}
+use Rattle.wasm_grammar.proofs.Common.{length-take-le, take_at, drop_at, number-used, at_offset, magic, agree, Number, number}
+use Rattle.wasm_grammar.proofs.Common.{MagicAtSection, UnexpectedEof, VarU32, Ending, fault, ended, Form, items, kind_of, Kind, custom}
+use Rattle.wasm_grammar.proofs.Common.{unknown, AtOffsets, consumed_by, Tile, SectionContext, version, tile, check, bytes, section}
+use Rattle.wasm_grammar.proofs.Common.{code_start, code_entry, Shape, final, after, Grammar, accept, u32_field, content_grammar}
+use Rattle.wasm_grammar.proofs.Common.{section_start, Verdict, after_number, reject, verdict, header_grammar, section_grammar, body_grammar}
+use Rattle.wasm_grammar.proofs.Common.{Reads, events_of, Event, last_event, tile_report, event_of, section_report, stream_end, bytes_of}
+use Rattle.wasm_grammar.proofs.Common.{grammar, Faultless}
+use Rattle.wasm_grammar.specs.EventRanges.{LiesIn, LiesBetween, EndToEnd}
 use Rattle.wasm_grammar.specs.Laws.{EventsLieEndToEnd}
-use Rattle.wasm_grammar.specs.Reading.{Event, section_report, tile_report, event_of, stream_end, last_event, events_of}
-use Rattle.wasm_grammar.specs.Reading.{Reads}
-use Rattle.wasm_grammar.specs.EventRanges.{consumed_by, LiesIn, LiesBetween, AtOffsets, EndToEnd}
-use Rattle.wasm_grammar.specs.Tiling.{grammar, bytes_of, Faultless}
-use Rattle.wasm_grammar.proofs.readings.Endings.{header_end, inside_end}
-use Rattle.wasm_grammar.proofs.parts.Verdicts.{after-tile}
 use Rattle.wasm_grammar.proofs.parts.Places.{name_used}
+use Rattle.wasm_grammar.proofs.parts.Verdicts.{after-tile}
+use Rattle.wasm_grammar.proofs.readings.Endings.{header_end, inside_end}
 
 -- ---- a tile's bytes end with its content
 

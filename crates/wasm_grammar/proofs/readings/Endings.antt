@@ -1,16 +1,9 @@
 -- Where a stream may end.
-use Rattle.std.proofs.Common.{◌≡◌, ℕ, zero, suc, ◌+◌, Bool, true, false, cond, ◌&&◌, List, [], ◌∷◌, length, take, drop, Option, Some, None}
-use Rattle.std.proofs.Common.{nat_le, refl}
-use Rattle.wasm_base.specs.FaultAt.{FaultAt, at_offset}
-use Rattle.wasm_base.specs.Header.{magic, agree}
-use Rattle.wasm_base.specs.Number.{Number, read, number}
-use Rattle.wasm_base.specs.declared.fault.Fault.TheVariants.{MagicAtSection}
-use Rattle.wasm_base.specs.declared.fault.NumberKind.TheVariants.{VarU32}
-use Rattle.wasm_grammar.specs.declared.encoding.Encoding.{Encoding}
-use Rattle.wasm_grammar.specs.Content.{Kind, code, kind_of, Ending, fault, ended, whole}
-use Rattle.wasm_grammar.specs.Grammar.{Verdict, tile, final, after, after_number, SectionContext, Grammar, check, u32_field}
-use Rattle.wasm_grammar.specs.Grammar.{bytes, section_start, verdict, header_of, header_grammar, end_at_section, section_grammar}
-use Rattle.wasm_grammar.specs.Grammar.{body_grammar, content_grammar, after_id}
+use Rattle.wasm_grammar.proofs.Common.{◌≡◌, Bool, true, false, cond, List, [], ◌∷◌, refl, ℕ, ◌+◌, length, None, ◌&&◌, Option, zero, suc}
+use Rattle.wasm_grammar.proofs.Common.{take, drop, nat_le, Some, FaultAt, at_offset, magic, agree, Number, read, number, MagicAtSection}
+use Rattle.wasm_grammar.proofs.Common.{VarU32, Ending, fault, ended, kind_of, whole, Kind, code, SectionContext, end_at_section, tile}
+use Rattle.wasm_grammar.proofs.Common.{check, bytes, header_of, final, after, Grammar, u32_field, content_grammar, after_id, section_start}
+use Rattle.wasm_grammar.proofs.Common.{Verdict, after_number, verdict, header_grammar, section_grammar, body_grammar, Encoding}
 
 -- the stream doesn't end within this
 abbrev pub NoEnd : Grammar → Type 0

@@ -1,5 +1,5 @@
 -- The tiles of a reading are the longest faultless tiling.
-use Rattle.std.proofs.Common.{◌≡◌, ◌∙◌}
+use Rattle.wasm_grammar.proofs.Common.{◌≡◌, ◌∙◌}
 use Rattle.wasm_grammar.specs.Laws.{LongestTiling}
 use Rattle.wasm_grammar.proofs.readings.Readings.{Onward, onward, reads_same}
 

@@ -1,18 +1,12 @@
 -- The event that comes next in a reading.
-use Rattle.std.proofs.Common.{◌≡◌, ℕ, ◌+◌, ◌<◌, List, [], ◌∷◌, ◌++◌, length, refl, sym, ap, ◌∙◌, arith, length-append, append_assoc}
-use Rattle.std.proofs.Common.{append-nil, inl, inr}
-use Rattle.std.proofs.lemmas.List.{append_cancel_left}
-use Rattle.std.specs.Prelude.{◌⊎◌}
-use Rattle.wasm_grammar.specs.Content.{Ending}
-use Rattle.wasm_grammar.specs.Grammar.{Tile, Verdict, tile, final, verdict}
-use Rattle.wasm_grammar.specs.Reading.{Event, event_of, events_of, last_event, Reads, Reading}
-use Rattle.wasm_grammar.specs.EventRanges.{consumed_by}
-use Rattle.wasm_grammar.specs.NextEvent.{NextEvent}
-use Rattle.wasm_grammar.specs.Tiling.{bytes_of, grammar, Faultless}
+use Rattle.wasm_grammar.proofs.Common.{◌≡◌, ◌⊎◌, inl, inr, List, [], ◌∷◌, ◌++◌, refl, ap, ℕ, ◌+◌, length, arith, ◌<◌, sym, ◌∙◌, append-nil}
+use Rattle.wasm_grammar.proofs.Common.{append_assoc, length-append, append_cancel_left, Ending, consumed_by, Tile, tile, final, Verdict}
+use Rattle.wasm_grammar.proofs.Common.{verdict, NextEvent, Reads, events_of, Event, last_event, Reading, event_of, bytes_of, grammar}
+use Rattle.wasm_grammar.proofs.Common.{Faultless}
+use Rattle.wasm_grammar.proofs.parts.Guarded.{tile_least}
 use Rattle.wasm_grammar.proofs.readings.EndToEnd.{tiles_consume}
 use Rattle.wasm_grammar.proofs.readings.Longest.{longest}
 use Rattle.wasm_grammar.proofs.readings.Readings.{Grown, grows, reads_same}
-use Rattle.wasm_grammar.proofs.parts.Guarded.{tile_least}
 
 -- ---- events by what they consumed
 

@@ -1,13 +1,9 @@
 -- Laws of tilings and readings.
-use Rattle.std.proofs.Common.{◌≡◌, ℕ, zero, suc, ◌+◌, ◌<◌, ◌≤◌, List, [], ◌∷◌, ◌++◌, length, refl, sym, ap, subst, ◌∙◌, arith}
-use Rattle.std.proofs.Common.{length-append, append-nil, append_assoc, le_refl}
-use Rattle.std.proofs.lemmas.List.{append_cancel_left}
-use Rattle.wasm_grammar.specs.Content.{Ending, ended}
-use Rattle.wasm_grammar.specs.Grammar.{Tile, Verdict, tile, final, verdict}
-use Rattle.wasm_grammar.specs.Tiling.{bytes_of, grammar, Faultless}
-use Rattle.wasm_grammar.specs.Reading.{Reads, Reading, Event}
-use Rattle.wasm_grammar.proofs.parts.Verdicts.{Cut, verdict-more, verdict-cut}
+use Rattle.wasm_grammar.proofs.Common.{◌≡◌, List, [], ◌∷◌, ◌++◌, refl, ap, ℕ, ◌+◌, length, subst, ◌≤◌, arith, ◌<◌, sym, ◌∙◌, append-nil}
+use Rattle.wasm_grammar.proofs.Common.{append_assoc, zero, suc, length-append, le_refl, append_cancel_left, Ending, ended, Tile, tile}
+use Rattle.wasm_grammar.proofs.Common.{final, Verdict, verdict, Reads, Event, Reading, bytes_of, grammar, Faultless}
 use Rattle.wasm_grammar.proofs.parts.Guarded.{Guarded-grammar, tile_least}
+use Rattle.wasm_grammar.proofs.parts.Verdicts.{Cut, verdict-more, verdict-cut}
 
 -- the tile that is after a faultless tiling
 pub record Grown (start : ℕ) (ts : List Tile) (d : List ℕ) (t : Tile) : Type 0 where

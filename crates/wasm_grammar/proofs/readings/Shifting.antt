@@ -1,26 +1,22 @@
 -- The start offset only moves offsets.
-use Rattle.std.proofs.Common.{◌≡◌, ℕ, zero, suc, ◌+◌, ◌-◌, Bool, cond, not, List, [], ◌∷◌, ◌++◌, length, take, drop, Option, Some}
-use Rattle.std.proofs.Common.{None, option_map, nat_lt, nat_le, nat_eq, ◌⊎◌, inl, refl, ap, subst, subst₂, ◌∙◌, arith, length-append}
+use Rattle.wasm_grammar.proofs.Common.{◌≡◌, ◌⊎◌, inl, Bool, cond, List, [], ◌∷◌, ◌++◌, refl, ap, ℕ, ◌+◌, length, subst, None, arith, not}
+use Rattle.wasm_grammar.proofs.Common.{◌∙◌, nat_lt, nat_eq, Option, zero, suc, ◌-◌, take, drop, nat_le, length-append, Some, FaultAt}
+use Rattle.wasm_grammar.proofs.Common.{at_offset, magic, agree, of_four, Number, number, BadMagic, MagicAtSection, UnexpectedEof}
+use Rattle.wasm_grammar.proofs.Common.{MalformedSectionId, VarU32, Ending, fault, Form, kind_of, when, whole, Kind, code, wrong_content}
+use Rattle.wasm_grammar.proofs.Common.{Tile, SectionContext, end_at_section, tile, check, bytes, header_of, version_of, section, Shape}
+use Rattle.wasm_grammar.proofs.Common.{final, after, Grammar, accept, u32_field, content_grammar, whole_grammar, after_length, after_id}
+use Rattle.wasm_grammar.proofs.Common.{section_start, Verdict, after_number, reject, body_of, verdict, header_grammar, section_grammar}
+use Rattle.wasm_grammar.proofs.Common.{body_grammar, Reads, events_of, tile_report, event_of, section_report, shifted_event, shifted_events}
+use Rattle.wasm_grammar.proofs.Common.{bytes_of, context_of, bodies_left, bytes_left, grammar, Faultless, Encoding}
+use Rattle.std.proofs.Common.{option_map, subst₂}
 use Rattle.std.proofs.lemmas.List.{map-append}
-use Rattle.wasm_base.specs.FaultAt.{FaultAt, at_offset}
-use Rattle.wasm_base.specs.Header.{magic, agree}
-use Rattle.wasm_base.specs.Name.{of_four}
-use Rattle.wasm_base.specs.Number.{Number, number}
-use Rattle.wasm_base.specs.declared.fault.Fault.TheVariants.{UnexpectedEof, MagicAtSection, SectionTooLarge, MalformedSectionId, BadMagic}
-use Rattle.wasm_base.specs.declared.fault.NumberKind.TheVariants.{VarU32}
-use Rattle.wasm_grammar.specs.Content.{Kind, code, kind_of, Ending, fault, when, wrong_content, Form, whole}
-use Rattle.wasm_grammar.specs.Grammar
-use Rattle.wasm_grammar.specs.Grammar.{Shape, section, Tile, Verdict, tile, final, Grammar, accept, reject, check, u32_field, bytes}
-use Rattle.wasm_grammar.specs.Grammar.{section_start, after, after_number, verdict, SectionContext, header_of, version_of, header_grammar}
-use Rattle.wasm_grammar.specs.Grammar.{end_at_section, wrong_count, code_grammar, wrong_data, whole_grammar, content_grammar, after_length}
-use Rattle.wasm_grammar.specs.Grammar.{after_id, section_grammar, body_of, body_grammar}
+use Rattle.wasm_base.specs.declared.fault.Fault.TheVariants.{SectionTooLarge}
 use Rattle.wasm_grammar.specs.Laws.{StartOnlyMoves}
-use Rattle.wasm_grammar.specs.Shifted.{shifted_fault, shifted_ending, shifted_report, shifted_event, shifted_events, PassesTheTop}
-use Rattle.wasm_grammar.specs.Reading.{section_report, tile_report, event_of, events_of, Reads}
-use Rattle.wasm_grammar.specs.Tiling.{inside, context_of, grammar, bodies_left, bytes_left, bytes_of, Faultless}
-use Rattle.wasm_grammar.specs.declared.encoding.Encoding.{Encoding}
+use Rattle.wasm_grammar.specs.Shifted.{shifted_fault, shifted_ending, shifted_report, PassesTheTop}
+use Rattle.wasm_grammar.specs.Tiling.{inside}
 use Rattle.wasm_grammar.proofs.readings.EndToEnd.{Closes, tile_closes}
 use Rattle.wasm_grammar.proofs.readings.Readings.{reads_same}
+use Rattle.wasm_grammar.specs.Grammar
 
 -- ---- grammars that differ in their offsets
 

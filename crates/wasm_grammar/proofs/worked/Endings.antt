@@ -1,10 +1,6 @@
 -- Worked suffixes that decide, by computation.
-use Rattle.std.proofs.Common.{List, [], ◌∷◌, refl}
-use Rattle.wasm_base.specs.Number.{number}
-use Rattle.wasm_grammar.specs.Content.{items, wrong_content}
-use Rattle.wasm_grammar.specs.Grammar.{code_start, Tile, verdict, header_grammar, section_grammar, body_grammar}
-use Rattle.wasm_grammar.specs.Undecided.{deciding_ending}
-use Rattle.wasm_grammar.specs.Waiting.{waiting}
+use Rattle.wasm_grammar.proofs.Common.{List, [], ◌∷◌, refl, number, items, wrong_content, Tile, code_start, verdict, header_grammar}
+use Rattle.wasm_grammar.proofs.Common.{section_grammar, body_grammar, deciding_ending, waiting}
 use Rattle.wasm_grammar.specs.WorkedEndings.{WorkedEndings}
 use Rattle.wasm_grammar.proofs.worked.Streams.{head, section_tile}
 

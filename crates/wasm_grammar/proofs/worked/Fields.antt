@@ -1,12 +1,9 @@
 -- The readings of worked streams with fields of several bytes, or two faults, by computation.
-use Rattle.std.proofs.Common.{◌≡◌, ℕ, true, List, [], ◌∷◌, ◌++◌, length, refl, lit<}
-use Rattle.std.specs.Str.{is_utf8}
-use Rattle.std.proofs.lemmas.Str.{IsUtf8-from_ascii, is_utf8-from_IsUtf8}
+use Rattle.wasm_grammar.proofs.Common.{◌≡◌, true, List, [], ◌∷◌, ◌++◌, refl, ℕ, length, lit<, is_utf8-from_IsUtf8, is_utf8, name, number}
+use Rattle.wasm_grammar.proofs.Common.{ended, Form, items, custom, index, data_count, unknown, wrong_content, Tile, section, code_start}
+use Rattle.wasm_grammar.proofs.Common.{code_entry, verdict, header_grammar, section_grammar, body_grammar}
+use Rattle.std.proofs.lemmas.Str.{IsUtf8-from_ascii}
 use Rattle.std.proofs.lemmas.Str.Ascii.{IsAscii-nil, IsAscii-cons}
-use Rattle.wasm_base.specs.Name.{name}
-use Rattle.wasm_base.specs.Number.{number}
-use Rattle.wasm_grammar.specs.Content.{custom, items, index, data_count, unknown, ended, wrong_content, Form}
-use Rattle.wasm_grammar.specs.Grammar.{section, code_start, code_entry, Tile, verdict, header_grammar, section_grammar, body_grammar}
 use Rattle.wasm_grammar.specs.WorkedFields.{WholeReadings, LongFields, TwoFaults}
 use Rattle.wasm_grammar.proofs.worked.Streams.{head, component_head, small_tile, empty_name, stopped}
 

@@ -1,16 +1,10 @@
 -- The readings of the worked streams, by computation.
-use Rattle.std.proofs.Common.{◌≡◌, ℕ, ◌-◌, true, List, [], ◌∷◌, ◌++◌, length, refl}
-use Rattle.std.specs.Str.{is_utf8}
-use Rattle.std.proofs.lemmas.Str.{IsUtf8-nil, is_utf8-from_IsUtf8}
-use Rattle.wasm_base.specs.Name.{name}
-use Rattle.wasm_base.specs.Number.{number}
-use Rattle.wasm_grammar.specs.Content.{custom, items, index, data_count, unknown, Ending, ended, wrong_content, Form}
-use Rattle.wasm_grammar.specs.Grammar.{version, section, code_start, code_entry, Tile, verdict, header_grammar, section_grammar}
-use Rattle.wasm_grammar.specs.Grammar.{body_grammar, final}
-use Rattle.wasm_grammar.specs.Reading.{Reads}
-use Rattle.wasm_grammar.specs.Tiling.{Faultless, bytes_of, grammar}
+use Rattle.wasm_grammar.proofs.Common.{◌≡◌, true, List, [], ◌∷◌, ◌++◌, refl, ℕ, length, ◌-◌, is_utf8-from_IsUtf8, is_utf8, name, number}
+use Rattle.wasm_grammar.proofs.Common.{Ending, ended, Form, items, custom, index, data_count, unknown, wrong_content, Tile, version}
+use Rattle.wasm_grammar.proofs.Common.{section, code_start, code_entry, final, verdict, header_grammar, section_grammar, body_grammar}
+use Rattle.wasm_grammar.proofs.Common.{Reads, bytes_of, grammar, Faultless, Module, Component}
+use Rattle.std.proofs.lemmas.Str.{IsUtf8-nil}
 use Rattle.wasm_grammar.specs.Worked.{m, component, EdgesOfRules, WorkedStreams}
-use Rattle.wasm_grammar.specs.declared.encoding.Encoding.TheVariants.{Module, Component}
 
 abbrev pub head : Tile
 head = record { shape = version 1 Module; bytes = m }
