@@ -2,7 +2,7 @@
 pub use Rattle.std.proofs.Common.{◌≡◌, ◌⊎◌, inl, inr, Bool, true, false, cond, List, [], ◌∷◌, ◌++◌, refl, ap, ℕ, ◌+◌, length, subst, ◌≤◌}
 pub use Rattle.std.proofs.Common.{None, arith, ◌<◌, not, ◌&&◌, ◌||◌, sym, ◌∙◌, nat_lt, nat_eq, eqb-true, eq-eqb, append-nil, append_assoc}
 pub use Rattle.std.proofs.Common.{ltb-true, lt-ltb, Option, zero, suc, ◌-◌, take, drop, nat_le, length-append, lit<, ◌^◌, Some, le-leb}
-pub use Rattle.std.proofs.Common.{slice_index, ◌≢◌, replicate, leb-true, option_to_list, le_refl}
+pub use Rattle.std.proofs.Common.{slice_index, ◌≢◌, replicate, leb-true, option_to_list, map, le_refl}
 pub use Rattle.std.proofs.Math.Bool.{and_comm}
 pub use Rattle.std.proofs.lemmas.Bool.{and_parts, and_from}
 pub use Rattle.std.proofs.lemmas.Grind.{flat_map-append}

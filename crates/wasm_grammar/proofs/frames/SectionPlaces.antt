@@ -1,10 +1,9 @@
 -- The sections of a reading tile an accepted stream.
 use Rattle.wasm_grammar.proofs.Common.{◌≡◌, List, [], ◌∷◌, ◌++◌, refl, ap, ℕ, ◌+◌, length, arith, ◌<◌, sym, ◌∙◌, nat_eq, eqb-true}
-use Rattle.wasm_grammar.proofs.Common.{append-nil, append_assoc, ◌-◌, length-append, take_at, drop_at, All-push, All, flat_map, Range}
+use Rattle.wasm_grammar.proofs.Common.{append-nil, append_assoc, ◌-◌, length-append, map, take_at, drop_at, All-push, All, flat_map, Range}
 use Rattle.wasm_grammar.proofs.Common.{IsNumber, SectionFrame, IsAccepted, header_bytes, IsSized, frame_bytes, ended, kind_of, code, Tile}
 use Rattle.wasm_grammar.proofs.Common.{tile, section, code_start, content_grammar, verdict, code_id, Reads, events_of, sections_of}
 use Rattle.wasm_grammar.proofs.Common.{bytes_of, context_of, bodies_left, bytes_left, encoding_of, grammar, Encoding}
-use Rattle.std.proofs.Common.{map}
 use Rattle.wasm_grammar.specs.SectionLaws.{SectionsTile}
 use Rattle.wasm_grammar.specs.Sections.{bytes_in, id_and_bytes, id_and_content, places_of}
 use Rattle.wasm_grammar.proofs.PlainLists.{all_prefix}
