@@ -1,8 +1,8 @@
 -- The names of std and of the specs that several of these proofs use.
-pub use Rattle.std.proofs.Common.{◌≡◌, ◌⊎◌, inl, inr, Bool, true, false, cond, List, [], ◌∷◌, ◌++◌, refl, ap, ℕ, ◌+◌, length, subst, ◌≤◌}
-pub use Rattle.std.proofs.Common.{None, arith, ◌<◌, not, ◌&&◌, ◌||◌, sym, ◌∙◌, nat_lt, nat_eq, eqb-true, eq-eqb, append-nil, append_assoc}
-pub use Rattle.std.proofs.Common.{ltb-true, lt-ltb, Option, zero, suc, ◌-◌, take, drop, nat_le, length-append, lit<, ◌^◌, Some, le-leb}
-pub use Rattle.std.proofs.Common.{slice_index, ◌≢◌, replicate, leb-true, option_to_list, map, le_refl}
+pub use Rattle.std.proofs.Common.{arith, ◌≡◌, ◌⊎◌, inl, inr, Bool, true, false, cond, List, [], ◌∷◌, ◌++◌, refl, ap, ℕ, ◌+◌, length, subst}
+pub use Rattle.std.proofs.Common.{◌≤◌, None, ◌<◌, not, ◌&&◌, ◌||◌, sym, ◌∙◌, nat_lt, nat_eq, eqb-true, eq-eqb, append-nil, append_assoc}
+pub use Rattle.std.proofs.Common.{ltb-true, lt-ltb, Option, zero, suc, ◌-◌, take, drop, nat_le, length-append, lit<, ◌^◌, Some, le-leb, ◌≢◌}
+pub use Rattle.std.proofs.Common.{replicate, leb-true, option_to_list, map, le_refl}
 pub use Rattle.std.proofs.Math.Bool.{and_comm}
 pub use Rattle.std.proofs.lemmas.Bool.{and_parts, and_from}
 pub use Rattle.std.proofs.lemmas.Grind.{flat_map-append}
@@ -19,7 +19,7 @@ pub use Rattle.wasm_base.specs.FaultAt.{FaultAt, at_offset}
 pub use Rattle.wasm_base.specs.Header.{magic, agree}
 pub use Rattle.wasm_base.specs.Name.{of_four, named, refused, name_limit, after_size}
 unfoldable pub use Rattle.wasm_base.specs.Name.{name}
-pub use Rattle.wasm_base.specs.Number.{Number, read, bad, short, ends_at, last_place, septets, is_unused_right}
+pub use Rattle.wasm_base.specs.Number.{Number, read, bad, ends_at, last_place}
 unfoldable pub use Rattle.wasm_base.specs.Number.{number}
 pub use Rattle.wasm_base.specs.declared.fault.Fault.{Fault}
 pub use Rattle.wasm_base.specs.declared.fault.Fault.TheVariants.{FunctionWithoutCode, DataCountWithoutData, BadMagic, MagicAtSection}
@@ -28,7 +28,7 @@ pub use Rattle.wasm_base.specs.declared.fault.NumberKind.TheVariants.{VarU32}
 pub use Rattle.wasm_grammar.specs.Accepted.{IsNumber, IsFormed, SectionFrame, frame_count, frame_rank, IsSection, IsMatched, IsAccepted}
 pub use Rattle.wasm_grammar.specs.Accepted.{header_bytes, Sized, sized_bytes, IsSized, frame_bytes, IsFrame, FitsAfter, CodeDivision}
 pub use Rattle.wasm_grammar.specs.Content.{Ending, fault, ended, Form, items, kind_of, when, whole, Kind, custom, index, data_count, code}
-pub use Rattle.wasm_grammar.specs.Content.{rank_of, count_of, unknown}
+pub use Rattle.wasm_grammar.specs.Content.{count_of, rank_of, unknown}
 unfoldable pub use Rattle.wasm_grammar.specs.Content.{wrong_content}
 pub use Rattle.wasm_grammar.specs.EventRanges.{AtOffsets, consumed_by}
 pub use Rattle.wasm_grammar.specs.FrameEvents.{body_events, header_event, section_event, code_events, FrameEvents, FramesEvents, body_event}
@@ -43,8 +43,8 @@ pub use Rattle.wasm_grammar.specs.NextEvent.{NextEvent}
 pub use Rattle.wasm_grammar.specs.Reading.{Reads, events_of, Event, last_event, Reading, tile_report, event_of, section_report, stream_end}
 pub use Rattle.wasm_grammar.specs.Sections.{section_of, sections_of}
 pub use Rattle.wasm_grammar.specs.Shifted.{shifted_event, shifted_events}
-pub use Rattle.wasm_grammar.specs.Tiling.{bytes_of, context_of, bodies_left, bytes_left, encoding_of, grammar, tile_rank, is_start}
-pub use Rattle.wasm_grammar.specs.Tiling.{Faultless}
+pub use Rattle.wasm_grammar.specs.Tiling.{bytes_of, context_of, bodies_left, bytes_left, encoding_of, grammar, is_start, Faultless}
+pub use Rattle.wasm_grammar.specs.Tiling.{tile_rank}
 pub use Rattle.wasm_grammar.specs.Undecided.{ending_of_number}
 unfoldable pub use Rattle.wasm_grammar.specs.Undecided.{deciding_ending}
 pub use Rattle.wasm_grammar.specs.Waiting.{enough, wants, later, later_number}

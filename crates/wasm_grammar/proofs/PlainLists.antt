@@ -1,6 +1,6 @@
 -- Laws of lists, whatever they hold.
-use Rattle.wasm_grammar.proofs.Common.{◌≡◌, ◌⊎◌, inl, inr, Bool, true, false, cond, List, [], ◌∷◌, ◌++◌, refl, ap, and_parts, and_from}
-use Rattle.wasm_grammar.proofs.Common.{All-nil, All-cons, All-head, All-tail, All, Any, filter, list_all, list_any}
+use Rattle.wasm_grammar.proofs.Common.{arith, ◌≡◌, ◌⊎◌, inl, inr, Bool, true, false, cond, List, [], ◌∷◌, ◌++◌, refl, ap, and_parts}
+use Rattle.wasm_grammar.proofs.Common.{and_from, All-nil, All-cons, All-head, All-tail, All, Any, filter, list_all, list_any}
 use Rattle.std.proofs.Common.{slice_index_or}
 use Rattle.std.proofs.lemmas.Bool.{or_parts}
 use Rattle.std.proofs.lemmas.List.Folds.{Any-from_list_any, list_any-from_Any}
@@ -45,10 +45,7 @@ module _ {X : Type 0} where
   filter_step : (p q : X → Bool) (x : X) (xs : List X) → Spares p q x → filter p (filter q xs) ≡ filter p xs → (b c : Bool) → p x ≡ b → q x
       ≡ c
       → filter p (cond c (x ∷ filter q xs) (filter q xs)) ≡ cond b (x ∷ filter p xs) (filter p xs)
-  filter_step p q x xs h ih true true e f = rw e (ap (λ (l : List X). x ∷ l) ih)
-  filter_step p q x xs h ih true false e f = let g : q x ≡ true = h e in cc
-  filter_step p q x xs h ih false true e f = rw e ih
-  filter_step p q x xs h ih false false e f = ih
+  filter_step p q x xs e f b c g h = grind arith
 
   pub filter_twice : (p q : X → Bool) (xs : List X) → All (Spares p q) xs → filter p (filter q xs) ≡ filter p xs
   filter_twice p q [] a = refl

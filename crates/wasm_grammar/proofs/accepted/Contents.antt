@@ -1,5 +1,5 @@
 -- Nothing is wrong with a section's content exactly if it is good.
-use Rattle.wasm_grammar.proofs.Common.{◌≡◌, List, ℕ, length, ◌≤◌, None, arith, number-used, Used, Number, read, number, Fault, VarU32}
+use Rattle.wasm_grammar.proofs.Common.{arith, ◌≡◌, List, ℕ, length, ◌≤◌, None, number-used, Used, Number, read, number, Fault, VarU32}
 use Rattle.wasm_grammar.proofs.Common.{IsNumber, IsFormed, Form, wrong_content}
 use Rattle.wasm_grammar.specs.Content.{wrong_single}
 

@@ -1,8 +1,8 @@
 -- What the tiles before a section say to it, reported of the frames before it.
-use Rattle.wasm_grammar.proofs.Common.{◌≡◌, Bool, true, false, cond, List, [], ◌∷◌, ◌++◌, refl, ℕ, length, ◌<◌, not, ◌&&◌, ◌||◌, sym, ◌∙◌}
-use Rattle.wasm_grammar.proofs.Common.{nat_lt, nat_eq, eqb-true, eq-eqb, append-nil, append_assoc, and_comm, list_all-append, All, list_all}
-use Rattle.wasm_grammar.proofs.Common.{list_any, SectionFrame, frame_count, frame_rank, IsSection, SectionContext, code_id, data_count_id}
-use Rattle.wasm_grammar.proofs.Common.{data_id, function_id, Encoding, Module, Component}
+use Rattle.wasm_grammar.proofs.Common.{arith, ◌≡◌, Bool, true, false, cond, List, [], ◌∷◌, ◌++◌, refl, ℕ, length, ◌<◌, not, ◌&&◌, ◌||◌, sym}
+use Rattle.wasm_grammar.proofs.Common.{◌∙◌, nat_lt, nat_eq, eqb-true, eq-eqb, append-nil, append_assoc, and_comm, list_all-append, All}
+use Rattle.wasm_grammar.proofs.Common.{list_all, list_any, SectionFrame, frame_count, frame_rank, IsSection, SectionContext, code_id}
+use Rattle.wasm_grammar.proofs.Common.{data_count_id, data_id, function_id, Encoding, Module, Component}
 use Rattle.std.proofs.Math.Bool.{or_comm}
 use Rattle.std.proofs.Math.Dec.{eqb-suc-zero}
 use Rattle.std.proofs.lemmas.List.Folds.{list_any-append}
@@ -33,13 +33,11 @@ pub record Knows (encoding : Encoding) (frames : List SectionFrame) (p : Section
 
 -- the test for a section is right
 pub section_yes : (encoding : Encoding) (n : ℕ) (f : SectionFrame) → is_section encoding n f ≡ true → IsSection encoding n f
-section_yes Module n f e = (refl, eqb-true f.id n e)
-section_yes Component n f e = cc
+section_yes encoding n f e = grind (arith, eqb-true)
 
 -- a module's section with this id passes the test
 pub yes_section : (encoding : Encoding) (n : ℕ) (f : SectionFrame) → IsSection encoding n f → is_section encoding n f ≡ true
-yes_section Module n f s = eq-eqb f.id n s.1
-yes_section Component n f s = let z : Component ≡ Module = s.0 in cc
+yes_section encoding n f e = grind (arith, eq-eqb)
 
 -- one more frame after others puts its count first
 pub counts_push : (encoding : Encoding) (n : ℕ) (fs : List SectionFrame) (f : SectionFrame) → counts_of encoding n (fs ++ f ∷ [])
@@ -57,13 +55,11 @@ offends encoding n p f = is_section encoding n f && p (frame_count f)
 
 -- all of at most one count
 one_all : (b : Bool) (p : ℕ → Bool) (c : ℕ) → list_all p (cond b (c ∷ []) []) ≡ (not b || p c)
-one_all true p c = and_comm (p c) true
-one_all false p c = refl
+one_all b p c = grind (arith, and_comm)
 
 -- one of at most one count
 one_any : (b : Bool) (p : ℕ → Bool) (c : ℕ) → list_any p (cond b (c ∷ []) []) ≡ (b && p c)
-one_any true p c = or_comm (p c) false
-one_any false p c = refl
+one_any b p c = grind (arith, or_comm)
 
 -- each count passes exactly if each frame does
 pub all_counts : (encoding : Encoding) (n : ℕ) (p : ℕ → Bool) (fs : List SectionFrame) → list_all p (counts_of encoding n fs)
@@ -92,8 +88,7 @@ no_counts encoding n (f ∷ fs) = search (none_step, no_counts encoding n fs)
 
 -- a test that holds if it is required
 passes_to : (b t : Bool) → (b ≡ true → t ≡ true) → (not b || t) ≡ true
-passes_to true t h = h refl
-passes_to false t h = refl
+passes_to b t e = grind arith
 
 -- what such a test says if it is required
 passes_of : (b t : Bool) → (not b || t) ≡ true → b ≡ true → t ≡ true

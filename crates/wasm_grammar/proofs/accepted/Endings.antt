@@ -1,8 +1,8 @@
 -- A reading ends at the end exactly where no section misses its other section.
-use Rattle.wasm_grammar.proofs.Common.{◌≡◌, inl, inr, Bool, true, false, cond, List, refl, ℕ, length, ◌<◌, ◌&&◌, sym, ◌∙◌, nat_lt, nat_eq}
-use Rattle.wasm_grammar.proofs.Common.{ltb-true, lt-ltb, and_parts, and_from, Any, list_any, FaultAt, at_offset, FunctionWithoutCode}
-use Rattle.wasm_grammar.proofs.Common.{DataCountWithoutData, SectionFrame, frame_count, IsSection, IsMatched, fault, ended, SectionContext}
-use Rattle.wasm_grammar.proofs.Common.{end_at_section, data_count_id, function_id, Encoding}
+use Rattle.wasm_grammar.proofs.Common.{arith, ◌≡◌, inl, inr, Bool, true, false, cond, List, refl, ℕ, length, ◌<◌, ◌&&◌, sym, ◌∙◌, nat_lt}
+use Rattle.wasm_grammar.proofs.Common.{nat_eq, ltb-true, lt-ltb, and_parts, and_from, Any, list_any, FaultAt, at_offset}
+use Rattle.wasm_grammar.proofs.Common.{FunctionWithoutCode, DataCountWithoutData, SectionFrame, frame_count, IsSection, IsMatched, fault}
+use Rattle.wasm_grammar.proofs.Common.{ended, SectionContext, end_at_section, data_count_id, function_id, Encoding}
 use Rattle.std.proofs.lemmas.Bool.{and_cases, and_right, false_from_ne_true}
 use Rattle.wasm_grammar.proofs.PlainLists.{any_of, none_of}
 use Rattle.wasm_grammar.proofs.accepted.Counts.{is_section, counts_of, Knows, section_yes, yes_section, any_counts, offends}
@@ -29,9 +29,7 @@ matched_any encoding n other fs m z e =
 -- matched sections miss none, whether there is another section or not
 matched_at : (encoding : Encoding) (n other : ℕ) (fs : List SectionFrame) → IsMatched encoding n other fs → (b : Bool)
     → nat_eq (length (counts_of encoding other fs)) 0 ≡ b → (list_any (nat_lt 0) (counts_of encoding n fs) && b) ≡ false
-matched_at encoding n other fs m true e = rw (false_from_ne_true (list_any (nat_lt 0) (counts_of encoding n fs))
-    (matched_any encoding n other fs m e)) refl
-matched_at encoding n other fs m false e = and_right (list_any (nat_lt 0) (counts_of encoding n fs)) false refl
+matched_at encoding n other fs e b f = grind (arith, false_from_ne_true, matched_any, and_right)
 
 -- matched sections miss none
 pub matched_to : (encoding : Encoding) (n other : ℕ) (fs : List SectionFrame) → IsMatched encoding n other fs → misses encoding n other fs
@@ -67,8 +65,7 @@ ends_to a b e f o p q = rw (p, q) refl
 
 -- if a stream may end, neither fault holds
 ends_from : (a b : Bool) (e f : FaultAt) (o p : ℕ) → cond a (fault e) (cond b (fault f) (ended o)) ≡ ended p → (a ≡ false) × (b ≡ false)
-ends_from false false e f o p h = (refl, refl)
-ends_from _ _ e f o p h = cc
+ends_from a b e f o p g = grind arith
 
 -- how a stream ends, reported of its frames
 misses_same : (encoding : Encoding) (fs : List SectionFrame) (p : SectionContext) → Knows encoding fs p → (o : ℕ)
@@ -79,13 +76,9 @@ misses_same encoding fs p k o = rw (k.functions, k.codes, k.datas, k.data_counts
 -- after frames that are matched a stream may end
 pub end_to : (encoding : Encoding) (fs : List SectionFrame) (p : SectionContext) → Knows encoding fs p → (o : ℕ)
     → IsMatched encoding function_id 10 fs → IsMatched encoding data_count_id 11 fs → end_at_section p o ≡ ended o
-end_to encoding fs p k o a b = misses_same encoding fs p k o ∙ ends_to _ _ _ _ o (matched_to encoding function_id 10 fs a)
-    (matched_to encoding data_count_id 11 fs b)
+end_to encoding fs p k o a b = grind (arith, misses_same, ends_to, matched_to)
 
 -- frames after which a stream may end are matched
 pub end_from : (encoding : Encoding) (fs : List SectionFrame) (p : SectionContext) → Knows encoding fs p → (o e : ℕ) → end_at_section p o
     ≡ ended e → IsMatched encoding function_id 10 fs × IsMatched encoding data_count_id 11 fs
-end_from encoding fs p k o e h =
-    let q : ((misses encoding function_id 10 fs ≡ false) × (misses encoding data_count_id 11 fs ≡ false)) =
-    ends_from _ _ _ _ o e (sym (misses_same encoding fs p k o) ∙ h) in
-    search matched_from
+end_from encoding fs p k o e h = grind (arith, ends_from, misses_same, matched_from)

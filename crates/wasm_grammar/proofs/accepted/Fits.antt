@@ -1,10 +1,8 @@
 -- A section may follow other tiles exactly if it fits after their frames.
-use Rattle.wasm_grammar.proofs.Common.{◌≡◌, ◌⊎◌, Bool, true, false, List, refl, ap, ℕ, length, None, arith, ◌<◌, not, ◌&&◌, ◌∙◌, nat_lt}
-use Rattle.wasm_grammar.proofs.Common.{nat_eq, eqb-true, eq-eqb, ltb-true, lt-ltb, All, Any, list_all, FaultAt, at_offset, SectionFrame}
-use Rattle.wasm_grammar.proofs.Common.{frame_count, frame_rank, IsSection, Form, items, kind_of, when, whole, SectionContext, wrong_count}
-use Rattle.wasm_grammar.proofs.Common.{wrong_data, data_count_id, data_id, function_id, Encoding, Module}
-use Rattle.std.proofs.Common.{◌==◌}
-use Rattle.wasm_base.specs.declared.fault.Fault.TheVariants.{DataCountDiffer}
+use Rattle.wasm_grammar.proofs.Common.{arith, ◌≡◌, ◌⊎◌, Bool, true, false, List, ap, ℕ, length, None, ◌<◌, not, ◌&&◌, ◌∙◌, nat_lt, nat_eq}
+use Rattle.wasm_grammar.proofs.Common.{eqb-true, eq-eqb, ltb-true, lt-ltb, All, Any, FaultAt, SectionFrame, frame_count, frame_rank}
+use Rattle.wasm_grammar.proofs.Common.{IsSection, Form, items, kind_of, when, whole, SectionContext, wrong_count, wrong_data, data_count_id}
+use Rattle.wasm_grammar.proofs.Common.{data_id, function_id, Encoding, Module}
 use Rattle.wasm_grammar.proofs.PlainLists.{all_of, all_to, any_of, any_to}
 use Rattle.wasm_grammar.proofs.accepted.Counts.{is_section, counts_of, Knows, section_yes, yes_section, no_counts, HasCount, same_to}
 use Rattle.wasm_grammar.proofs.accepted.Counts.{same_of}
@@ -70,11 +68,7 @@ items_in encoding id e = grind arith
 pub data_to : (encoding : Encoding) (fs : List SectionFrame) (p : SectionContext) → Knows encoding fs p → (f : SectionFrame) (o : ℕ)
     → (IsSection encoding data_id f → HasCount encoding data_count_id (frame_count f) fs)
     → (form : Form) → kind_of encoding f.id ≡ whole form → wrong_data p form f.id o f.sized.content ≡ None
-data_to encoding fs p k f o h items e =
-    data_right (f.id == data_id) (list_all (nat_eq (frame_count f)) p.data_counts) (at_offset DataCountDiffer o)
-    (λ z. ap (list_all (nat_eq (frame_count f))) k.data_counts ∙ same_to encoding data_count_id (frame_count f) fs
-    (h (items_in encoding f.id e, eqb-true f.id data_id z)))
-data_to encoding fs p k f o h _ e = refl
+data_to encoding fs p e f o g form h = grind (arith, data_right, same_to, items_in, eqb-true)
 
 -- a section with the right count of segments fits
 pub data_from : (encoding : Encoding) (fs : List SectionFrame) (p : SectionContext) → Knows encoding fs p

@@ -1,5 +1,5 @@
 -- The header's tile has the header's bytes.
-use Rattle.wasm_grammar.proofs.Common.{◌≡◌, true, List, [], ◌∷◌, ◌++◌, refl, ℕ, ◌+◌, length, None, arith, ◌<◌, not, nat_eq, eqb-true}
+use Rattle.wasm_grammar.proofs.Common.{arith, ◌≡◌, true, List, [], ◌∷◌, ◌++◌, refl, ℕ, ◌+◌, length, None, ◌<◌, not, nat_eq, eqb-true}
 use Rattle.wasm_grammar.proofs.Common.{Option, and_parts, All, at_offset, magic, agree, of_four, BadMagic, header_bytes, when, Tile}
 use Rattle.wasm_grammar.proofs.Common.{version, tile, check, bytes, header_of, version_of, verdict, header_grammar, Encoding, Module}
 use Rattle.wasm_grammar.proofs.Common.{Component}

@@ -1,6 +1,6 @@
 -- What the kind of a section says of its id.
-use Rattle.wasm_grammar.proofs.Common.{◌≡◌, refl, ℕ, subst, zero, suc, kind_of, whole, Kind, custom, index, data_count, code, code_id}
-use Rattle.wasm_grammar.proofs.Common.{data_count_id, custom_id, Encoding, Module, Component}
+use Rattle.wasm_grammar.proofs.Common.{arith, ◌≡◌, ℕ, subst, kind_of, whole, Kind, custom, index, data_count, code, code_id, data_count_id}
+use Rattle.wasm_grammar.proofs.Common.{custom_id, Encoding, Module}
 use Rattle.wasm_grammar.specs.Ids.{start_id}
 
 -- the ids that a section of this kind may have: a code section is a module's
@@ -12,23 +12,7 @@ IdOf encoding code id = (encoding ≡ Module) × (id ≡ code_id)
 IdOf encoding other id = Unit {0}
 
 pub id_of_kind : (encoding : Encoding) (id : ℕ) → IdOf encoding (kind_of encoding id) id
-id_of_kind Module zero = refl
-id_of_kind Module (suc zero) = tt
-id_of_kind Module (suc (suc zero)) = tt
-id_of_kind Module (suc (suc (suc zero))) = tt
-id_of_kind Module (suc (suc (suc (suc zero)))) = tt
-id_of_kind Module (suc (suc (suc (suc (suc zero))))) = tt
-id_of_kind Module (suc (suc (suc (suc (suc (suc zero)))))) = tt
-id_of_kind Module (suc (suc (suc (suc (suc (suc (suc zero))))))) = tt
-id_of_kind Module (suc (suc (suc (suc (suc (suc (suc (suc zero)))))))) = refl
-id_of_kind Module (suc (suc (suc (suc (suc (suc (suc (suc (suc zero))))))))) = tt
-id_of_kind Module (suc (suc (suc (suc (suc (suc (suc (suc (suc (suc zero)))))))))) = (refl, refl)
-id_of_kind Module (suc (suc (suc (suc (suc (suc (suc (suc (suc (suc (suc zero))))))))))) = tt
-id_of_kind Module (suc (suc (suc (suc (suc (suc (suc (suc (suc (suc (suc (suc zero)))))))))))) = refl
-id_of_kind Module (suc (suc (suc (suc (suc (suc (suc (suc (suc (suc (suc (suc (suc zero))))))))))))) = tt
-id_of_kind Module (suc (suc (suc (suc (suc (suc (suc (suc (suc (suc (suc (suc (suc (suc id)))))))))))))) = tt
-id_of_kind Component zero = refl
-id_of_kind Component (suc id) = tt
+id_of_kind encoding id = grind arith
 
 -- the id of a section that is known to have this kind
 pub id_as : (encoding : Encoding) (kind : Kind) (id : ℕ) → kind_of encoding id ≡ kind → IdOf encoding kind id

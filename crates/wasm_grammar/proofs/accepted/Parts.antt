@@ -1,5 +1,5 @@
 -- Tiles are bytes in the textbook form.
-use Rattle.wasm_grammar.proofs.Common.{◌≡◌, Bool, cond, List, [], ◌∷◌, ◌++◌, refl, ℕ, ◌+◌, length, ◌≤◌, None, arith, ◌<◌, not, ◌&&◌, nat_lt}
+use Rattle.wasm_grammar.proofs.Common.{arith, ◌≡◌, Bool, cond, List, [], ◌∷◌, ◌++◌, refl, ℕ, ◌+◌, length, ◌≤◌, None, ◌<◌, not, ◌&&◌, nat_lt}
 use Rattle.wasm_grammar.proofs.Common.{append-nil, Option, zero, suc, ◌-◌, take, drop, nat_le, length-take-le, number-used, FaultAt}
 use Rattle.wasm_grammar.proofs.Common.{at_offset, magic, agree, MagicAtSection, UnexpectedEof, IsNumber, Ending, fault, Form, kind_of, when}
 use Rattle.wasm_grammar.proofs.Common.{Kind, rank_of, wrong_content, Tile, SectionContext, wrong_count, wrong_data, tile, check, bytes}

@@ -1,5 +1,5 @@
 -- The frames that tiles are, and the code section within which they end.
-use Rattle.wasm_grammar.proofs.Common.{◌≡◌, ◌⊎◌, true, List, [], ◌∷◌, ◌++◌, refl, ℕ, ◌+◌, length, None, arith, sym, ◌∙◌, nat_eq, append-nil}
+use Rattle.wasm_grammar.proofs.Common.{arith, ◌≡◌, ◌⊎◌, true, List, [], ◌∷◌, ◌++◌, refl, ℕ, ◌+◌, length, None, sym, ◌∙◌, nat_eq, append-nil}
 use Rattle.wasm_grammar.proofs.Common.{append_assoc, ◌-◌, length-append, lit<, flat_map_more, All-nil, All-push, All, flat_map, IsNumber}
 use Rattle.wasm_grammar.proofs.Common.{SectionFrame, frame_count, frame_rank, IsSection, Sized, sized_bytes, IsSized, frame_bytes, IsFrame}
 use Rattle.wasm_grammar.proofs.Common.{FitsAfter, CodeDivision, kind_of, code, rank_of, Tile, SectionContext, wrong_count, tile, section}

@@ -1,14 +1,14 @@
 -- If bytes don't suffice, something else is there after the suffix that decides than where the stream ends.
-use Rattle.wasm_grammar.proofs.Common.{◌≡◌, Bool, true, false, cond, List, [], ◌∷◌, ◌++◌, refl, ℕ, ◌+◌, length, None, arith, ◌<◌, ◌&&◌, ◌∙◌}
+use Rattle.wasm_grammar.proofs.Common.{arith, ◌≡◌, Bool, true, false, cond, List, [], ◌∷◌, ◌++◌, refl, ℕ, ◌+◌, length, None, ◌<◌, ◌&&◌, ◌∙◌}
 use Rattle.wasm_grammar.proofs.Common.{nat_lt, nat_eq, Option, ◌-◌, take, drop, nat_le, length-append, Some, le-leb, ◌≢◌, replicate}
 use Rattle.wasm_grammar.proofs.Common.{leb-true, and_parts, append_cancel_left, take-append-le, drop-append-le, length-replicate, list_any}
 use Rattle.wasm_grammar.proofs.Common.{number-used, number-more, FaultAt, at_offset, magic, agree, name_limit, after_size, name, Number}
-use Rattle.wasm_grammar.proofs.Common.{read, bad, short, number, FunctionWithoutCode, DataCountWithoutData, BadMagic, MagicAtSection}
-use Rattle.wasm_grammar.proofs.Common.{UnexpectedEof, MalformedSectionId, VarU32, Ending, fault, ended, Form, kind_of, when, whole, Kind}
-use Rattle.wasm_grammar.proofs.Common.{code, wrong_content, Tile, SectionContext, end_at_section, wrong_data, check, bytes, header_of}
-use Rattle.wasm_grammar.proofs.Common.{code_entry, Shape, final, after, Grammar, accept, u32_field, content_grammar, after_id}
-use Rattle.wasm_grammar.proofs.Common.{section_start, Verdict, after_number, verdict, header_grammar, section_grammar, body_grammar}
-use Rattle.wasm_grammar.proofs.Common.{grammar, ending_of_number, deciding_ending, enough, wants, later, later_number, waiting, Encoding}
+use Rattle.wasm_grammar.proofs.Common.{number, FunctionWithoutCode, DataCountWithoutData, BadMagic, MagicAtSection, UnexpectedEof}
+use Rattle.wasm_grammar.proofs.Common.{MalformedSectionId, VarU32, Ending, fault, ended, Form, kind_of, when, whole, Kind, code}
+use Rattle.wasm_grammar.proofs.Common.{wrong_content, Tile, SectionContext, end_at_section, wrong_data, check, bytes, header_of, code_entry}
+use Rattle.wasm_grammar.proofs.Common.{Shape, final, after, Grammar, accept, u32_field, content_grammar, after_id, section_start, Verdict}
+use Rattle.wasm_grammar.proofs.Common.{after_number, verdict, header_grammar, section_grammar, body_grammar, grammar, ending_of_number}
+use Rattle.wasm_grammar.proofs.Common.{deciding_ending, enough, wants, later, later_number, waiting, Encoding}
 use Rattle.std.proofs.lemmas.Bool.{leb-false}
 use Rattle.std.proofs.lemmas.List.{take_all, drop_all}
 use Rattle.wasm_base.proofs.NumberLaws.{number-long}
@@ -44,9 +44,7 @@ number_differs : (o : ℕ) (xs : List ℕ) (next : ℕ → ℕ → Grammar) (n h
     → after_number o xs x (λ v k. verdict (next v k) (drop k xs)) ≢ verdict (u32_field o next)
     (xs ++ ending_of_number x (λ v k. deciding_ending (next v k) (drop k xs)))
 unfolding verdict
-number_differs o xs next n h ih (read v k) e w z = grind (arith, number-used, number-more, take-append-le, drop-append-le, after_same)
-number_differs o xs next n h ih (bad f p) e w z = cc
-number_differs o xs next n h ih short e w z = grind (arith, number-long)
+number_differs o xs next n h e x f g w = grind (arith, number-used, number-more, take-append-le, drop-append-le, after_same, number-long)
 
 bytes_differs : (count o : ℕ) (xs : List ℕ) (next : List ℕ → Grammar) (n h : ℕ) → Differs (bytes count o next)
     → ((b zs : List ℕ) (m : ℕ) → waiting (next b) zs ≡ wants m h
@@ -73,9 +71,7 @@ start_differs : (o : ℕ) (e : Ending) (next : ℕ → Grammar) (id : ℕ) (xs :
     → cond a (cond l enough (wants 4 (4 - length (id ∷ xs)))) (later 1 (waiting (next id) xs)) ≡ wants n h
     → verdict (section_start o e next) (id ∷ xs) ≢ verdict (section_start o e next)
     ((id ∷ xs) ++ cond a (drop (length (id ∷ xs)) magic) (deciding_ending (next id) xs))
-start_differs o e next id xs n h s ih true true p q w z = cc
-start_differs o e next id xs n h s ih true false p q w z = s.2 id xs p (leb-false 4 (length (id ∷ xs)) q) z
-start_differs o e next id xs n h s ih false l p q w z = grind (arith, unmagic)
+start_differs o e next id xs n h f g a l w z c d = grind (arith, leb-false, unmagic)
 
 -- if bytes don't suffice, something else is there after the suffix that decides
 pub differs : (g : Grammar) → Differs g → (xs : List ℕ) (n h : ℕ) → waiting g xs ≡ wants n h
@@ -117,9 +113,7 @@ data_other p form id o q c = grind arith
 checked_twice : (a b : Option FaultAt) (s : Shape) (o : ℕ) → NotMissing o a → NotMissing o b
     → verdict (check a (check b (accept s))) [] ≢ final (fault (at_offset UnexpectedEof o))
 unfolding verdict
-checked_twice (Some x) b s o h g z = h (final_same x (at_offset UnexpectedEof o) z)
-checked_twice None (Some x) s o h g z = g (final_same x (at_offset UnexpectedEof o) z)
-checked_twice None None s o h g z = cc
+checked_twice a b s o e f g = grind (arith, final_same)
 
 Differs-content : (p : SectionContext) (kind : Kind) (id o n : ℕ) → Differs (content_grammar p kind id o n)
 Differs-content p (whole form) id o n = search (checked_twice, content_other, data_other)
@@ -135,14 +129,12 @@ Differs-body m l o = grind (arith, body_there)
 
 version_other : (o p bits : ℕ) (e : Option Encoding) → verdict (header_of o bits e) [] ≢ final (fault (at_offset UnexpectedEof p))
 unfolding verdict
-version_other o p bits (Some e) z = cc
-version_other o p bits None z = grind arith
+version_other o p bits e f = grind arith
 
 magic_other : (b : Bool) (o : ℕ) (next : List ℕ → Grammar) → verdict (check (when b (at_offset BadMagic o)) (bytes 4 (o + 4) next)) [] ≢
     final (fault (at_offset UnexpectedEof o))
 unfolding verdict
-magic_other true o next z = grind arith
-magic_other false o next z = grind arith
+magic_other b o next e = grind arith
 
 Differs-header : (o : ℕ) → Differs (header_grammar o)
 unfolding header_grammar
@@ -150,9 +142,7 @@ Differs-header o = grind (arith, magic_other, version_other)
 
 end_other : (a b : Bool) (o : ℕ) → cond a (fault (at_offset FunctionWithoutCode o))
     (cond b (fault (at_offset DataCountWithoutData o)) (ended o)) ≢ fault (at_offset MalformedSectionId o)
-end_other true b o z = grind arith
-end_other false true o z = grind arith
-end_other false false o z = cc
+end_other a b o e = grind arith
 
 final_is : (e f : Ending) → final e ≡ final f → e ≡ f
 final_is e f z = cc
@@ -163,10 +153,7 @@ final_is e f z = cc
 begun_magic : (p : SectionContext) (o : ℕ) (xs : List ℕ) → agree xs (0x61 ∷ 0x73 ∷ 0x6d ∷ []) ≡ true → length xs < 3
     → verdict (after_id p o 0) xs ≢ final (fault (at_offset MagicAtSection o))
 unfolding verdict number
-begun_magic p o [] a l z = grind arith
-begun_magic p o (b ∷ []) a l z = grind arith
-begun_magic p o (b ∷ c ∷ []) a l z = grind arith
-begun_magic p o (b ∷ c ∷ d ∷ xs) a l z = absurd (omega arith)
+begun_magic p o xs e f g = grind arith
 
 begun_start : (p : SectionContext) (o : ℕ) (id : ℕ) (xs : List ℕ) → agree (id ∷ xs) magic ≡ true → length (id ∷ xs) < 4
     → verdict (section_start o (end_at_section p o) (after_id p o)) (id ∷ xs) ≢ final (fault (at_offset MagicAtSection o))

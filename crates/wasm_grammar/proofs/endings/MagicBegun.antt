@@ -1,5 +1,5 @@
 -- Bytes that begin as a header does.
-use Rattle.wasm_grammar.proofs.Common.{◌≡◌, Bool, true, false, cond, List, [], ◌∷◌, ap, ℕ, length, ◌≤◌, None, arith, ◌<◌, ◌&&◌, sym, ◌∙◌}
+use Rattle.wasm_grammar.proofs.Common.{arith, ◌≡◌, Bool, true, false, cond, List, [], ◌∷◌, ap, ℕ, length, ◌≤◌, None, ◌<◌, ◌&&◌, sym, ◌∙◌}
 use Rattle.wasm_grammar.proofs.Common.{nat_lt, nat_eq, lt-ltb, ◌-◌, Some, magic, agree}
 use Rattle.std.specs.List.{starts_with}
 use Rattle.wasm_grammar.specs.Waiting.{asked_at_section}

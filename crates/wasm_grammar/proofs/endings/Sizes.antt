@@ -1,13 +1,13 @@
 -- A suffix that decides consists of bytes, at most 2^32 of them.
-use Rattle.wasm_grammar.proofs.Common.{◌≡◌, ◌⊎◌, Bool, true, false, cond, List, [], ◌∷◌, refl, ℕ, ◌+◌, length, ◌≤◌, None, arith, ◌<◌}
-use Rattle.wasm_grammar.proofs.Common.{nat_lt, Option, suc, ◌-◌, take, drop, ◌^◌, Some, slice_index, replicate, length-replicate}
-use Rattle.wasm_grammar.proofs.Common.{length-drop, All-nil, All, last_place-lt, of_four, Number, read, bad, ends_at, last_place, septets}
-use Rattle.wasm_grammar.proofs.Common.{is_unused_right, number, Fault, VarU32, Tile, SectionContext, check, bytes, header_of, Grammar}
-use Rattle.wasm_grammar.proofs.Common.{u32_field, section_start, header_grammar, section_grammar, body_grammar, grammar, ending_of_number}
-use Rattle.wasm_grammar.proofs.Common.{deciding_ending, Encoding}
-use Rattle.std.proofs.Common.{add-one, lit≤}
+use Rattle.wasm_grammar.proofs.Common.{arith, ◌≡◌, ◌⊎◌, Bool, true, false, cond, List, [], ◌∷◌, refl, ℕ, ◌+◌, length, ◌≤◌, None, ◌<◌}
+use Rattle.wasm_grammar.proofs.Common.{nat_lt, Option, suc, ◌-◌, take, drop, ◌^◌, Some, replicate, length-replicate, length-drop, All-nil}
+use Rattle.wasm_grammar.proofs.Common.{All, last_place-lt, of_four, Number, read, bad, ends_at, last_place, number, Fault, VarU32, Tile}
+use Rattle.wasm_grammar.proofs.Common.{SectionContext, check, bytes, header_of, Grammar, u32_field, section_start, header_grammar}
+use Rattle.wasm_grammar.proofs.Common.{section_grammar, body_grammar, grammar, ending_of_number, deciding_ending, Encoding}
+use Rattle.std.proofs.Common.{slice_index, add-one, lit≤}
 use Rattle.std.proofs.lemmas.List.Elements.{All-replicate, All-drop}
 use Rattle.wasm_base.proofs.Numbers.{sum_below}
+use Rattle.wasm_base.specs.Number.{septets, is_unused_right}
 
 -- ---- a number has 32 bits
 

@@ -1,7 +1,7 @@
 -- What comes next in streams that begin with the same bytes.
-use Rattle.wasm_grammar.proofs.Common.{◌≡◌, List, [], ◌∷◌, ◌++◌, refl, ap, ℕ, ◌+◌, length, subst, arith, ◌<◌, sym, ◌∙◌, append-nil}
-use Rattle.wasm_grammar.proofs.Common.{append_assoc, length-append, ◌^◌, ◌≢◌, All, Tile, tile, final, Verdict, verdict, NextEvent}
-use Rattle.wasm_grammar.proofs.Common.{events_of, Event, last_event, Reading, bytes_of, grammar, deciding_ending, wants, waiting}
+use Rattle.wasm_grammar.proofs.Common.{arith, ◌≡◌, List, [], ◌∷◌, ◌++◌, refl, ap, ℕ, ◌+◌, length, subst, ◌<◌, sym, ◌∙◌, append-nil}
+use Rattle.wasm_grammar.proofs.Common.{append_assoc, length-append, ◌^◌, ◌≢◌, All, Tile, tile, Verdict, verdict, NextEvent, events_of}
+use Rattle.wasm_grammar.proofs.Common.{Event, last_event, Reading, bytes_of, grammar, deciding_ending, wants, waiting}
 use Rattle.std.proofs.lemmas.List.Elements.{All-append}
 use Rattle.wasm_grammar.specs.Reading.{Stream}
 use Rattle.wasm_grammar.specs.Undecided.{ComesNext, IsTiledBy, OneComesNext, EnoughIsDecided, ShortIsUndecided, TwoStreams}
@@ -53,9 +53,7 @@ enough_is_decided start front came tiles t w one other features x y a b =
 -- where a stream ends, another verdict is another event
 events_differ : (start features : ℕ) (tiles : List Tile) (v w : Verdict) → ((t : Tile) → v ≢ tile t)
     → ((t : Tile) → w ≡ tile t → 0 < length t.bytes) → v ≢ w → event_at start features tiles v ≢ event_at start features tiles w
-events_differ start features tiles (tile t) w h l n z = h t refl
-events_differ start features tiles (final e) (tile t) h l n z = grind arith
-events_differ start features tiles (final e) (final f) h l n z = grind arith
+events_differ start features tiles v w e f g h = grind arith
 
 no_tile : (start : ℕ) (tiles : List Tile) (came : List ℕ) (need hint : ℕ) → waiting (grammar start tiles) came ≡ wants need hint
     → (t : Tile) → verdict (grammar start tiles) came ≢ tile t

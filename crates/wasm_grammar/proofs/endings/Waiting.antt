@@ -1,5 +1,5 @@
 -- Laws of bytes that don't decide yet what is there.
-use Rattle.wasm_grammar.proofs.Common.{◌≡◌, Bool, cond, List, [], ◌∷◌, ◌++◌, refl, ℕ, ◌+◌, length, ◌≤◌, None, arith, ◌<◌, ◌-◌, take, drop}
+use Rattle.wasm_grammar.proofs.Common.{arith, ◌≡◌, Bool, cond, List, [], ◌∷◌, ◌++◌, refl, ℕ, ◌+◌, length, ◌≤◌, None, ◌<◌, ◌-◌, take, drop}
 use Rattle.wasm_grammar.proofs.Common.{nat_le, length-append, leb-true, take-append-le, drop-append-le, length-drop, number-used}
 use Rattle.wasm_grammar.proofs.Common.{number-more, magic, agree, Number, number, VarU32, Tile, tile, check, bytes, Grammar, u32_field}
 use Rattle.wasm_grammar.proofs.Common.{section_start, verdict, enough, wants, later, later_number, waiting}

@@ -1,5 +1,5 @@
 -- Sections that have no rank may go, and come.
-use Rattle.wasm_grammar.proofs.Common.{◌≡◌, inl, inr, Bool, true, false, cond, List, [], ◌∷◌, ◌++◌, refl, ap, ℕ, ◌+◌, length, subst, arith}
+use Rattle.wasm_grammar.proofs.Common.{arith, ◌≡◌, inl, inr, Bool, true, false, cond, List, [], ◌∷◌, ◌++◌, refl, ap, ℕ, ◌+◌, length, subst}
 use Rattle.wasm_grammar.proofs.Common.{◌<◌, ◌||◌, sym, ◌∙◌, nat_lt, ltb-true, All-nil, All-cons, All-head, All-tail, All, Any, filter}
 use Rattle.wasm_grammar.proofs.Common.{list_any, SectionFrame, frame_count, frame_rank, IsSection, IsMatched, IsAccepted, Sized}
 use Rattle.wasm_grammar.proofs.Common.{sized_bytes, FitsAfter, CodeDivision, kind_of, whole, Kind, code, rank_of, body_events, code_events}
@@ -19,10 +19,7 @@ module _ {X : Type 0} where
   any_step : (p q : X → Bool) (x : X) (xs : List X) → Spares p q x → list_any p (filter q xs) ≡ list_any p xs → (b c : Bool) → p x ≡ b → q x
       ≡ c
       → list_any p (cond c (x ∷ filter q xs) (filter q xs)) ≡ (b || list_any p xs)
-  any_step p q x xs h ih true true e f = rw e refl
-  any_step p q x xs h ih true false e f = let g : q x ≡ true = h e in cc
-  any_step p q x xs h ih false true e f = rw e ih
-  any_step p q x xs h ih false false e f = ih
+  any_step p q x xs e f b c g h = grind arith
 
   any_left : (p q : X → Bool) (xs : List X) → All (Spares p q) xs → list_any p (filter q xs) ≡ list_any p xs
   any_left p q [] a = refl

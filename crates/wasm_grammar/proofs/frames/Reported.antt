@@ -1,6 +1,6 @@
 -- The sections that are reported of tiles.
-use Rattle.wasm_grammar.proofs.Common.{◌≡◌, Bool, cond, List, [], ◌∷◌, ◌++◌, refl, ap, ℕ, ◌+◌, length, None, arith, ◌∙◌, append-nil, Option}
-use Rattle.wasm_grammar.proofs.Common.{◌-◌, length-append, Some, option_to_list, Range, Ending, kind_of, whole, Kind, Tile, SectionContext}
+use Rattle.wasm_grammar.proofs.Common.{arith, ◌≡◌, Bool, cond, List, [], ◌∷◌, ◌++◌, refl, ℕ, ◌+◌, length, None, append-nil, Option, ◌-◌}
+use Rattle.wasm_grammar.proofs.Common.{length-append, Some, option_to_list, Range, Ending, kind_of, whole, Kind, Tile, SectionContext}
 use Rattle.wasm_grammar.proofs.Common.{version, tile, section, code_start, code_entry, Shape, content_grammar, verdict, section_grammar}
 use Rattle.wasm_grammar.proofs.Common.{body_grammar, events_of, Event, last_event, tile_report, event_of, section_of, sections_of, bytes_of}
 use Rattle.wasm_grammar.proofs.Common.{encoding_of, grammar, Encoding, Module}
@@ -50,11 +50,7 @@ section_at high _ = None
 
 report_shape : (encoding : Encoding) (features low : ℕ) (bytes : List ℕ) (s : Shape) → Kinded encoding s → Closes s bytes
     → section_of (tile_report features low (low + length bytes) s) ≡ section_at (low + length bytes) s
-report_shape encoding features low bytes (section kind id content) k (before, c) =
-    let n : length bytes ≡ length before + length content = ap (λ (x : List ℕ). length x) c ∙ length-append before content in
-    grind arith
-report_shape encoding features low bytes (version num other) k c = absurd k
-report_shape encoding features low bytes _ k c = refl
+report_shape encoding features low bytes s e f = grind (arith, length-append)
 
 -- what is reported of a tile after a header
 pub report_after : (start features low : ℕ) (u : Tile) (ts : List Tile) (t : Tile) → verdict (grammar start (u ∷ ts)) t.bytes ≡ tile t

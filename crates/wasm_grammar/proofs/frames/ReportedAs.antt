@@ -1,5 +1,5 @@
 -- The sections of an accepted stream determine its reading, and there is one division into sections.
-use Rattle.wasm_grammar.proofs.Common.{◌≡◌, List, [], ◌∷◌, refl, ℕ, ◌+◌, length, arith, sym, ◌∙◌, All-head, All-tail, All, flat_map}
+use Rattle.wasm_grammar.proofs.Common.{arith, ◌≡◌, List, [], ◌∷◌, refl, ℕ, ◌+◌, length, sym, ◌∙◌, All-head, All-tail, All, flat_map}
 use Rattle.wasm_grammar.proofs.Common.{SectionFrame, Sized, sized_bytes, IsSized, frame_bytes, CodeDivision, ended, Kind, code_events}
 use Rattle.wasm_grammar.proofs.Common.{FramesEvents, KindEvents, Reads, Event, Encoding}
 use Rattle.wasm_grammar.specs.FrameLaws.{OneDivision, FramesGiveEvents}

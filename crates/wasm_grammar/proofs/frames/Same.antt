@@ -1,5 +1,5 @@
 -- Bytes are sections in one way.
-use Rattle.wasm_grammar.proofs.Common.{◌≡◌, List, [], ◌∷◌, ◌++◌, refl, ap, ℕ, length, arith, sym, ◌∙◌, append_assoc, take_at, drop_at}
+use Rattle.wasm_grammar.proofs.Common.{arith, ◌≡◌, List, [], ◌∷◌, ◌++◌, refl, ap, ℕ, length, sym, ◌∙◌, append_assoc, take_at, drop_at}
 use Rattle.wasm_grammar.proofs.Common.{All-head, All-tail, All, flat_map, read, number, VarU32, IsNumber, SectionFrame, Sized, sized_bytes}
 use Rattle.wasm_grammar.proofs.Common.{IsSized, frame_bytes}
 use Rattle.wasm_grammar.proofs.accepted.Tiles.{number_on}

@@ -1,6 +1,6 @@
 -- What the events of a reading say of sections and bodies is what their bytes are.
-use Rattle.wasm_grammar.proofs.Common.{◌≡◌, ◌⊎◌, inl, inr, Bool, true, false, cond, List, [], ◌∷◌, ◌++◌, ap, ℕ, ◌+◌, length, subst, None}
-use Rattle.wasm_grammar.proofs.Common.{arith, sym, Option, ◌-◌, length-append, Some, Range, IsNumber, IsFormed, Form, kind_of, code}
+use Rattle.wasm_grammar.proofs.Common.{arith, ◌≡◌, ◌⊎◌, inl, inr, Bool, true, false, cond, List, [], ◌∷◌, ◌++◌, ap, ℕ, ◌+◌, length, subst}
+use Rattle.wasm_grammar.proofs.Common.{None, sym, Option, ◌-◌, length-append, Some, Range, IsNumber, IsFormed, Form, kind_of, code}
 use Rattle.wasm_grammar.proofs.Common.{AtOffsets, Tile, SectionContext, tile, section, code_grammar, verdict, section_grammar, body_grammar}
 use Rattle.wasm_grammar.proofs.Common.{events_of, event_of, section_report, section_of, bytes_of, grammar, Faultless}
 use Rattle.wasm_grammar.specs.Laws.{EventsSayTheirBytes}

@@ -1,5 +1,5 @@
 -- The sections of a reading tile an accepted stream.
-use Rattle.wasm_grammar.proofs.Common.{◌≡◌, List, [], ◌∷◌, ◌++◌, refl, ap, ℕ, ◌+◌, length, arith, ◌<◌, sym, ◌∙◌, nat_eq, eqb-true}
+use Rattle.wasm_grammar.proofs.Common.{arith, ◌≡◌, List, [], ◌∷◌, ◌++◌, refl, ap, ℕ, ◌+◌, length, ◌<◌, sym, ◌∙◌, nat_eq, eqb-true}
 use Rattle.wasm_grammar.proofs.Common.{append-nil, append_assoc, ◌-◌, length-append, map, take_at, drop_at, All-push, All, flat_map, Range}
 use Rattle.wasm_grammar.proofs.Common.{IsNumber, SectionFrame, IsAccepted, header_bytes, IsSized, frame_bytes, ended, kind_of, code, Tile}
 use Rattle.wasm_grammar.proofs.Common.{tile, section, code_start, content_grammar, verdict, code_id, Reads, events_of, sections_of}

@@ -1,5 +1,5 @@
 -- Where the faults of a grammar lie.
-use Rattle.wasm_grammar.proofs.Common.{◌≡◌, Bool, cond, List, [], ◌∷◌, refl, ℕ, ◌+◌, length, ◌≤◌, None, arith, Option, take, drop, nat_le}
+use Rattle.wasm_grammar.proofs.Common.{arith, ◌≡◌, Bool, cond, List, [], ◌∷◌, refl, ℕ, ◌+◌, length, ◌≤◌, None, Option, take, drop, nat_le}
 use Rattle.wasm_grammar.proofs.Common.{length-append, Some, le_refl, length-take-le, length-drop, number-used, FaultAt, at_offset, Number}
 use Rattle.wasm_grammar.proofs.Common.{number, UnexpectedEof, VarU32, Ending, fault, ended, Form, kind_of, when, whole, Kind, code}
 use Rattle.wasm_grammar.proofs.Common.{wrong_content, Tile, SectionContext, end_at_section, wrong_data, check, bytes, final, after, Grammar}

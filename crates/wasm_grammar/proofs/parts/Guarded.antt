@@ -1,5 +1,5 @@
 -- What each grammar of the stream keeps: its tiles are guarded, and take at least one byte.
-use Rattle.wasm_grammar.proofs.Common.{◌≡◌, Bool, true, cond, List, ◌∷◌, ◌++◌, refl, ℕ, ◌+◌, length, ◌≤◌, arith, ◌<◌, eqb-true, Option}
+use Rattle.wasm_grammar.proofs.Common.{arith, ◌≡◌, Bool, true, cond, List, ◌∷◌, ◌++◌, refl, ℕ, ◌+◌, length, ◌≤◌, ◌<◌, eqb-true, Option}
 use Rattle.wasm_grammar.proofs.Common.{zero, suc, take, drop, length-append, leb-true, and_parts, length-take-le, number-used, FaultAt}
 use Rattle.wasm_grammar.proofs.Common.{magic, agree, read, number, VarU32, Ending, kind_of, Kind, Tile, SectionContext, tile, check, bytes}
 use Rattle.wasm_grammar.proofs.Common.{Grammar, u32_field, content_grammar, after_length, after_id, section_start, body_of, verdict}

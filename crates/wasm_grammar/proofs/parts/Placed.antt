@@ -1,5 +1,5 @@
 -- What is at a place is what may come there.
-use Rattle.wasm_grammar.proofs.Common.{◌≡◌, Bool, true, false, cond, List, [], ◌∷◌, refl, ℕ, ◌+◌, length, subst, None, arith, ◌<◌, not}
+use Rattle.wasm_grammar.proofs.Common.{arith, ◌≡◌, Bool, true, false, cond, List, [], ◌∷◌, refl, ℕ, ◌+◌, length, subst, None, ◌<◌, not}
 use Rattle.wasm_grammar.proofs.Common.{◌&&◌, sym, nat_lt, Option, zero, suc, take, drop, nat_le, list_all, FaultAt, Number, number, VarU32}
 use Rattle.wasm_grammar.proofs.Common.{Ending, kind_of, when, whole, Kind, code, rank_of, Tile, SectionContext, version, tile, check, bytes}
 use Rattle.wasm_grammar.proofs.Common.{header_of, section, code_start, code_entry, Shape, final, after, Grammar, accept, u32_field}
@@ -99,8 +99,7 @@ fresh_placed ts (code_start count width size) f h = grind arith
 fresh_placed ts _ f h = absurd f
 
 fresh_body : (ts : List Tile) (s : Shape) → IsBody s → Fresh ts s
-fresh_body ts (code_entry content) f h = absurd (omega arith)
-fresh_body ts _ f h = absurd f
+fresh_body ts s e f = grind arith
 
 fresh_at : (b : Bool) (ts : List Tile) (m l o : ℕ) (d : List ℕ) (t : Tile)
     → verdict (cond b (section_grammar (context_of ts) o) (body_grammar m l o)) d ≡ tile t → Fresh ts t.shape

@@ -1,5 +1,5 @@
 -- What is wrong with bytes is wrong at one of them, or at their end.
-use Rattle.wasm_grammar.proofs.Common.{◌≡◌, Bool, cond, List, refl, ℕ, length, ◌≤◌, None, arith, ◌<◌, nat_lt, Option, suc, ◌-◌, Some}
+use Rattle.wasm_grammar.proofs.Common.{arith, ◌≡◌, Bool, cond, List, refl, ℕ, length, ◌≤◌, None, ◌<◌, nat_lt, Option, suc, ◌-◌, Some}
 use Rattle.wasm_grammar.proofs.Common.{length-drop, number-used, last_place-lt, named, refused, after_size, name, Number, read, bad}
 use Rattle.wasm_grammar.proofs.Common.{ends_at, last_place, number, Fault, VarU32}
 use Rattle.wasm_base.specs.Number.{most_bytes}

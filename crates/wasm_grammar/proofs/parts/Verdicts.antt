@@ -1,5 +1,5 @@
 -- Laws of every grammar.
-use Rattle.wasm_grammar.proofs.Common.{◌≡◌, Bool, true, false, cond, List, [], ◌∷◌, ◌++◌, refl, ℕ, length, ◌≤◌, None, arith, ◌&&◌}
+use Rattle.wasm_grammar.proofs.Common.{arith, ◌≡◌, Bool, true, false, cond, List, [], ◌∷◌, ◌++◌, refl, ℕ, length, ◌≤◌, None, ◌&&◌}
 use Rattle.wasm_grammar.proofs.Common.{append_assoc, ◌-◌, take, drop, nat_le, length-append, le-leb, leb-true, length-take-le, take_at}
 use Rattle.wasm_grammar.proofs.Common.{drop_at, take-append-le, drop-append-le, number-used, Used, number-more, at_offset, magic, agree}
 use Rattle.wasm_grammar.proofs.Common.{Number, read, number, MagicAtSection, UnexpectedEof, VarU32, Ending, fault, Tile, tile, check, bytes}

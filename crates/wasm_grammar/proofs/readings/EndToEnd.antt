@@ -1,13 +1,12 @@
 -- Events lie end to end.
-use Rattle.wasm_grammar.proofs.Common.{◌≡◌, Bool, cond, List, [], ◌∷◌, ◌++◌, refl, ap, ℕ, ◌+◌, length, subst, ◌≤◌, None, arith, ◌&&◌, sym}
+use Rattle.wasm_grammar.proofs.Common.{arith, ◌≡◌, Bool, cond, List, [], ◌∷◌, ◌++◌, refl, ap, ℕ, ◌+◌, length, subst, ◌≤◌, None, ◌&&◌, sym}
 use Rattle.wasm_grammar.proofs.Common.{◌∙◌, append-nil, append_assoc, ◌-◌, take, drop, nat_le, length-append, flat_map-append}
 use Rattle.wasm_grammar.proofs.Common.{length-take-le, take_at, drop_at, number-used, at_offset, magic, agree, Number, number}
-use Rattle.wasm_grammar.proofs.Common.{MagicAtSection, UnexpectedEof, VarU32, Ending, fault, ended, Form, items, kind_of, Kind, custom}
-use Rattle.wasm_grammar.proofs.Common.{unknown, AtOffsets, consumed_by, Tile, SectionContext, version, tile, check, bytes, section}
-use Rattle.wasm_grammar.proofs.Common.{code_start, code_entry, Shape, final, after, Grammar, accept, u32_field, content_grammar}
-use Rattle.wasm_grammar.proofs.Common.{section_start, Verdict, after_number, reject, verdict, header_grammar, section_grammar, body_grammar}
-use Rattle.wasm_grammar.proofs.Common.{Reads, events_of, Event, last_event, tile_report, event_of, section_report, stream_end, bytes_of}
-use Rattle.wasm_grammar.proofs.Common.{grammar, Faultless}
+use Rattle.wasm_grammar.proofs.Common.{MagicAtSection, UnexpectedEof, VarU32, Ending, fault, ended, Form, kind_of, Kind, AtOffsets}
+use Rattle.wasm_grammar.proofs.Common.{consumed_by, Tile, SectionContext, version, tile, check, bytes, section, code_start, code_entry}
+use Rattle.wasm_grammar.proofs.Common.{Shape, final, after, Grammar, accept, u32_field, content_grammar, section_start, Verdict}
+use Rattle.wasm_grammar.proofs.Common.{after_number, reject, verdict, header_grammar, section_grammar, body_grammar, Reads, events_of}
+use Rattle.wasm_grammar.proofs.Common.{Event, last_event, tile_report, event_of, section_report, stream_end, bytes_of, grammar, Faultless}
 use Rattle.wasm_grammar.specs.EventRanges.{LiesIn, LiesBetween, EndToEnd}
 use Rattle.wasm_grammar.specs.Laws.{EventsLieEndToEnd}
 use Rattle.wasm_grammar.proofs.parts.Places.{name_used}
@@ -133,10 +132,7 @@ whole_range stream start low high content p = grind arith
 section_lies : (stream : List ℕ) (start low high features : ℕ) (kind : Form) (id : ℕ) (content : List ℕ)
     → Placed stream start low high content → LiesBetween stream start features low high
     (section_report features (high - length content) high kind id content)
-section_lies stream start low high features custom id content p = grind (arith, name_used)
-section_lies stream start low high features items id content p = grind arith
-section_lies stream start low high features unknown id content p = (whole_range stream start low high content p, refl, p.part, p.ends)
-section_lies stream start low high features _ id content p = (whole_range stream start low high content p, refl)
+section_lies stream start low high features kind id content e = grind (arith, name_used, whole_range)
 
 lies_between : (stream earlier passed rest : List ℕ) (start low high features : ℕ) (shape : Shape) → stream ≡ earlier ++ (passed ++ rest)
     → low ≡ start + length earlier → high ≡ low + length passed → Closes shape passed

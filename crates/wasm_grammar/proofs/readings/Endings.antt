@@ -1,9 +1,9 @@
 -- Where a stream may end.
-use Rattle.wasm_grammar.proofs.Common.{◌≡◌, Bool, true, false, cond, List, [], ◌∷◌, refl, ℕ, ◌+◌, length, None, ◌&&◌, Option, zero, suc}
-use Rattle.wasm_grammar.proofs.Common.{take, drop, nat_le, Some, FaultAt, at_offset, magic, agree, Number, read, number, MagicAtSection}
-use Rattle.wasm_grammar.proofs.Common.{VarU32, Ending, fault, ended, kind_of, whole, Kind, code, SectionContext, end_at_section, tile}
-use Rattle.wasm_grammar.proofs.Common.{check, bytes, header_of, final, after, Grammar, u32_field, content_grammar, after_id, section_start}
-use Rattle.wasm_grammar.proofs.Common.{Verdict, after_number, verdict, header_grammar, section_grammar, body_grammar, Encoding}
+use Rattle.wasm_grammar.proofs.Common.{arith, ◌≡◌, Bool, true, cond, List, [], ◌∷◌, ℕ, ◌+◌, None, Option, take, drop, FaultAt, at_offset}
+use Rattle.wasm_grammar.proofs.Common.{Number, number, MagicAtSection, VarU32, Ending, fault, ended, kind_of, Kind, SectionContext}
+use Rattle.wasm_grammar.proofs.Common.{end_at_section, check, bytes, header_of, final, after, Grammar, u32_field, content_grammar, after_id}
+use Rattle.wasm_grammar.proofs.Common.{section_start, Verdict, after_number, verdict, header_grammar, section_grammar, body_grammar}
+use Rattle.wasm_grammar.proofs.Common.{Encoding}
 
 -- the stream doesn't end within this
 abbrev pub NoEnd : Grammar → Type 0
@@ -15,20 +15,17 @@ NoEnd _ = Unit {0}
 
 -- how a stream ends after bytes of a tile is how it ends there
 pub after_final : (prefix : List ℕ) (v : Verdict) (e : Ending) → after prefix v ≡ final e → v ≡ final e
-after_final prefix (tile t) e h = cc
-after_final prefix (final x) e h = h
+after_final prefix v e f = grind arith
 
 -- no end after a number, if there is none in what follows
 end_number : (o : ℕ) (xs : List ℕ) (n : Number) (next : ℕ → ℕ → Verdict) (p : ℕ) → ((v k : ℕ) → next v k ≡ final (ended p) → ⊥)
     → after_number o xs n next ≡ final (ended p) → ⊥
-end_number o xs (read v k) next p h e = h v k (after_final _ (next v k) (ended p) e)
-end_number o xs _ next p h e = cc
+end_number o xs n next p e f = grind (arith, after_final)
 
 -- no end after bytes, if there is none in what follows
 end_test : (b : Bool) (f : List ℕ) (v : Verdict) (x : FaultAt) (p : ℕ) → (v ≡ final (ended p) → ⊥) → cond b (after f v) (final (fault x))
     ≡ final (ended p) → ⊥
-end_test true f v x p h e = h (after_final f v (ended p) e)
-end_test false f v x p h e = cc
+end_test b f v x p e g = grind (arith, after_final)
 
 -- what has no end within doesn't end
 no_end : (g : Grammar) → NoEnd g → (d : List ℕ) (p : ℕ) → verdict g d ≡ final (ended p) → ⊥
@@ -42,8 +39,7 @@ no_end _ h d p e = cc
 
 -- no end within a section's content
 no_end_content : (p : SectionContext) (k : Kind) (id o n : ℕ) → NoEnd (content_grammar p k id o n)
-no_end_content p (whole form) id o n = λ b. tt
-no_end_content p code id o n = λ v k. tt
+no_end_content p k id o n = grind arith
 
 -- no end within a section
 no_end_framed : (p : SectionContext) (o id : ℕ) → NoEnd (after_id p o id)
@@ -51,8 +47,7 @@ no_end_framed p o id = λ v k. no_end_content p (kind_of p.encoding id) id (o + 
 
 -- no end within a header's last four bytes
 no_end_header_of : (o v : ℕ) (e : Option Encoding) → NoEnd (header_of o v e)
-no_end_header_of o v (Some e) = tt
-no_end_header_of o v None = tt
+no_end_header_of o v e = grind arith
 
 -- no end within a header
 no_end_header : (o : ℕ) → NoEnd (header_grammar o)
@@ -66,22 +61,18 @@ header_end o d p e = no_end (header_grammar o) (no_end_header o) d p e
 -- no end within a body
 no_end_body : (m l o : ℕ) → NoEnd (body_grammar m l o)
 unfolding body_grammar
-no_end_body zero l o = tt
-no_end_body (suc m) l o = λ v k b. tt
+no_end_body m l o = grind arith
 
 -- no end after a section's id, if there is none in what follows
 end_magic : (b : Bool) (o id : ℕ) (v : Verdict) (p : ℕ) → (v ≡ final (ended p) → ⊥)
     → cond b (final (fault (at_offset MagicAtSection o))) (after (id ∷ []) v) ≡ final (ended p) → ⊥
-end_magic true o id v p h e = cc
-end_magic false o id v p h e = h (after_final (id ∷ []) v (ended p) e)
+end_magic b o id v p e f = grind (arith, after_final)
 
 -- where a section may come, a stream ends only if nothing follows, and as it may there
 start_end : (o : ℕ) (x : Ending) (next : ℕ → Grammar) → ((id : ℕ) → NoEnd (next id)) → (d : List ℕ) (p : ℕ)
     → verdict (section_start o x next) d ≡ final (ended p) → (d ≡ []) × (x ≡ ended p)
 unfolding verdict
-start_end o x next h [] p e = (refl, cc)
-start_end o x next h (id ∷ d) p e = absurd (end_magic (agree (id ∷ d) magic && nat_le 4 (length (id ∷ d))) o id (verdict (next id) d) p
-    (no_end (next id) (h id) d p) e)
+start_end o x next e d p f = grind (arith, end_magic, no_end)
 
 -- the same of the grammar of sections
 section_end : (q : SectionContext) (o : ℕ) (d : List ℕ) (p : ℕ) → verdict (section_grammar q o) d ≡ final (ended p) → (d ≡ [])
@@ -93,5 +84,4 @@ section_end q o d p e = start_end o (end_at_section q o) (after_id q o) (no_end_
 pub inside_end : (b : Bool) (q : SectionContext) (m l o : ℕ) (d : List ℕ) (p : ℕ)
     → verdict (cond b (section_grammar q o) (body_grammar m l o)) d ≡ final (ended p) → (b ≡ true) × (d ≡ [])
     × (end_at_section q o ≡ ended p)
-inside_end true q m l o d p e = let (a, c) = section_end q o d p e in (refl, a, c)
-inside_end false q m l o d p e = absurd (no_end (body_grammar m l o) (no_end_body m l o) d p e)
+inside_end b q m l o d p e = grind (arith, section_end, no_end, no_end_body)

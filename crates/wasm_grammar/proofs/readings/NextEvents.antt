@@ -1,5 +1,5 @@
 -- The event that comes next in a reading.
-use Rattle.wasm_grammar.proofs.Common.{◌≡◌, ◌⊎◌, inl, inr, List, [], ◌∷◌, ◌++◌, refl, ap, ℕ, ◌+◌, length, arith, ◌<◌, sym, ◌∙◌, append-nil}
+use Rattle.wasm_grammar.proofs.Common.{arith, ◌≡◌, ◌⊎◌, inl, inr, List, [], ◌∷◌, ◌++◌, refl, ap, ℕ, ◌+◌, length, ◌<◌, sym, ◌∙◌, append-nil}
 use Rattle.wasm_grammar.proofs.Common.{append_assoc, length-append, append_cancel_left, Ending, consumed_by, Tile, tile, final, Verdict}
 use Rattle.wasm_grammar.proofs.Common.{verdict, NextEvent, Reads, events_of, Event, last_event, Reading, event_of, bytes_of, grammar}
 use Rattle.wasm_grammar.proofs.Common.{Faultless}

@@ -1,5 +1,5 @@
 -- The start offset only moves offsets.
-use Rattle.wasm_grammar.proofs.Common.{◌≡◌, ◌⊎◌, inl, Bool, cond, List, [], ◌∷◌, ◌++◌, refl, ap, ℕ, ◌+◌, length, subst, None, arith, not}
+use Rattle.wasm_grammar.proofs.Common.{arith, ◌≡◌, ◌⊎◌, inl, Bool, cond, List, [], ◌∷◌, ◌++◌, refl, ap, ℕ, ◌+◌, length, subst, None, not}
 use Rattle.wasm_grammar.proofs.Common.{◌∙◌, nat_lt, nat_eq, Option, zero, suc, ◌-◌, take, drop, nat_le, length-append, Some, FaultAt}
 use Rattle.wasm_grammar.proofs.Common.{at_offset, magic, agree, of_four, Number, number, BadMagic, MagicAtSection, UnexpectedEof}
 use Rattle.wasm_grammar.proofs.Common.{MalformedSectionId, VarU32, Ending, fault, Form, kind_of, when, whole, Kind, code, wrong_content}
