@@ -1,8 +1,8 @@
 -- The names of std and of the specs that several of these proofs use.
-pub use Rattle.std.proofs.Common.{arith, ◌≡◌, ◌⊎◌, inl, inr, Bool, true, false, cond, List, [], ◌∷◌, ◌++◌, refl, ap, ℕ, ◌+◌, length, subst}
-pub use Rattle.std.proofs.Common.{◌≤◌, None, ◌<◌, not, ◌&&◌, ◌||◌, sym, ◌∙◌, nat_lt, nat_eq, eqb-true, eq-eqb, append-nil, append_assoc}
-pub use Rattle.std.proofs.Common.{ltb-true, lt-ltb, Option, zero, suc, ◌-◌, take, drop, nat_le, length-append, lit<, ◌^◌, Some, le-leb, ◌≢◌}
-pub use Rattle.std.proofs.Common.{replicate, leb-true, option_to_list, map, le_refl}
+pub use Rattle.std.proofs.Common.{arith, ◌≡◌, ◌⊎◌, inl, inr, Bool, true, false, cond, List, [], ◌∷◌, ◌++◌, refl, ap, ℕ, ◌+◌, length, ◌≤◌}
+pub use Rattle.std.proofs.Common.{None, ◌<◌, not, ◌&&◌, ◌||◌, sym, ◌∙◌, nat_lt, nat_eq, eqb-true, eq-eqb, append-nil, append_assoc}
+pub use Rattle.std.proofs.Common.{ltb-true, lt-ltb, Option, subst, zero, suc, ◌-◌, take, drop, nat_le, length-append, lit<, ◌^◌, Some}
+pub use Rattle.std.proofs.Common.{le-leb, ◌≢◌, replicate, leb-true, option_to_list, map, le_refl}
 pub use Rattle.std.proofs.Math.Bool.{and_comm}
 pub use Rattle.std.proofs.lemmas.Bool.{and_parts, and_from}
 pub use Rattle.std.proofs.lemmas.Grind.{flat_map-append}

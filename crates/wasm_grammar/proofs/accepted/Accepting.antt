@@ -1,5 +1,5 @@
 -- A stream ends at its end if it is accepted, and otherwise with a fault.
-use Rattle.wasm_grammar.proofs.Common.{◌≡◌, List, [], ℕ, ◌+◌, length, subst, FaultAt, Ending, fault, ended, Tile, Reads}
+use Rattle.wasm_grammar.proofs.Common.{arith, ◌≡◌, List, [], ℕ, ◌+◌, length, FaultAt, Ending, fault, ended, Tile, Reads}
 use Rattle.wasm_grammar.specs.Laws.{AcceptedEnds, FaultEnds}
 use Rattle.wasm_grammar.proofs.accepted.Frames.{reads_accepted}
 use Rattle.wasm_grammar.proofs.accepted.Walks.{accepted_reads}
@@ -10,8 +10,7 @@ faulty : (stream : List ℕ) (start : ℕ) (tiles : List Tile) (end : Ending) �
     → ¬ ((ts : List Tile) × Reads stream start ts (ended (start + length stream)))
     → (ts : List Tile) × (f : FaultAt) × Reads stream start ts (fault f)
 faulty stream start tiles (fault f) r n = (tiles, f, r)
-faulty stream start tiles (ended x) r n =
-    absurd (n (tiles, subst (λ (y : ℕ). Reads stream start tiles (ended y)) (ends_after_all stream start tiles x r).0 r))
+faulty stream start tiles (ended x) r n = grind (arith, ends_after_all)
 
 no_end : (stream : List ℕ) (start : ℕ) (ts us : List Tile) (f : FaultAt) (x : ℕ) → Reads stream start ts (fault f)
     → Reads stream start us (ended x) → ⊥

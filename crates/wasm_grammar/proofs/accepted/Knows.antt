@@ -62,8 +62,7 @@ section_count : (n : ℕ) → IsCounting (kind_of Module n) ⊎ (kind_of Module 
     → (encoding : Encoding) (f : SectionFrame) (others : List ℕ) (w : IsWhole (kind_of encoding f.id))
     → count_in n (section w.0 f.id f.sized.content) others ≡ one_count encoding n f ++ others
 section_count n c Module f others w = module_count n f.id f.sized.content others c w (nat_eq f.id n) refl
-section_count n c Component f others w =
-    ap (λ (k : Kind). kind_count n f.id k f.sized.content others) (sym w.1) ∙ component_count n f.id f.sized.content others
+section_count n c Component f others w = grind (arith, component_count)
 
 -- counts with those of one more frame are the counts of all frames
 counts_more : (encoding : Encoding) (n : ℕ) (fs : List SectionFrame) (f : SectionFrame) (old new : List ℕ) → old ≡ counts_of encoding n fs

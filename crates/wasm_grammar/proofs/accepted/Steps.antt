@@ -1,6 +1,6 @@
 -- A good section that fits after other tiles is one tile more, or the head of a code section and its bodies.
-use Rattle.wasm_grammar.proofs.Common.{arith, ◌≡◌, true, false, List, [], ◌∷◌, ◌++◌, refl, ap, ℕ, ◌+◌, length, subst, ◌≤◌, ◌<◌, ◌∙◌, nat_eq}
-use Rattle.wasm_grammar.proofs.Common.{append-nil, append_assoc, suc, ◌-◌, length-append, ◌^◌, All-head, All-tail, All, flat_map}
+use Rattle.wasm_grammar.proofs.Common.{arith, ◌≡◌, true, false, List, [], ◌∷◌, ◌++◌, refl, ap, ℕ, ◌+◌, length, ◌≤◌, ◌<◌, ◌∙◌, nat_eq}
+use Rattle.wasm_grammar.proofs.Common.{append-nil, append_assoc, subst, suc, ◌-◌, length-append, ◌^◌, All-head, All-tail, All, flat_map}
 use Rattle.wasm_grammar.proofs.Common.{SectionFrame, frame_count, Sized, sized_bytes, IsSized, frame_bytes, IsFrame, FitsAfter}
 use Rattle.wasm_grammar.proofs.Common.{CodeDivision, kind_of, count_of, body_events, Tile, SectionContext, tile, section, code_start}
 use Rattle.wasm_grammar.proofs.Common.{code_entry, verdict, section_grammar, code_id, events_of, bytes_of, context_of, bodies_left}

@@ -1,7 +1,7 @@
 -- Bytes in the textbook form are tiles.
-use Rattle.wasm_grammar.proofs.Common.{arith, ◌≡◌, ◌⊎◌, inl, inr, Bool, true, false, List, [], ◌∷◌, ◌++◌, refl, ap, ℕ, ◌+◌, length, subst}
-use Rattle.wasm_grammar.proofs.Common.{◌≤◌, None, ◌<◌, ◌&&◌, nat_lt, append-nil, lt-ltb, Option, suc, ◌-◌, nat_le, length-append, ◌^◌, Some}
-use Rattle.wasm_grammar.proofs.Common.{le-leb, take_at, drop_at, number-used, number-more, FaultAt, magic, agree, named, refused}
+use Rattle.wasm_grammar.proofs.Common.{arith, ◌≡◌, ◌⊎◌, inl, inr, Bool, true, false, List, [], ◌∷◌, ◌++◌, refl, ap, ℕ, ◌+◌, length, ◌≤◌}
+use Rattle.wasm_grammar.proofs.Common.{None, ◌<◌, ◌&&◌, nat_lt, append-nil, lt-ltb, Option, subst, suc, ◌-◌, nat_le, length-append, ◌^◌}
+use Rattle.wasm_grammar.proofs.Common.{Some, le-leb, take_at, drop_at, number-used, number-more, FaultAt, magic, agree, named, refused}
 use Rattle.wasm_grammar.proofs.Common.{name_limit, name, read, number, UnexpectedEof, VarU32, IsNumber, header_bytes, Ending, Form, kind_of}
 use Rattle.wasm_grammar.proofs.Common.{when, whole, Kind, code, rank_of, wrong_content, Tile, SectionContext, wrong_count, wrong_data}
 use Rattle.wasm_grammar.proofs.Common.{version, tile, check, bytes, section, code_start, code_entry, Shape, Grammar, accept, u32_field}

@@ -1,6 +1,6 @@
 -- An accepted stream's reading ends at its end.
-use Rattle.wasm_grammar.proofs.Common.{arith, ◌≡◌, inl, inr, true, false, List, [], ◌∷◌, ◌++◌, refl, ap, ℕ, ◌+◌, length, subst, ◌≤◌, ◌<◌}
-use Rattle.wasm_grammar.proofs.Common.{sym, ◌∙◌, nat_eq, append-nil, append_assoc, ◌-◌, length-append, ◌^◌, flat_map-append, flat_map_more}
+use Rattle.wasm_grammar.proofs.Common.{arith, ◌≡◌, inl, inr, true, false, List, [], ◌∷◌, ◌++◌, refl, ap, ℕ, ◌+◌, length, ◌≤◌, ◌<◌, sym, ◌∙◌}
+use Rattle.wasm_grammar.proofs.Common.{nat_eq, append-nil, append_assoc, subst, ◌-◌, length-append, ◌^◌, flat_map-append, flat_map_more}
 use Rattle.wasm_grammar.proofs.Common.{All-head, All-tail, All, flat_map, SectionFrame, IsAccepted, header_bytes, sized_bytes, frame_bytes}
 use Rattle.wasm_grammar.proofs.Common.{IsFrame, FitsAfter, CodeDivision, ended, kind_of, code, header_event, section_event, code_events}
 use Rattle.wasm_grammar.proofs.Common.{FrameEvents, FramesEvents, Tile, SectionContext, end_at_section, version, tile, section, code_start}

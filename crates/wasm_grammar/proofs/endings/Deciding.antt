@@ -56,8 +56,7 @@ bytes_differs : (count o : ℕ) (xs : List ℕ) (next : List ℕ → Grammar) (n
 unfolding verdict
 bytes_differs count o xs next n h s ih true e w z =
     grind (arith, leb-true, length-append, take-append-le, drop-append-le, later-wants, after_same)
-bytes_differs count o xs next n h s ih false e w z =
-    grind (arith, leb-false, length-append, length-replicate, take_all, drop_all, le-leb)
+bytes_differs count o xs next n h s ih false e w z = grind (arith, leb-false, length-append, length-replicate, take_all, drop_all, le-leb)
 
 unmagic : (o : ℕ) (e : Ending) (next : ℕ → Grammar) (id : ℕ) (xs ys : List ℕ) → agree (id ∷ xs) magic ≡ false
     → verdict (section_start o e next) (id ∷ xs) ≡ verdict (section_start o e next) (id ∷ (xs ++ ys))

@@ -1,7 +1,7 @@
 -- What comes next in streams that begin with the same bytes.
-use Rattle.wasm_grammar.proofs.Common.{arith, ◌≡◌, List, [], ◌∷◌, ◌++◌, refl, ap, ℕ, ◌+◌, length, subst, ◌<◌, sym, ◌∙◌, append-nil}
-use Rattle.wasm_grammar.proofs.Common.{append_assoc, length-append, ◌^◌, ◌≢◌, All, Tile, tile, Verdict, verdict, NextEvent, events_of}
-use Rattle.wasm_grammar.proofs.Common.{Event, last_event, Reading, bytes_of, grammar, deciding_ending, wants, waiting}
+use Rattle.wasm_grammar.proofs.Common.{arith, ◌≡◌, List, [], ◌∷◌, ◌++◌, refl, ap, ℕ, ◌+◌, length, ◌<◌, sym, ◌∙◌, append-nil, append_assoc}
+use Rattle.wasm_grammar.proofs.Common.{subst, length-append, ◌^◌, ◌≢◌, All, Tile, tile, Verdict, verdict, NextEvent, events_of, Event}
+use Rattle.wasm_grammar.proofs.Common.{last_event, Reading, bytes_of, grammar, deciding_ending, wants, waiting}
 use Rattle.std.proofs.lemmas.List.Elements.{All-append}
 use Rattle.wasm_grammar.specs.Reading.{Stream}
 use Rattle.wasm_grammar.specs.Undecided.{ComesNext, IsTiledBy, OneComesNext, EnoughIsDecided, ShortIsUndecided, TwoStreams}

@@ -1,6 +1,6 @@
 -- Sections that have no rank may go, and come.
-use Rattle.wasm_grammar.proofs.Common.{arith, ◌≡◌, inl, inr, Bool, true, false, cond, List, [], ◌∷◌, ◌++◌, refl, ap, ℕ, ◌+◌, length, subst}
-use Rattle.wasm_grammar.proofs.Common.{◌<◌, ◌||◌, sym, ◌∙◌, nat_lt, ltb-true, All-nil, All-cons, All-head, All-tail, All, Any, filter}
+use Rattle.wasm_grammar.proofs.Common.{arith, ◌≡◌, inl, inr, Bool, true, false, cond, List, [], ◌∷◌, ◌++◌, refl, ap, ℕ, ◌+◌, length, ◌<◌}
+use Rattle.wasm_grammar.proofs.Common.{◌||◌, sym, ◌∙◌, nat_lt, ltb-true, subst, All-nil, All-cons, All-head, All-tail, All, Any, filter}
 use Rattle.wasm_grammar.proofs.Common.{list_any, SectionFrame, frame_count, frame_rank, IsSection, IsMatched, IsAccepted, Sized}
 use Rattle.wasm_grammar.proofs.Common.{sized_bytes, FitsAfter, CodeDivision, kind_of, whole, Kind, code, rank_of, body_events, code_events}
 use Rattle.wasm_grammar.proofs.Common.{body_event, KindEvents, data_count_id, function_id, Event, shifted_event, shifted_events, Encoding}
@@ -23,8 +23,7 @@ module _ {X : Type 0} where
 
   any_left : (p q : X → Bool) (xs : List X) → All (Spares p q) xs → list_any p (filter q xs) ≡ list_any p xs
   any_left p q [] a = refl
-  any_left p q (x ∷ xs) a = any_step p q x xs (All-head (Spares p q) x xs a) (any_left p q xs (All-tail (Spares p q) x xs a)) (p x) (q x)
-      refl refl
+  any_left p q (x ∷ xs) a = grind (arith, any_step, All-head, All-tail, any_left p q xs (All-tail (Spares p q) x xs a))
 
   -- a remaining element was in the list, after all the remaining ones before it
   record LeftAfter (q : X → Bool) (xs : List X) (earlier : List X) (x : X) : Type 0 where

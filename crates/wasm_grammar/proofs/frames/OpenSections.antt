@@ -1,7 +1,7 @@
 -- Tiles one after the other are whole sections, or whole sections and a prefix of a code section.
-use Rattle.wasm_grammar.proofs.Common.{◌≡◌, ◌⊎◌, inl, inr, Bool, true, false, cond, List, [], ◌∷◌, refl, ℕ, ◌+◌, length, ◌<◌, nat_eq, All}
-use Rattle.wasm_grammar.proofs.Common.{kind_of, code, Tile, tile, verdict, section_grammar, body_grammar, bytes_of, context_of, bodies_left}
-use Rattle.wasm_grammar.proofs.Common.{bytes_left, encoding_of, grammar, Faultless}
+use Rattle.wasm_grammar.proofs.Common.{arith, ◌≡◌, ◌⊎◌, inl, inr, Bool, true, false, cond, List, [], ◌∷◌, refl, ℕ, ◌+◌, length, ◌<◌, nat_eq}
+use Rattle.wasm_grammar.proofs.Common.{All, kind_of, code, Tile, tile, verdict, section_grammar, body_grammar, bytes_of, context_of}
+use Rattle.wasm_grammar.proofs.Common.{bodies_left, bytes_left, encoding_of, grammar, Faultless}
 use Rattle.wasm_grammar.proofs.PlainLists.{all_prefix}
 use Rattle.wasm_grammar.proofs.accepted.Parts.{SectionParts, section_parts, BodyParts, body_parts}
 use Rattle.wasm_grammar.proofs.accepted.Tiles.{IsWhole, whole_or_code}
@@ -43,10 +43,8 @@ module _ (start : ℕ) (Closed Open : List Tile → Type 0) (g : Goes start Clos
         | inl w ↦ inl (g.section u ts o t h c s w)
         | inr k ↦ inr (g.start_of_code u ts o t h c s k)
       ]
-  step u ts t h (inl q) false e o v =
-      let z : misses_nothing (u ∷ ts) ≡ true = g.closed (u ∷ ts) q in cc
-  step u ts t h (inr q) false e o v =
-      inr (g.body u ts t h q (body_parts (bodies_left (u ∷ ts)) (bytes_left (u ∷ ts)) o t.bytes t v))
+  step u ts t h (inl q) false e o v = grind arith
+  step u ts t h (inr q) false e o v = grind (arith, body_parts)
 
   -- all tiles of bytes
   pub sections_of_tiles : (t : Tile) (ts : List Tile) → Faultless start (t ∷ ts) → All (λ b. b < 256) (bytes_of (t ∷ ts)) → Closed (t ∷ ts)

@@ -1,6 +1,6 @@
 -- What the events of a reading say of sections and bodies is what their bytes are.
-use Rattle.wasm_grammar.proofs.Common.{arith, ◌≡◌, ◌⊎◌, inl, inr, Bool, true, false, cond, List, [], ◌∷◌, ◌++◌, ap, ℕ, ◌+◌, length, subst}
-use Rattle.wasm_grammar.proofs.Common.{None, sym, Option, ◌-◌, length-append, Some, Range, IsNumber, IsFormed, Form, kind_of, code}
+use Rattle.wasm_grammar.proofs.Common.{arith, ◌≡◌, ◌⊎◌, inl, inr, Bool, true, false, cond, List, [], ◌∷◌, ◌++◌, ap, ℕ, ◌+◌, length, None}
+use Rattle.wasm_grammar.proofs.Common.{sym, Option, subst, ◌-◌, length-append, Some, Range, IsNumber, IsFormed, Form, kind_of, code}
 use Rattle.wasm_grammar.proofs.Common.{AtOffsets, Tile, SectionContext, tile, section, code_grammar, verdict, section_grammar, body_grammar}
 use Rattle.wasm_grammar.proofs.Common.{events_of, event_of, section_report, section_of, bytes_of, grammar, Faultless}
 use Rattle.wasm_grammar.specs.Laws.{EventsSayTheirBytes}
@@ -92,8 +92,7 @@ tile_says start features (u ∷ ts) t v = search (inside_says, report_after)
 tiles_say : (start features : ℕ) (ts : List Tile) → Faultless start ts
     → AtOffsets (SaysItsBytes features) start (events_of start features ts)
 tiles_say start features [] f = tt
-tiles_say start features (t ∷ ts) f =
-    grind (arith, at_offsets_more, tiles_consume, tile_says, tiles_say start features ts f.0)
+tiles_say start features (t ∷ ts) f = grind (arith, at_offsets_more, tiles_consume, tile_says, tiles_say start features ts f.0)
 
 pub events_say_their_bytes : EventsSayTheirBytes
 events_say_their_bytes stream start features events r = grind (arith, at_offsets_more, tiles_say)

@@ -1,7 +1,7 @@
 -- The sections of a reading ascend in rank.
-use Rattle.wasm_grammar.proofs.Common.{arith, ◌≡◌, true, List, [], ◌∷◌, ◌++◌, ap, ℕ, ◌+◌, length, subst, ◌<◌, sym, ◌∙◌, nat_lt, append-nil}
-use Rattle.wasm_grammar.proofs.Common.{append_assoc, ltb-true, option_to_list, and_parts, All-push, All, list_all, Range, Ending, kind_of}
-use Rattle.wasm_grammar.proofs.Common.{Kind, code, rank_of, Tile, section, Shape, code_id, events_of, Event, last_event, event_of}
+use Rattle.wasm_grammar.proofs.Common.{arith, ◌≡◌, true, List, [], ◌∷◌, ◌++◌, ap, ℕ, ◌+◌, length, ◌<◌, sym, ◌∙◌, nat_lt, append-nil}
+use Rattle.wasm_grammar.proofs.Common.{append_assoc, ltb-true, subst, option_to_list, and_parts, All-push, All, list_all, Range, Ending}
+use Rattle.wasm_grammar.proofs.Common.{kind_of, Kind, code, rank_of, Tile, section, Shape, code_id, events_of, Event, last_event, event_of}
 use Rattle.wasm_grammar.proofs.Common.{sections_of, bytes_of, encoding_of, Faultless, tile_rank, Encoding, Module}
 use Rattle.std.proofs.Common.{get_or}
 use Rattle.std.proofs.lemmas.List.Quantifiers.{all_pairs_push}

@@ -1,10 +1,10 @@
 -- What is at a place is what may come there.
-use Rattle.wasm_grammar.proofs.Common.{arith, ◌≡◌, Bool, true, false, cond, List, [], ◌∷◌, refl, ℕ, ◌+◌, length, subst, None, ◌<◌, not}
-use Rattle.wasm_grammar.proofs.Common.{◌&&◌, sym, nat_lt, Option, zero, suc, take, drop, nat_le, list_all, FaultAt, Number, number, VarU32}
-use Rattle.wasm_grammar.proofs.Common.{Ending, kind_of, when, whole, Kind, code, rank_of, Tile, SectionContext, version, tile, check, bytes}
-use Rattle.wasm_grammar.proofs.Common.{header_of, section, code_start, code_entry, Shape, final, after, Grammar, accept, u32_field}
-use Rattle.wasm_grammar.proofs.Common.{content_grammar, section_start, Verdict, after_number, reject, verdict, header_grammar}
-use Rattle.wasm_grammar.proofs.Common.{section_grammar, body_grammar, context_of, grammar, tile_rank, Encoding}
+use Rattle.wasm_grammar.proofs.Common.{arith, ◌≡◌, Bool, true, false, cond, List, [], ◌∷◌, refl, ℕ, ◌+◌, None, ◌<◌, not, ◌&&◌, sym, nat_lt}
+use Rattle.wasm_grammar.proofs.Common.{Option, subst, zero, suc, take, drop, list_all, FaultAt, Number, number, VarU32, Ending, kind_of}
+use Rattle.wasm_grammar.proofs.Common.{when, whole, Kind, code, rank_of, Tile, SectionContext, version, tile, check, bytes, header_of}
+use Rattle.wasm_grammar.proofs.Common.{section, code_start, code_entry, Shape, final, after, Grammar, accept, u32_field, content_grammar}
+use Rattle.wasm_grammar.proofs.Common.{section_start, Verdict, after_number, reject, verdict, header_grammar, section_grammar, body_grammar}
+use Rattle.wasm_grammar.proofs.Common.{context_of, grammar, tile_rank, Encoding}
 use Rattle.wasm_grammar.proofs.parts.Verdicts.{after-tile}
 
 -- what each tile of a grammar is known to be
@@ -38,10 +38,8 @@ each_tile P (accept s) h xs t e = grind arith
 each_tile P (check None next) h xs t w = each_tile P next (h refl) xs t w
 each_tile P (u32_field o next) h xs t w = each_number P o xs (number VarU32 xs) (λ v k. verdict (next v k) (drop k xs)) t
     (λ v k. each_tile P (next v k) (h v k) (drop k xs)) w
-each_tile P (bytes n o next) h xs t w = each_test P (nat_le n (length xs)) _ _ t
-    (each_after P (take n xs) (verdict (next (take n xs)) (drop n xs)) t (each_tile P (next (take n xs)) (h (take n xs)) (drop n xs))) w
-each_tile P (section_start o z next) h (id ∷ xs) t w = each_test' P _ _ _ t
-    (each_after P (id ∷ []) (verdict (next id) xs) t (each_tile P (next id) (h id) xs)) w
+each_tile P (bytes n o next) h xs t w = grind (arith, each_test, each_after, each_tile P (next (take n xs)) (h (take n xs)) (drop n xs))
+each_tile P (section_start o z next) h (id ∷ xs) t w = grind (arith, each_test', each_after, each_tile P (next id) (h id) xs)
 each_tile P _ h _ t w = cc
 
 -- a section of this rank may follow

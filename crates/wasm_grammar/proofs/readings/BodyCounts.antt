@@ -1,6 +1,6 @@
 -- As many bodies follow the start of a code section as it counts, or a fault comes first.
 use Rattle.wasm_grammar.proofs.Common.{arith, ◌≡◌, ◌⊎◌, inl, inr, Bool, true, false, cond, List, [], ◌∷◌, ◌++◌, refl, ap, ℕ, ◌+◌, length}
-use Rattle.wasm_grammar.proofs.Common.{subst, sym, ◌∙◌, nat_eq, eqb-true, append_assoc, ◌-◌, length-append, append_cancel_left, All-nil}
+use Rattle.wasm_grammar.proofs.Common.{sym, ◌∙◌, nat_eq, eqb-true, append_assoc, subst, ◌-◌, length-append, append_cancel_left, All-nil}
 use Rattle.wasm_grammar.proofs.Common.{All-push, All, Ending, Tile, tile, final, verdict, section_grammar, body_grammar, events_of, Event}
 use Rattle.wasm_grammar.proofs.Common.{last_event, tile_report, event_of, stream_end, bytes_of, context_of, bodies_left, bytes_left}
 use Rattle.wasm_grammar.proofs.Common.{grammar, Faultless}

@@ -1,6 +1,6 @@
 -- Events lie end to end.
-use Rattle.wasm_grammar.proofs.Common.{arith, ◌≡◌, Bool, cond, List, [], ◌∷◌, ◌++◌, refl, ap, ℕ, ◌+◌, length, subst, ◌≤◌, None, ◌&&◌, sym}
-use Rattle.wasm_grammar.proofs.Common.{◌∙◌, append-nil, append_assoc, ◌-◌, take, drop, nat_le, length-append, flat_map-append}
+use Rattle.wasm_grammar.proofs.Common.{arith, ◌≡◌, Bool, cond, List, [], ◌∷◌, ◌++◌, refl, ap, ℕ, ◌+◌, length, ◌≤◌, None, ◌&&◌, sym, ◌∙◌}
+use Rattle.wasm_grammar.proofs.Common.{append-nil, append_assoc, subst, ◌-◌, take, drop, nat_le, length-append, flat_map-append}
 use Rattle.wasm_grammar.proofs.Common.{length-take-le, take_at, drop_at, number-used, at_offset, magic, agree, Number, number}
 use Rattle.wasm_grammar.proofs.Common.{MagicAtSection, UnexpectedEof, VarU32, Ending, fault, ended, Form, kind_of, Kind, AtOffsets}
 use Rattle.wasm_grammar.proofs.Common.{consumed_by, Tile, SectionContext, version, tile, check, bytes, section, code_start, code_entry}

@@ -1,7 +1,7 @@
 -- Laws of tilings and readings.
-use Rattle.wasm_grammar.proofs.Common.{arith, ◌≡◌, List, [], ◌∷◌, ◌++◌, refl, ap, ℕ, ◌+◌, length, subst, ◌≤◌, ◌<◌, sym, ◌∙◌, append-nil}
-use Rattle.wasm_grammar.proofs.Common.{append_assoc, zero, suc, length-append, le_refl, append_cancel_left, Ending, ended, Tile, tile}
-use Rattle.wasm_grammar.proofs.Common.{final, Verdict, verdict, Reads, Event, Reading, bytes_of, grammar, Faultless}
+use Rattle.wasm_grammar.proofs.Common.{arith, ◌≡◌, List, [], ◌∷◌, ◌++◌, refl, ap, ℕ, ◌+◌, length, ◌≤◌, ◌<◌, sym, ◌∙◌, append-nil}
+use Rattle.wasm_grammar.proofs.Common.{append_assoc, subst, zero, suc, length-append, le_refl, append_cancel_left, Ending, ended, Tile}
+use Rattle.wasm_grammar.proofs.Common.{tile, final, Verdict, verdict, Reads, Event, Reading, bytes_of, grammar, Faultless}
 use Rattle.wasm_grammar.proofs.parts.Guarded.{Guarded-grammar, tile_least}
 use Rattle.wasm_grammar.proofs.parts.Verdicts.{Cut, verdict-more, verdict-cut}
 

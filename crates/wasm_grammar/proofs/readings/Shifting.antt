@@ -1,6 +1,6 @@
 -- The start offset only moves offsets.
-use Rattle.wasm_grammar.proofs.Common.{arith, ◌≡◌, ◌⊎◌, inl, Bool, cond, List, [], ◌∷◌, ◌++◌, refl, ap, ℕ, ◌+◌, length, subst, None, not}
-use Rattle.wasm_grammar.proofs.Common.{◌∙◌, nat_lt, nat_eq, Option, zero, suc, ◌-◌, take, drop, nat_le, length-append, Some, FaultAt}
+use Rattle.wasm_grammar.proofs.Common.{arith, ◌≡◌, ◌⊎◌, inl, Bool, cond, List, [], ◌∷◌, ◌++◌, refl, ap, ℕ, ◌+◌, length, None, not, ◌∙◌}
+use Rattle.wasm_grammar.proofs.Common.{nat_lt, nat_eq, Option, subst, zero, suc, ◌-◌, take, drop, nat_le, length-append, Some, FaultAt}
 use Rattle.wasm_grammar.proofs.Common.{at_offset, magic, agree, of_four, Number, number, BadMagic, MagicAtSection, UnexpectedEof}
 use Rattle.wasm_grammar.proofs.Common.{MalformedSectionId, VarU32, Ending, fault, Form, kind_of, when, whole, Kind, code, wrong_content}
 use Rattle.wasm_grammar.proofs.Common.{Tile, SectionContext, end_at_section, tile, check, bytes, header_of, version_of, section, Shape}
@@ -227,8 +227,7 @@ event_moves by features o t c =
 events_move : (by start features : ℕ) (ts : List Tile) → Faultless start ts → events_of (start + by) features ts
     ≡ shifted_events by (events_of start features ts)
 events_move by start features [] f = refl
-events_move by start features (t ∷ ts) f =
-    grind (arith, event_moves, tile_closes, map-append, events_move by start features ts f.0)
+events_move by start features (t ∷ ts) f = grind (arith, event_moves, tile_closes, map-append, events_move by start features ts f.0)
 
 pub start_only_moves : StartOnlyMoves
 start_only_moves stream start by features xs ys x y n =
