@@ -48,13 +48,12 @@ ranges_bytes : (stream prefix : List ℕ) (start offset : ℕ) (fs : List Sectio
     → map (id_and_bytes stream start) (places_of offset fs) ≡ map id_and_content fs
 ranges_bytes stream prefix start offset [] w o = refl
 ranges_bytes stream prefix start offset (f ∷ fs) w o =
-    grind (
-      arith,
-      range_bytes,
-      append_assoc,
-      length-append,
-      ranges_bytes stream (prefix ++ frame_bytes f) start (offset + length (frame_bytes f)) fs (w ∙ sym (append_assoc prefix (frame_bytes f) (flat_map frame_bytes fs))) (omega (arith, length-append prefix (frame_bytes f))),
-    )
+    let b : bytes_in stream start (record { start = offset + 1 + length f.sized.field; end = offset + length (frame_bytes f) })
+    ≡ f.sized.content = search range_bytes in
+    let t : map (id_and_bytes stream start) (places_of (offset + length (frame_bytes f)) fs) ≡ map id_and_content fs =
+    ranges_bytes stream (prefix ++ frame_bytes f) start (offset + length (frame_bytes f)) fs
+    (w ∙ sym (append_assoc prefix (frame_bytes f) (flat_map frame_bytes fs))) (omega (arith, length-append prefix (frame_bytes f))) in
+    λ i. (f.id, b i) ∷ t i
 
 -- ---- the sections of tiles
 
