@@ -14,7 +14,7 @@ pub use Rattle.std.proofs.lemmas.Str.{is_utf8-from_IsUtf8}
 pub use Rattle.std.specs.List.{All, Any, filter, list_all, list_any, flat_map}
 pub use Rattle.std.specs.Str.{is_utf8}
 pub use Rattle.std.specs.declared.ops.Range.{Range}
-pub use Rattle.wasm_base.proofs.NumberLaws.{number-used, Used, number-more, last_place-lt}
+pub use Rattle.wasm_base.proofs.NumberLaws.{number-used, number-more, last_place-lt}
 pub use Rattle.wasm_base.specs.FaultAt.{FaultAt, at_offset}
 pub use Rattle.wasm_base.specs.Header.{magic, agree}
 pub use Rattle.wasm_base.specs.Name.{of_four, named, refused, name_limit, after_size}

@@ -1,6 +1,6 @@
 -- Nothing is wrong with a section's content exactly if it is good.
-use Rattle.wasm_grammar.proofs.Common.{arith, ◌≡◌, List, ℕ, length, ◌≤◌, None, number-used, Used, Number, read, number, Fault, VarU32}
-use Rattle.wasm_grammar.proofs.Common.{IsNumber, IsFormed, Form, wrong_content}
+use Rattle.wasm_grammar.proofs.Common.{arith, ◌≡◌, List, ℕ, length, ◌≤◌, None, number-used, Number, read, number, Fault, VarU32, IsNumber}
+use Rattle.wasm_grammar.proofs.Common.{IsFormed, Form, wrong_content}
 use Rattle.wasm_grammar.specs.Content.{wrong_single}
 
 -- good content has no fault
@@ -13,9 +13,8 @@ single_from : (trailing : Fault) (o : ℕ) (content : List ℕ) (n : Number) →
     → wrong_single trailing o content n ≡ None
     → (v : ℕ) × IsNumber content v
 single_from trailing o content (read v k) e h =
-    let u : Used VarU32 content v k = number-used VarU32 content v k e in
     let l : length content ≤ k = grind arith in
-    let z : k ≡ length content = omega (arith, u.there) in
+    let z : k ≡ length content = omega (arith, (number-used VarU32 content v k e).there) in
     grind arith
 single_from trailing o content _ e h = cc
 

@@ -1,7 +1,7 @@
 -- A stream whose reading ends at its end is accepted.
-use Rattle.wasm_grammar.proofs.Common.{◌≡◌, List, [], ◌∷◌, ◌++◌, refl, ap, ℕ, ◌+◌, length, ◌<◌, sym, ◌∙◌, nat_eq, append-nil, All}
-use Rattle.wasm_grammar.proofs.Common.{IsMatched, IsAccepted, header_bytes, ended, Tile, version, tile, verdict, header_grammar, Reads}
-use Rattle.wasm_grammar.proofs.Common.{bytes_of, context_of, bodies_left, bytes_left, encoding_of, Encoding}
+use Rattle.wasm_grammar.proofs.Common.{arith, ◌≡◌, List, [], ◌∷◌, refl, ℕ, ◌+◌, length, ◌<◌, sym, nat_eq, append-nil, All, IsMatched}
+use Rattle.wasm_grammar.proofs.Common.{IsAccepted, header_bytes, ended, Tile, version, tile, verdict, header_grammar, Reads, bytes_of}
+use Rattle.wasm_grammar.proofs.Common.{context_of, bodies_left, bytes_left, encoding_of, Encoding}
 use Rattle.wasm_grammar.proofs.PlainLists.{all_prefix}
 use Rattle.wasm_grammar.proofs.accepted.Endings.{end_from}
 use Rattle.wasm_grammar.proofs.accepted.Headers.{HeaderParts, header_parts}
@@ -49,12 +49,4 @@ reads_accepted stream start p (t ∷ ts) a r =
     (sections_of_tiles start Settled Pending (accepted_goes start) t ts r.faultless f) b in
     let m : (IsMatched (encoding_of us) 3 10 q.frames × IsMatched (encoding_of us) 12 11 q.frames) =
     end_from (encoding_of us) q.frames (context_of us) q.knows (start + length (bytes_of us)) p e in
-    record {
-      encoding = encoding_of us;
-      frames = q.frames;
-      whole = r.whole ∙ (ap (λ (x : List ℕ). bytes_of us ++ x) d ∙ (append-nil (bytes_of us) ∙ q.joined));
-      each = q.sections.each;
-      order = q.sections.order;
-      functions = m.0;
-      segments = m.1;
-    }
+    grind (arith, append-nil)

@@ -78,10 +78,9 @@ framed_parts : (p : SectionContext) (o id : ℕ) (xs : List ℕ) (s t : Tile) �
 framed_parts p o id xs s t h e =
     let a : ((when (nat_le 128 id) _ ≡ None) × (verdict _ xs ≡ tile s)) = refuse_parts _ _ xs s h in
     let n : NumberParts (λ size width. after_length p (kind_of p.encoding id) id (o + 1) (o + 1 + width) size) s = search number_parts in
-    let b : ((_ ≡ None) × (verdict _ n.others ≡ tile n.rest)) = refuse_parts _ _ n.others n.rest n.goes_on in
     let c : ((when (nat_lt 0 (rank_of (kind_of p.encoding id) id) && not (p.may_follow (rank_of (kind_of p.encoding id) id))) _ ≡ None)
     × (verdict (content_grammar p (kind_of p.encoding id) id (o + 1 + length n.field) n.value) n.others ≡ tile n.rest)) =
-    refuse_parts _ _ n.others n.rest b.1 in
+    refuse_parts _ _ n.others n.rest (refuse_parts _ _ n.others n.rest n.goes_on).1 in
     grind (arith, none_when)
 
 -- what a section's tile consists of, if it begins no header

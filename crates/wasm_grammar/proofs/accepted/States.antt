@@ -111,8 +111,7 @@ whole_fits : (p : SectionContext) (fs : List SectionFrame) (o : ℕ) (t : Tile) 
     → (w : IsWhole (kind_of p.encoding s.id)) (c : WholeParts p w.0 s.id at s.size s.rest)
     → FitsAfter p.encoding fs (frame_of s.id s.field c.content)
 whole_fits p fs o t s at k w c =
-    let f : SectionFrame = frame_of s.id s.field c.content in
-    let no : IsSection p.encoding code_id f → ⊥ = λ y. not_code w.0 (cc) in
+    let no : IsSection p.encoding code_id (frame_of s.id s.field c.content) → ⊥ = λ y. not_code w.0 (cc) in
     record {
       ranks = search rank_from;
       bodies = λ y. absurd (no y);

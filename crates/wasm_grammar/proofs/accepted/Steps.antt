@@ -112,15 +112,6 @@ bodies_walk start (s ∷ bodies) ts b f a m l =
     length-append (sized_bytes s) (flat_map sized_bytes bodies) in
     let v : verdict (grammar start ts) (sized_bytes s) ≡ tile (made (code_entry s.content) (sized_bytes s)) =
     body_at start ts s (length bodies) b (All-head IsSized s bodies a) m (omega arith) in
-    let t : Through start (made (code_entry s.content) (sized_bytes s) ∷ ts) bodies =
-    bodies_walk start bodies (made (code_entry s.content) (sized_bytes s) ∷ ts) refl (f, v) (All-tail IsSized s bodies a) (omega arith)
-    (omega arith) in
-    record {
-      tiles = t.tiles;
-      begun = t.begun;
-      faultless = t.faultless;
-      joined = t.joined ∙ append_assoc (bytes_of ts) (sized_bytes s) (flat_map sized_bytes bodies);
-      closed = t.closed;
-      knows = λ encoding fs k. t.knows encoding fs (search knows_body);
-      listed = λ features. t.listed features ∙ body_listed start features ts s bodies;
-    }
+    let t = bodies_walk start bodies (made (code_entry s.content) (sized_bytes s) ∷ ts) refl (f, v) (All-tail IsSized s bodies a)
+    (omega arith) (omega arith) in
+    grind (arith, append_assoc, knows_body, body_listed)

@@ -74,13 +74,11 @@ whole_step start encoding fs f q r i a w =
     let ts : List Tile = q.tiles in
     let c : Closed start encoding fs ts = q.there in
     let o : ℕ = start + length (bytes_of ts) in
-    let v : verdict (grammar start ts) (frame_bytes f) ≡ tile (made (section w.0 f.id f.sized.content) (frame_bytes f)) =
-    search (closed_verdict, section_step, room_for) in
     record {
       tiles = made (section w.0 f.id f.sized.content) (frame_bytes f) ∷ ts;
       there = record {
         begun = refl;
-        faultless = (c.faultless, v);
+        faultless = (c.faultless, search (closed_verdict, section_step, room_for));
         joined = stream_more encoding fs f (bytes_of ts) c.joined;
         knows = search knows_section;
         closed = refl;
@@ -178,8 +176,7 @@ accepted_walk stream start r a =
 pub accepted_ends_there : (stream : List ℕ) (start : ℕ) (a : IsAccepted stream) (q : Reached start a.encoding a.frames)
     → Reads stream start q.tiles (ended (start + length stream))
 accepted_ends_there stream start a q =
-    let o : ℕ = start + length (bytes_of q.tiles) in
-    let v : verdict (grammar start q.tiles) [] ≡ final (ended o) =
+    let v : verdict (grammar start q.tiles) [] ≡ final (ended (start + length (bytes_of q.tiles))) =
     search (grammar_closed, end_verdict, end_to) in
     grind (arith, append-nil)
 

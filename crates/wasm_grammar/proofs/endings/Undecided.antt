@@ -1,7 +1,7 @@
 -- What comes next in streams that begin with the same bytes.
 use Rattle.wasm_grammar.proofs.Common.{arith, ◌≡◌, List, [], ◌∷◌, ◌++◌, refl, ap, ℕ, ◌+◌, length, ◌<◌, sym, ◌∙◌, append-nil, append_assoc}
 use Rattle.wasm_grammar.proofs.Common.{subst, length-append, ◌^◌, ◌≢◌, All, Tile, tile, Verdict, verdict, NextEvent, events_of, Event}
-use Rattle.wasm_grammar.proofs.Common.{last_event, Reading, bytes_of, grammar, deciding_ending, wants, waiting}
+use Rattle.wasm_grammar.proofs.Common.{last_event, Reading, grammar, deciding_ending, wants, waiting}
 use Rattle.std.proofs.lemmas.List.Elements.{All-append}
 use Rattle.wasm_grammar.specs.Reading.{Stream}
 use Rattle.wasm_grammar.specs.Undecided.{ComesNext, IsTiledBy, OneComesNext, EnoughIsDecided, ShortIsUndecided, TwoStreams}
@@ -18,10 +18,8 @@ use Rattle.wasm_grammar.proofs.readings.Readings.{Onward, reads_all}
 what_comes : (start features : ℕ) (tiles : List Tile) (front rest : List ℕ) (event : Event) → IsTiledBy start front tiles
     → ComesNext start features front rest event → event ≡ event_at start features tiles (verdict (grammar start tiles) rest)
 what_comes start features tiles front rest event t n =
-    let read : Reading (bytes_of tiles ++ rest) start features (n.next.before ++ n.next.event ∷ n.next.later) =
-    grind arith in
     sym n.is ∙ comes_next start features tiles rest (verdict (grammar start tiles) rest) t.0 refl n.next.before n.next.later n.next.event
-    read (n.next.consumed ∙ sym t.1)
+    (grind arith) (n.next.consumed ∙ sym t.1)
 
 -- there is something
 something_comes : (start features : ℕ) (tiles : List Tile) (front rest : List ℕ) → IsTiledBy start front tiles → (event : Event)

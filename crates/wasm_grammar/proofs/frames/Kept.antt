@@ -38,8 +38,7 @@ module _ {X : Type 0} where
   left_step q y xs x later ih true f [] e = let z : y ≡ x = cc in record { before = []; after = xs; whole = λ i. z i ∷ xs; left = refl }
   left_step q y xs x later ih true f (w ∷ earlier) e =
       let z : y ≡ w = cc in
-      let t : filter q xs ≡ earlier ++ x ∷ later = cc in
-      let r : LeftAfter q xs earlier x = ih earlier t in
+      let r : LeftAfter q xs earlier x = ih earlier cc in
       let l : filter q r.before ≡ earlier = r.left in
       record { before = y ∷ r.before; after = r.after; whole = ap (λ (l : List X). y ∷ l) r.whole; left = rw f (λ i. z i ∷ l i) }
   left_step q y xs x later ih false f earlier e =
@@ -84,12 +83,11 @@ some_same : (encoding : Encoding) (n : ℕ) (earlier others : List SectionFrame)
     → SayTheSame encoding earlier others → Any (IsSection encoding n) earlier → Any (IsSection encoding n) others
 some_same encoding n earlier others h s a =
     let spared : (g : SectionFrame) → Spares (is_section encoding n) (has_rank encoding) g = search (ranked, section_yes) in
-    let t : list_any (is_section encoding n) earlier ≡ true = search (any_to, yes_section) in
     any_of (is_section encoding n) (IsSection encoding n) (λ g. section_yes encoding n g) others
     (sym (any_left (is_section encoding n) (has_rank encoding) others
     (search spared))
     ∙ (ap (list_any (is_section encoding n)) (sym s) ∙ (any_left (is_section encoding n) (has_rank encoding) earlier
-    (search spared) ∙ t)))
+    (search spared) ∙ (search (any_to, yes_section)))))
 
 -- a section fits after sections that say the same
 fits_same : (encoding : Encoding) (earlier others : List SectionFrame) (f : SectionFrame) → SayTheSame encoding earlier others

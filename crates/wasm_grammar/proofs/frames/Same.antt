@@ -31,7 +31,6 @@ pub frames_same : (fs gs : List SectionFrame) → All (λ f. IsSized f.sized) fs
 frames_same [] [] a b e = refl
 frames_same (f ∷ fs) (g ∷ gs) a b e =
     let i : f.id ≡ g.id = cc in
-    let z : sized_bytes f.sized ++ flat_map frame_bytes fs ≡ sized_bytes g.sized ++ flat_map frame_bytes gs = cc in
     let q : ((f.sized ≡ g.sized) × (flat_map frame_bytes fs ≡ flat_map frame_bytes gs)) =
     grind (arith, sized_same, All-head) in
     let h : f ≡ g = frame_same f g i q.0 in

@@ -2,8 +2,8 @@
 use Rattle.wasm_grammar.proofs.Common.{arith, ◌≡◌, List, [], ◌∷◌, ◌++◌, refl, ap, ℕ, ◌+◌, length, ◌<◌, sym, ◌∙◌, nat_eq, eqb-true}
 use Rattle.wasm_grammar.proofs.Common.{append-nil, append_assoc, ◌-◌, length-append, map, take_at, drop_at, All-push, All, flat_map, Range}
 use Rattle.wasm_grammar.proofs.Common.{IsNumber, SectionFrame, IsAccepted, header_bytes, IsSized, frame_bytes, ended, kind_of, code, Tile}
-use Rattle.wasm_grammar.proofs.Common.{tile, section, code_start, content_grammar, verdict, code_id, Reads, events_of, sections_of}
-use Rattle.wasm_grammar.proofs.Common.{bytes_of, context_of, bodies_left, bytes_left, encoding_of, grammar, Encoding}
+use Rattle.wasm_grammar.proofs.Common.{tile, section, content_grammar, verdict, Reads, events_of, sections_of, bytes_of, context_of}
+use Rattle.wasm_grammar.proofs.Common.{bodies_left, bytes_left, encoding_of, grammar, Encoding}
 use Rattle.wasm_grammar.specs.SectionLaws.{SectionsTile}
 use Rattle.wasm_grammar.specs.Sections.{bytes_in, id_and_bytes, id_and_content, places_of}
 use Rattle.wasm_grammar.proofs.PlainLists.{all_prefix}
@@ -36,11 +36,9 @@ range_bytes : (stream prefix rest : List ℕ) (start offset : ℕ) (f : SectionF
     → bytes_in stream start (record { start = offset + 1 + length f.sized.field; end = offset + length (frame_bytes f) }) ≡ f.sized.content
 range_bytes stream prefix rest start offset f w o =
     let field : List ℕ = f.id ∷ f.sized.field in
-    let content : List ℕ = f.sized.content in
-    let n : length (f.sized.field ++ content) ≡ length f.sized.field + length content = length-append f.sized.field content in
     let m : length (prefix ++ field) ≡ length prefix + length field = length-append prefix field in
-    let s : stream ≡ (prefix ++ field) ++ (content ++ rest) = w ∙ simp append_assoc refl in
-    grind (arith, drop_at, take_at)
+    let s : stream ≡ (prefix ++ field) ++ (f.sized.content ++ rest) = w ∙ simp append_assoc refl in
+    grind (arith, drop_at, take_at, length-append)
 
 -- the ranges of sections have their contents
 ranges_bytes : (stream prefix : List ℕ) (start offset : ℕ) (fs : List SectionFrame) → stream ≡ prefix ++ flat_map frame_bytes fs → offset
@@ -50,10 +48,9 @@ ranges_bytes stream prefix start offset [] w o = refl
 ranges_bytes stream prefix start offset (f ∷ fs) w o =
     let b : bytes_in stream start (record { start = offset + 1 + length f.sized.field; end = offset + length (frame_bytes f) })
     ≡ f.sized.content = search range_bytes in
-    let t : map (id_and_bytes stream start) (places_of (offset + length (frame_bytes f)) fs) ≡ map id_and_content fs =
-    ranges_bytes stream (prefix ++ frame_bytes f) start (offset + length (frame_bytes f)) fs
+    let t = ranges_bytes stream (prefix ++ frame_bytes f) start (offset + length (frame_bytes f)) fs
     (w ∙ sym (append_assoc prefix (frame_bytes f) (flat_map frame_bytes fs))) (omega (arith, length-append prefix (frame_bytes f))) in
-    λ i. (f.id, b i) ∷ t i
+    grind arith
 
 -- ---- the sections of tiles
 
@@ -151,24 +148,11 @@ closed_code : (start features : ℕ) (u : Tile) (ts : List Tile) (o : ℕ) (t : 
     → Closed start features (u ∷ ts) → (s : SectionParts (context_of (u ∷ ts)) o t)
     → kind_of (encoding_of (u ∷ ts)) s.id ≡ code → Open start features (t ∷ u ∷ ts)
 closed_code start features u ts o t h q s e =
-    let i : s.id ≡ code_id = (code_has_its_id (encoding_of (u ∷ ts)) s.id e).1 in
     let at : ℕ = o + 1 + length s.field in
     let v : verdict (content_grammar (context_of (u ∷ ts)) code s.id at s.size) s.others
     ≡ tile s.rest = cc in
     let c : HeadParts (context_of (u ∷ ts)) at s.size s.rest = search head_parts in
-    let code_bytes : ℕ = s.size - length c.head in
-    let bytes : List ℕ = 10 ∷ (s.field ++ c.head) in
-    let z : t ≡ made (code_start c.count (length c.head) code_bytes) bytes = grind arith in
-    let low : ℕ = start + length (bytes_of (u ∷ ts)) in
-    let n : length (bytes_of (u ∷ ts)) ≡ length (stream_of q.encoding q.frames) = rw q.joined in
-    let m : length (s.field ++ c.head) ≡ length s.field + length c.head = length-append s.field c.head in
-    let from : ℕ = start + length (stream_of q.encoding q.frames) + 1 + length s.field in
-    let b : low + length bytes + code_bytes ≡ from + s.size = omega (arith, c.fits) in
-    let p : sections_of (events_of start features (t ∷ u ∷ ts)) ≡ sections_of (events_of start features (u ∷ ts))
-    ++ (10, record { start = low + length bytes - length c.head; end = low + length bytes + code_bytes }) ∷ [] =
-    grind (arith, sections_more) in
-    let l : bytes_left (t ∷ u ∷ ts) ≡ code_bytes = rw z in
-    grind arith
+    grind (arith, length-append, sections_more, code_has_its_id)
 
 -- within a code section, one more body
 open_body : (start features : ℕ) (u : Tile) (ts : List Tile) (t : Tile) → verdict (grammar start (u ∷ ts)) t.bytes ≡ tile t
@@ -177,8 +161,6 @@ open_body start features u ts t h q c =
     let l : bytes_left (t ∷ u ∷ ts) ≡ bytes_left (u ∷ ts) - length (c.field ++ c.content) =
     cc in
     let b : length t.bytes ≡ length (c.field ++ c.content) = rw c.is in
-    let p : sections_of (events_of start features (t ∷ u ∷ ts)) ≡ sections_of (events_of start features (u ∷ ts)) =
-    grind (arith, sections_more, section_at, append-nil) in
     record {
       encoding = q.encoding;
       frames = q.frames;
@@ -189,7 +171,7 @@ open_body start features u ts t h q c =
       inner = q.inner ++ t.bytes;
       misses = omega (arith, q.misses, c.fits, length-append c.field c.content, length-append q.inner t.bytes);
       joined = grind (arith, append_assoc, stream_of);
-      places = p ∙ q.places;
+      places = (grind (arith, sections_more, section_at, append-nil)) ∙ q.places;
     }
 
 -- whole sections, and a prefix of a code section, go on
@@ -233,8 +215,7 @@ pub sections_tile : SectionsTile
 sections_tile stream start features events s a r =
     let (ts, e) = accepted_reads stream start s.fits a in
     let (z, y) = reads_same stream start r.tiles ts r.end (ended (start + length stream)) r.reads e in
-    let n : Reads stream start r.tiles (ended (start + length stream)) = rw y at r.reads in
-    let (c, w) = closed_end stream start features (start + length stream) r.tiles s.each n in
+    let (c, w) = closed_end stream start features (start + length stream) r.tiles s.each (rw y at r.reads) in
     let sized : All (λ f. IsSized f.sized) a.frames = grind arith in
     let p : sections_of events ≡ places_of (start + length (header_bytes a.encoding)) a.frames =
     ap sections_of r.listed ∙ (search (sections_all, report_sections)) in

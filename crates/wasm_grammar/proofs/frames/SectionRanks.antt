@@ -41,10 +41,8 @@ all_under start features r t (u ∷ ts) f h =
     let q : ((nat_lt (tile_rank t.shape) r ≡ true) × (list_all (λ (v : Tile). nat_lt (tile_rank v.shape) r) (u ∷ ts) ≡ true)) =
     and_parts _ _ h in
     let k : Kinded (encoding_of (u ∷ ts)) t.shape = kinded start u ts t.bytes t f.1 in
-    let a : All (Under (encoding_of (u ∷ ts)) r) (sections_of (events_of start features (u ∷ ts))) =
-    all_under start features r u ts f.0 q.1 in
     let b = under_push (encoding_of (u ∷ ts)) r (start + length (bytes_of (u ∷ ts)) + length t.bytes) t.shape
-    (sections_of (events_of start features (u ∷ ts))) k (ltb-true _ _ q.0) a in
+    (sections_of (events_of start features (u ∷ ts))) k (ltb-true _ _ q.0) (all_under start features r u ts f.0 q.1) in
     grind (arith, sections_more)
 
 -- ---- two sections

@@ -1,11 +1,12 @@
 -- Laws of every grammar.
 use Rattle.wasm_grammar.proofs.Common.{arith, ◌≡◌, Bool, true, false, cond, List, [], ◌∷◌, ◌++◌, refl, ℕ, length, ◌≤◌, None, ◌&&◌}
 use Rattle.wasm_grammar.proofs.Common.{append_assoc, ◌-◌, take, drop, nat_le, length-append, le-leb, leb-true, length-take-le, take_at}
-use Rattle.wasm_grammar.proofs.Common.{drop_at, take-append-le, drop-append-le, number-used, Used, number-more, at_offset, magic, agree}
-use Rattle.wasm_grammar.proofs.Common.{Number, read, number, MagicAtSection, UnexpectedEof, VarU32, Ending, fault, Tile, tile, check, bytes}
-use Rattle.wasm_grammar.proofs.Common.{final, after, Grammar, accept, u32_field, section_start, Verdict, after_number, verdict, enough}
-use Rattle.wasm_grammar.proofs.Common.{wants, later, later_number, waiting}
+use Rattle.wasm_grammar.proofs.Common.{drop_at, take-append-le, drop-append-le, number-used, number-more, at_offset, magic, agree, Number}
+use Rattle.wasm_grammar.proofs.Common.{read, number, MagicAtSection, UnexpectedEof, VarU32, Ending, fault, Tile, tile, check, bytes, final}
+use Rattle.wasm_grammar.proofs.Common.{after, Grammar, accept, u32_field, section_start, Verdict, after_number, verdict, enough, wants}
+use Rattle.wasm_grammar.proofs.Common.{later, later_number, waiting}
 use Rattle.std.proofs.lemmas.List.{take-append-drop}
+use Rattle.wasm_base.proofs.NumberLaws.{Used}
 
 -- lists that don't agree still don't, whatever follows
 pub agree-more : (xs ys zs : List ℕ) → agree xs zs ≡ false → agree (xs ++ ys) zs ≡ false

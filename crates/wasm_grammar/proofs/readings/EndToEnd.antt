@@ -117,9 +117,8 @@ record Placed (stream : List ℕ) (start low high : ℕ) (content : List ℕ) : 
 placed : (stream earlier prefix content rest : List ℕ) (start low high : ℕ) → stream ≡ earlier ++ ((prefix ++ content) ++ rest) → low
     ≡ start + length earlier → high ≡ low + length (prefix ++ content) → Placed stream start low high content
 placed stream earlier prefix content rest start low high w l h =
-    let n : length (prefix ++ content) ≡ length prefix + length content = length-append prefix content in
     let m : length (earlier ++ prefix) ≡ length earlier + length prefix = length-append earlier prefix in
-    grind (arith, append_assoc, drop_at, take_at)
+    grind (arith, append_assoc, drop_at, take_at, length-append)
 
 range_is : (stream : List ℕ) (start low high : ℕ) (content : List ℕ) → Placed stream start low high content
     → LiesIn (high - length content) ((high - length content) + length content) low high

@@ -35,17 +35,14 @@ same_place [] (b ∷ before) x e after later h (inl l) w c =
     let n : length (b.consumed ++ consumed_by before) ≡ 0 = rw c in
     grind (arith, length-append)
 same_place [] (b ∷ before) x e after later h (inr l) w c =
-    let s = same_head b x (before ++ e ∷ later) after w in
-    let n : length (before ++ e ∷ later) ≡ 0 = rw (s.1 ∙ l) in
+    let n : length (before ++ e ∷ later) ≡ 0 = rw ((same_head b x (before ++ e ∷ later) after w).1 ∙ l) in
     absurd (omega (arith, length-append before (e ∷ later)))
 same_place (y ∷ xs) [] x e after later h l w c =
     let n : 0 ≡ length (y.consumed ++ consumed_by xs) = ap (λ (z : List ℕ). length z) c in
     absurd (omega (arith, length-append y.consumed (consumed_by xs)))
 same_place (y ∷ xs) (b ∷ before) x e after later h l w c =
-    let s = same_head b y (before ++ e ∷ later) (xs ++ x ∷ after) w in
-    let z : b.consumed ≡ y.consumed = rw s.0 in
     let d : consumed_by before ≡ consumed_by xs = grind (arith, append_cancel_left) in
-    same_place xs before x e after later h.1 l s.1 d
+    same_place xs before x e after later h.1 l (same_head b y (before ++ e ∷ later) (xs ++ x ∷ after) w).1 d
 
 -- ---- the events of longer tilings
 
@@ -71,8 +68,7 @@ tile_comes : (start features : ℕ) (ts : List Tile) (rest : List ℕ) (t : Tile
     → consumed_by before ≡ bytes_of ts → e ≡ event_of features (start + length (bytes_of ts)) t
 tile_comes start features ts rest t f v before later e r c =
     let g : Grown start ts rest t = grows start ts rest t f v in
-    let w : bytes_of ts ++ rest ≡ bytes_of (t ∷ ts) ++ g.rest = grind (arith, append_assoc) in
-    let l = longest (bytes_of ts ++ rest) start r.tiles (t ∷ ts) r.end g.rest r.reads g.faultless w in
+    let l = longest (bytes_of ts ++ rest) start r.tiles (t ∷ ts) r.end g.rest r.reads g.faultless (grind (arith, append_assoc)) in
     let m : MoreEvents (events_of start features (t ∷ ts)) (events_of start features (l.0 ++ t ∷ ts)) = search events_later in
     let all : before ++ e ∷ later ≡ events_of start features ts ++ event_of features (start + length (bytes_of ts)) t
     ∷ (m.more ++ last_event r.end ∷ []) = grind (arith, append_assoc) in

@@ -55,18 +55,14 @@ runs_same start ts d [] [] e f p q = grind arith
 runs_same start ts d [] (y ∷ ys) e f p q = let h : final e ≡ tile y = sym p ∙ q.0 in cc
 runs_same start ts d (x ∷ xs) [] e f p q = let h : tile x ≡ final f = sym p.0 ∙ q in cc
 runs_same start ts d (x ∷ xs) (y ∷ ys) e f p q =
-    let b : x.bytes ++ p.1 ≡ x.bytes ++ q.1 = cc in
-    let r : q.1 ≡ p.1 = sym (append_cancel_left x.bytes p.1 q.1 b) in
-    let q' : Runs start (x ∷ ts) p.1 ys f = grind arith in
-    grind (arith, runs_same start (x ∷ ts) p.1 xs ys e f p.3 q')
+    let r : q.1 ≡ p.1 = sym (append_cancel_left x.bytes p.1 q.1 cc) in
+    grind (arith, runs_same start (x ∷ ts) p.1 xs ys e f p.3 (grind arith))
 
 -- one stream has one longest faultless tiling, and one ending
 pub reads_same : (stream : List ℕ) (start : ℕ) (ts us : List Tile) (e f : Ending) → Reads stream start ts e → Reads stream start us f
     → (ts ≡ us) × (e ≡ f)
 reads_same stream start ts us e f p q =
-    let a : Runs start [] stream (onto ts []) e = search runs_from in
-    let b : Runs start [] stream (onto us []) f = search runs_from in
-    let (s, k) = runs_same start [] stream (onto ts []) (onto us []) e f a b in
+    let (s, k) = runs_same start [] stream (onto ts []) (onto us []) e f (search runs_from) (search runs_from) in
     (sym (onto-onto ts []) ∙ (grind (arith, onto-onto)), k)
 
 -- a reading is determined

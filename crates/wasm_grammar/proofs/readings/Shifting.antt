@@ -6,7 +6,7 @@ use Rattle.wasm_grammar.proofs.Common.{MalformedSectionId, VarU32, Ending, fault
 use Rattle.wasm_grammar.proofs.Common.{Tile, SectionContext, end_at_section, tile, check, bytes, header_of, version_of, section, Shape}
 use Rattle.wasm_grammar.proofs.Common.{final, after, Grammar, accept, u32_field, content_grammar, whole_grammar, after_length, after_id}
 use Rattle.wasm_grammar.proofs.Common.{section_start, Verdict, after_number, reject, body_of, verdict, header_grammar, section_grammar}
-use Rattle.wasm_grammar.proofs.Common.{body_grammar, Reads, events_of, tile_report, event_of, section_report, shifted_event, shifted_events}
+use Rattle.wasm_grammar.proofs.Common.{body_grammar, events_of, tile_report, event_of, section_report, shifted_event, shifted_events}
 use Rattle.wasm_grammar.proofs.Common.{bytes_of, context_of, bodies_left, bytes_left, grammar, Faultless, Encoding}
 use Rattle.std.proofs.Common.{option_map, subst₂}
 use Rattle.std.proofs.lemmas.List.{map-append}
@@ -232,6 +232,5 @@ events_move by start features (t ∷ ts) f = grind (arith, event_moves, tile_clo
 pub start_only_moves : StartOnlyMoves
 start_only_moves stream start by features xs ys x y n =
     let b : Back by (verdict (grammar start y.tiles) y.reads.rest) y.end = search (final_back, verdict_moves, Like-grammar) in
-    let r : Reads stream start y.tiles b.end = grind (arith, faultless_back) in
-    let (tiles, end) = reads_same stream start y.tiles x.tiles b.end x.end r x.reads in
+    let (tiles, end) = reads_same stream start y.tiles x.tiles b.end x.end (grind (arith, faultless_back)) x.reads in
     grind (arith, events_move, map-append)
