@@ -1,8 +1,9 @@
 -- What the tiles before a section say to it, reported of the frames before it.
-use Rattle.wasm_grammar.proofs.Common.{arith, ◌≡◌, Bool, true, false, cond, List, [], ◌∷◌, ◌++◌, refl, ℕ, length, ◌<◌, not, ◌&&◌, ◌||◌, sym}
-use Rattle.wasm_grammar.proofs.Common.{◌∙◌, nat_lt, nat_eq, eqb-true, eq-eqb, append-nil, append_assoc, and_comm, list_all-append, All}
-use Rattle.wasm_grammar.proofs.Common.{list_all, list_any, SectionFrame, frame_count, frame_rank, IsSection, SectionContext, code_id}
-use Rattle.wasm_grammar.proofs.Common.{data_count_id, data_id, function_id, Encoding, Module, Component}
+use Rattle.wasm_grammar.proofs.Common.{arith, ◌≡◌, Bool, true, false, cond, List, [], ◌∷◌, ◌++◌, refl, ℕ, length, ◌<◌, not, ◌&&◌, sym, ◌∙◌}
+use Rattle.wasm_grammar.proofs.Common.{nat_lt, nat_eq, eqb-true, eq-eqb, append-nil, append_assoc, and_comm, list_all-append, All, list_all}
+use Rattle.wasm_grammar.proofs.Common.{list_any, SectionFrame, frame_count, frame_rank, IsSection, SectionContext, code_id, data_count_id}
+use Rattle.wasm_grammar.proofs.Common.{data_id, function_id, Encoding, Module, Component}
+use Rattle.std.proofs.Common.{◌||◌}
 use Rattle.std.proofs.Math.Bool.{or_comm}
 use Rattle.std.proofs.Math.Dec.{eqb-suc-zero}
 use Rattle.std.proofs.lemmas.List.Folds.{list_any-append}
@@ -53,25 +54,17 @@ advances encoding n p f = not (is_section encoding n f) || p (frame_count f)
 abbrev pub offends : Encoding → ℕ → (ℕ → Bool) → SectionFrame → Bool
 offends encoding n p f = is_section encoding n f && p (frame_count f)
 
--- all of at most one count
-one_all : (b : Bool) (p : ℕ → Bool) (c : ℕ) → list_all p (cond b (c ∷ []) []) ≡ (not b || p c)
-one_all b p c = grind (arith, and_comm)
-
--- one of at most one count
-one_any : (b : Bool) (p : ℕ → Bool) (c : ℕ) → list_any p (cond b (c ∷ []) []) ≡ (b && p c)
-one_any b p c = grind (arith, or_comm)
-
 -- each count passes exactly if each frame does
 pub all_counts : (encoding : Encoding) (n : ℕ) (p : ℕ → Bool) (fs : List SectionFrame) → list_all p (counts_of encoding n fs)
     ≡ list_all (advances encoding n p) fs
 all_counts encoding n p [] = refl
-all_counts encoding n p (f ∷ fs) = search (list_all-append, and_comm, one_all, all_counts encoding n p fs)
+all_counts encoding n p (f ∷ fs) = grind (arith, list_all-append, and_comm, all_counts encoding n p fs)
 
 -- a count passes exactly if a frame does
 pub any_counts : (encoding : Encoding) (n : ℕ) (p : ℕ → Bool) (fs : List SectionFrame) → list_any p (counts_of encoding n fs)
     ≡ list_any (offends encoding n p) fs
 any_counts encoding n p [] = refl
-any_counts encoding n p (f ∷ fs) = search (list_any-append, or_comm, one_any, any_counts encoding n p fs)
+any_counts encoding n p (f ∷ fs) = grind (arith, list_any-append, or_comm, any_counts encoding n p fs)
 
 -- one more section, if it is one, is one more count
 none_step : (b : Bool) (c : ℕ) (xs : List ℕ) (t : Bool) → nat_eq (length xs) 0 ≡ not t → nat_eq (length (xs ++ cond b (c ∷ []) [])) 0
@@ -86,14 +79,6 @@ pub no_counts : (encoding : Encoding) (n : ℕ) (fs : List SectionFrame) → nat
 no_counts encoding n [] = refl
 no_counts encoding n (f ∷ fs) = search (none_step, no_counts encoding n fs)
 
--- a test that holds if it is required
-passes_to : (b t : Bool) → (b ≡ true → t ≡ true) → (not b || t) ≡ true
-passes_to b t e = grind arith
-
--- what such a test says if it is required
-passes_of : (b t : Bool) → (not b || t) ≡ true → b ≡ true → t ≡ true
-passes_of b t e f = cc
-
 -- each section with this id has this count
 abbrev pub HasCount : Encoding → ℕ → ℕ → List SectionFrame → Type 0
 HasCount encoding n c fs = All (λ g. IsSection encoding n g → frame_count g ≡ c) fs
@@ -103,12 +88,11 @@ pub same_to : (encoding : Encoding) (n c : ℕ) (fs : List SectionFrame) → Has
     → list_all (nat_eq c) (counts_of encoding n fs) ≡ true
 same_to encoding n c fs a = all_counts encoding n (nat_eq c) fs
     ∙ all_to (advances encoding n (nat_eq c)) (λ g. IsSection encoding n g → frame_count g ≡ c)
-    (λ g h. passes_to (is_section encoding n g) (nat_eq c (frame_count g))
-    (λ e. eq-eqb c (frame_count g) (sym (h (section_yes encoding n g e))))) fs a
+    (λ g h. (grind arith)) fs a
 
 -- what the test of counts says
 pub same_of : (encoding : Encoding) (n c : ℕ) (fs : List SectionFrame) → list_all (nat_eq c) (counts_of encoding n fs) ≡ true
     → HasCount encoding n c fs
 same_of encoding n c fs e =
     all_of (advances encoding n (nat_eq c)) (λ g. IsSection encoding n g → frame_count g ≡ c)
-    (λ g h s. sym (eqb-true c (frame_count g) (search (passes_of, yes_section)))) fs (sym (all_counts encoding n (nat_eq c) fs) ∙ e)
+    (λ g h s. sym (eqb-true c (frame_count g) (grind (arith, yes_section)))) fs (sym (all_counts encoding n (nat_eq c) fs) ∙ e)

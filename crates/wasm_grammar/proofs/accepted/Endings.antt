@@ -1,8 +1,8 @@
 -- A reading ends at the end exactly where no section misses its other section.
 use Rattle.wasm_grammar.proofs.Common.{arith, ◌≡◌, inl, inr, Bool, true, false, cond, List, refl, ℕ, length, ◌<◌, ◌&&◌, sym, ◌∙◌, nat_lt}
-use Rattle.wasm_grammar.proofs.Common.{nat_eq, ltb-true, lt-ltb, and_parts, and_from, Any, list_any, FaultAt, at_offset}
-use Rattle.wasm_grammar.proofs.Common.{FunctionWithoutCode, DataCountWithoutData, SectionFrame, frame_count, IsSection, IsMatched, fault}
-use Rattle.wasm_grammar.proofs.Common.{ended, SectionContext, end_at_section, data_count_id, function_id, Encoding}
+use Rattle.wasm_grammar.proofs.Common.{nat_eq, ltb-true, lt-ltb, and_parts, and_from, Any, list_any, at_offset, FunctionWithoutCode}
+use Rattle.wasm_grammar.proofs.Common.{DataCountWithoutData, SectionFrame, frame_count, IsSection, IsMatched, fault, ended, SectionContext}
+use Rattle.wasm_grammar.proofs.Common.{end_at_section, data_count_id, function_id, Encoding}
 use Rattle.std.proofs.lemmas.Bool.{and_cases, and_right, false_from_ne_true}
 use Rattle.wasm_grammar.proofs.PlainLists.{any_of, none_of}
 use Rattle.wasm_grammar.proofs.accepted.Counts.{is_section, counts_of, Knows, section_yes, yes_section, any_counts, offends}
@@ -25,16 +25,6 @@ matched_any encoding n other fs m z e =
     rw a.3 at (m a.0 a.1 a.2) in
     let f : nat_eq (length (counts_of encoding other fs)) 0 ≡ false = some_to encoding other fs (h a.4.0 a.4.1) in
     cc
-
--- matched sections miss none, whether there is another section or not
-matched_at : (encoding : Encoding) (n other : ℕ) (fs : List SectionFrame) → IsMatched encoding n other fs → (b : Bool)
-    → nat_eq (length (counts_of encoding other fs)) 0 ≡ b → (list_any (nat_lt 0) (counts_of encoding n fs) && b) ≡ false
-matched_at encoding n other fs e b f = grind (arith, false_from_ne_true, matched_any, and_right)
-
--- matched sections miss none
-pub matched_to : (encoding : Encoding) (n other : ℕ) (fs : List SectionFrame) → IsMatched encoding n other fs → misses encoding n other fs
-    ≡ false
-matched_to encoding n other fs m = matched_at encoding n other fs m (nat_eq (length (counts_of encoding other fs)) 0) refl
 
 -- sections without a count above 0 are matched
 matched_none : (encoding : Encoding) (n other : ℕ) (fs : List SectionFrame) → list_any (nat_lt 0) (counts_of encoding n fs) ≡ false
@@ -59,14 +49,6 @@ matched_from encoding n other fs e =
       | inr b ↦ matched_some encoding n other fs (some_from encoding other fs b)
     ]
 
--- if neither fault holds, a stream may end
-ends_to : (a b : Bool) (e f : FaultAt) (o : ℕ) → a ≡ false → b ≡ false → cond a (fault e) (cond b (fault f) (ended o)) ≡ ended o
-ends_to a b e f o p q = rw (p, q) refl
-
--- if a stream may end, neither fault holds
-ends_from : (a b : Bool) (e f : FaultAt) (o p : ℕ) → cond a (fault e) (cond b (fault f) (ended o)) ≡ ended p → (a ≡ false) × (b ≡ false)
-ends_from a b e f o p g = grind arith
-
 -- how a stream ends, reported of its frames
 misses_same : (encoding : Encoding) (fs : List SectionFrame) (p : SectionContext) → Knows encoding fs p → (o : ℕ)
     → end_at_section p o ≡ cond (misses encoding function_id 10 fs) (fault (at_offset FunctionWithoutCode o))
@@ -76,9 +58,9 @@ misses_same encoding fs p k o = rw (k.functions, k.codes, k.datas, k.data_counts
 -- after frames that are matched a stream may end
 pub end_to : (encoding : Encoding) (fs : List SectionFrame) (p : SectionContext) → Knows encoding fs p → (o : ℕ)
     → IsMatched encoding function_id 10 fs → IsMatched encoding data_count_id 11 fs → end_at_section p o ≡ ended o
-end_to encoding fs p k o a b = grind (arith, misses_same, ends_to, matched_to)
+end_to encoding fs p k o a b = grind (arith, misses_same, false_from_ne_true, matched_any, and_right)
 
 -- frames after which a stream may end are matched
 pub end_from : (encoding : Encoding) (fs : List SectionFrame) (p : SectionContext) → Knows encoding fs p → (o e : ℕ) → end_at_section p o
     ≡ ended e → IsMatched encoding function_id 10 fs × IsMatched encoding data_count_id 11 fs
-end_from encoding fs p k o e h = grind (arith, ends_from, misses_same, matched_from)
+end_from encoding fs p k o e h = grind (arith, misses_same, matched_from)

@@ -1,8 +1,8 @@
 -- A section may follow other tiles exactly if it fits after their frames.
 use Rattle.wasm_grammar.proofs.Common.{arith, ◌≡◌, ◌⊎◌, Bool, true, false, List, ap, ℕ, length, None, ◌<◌, not, ◌&&◌, ◌∙◌, nat_lt, nat_eq}
-use Rattle.wasm_grammar.proofs.Common.{eqb-true, eq-eqb, ltb-true, lt-ltb, All, Any, FaultAt, SectionFrame, frame_count, frame_rank}
-use Rattle.wasm_grammar.proofs.Common.{IsSection, Form, items, kind_of, when, whole, SectionContext, wrong_count, wrong_data, data_count_id}
-use Rattle.wasm_grammar.proofs.Common.{data_id, function_id, Encoding, Module}
+use Rattle.wasm_grammar.proofs.Common.{eqb-true, eq-eqb, ltb-true, lt-ltb, All, Any, SectionFrame, frame_count, frame_rank, IsSection, Form}
+use Rattle.wasm_grammar.proofs.Common.{items, kind_of, whole, SectionContext, wrong_count, wrong_data, data_count_id, data_id, function_id}
+use Rattle.wasm_grammar.proofs.Common.{Encoding, Module}
 use Rattle.wasm_grammar.proofs.PlainLists.{all_of, all_to, any_of, any_to}
 use Rattle.wasm_grammar.proofs.accepted.Counts.{is_section, counts_of, Knows, section_yes, yes_section, no_counts, HasCount, same_to}
 use Rattle.wasm_grammar.proofs.accepted.Counts.{same_of}
@@ -56,10 +56,6 @@ pub code_from : (encoding : Encoding) (fs : List SectionFrame) (p : SectionConte
     ≡ None → CodeFits encoding fs c
 code_from encoding fs p k o c h = grind (arith, same_of, some_from)
 
--- nothing is wrong with a count that isn't required, or agrees
-data_right : (b all : Bool) (e : FaultAt) → (b ≡ true → all ≡ true) → when (b && not all) e ≡ None
-data_right b all e h = grind arith
-
 -- sections of items are a module's
 items_in : (encoding : Encoding) (id : ℕ) → kind_of encoding id ≡ whole items → encoding ≡ Module
 items_in encoding id e = grind arith
@@ -68,7 +64,7 @@ items_in encoding id e = grind arith
 pub data_to : (encoding : Encoding) (fs : List SectionFrame) (p : SectionContext) → Knows encoding fs p → (f : SectionFrame) (o : ℕ)
     → (IsSection encoding data_id f → HasCount encoding data_count_id (frame_count f) fs)
     → (form : Form) → kind_of encoding f.id ≡ whole form → wrong_data p form f.id o f.sized.content ≡ None
-data_to encoding fs p e f o g form h = grind (arith, data_right, same_to, items_in, eqb-true)
+data_to encoding fs p e f o g form h = grind (arith, same_to, items_in, eqb-true)
 
 -- a section with the right count of segments fits
 pub data_from : (encoding : Encoding) (fs : List SectionFrame) (p : SectionContext) → Knows encoding fs p

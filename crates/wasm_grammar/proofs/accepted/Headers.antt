@@ -1,11 +1,10 @@
 -- The header's tile has the header's bytes.
 use Rattle.wasm_grammar.proofs.Common.{arith, ◌≡◌, true, List, [], ◌∷◌, ◌++◌, refl, ℕ, ◌+◌, length, None, ◌<◌, not, nat_eq, eqb-true}
 use Rattle.wasm_grammar.proofs.Common.{Option, and_parts, All, at_offset, magic, agree, of_four, BadMagic, header_bytes, when, Tile}
-use Rattle.wasm_grammar.proofs.Common.{version, tile, check, bytes, header_of, version_of, verdict, header_grammar, Encoding, Module}
-use Rattle.wasm_grammar.proofs.Common.{Component}
+use Rattle.wasm_grammar.proofs.Common.{version, tile, check, bytes, version_of, verdict, header_grammar, Encoding, Module, Component}
 use Rattle.std.proofs.Common.{◌/◌, ◌%◌}
 use Rattle.std.proofs.lemmas.Bool.{not-false}
-use Rattle.wasm_grammar.specs.Grammar.{encoding_named}
+use Rattle.wasm_grammar.specs.Grammar.{header_of, encoding_named}
 use Rattle.wasm_grammar.proofs.accepted.Parts.{BytesParts, bytes_parts, refuse_parts, ends_there}
 use Rattle.wasm_grammar.proofs.accepted.Tiles.{made, header_version}
 use Rattle.wasm_grammar.proofs.parts.Placed.{none_when}
@@ -40,11 +39,6 @@ four_parts : (xs : List ℕ) → length xs ≡ 4 → (a : ℕ) × (b : ℕ) × (
 four_parts (a ∷ b ∷ c ∷ d ∷ []) l = (a, b, c, d, refl)
 four_parts _ l = absurd (omega arith)
 
--- four bytes with the bits of an encoding are its last bytes
-four_bytes : (encoding : Encoding) (four : List ℕ) → length four ≡ 4 → All (λ b. b < 256) (magic ++ four) → of_four four
-    ≡ header_bits encoding → four ≡ last_four encoding
-four_bytes encoding four l each e = grind (arith, four_parts)
-
 -- what a header's tile is
 pub record HeaderParts (t : Tile) : Type 0 where
   pub encoding : Encoding
@@ -65,5 +59,5 @@ header_parts o xs t each h =
     let u : m.rest ≡ made (version (header_version encoding) encoding) f.prefix = search ends_there in
     let w : t ≡ made (version (header_version encoding) encoding) (magic ++ f.prefix) = grind (arith, header_version) in
     let e : All (λ b. b < 256) (magic ++ f.prefix) = rw w at each in
-    let l : f.prefix ≡ last_four encoding = four_bytes encoding f.prefix f.size e b in
+    let l : f.prefix ≡ last_four encoding = grind (arith, four_parts) in
     grind arith

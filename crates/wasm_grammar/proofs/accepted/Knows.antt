@@ -1,9 +1,8 @@
 -- What tiles say of the frames that they make, tile by tile.
-use Rattle.wasm_grammar.proofs.Common.{arith, ◌≡◌, ◌⊎◌, Bool, true, false, cond, List, [], ◌∷◌, ◌++◌, refl, ap, ℕ, ◌+◌, length, sym, ◌∙◌}
-use Rattle.wasm_grammar.proofs.Common.{nat_eq, eqb-true, lt-ltb, and_comm, and_from, list_all-append, SectionFrame, frame_count, Form}
-use Rattle.wasm_grammar.proofs.Common.{items, kind_of, whole, Kind, data_count, code, count_of, Tile, version, section, code_start}
-use Rattle.wasm_grammar.proofs.Common.{code_entry, section_grammar, body_grammar, code_id, bytes_of, context_of, bodies_left, bytes_left}
-use Rattle.wasm_grammar.proofs.Common.{grammar, is_start, Encoding, Module, Component}
+use Rattle.wasm_grammar.proofs.Common.{arith, ◌≡◌, true, false, List, [], ◌∷◌, ◌++◌, ap, ℕ, ◌+◌, length, sym, ◌∙◌, nat_eq, eqb-true, lt-ltb}
+use Rattle.wasm_grammar.proofs.Common.{and_comm, and_from, list_all-append, SectionFrame, frame_count, items, kind_of, whole, Kind}
+use Rattle.wasm_grammar.proofs.Common.{data_count, code, Tile, version, section, code_start, code_entry, section_grammar, body_grammar}
+use Rattle.wasm_grammar.proofs.Common.{code_id, bytes_of, context_of, bodies_left, bytes_left, grammar, is_start, Encoding, Module}
 use Rattle.wasm_grammar.specs.Tiling.{count_in}
 use Rattle.wasm_grammar.proofs.accepted.Counts.{one_count, counts_of, counts_push, Knows}
 use Rattle.wasm_grammar.proofs.accepted.Tiles.{made, IsWhole, header_version, not_code}
@@ -34,35 +33,10 @@ IsCounting (whole items) = Unit {0}
 IsCounting (whole data_count) = Unit {0}
 IsCounting other = ⊥
 
--- a section with another id adds no count
-other_count : (n id : ℕ) (k : Form) (content others : List ℕ) → nat_eq id n ≡ false → count_in n (section k id content) others ≡ others
-other_count n id k content others e = grind arith
-
--- a section with this id adds its count
-this_count : (n id : ℕ) (k : Form) (content others : List ℕ) → nat_eq id n ≡ true → IsCounting (whole k)
-    → count_in n (section k id content) others ≡ count_of content ∷ others
-this_count n id k content others e f = grind arith
-
 -- a component's section adds no count
 abbrev kind_count : (n id : ℕ) → Kind → (content others : List ℕ) → List ℕ
 kind_count n id (whole form) content others = count_in n (section form id content) others
 kind_count n id code content others = others
-
-component_count : (n id : ℕ) (content others : List ℕ) → kind_count n id (kind_of Component id) content others ≡ others
-component_count n id content others = grind arith
-
--- a module's section adds its count exactly if it has this id
-module_count : (n id : ℕ) (content others : List ℕ) → IsCounting (kind_of Module n) ⊎ (kind_of Module n ≡ code)
-    → (w : IsWhole (kind_of Module id))
-    → (b : Bool) → nat_eq id n ≡ b → count_in n (section w.0 id content) others ≡ cond b (count_of content ∷ []) [] ++ others
-module_count n id content others e w b f = grind (arith, this_count, eqb-true, not_code, other_count)
-
--- a section's tile has the count of its frame
-section_count : (n : ℕ) → IsCounting (kind_of Module n) ⊎ (kind_of Module n ≡ code)
-    → (encoding : Encoding) (f : SectionFrame) (others : List ℕ) (w : IsWhole (kind_of encoding f.id))
-    → count_in n (section w.0 f.id f.sized.content) others ≡ one_count encoding n f ++ others
-section_count n c Module f others w = module_count n f.id f.sized.content others c w (nat_eq f.id n) refl
-section_count n c Component f others w = grind (arith, component_count)
 
 -- counts with those of one more frame are the counts of all frames
 counts_more : (encoding : Encoding) (n : ℕ) (fs : List SectionFrame) (f : SectionFrame) (old new : List ℕ) → old ≡ counts_of encoding n fs
@@ -73,7 +47,7 @@ counts_more encoding n fs f old new e h = h ∙ (ap (λ (x : List ℕ). one_coun
 pub knows_section : (encoding : Encoding) (fs : List SectionFrame) (ts : List Tile) (f : SectionFrame) (bytes : List ℕ)
     (w : IsWhole (kind_of encoding f.id)) → Knows encoding fs (context_of ts)
     → Knows encoding (fs ++ f ∷ []) (context_of (made (section w.0 f.id f.sized.content) bytes ∷ ts))
-knows_section encoding fs ts f bytes w k = grind (arith, list_all-append, and_comm, counts_more, section_count)
+knows_section encoding fs ts f bytes w k = grind (arith, list_all-append, and_comm, counts_more, eqb-true, not_code)
 
 -- the head of a code section says what its frame says
 pub knows_code : (fs : List SectionFrame) (ts : List Tile) (f : SectionFrame) (count width size : ℕ) (bytes : List ℕ) → f.id ≡ code_id

@@ -100,12 +100,6 @@ settles ts p e =
 abbrev frame_of : ℕ → List ℕ → List ℕ → SectionFrame
 frame_of id field content = record { id = id; sized = record { field = field; content = content } }
 
--- a section that is one tile is good
-whole_frame : (p : SectionContext) (o : ℕ) (t : Tile) (s : SectionParts p o t) (at : ℕ) (w : IsWhole (kind_of p.encoding s.id))
-    (c : WholeParts p w.0 s.id at s.size s.rest)
-    → IsFrame p.encoding (frame_of s.id s.field c.content)
-whole_frame p o t s at w c = grind (arith, good_from)
-
 -- a section that is one tile fits after the frames before it
 whole_fits : (p : SectionContext) (fs : List SectionFrame) (o : ℕ) (t : Tile) (s : SectionParts p o t) (at : ℕ) → Knows p.encoding fs p
     → (w : IsWhole (kind_of p.encoding s.id)) (c : WholeParts p w.0 s.id at s.size s.rest)
@@ -132,7 +126,7 @@ whole_settled ts o t q s w =
       frames = q.frames ++ f ∷ [];
       joined = stream_more e q.frames f (bytes_of ts) q.joined;
       knows = search knows_section;
-      sections = in_order_push e q.frames f q.sections (whole_frame (context_of ts) o t s at w c)
+      sections = in_order_push e q.frames f q.sections (grind (arith, good_from))
           (whole_fits (context_of ts) q.frames o t s at q.knows w c);
       closed = refl;
     } in

@@ -2,11 +2,11 @@
 use Rattle.wasm_grammar.proofs.Common.{arith, ◌≡◌, true, false, List, [], ◌∷◌, ◌++◌, refl, ap, ℕ, ◌+◌, length, ◌≤◌, ◌<◌, ◌∙◌, nat_eq}
 use Rattle.wasm_grammar.proofs.Common.{append-nil, append_assoc, subst, suc, ◌-◌, length-append, ◌^◌, All-head, All-tail, All, flat_map}
 use Rattle.wasm_grammar.proofs.Common.{SectionFrame, frame_count, Sized, sized_bytes, IsSized, frame_bytes, IsFrame, FitsAfter}
-use Rattle.wasm_grammar.proofs.Common.{CodeDivision, kind_of, count_of, body_events, Tile, SectionContext, tile, section, code_start}
-use Rattle.wasm_grammar.proofs.Common.{code_entry, verdict, section_grammar, code_id, events_of, bytes_of, context_of, bodies_left}
-use Rattle.wasm_grammar.proofs.Common.{bytes_left, grammar, is_start, Faultless, Encoding, Module}
+use Rattle.wasm_grammar.proofs.Common.{CodeDivision, kind_of, body_events, Tile, SectionContext, tile, section, code_start, code_entry}
+use Rattle.wasm_grammar.proofs.Common.{verdict, section_grammar, code_id, events_of, bytes_of, context_of, bodies_left, bytes_left, grammar}
+use Rattle.wasm_grammar.proofs.Common.{is_start, Faultless, Encoding, Module}
 use Rattle.std.proofs.lemmas.Bool.{ne_eqb}
-use Rattle.wasm_grammar.specs.Content.{value_of}
+use Rattle.wasm_grammar.specs.Content.{count_of, value_of}
 use Rattle.wasm_grammar.proofs.accepted.Contents.{good_to}
 use Rattle.wasm_grammar.proofs.accepted.Counts.{Knows}
 use Rattle.wasm_grammar.proofs.accepted.Fits.{rank_to, CodeFits, code_to, data_to}
@@ -55,13 +55,6 @@ pub division_length : (f : SectionFrame) (d : CodeDivision f.sized.content) → 
     ≡ length d.field + length (flat_map sized_bytes d.bodies)
 division_length f d = ap (λ (x : List ℕ). length x) d.whole ∙ length-append d.field (flat_map sized_bytes d.bodies)
 
--- what comes before a good code section's content is right, if the section fits
-head_of_code : (p : SectionContext) (fs : List SectionFrame) (o : ℕ) (f : SectionFrame) → f.id ≡ code_id → Knows Module fs p
-    → IsFrame Module f
-    → FitsAfter Module fs f → o + length (frame_bytes f) < 2 ^ 64
-    → HeadIsRight p o 10 f.sized.field (length f.sized.content)
-head_of_code p fs o f z k i a r = grind (arith, rank_to, length-append)
-
 -- a good code section that fits begins with the tile of its head
 pub code_step : (p : SectionContext) (fs : List SectionFrame) (o : ℕ) (f : SectionFrame) (d : CodeDivision f.sized.content) → f.id ≡ code_id
     → o + length (frame_bytes f) < 2 ^ 64 → Knows Module fs p → IsFrame Module f → FitsAfter Module fs f
@@ -71,7 +64,7 @@ pub code_step : (p : SectionContext) (fs : List SectionFrame) (o : ℕ) (f : Sec
 code_step p fs o f d z r k i a =
     let c : frame_count f ≡ length d.bodies = division_count f d in
     let g : CodeFits Module fs (frame_count f) = record { bodies = a.bodies (refl, z); functions = a.functions (refl, z) } in
-    code_head_tile p o (length f.sized.content) (length d.bodies) f.sized.field d.field (head_of_code p fs o f z k i a r)
+    code_head_tile p o (length f.sized.content) (length d.bodies) f.sized.field d.field (grind (arith, rank_to, length-append))
     (rw k.named) d.count
     (omega (arith, division_length f d)) (λ at. code_to Module fs p k at (length d.bodies) (rw c at g))
 
@@ -86,22 +79,11 @@ pub record Through (start : ℕ) (ts : List Tile) (bodies : List Sized) : Type 0
   pub listed : (features : ℕ) → events_of start features tiles ≡ events_of start features ts
       ++ body_events features (start + length (bytes_of ts)) bodies
 
--- where a body is missing, a code section isn't at its end
-some_left : (a b n : ℕ) → a ≡ suc n → nat_eq (a + b) 0 ≡ false
-some_left a b n e = ne_eqb (a + b) 0 (λ z. absurd (omega arith))
-
 -- a body that a code section misses is a tile
 body_at : (start : ℕ) (ts : List Tile) (s : Sized) (n : ℕ) → is_start ts ≡ false → IsSized s → bodies_left ts ≡ suc n
     → length (sized_bytes s) ≤ bytes_left ts
     → verdict (grammar start ts) (sized_bytes s) ≡ tile (made (code_entry s.content) (sized_bytes s))
-body_at start ts s n b i e l = grind (arith, grammar_open, some_left, body_tile, length-append)
-
--- the events of bodies after one more
-body_listed : (start features : ℕ) (ts : List Tile) (s : Sized) (bodies : List Sized)
-    → events_of start features (made (code_entry s.content) (sized_bytes s) ∷ ts)
-    ++ body_events features (start + length (bytes_of ts ++ sized_bytes s)) bodies
-    ≡ events_of start features ts ++ body_events features (start + length (bytes_of ts)) (s ∷ bodies)
-body_listed start features ts s bodies = grind (arith, length-append, append_assoc, body_tile_event)
+body_at start ts s n b i e l = grind (arith, grammar_open, body_tile, length-append, ne_eqb)
 
 -- bodies that a code section misses are tiles
 pub bodies_walk : (start : ℕ) (bodies : List Sized) (ts : List Tile) → is_start ts ≡ false → Faultless start ts → All IsSized bodies
@@ -114,4 +96,4 @@ bodies_walk start (s ∷ bodies) ts b f a m l =
     body_at start ts s (length bodies) b (All-head IsSized s bodies a) m (omega arith) in
     let t = bodies_walk start bodies (made (code_entry s.content) (sized_bytes s) ∷ ts) refl (f, v) (All-tail IsSized s bodies a)
     (omega arith) (omega arith) in
-    grind (arith, append_assoc, knows_body, body_listed)
+    grind (arith, append_assoc, knows_body, length-append, body_tile_event)

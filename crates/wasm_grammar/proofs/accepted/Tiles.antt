@@ -1,13 +1,14 @@
 -- Bytes in the textbook form are tiles.
 use Rattle.wasm_grammar.proofs.Common.{arith, ◌≡◌, ◌⊎◌, inl, inr, Bool, true, false, List, [], ◌∷◌, ◌++◌, refl, ap, ℕ, ◌+◌, length, ◌≤◌}
 use Rattle.wasm_grammar.proofs.Common.{None, ◌<◌, ◌&&◌, nat_lt, append-nil, lt-ltb, Option, subst, suc, ◌-◌, nat_le, length-append, ◌^◌}
-use Rattle.wasm_grammar.proofs.Common.{Some, le-leb, take_at, drop_at, number-used, number-more, FaultAt, magic, agree, named, refused}
-use Rattle.wasm_grammar.proofs.Common.{name_limit, name, read, number, UnexpectedEof, VarU32, IsNumber, header_bytes, Ending, Form, kind_of}
-use Rattle.wasm_grammar.proofs.Common.{when, whole, Kind, code, rank_of, wrong_content, Tile, SectionContext, wrong_count, wrong_data}
-use Rattle.wasm_grammar.proofs.Common.{version, tile, check, bytes, section, code_start, code_entry, Shape, Grammar, accept, u32_field}
-use Rattle.wasm_grammar.proofs.Common.{content_grammar, whole_grammar, after_id, section_start, verdict, header_grammar, section_grammar}
-use Rattle.wasm_grammar.proofs.Common.{body_grammar, code_id, custom_id, Encoding, Module, Component}
+use Rattle.wasm_grammar.proofs.Common.{Some, le-leb, take_at, drop_at, number-used, number-more, FaultAt, magic, agree, named, name, read}
+use Rattle.wasm_grammar.proofs.Common.{number, VarU32, IsNumber, header_bytes, Ending, Form, kind_of, whole, when, Kind, code, rank_of}
+use Rattle.wasm_grammar.proofs.Common.{wrong_content, Tile, SectionContext, wrong_count, wrong_data, version, tile, check, bytes, section}
+use Rattle.wasm_grammar.proofs.Common.{code_start, code_entry, Shape, Grammar, accept, u32_field, content_grammar, whole_grammar, after_id}
+use Rattle.wasm_grammar.proofs.Common.{section_start, verdict, header_grammar, section_grammar, body_grammar, code_id, custom_id, Encoding}
+use Rattle.wasm_grammar.proofs.Common.{Module, Component}
 use Rattle.std.proofs.Common.{le-ltb}
+use Rattle.wasm_base.specs.Name.{name_limit}
 use Rattle.wasm_grammar.proofs.parts.Guarded.{one_byte}
 use Rattle.wasm_grammar.proofs.parts.Placed.{Follows}
 
@@ -111,21 +112,12 @@ framed_tile p o id field size xs s f m h =
     fits : (n : ℕ) → n < 2 ^ 64 → nat_lt (2 ^ 64 - 1) n ≡ false
     fits n h = grind arith
 
--- 0x73 alone is a number, 115
-another_byte : (xs : List ℕ) → number VarU32 (0x73 ∷ xs) ≡ read 0x73 1
-unfolding number
-another_byte xs = refl
-
--- a name of 115 bytes isn't in fewer
-long_name : (xs : List ℕ) → length xs < 0x73 → name (Some name_limit) (0x73 ∷ xs) ≡ refused UnexpectedEof 1
-unfolding name
-long_name xs h = rw (another_byte xs) (rw (lt-ltb (length xs) 0x73 h) refl)
-
 -- a section's content that begins as the end of the magic is no name
 magic_content : (content text : List ℕ) (used : ℕ) → length content ≡ 0x61 → agree content (0x73 ∷ 0x6d ∷ []) ≡ true
     → name (Some name_limit) content ≡ named text used → ⊥
+unfolding name number
 magic_content [] text used l a e = absurd (omega arith)
-magic_content (y ∷ ys) text used l a e = grind (arith, long_name)
+magic_content (y ∷ ys) text used l a e = grind (arith, lt-ltb)
 
 -- a section whose length and content begin as the magic goes on has no name
 magic_field : (field content text : List ℕ) (used : ℕ) → IsNumber field (length content)

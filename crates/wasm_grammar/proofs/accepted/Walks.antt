@@ -2,13 +2,12 @@
 use Rattle.wasm_grammar.proofs.Common.{arith, ◌≡◌, inl, inr, true, false, List, [], ◌∷◌, ◌++◌, refl, ap, ℕ, ◌+◌, length, ◌≤◌, ◌<◌, sym, ◌∙◌}
 use Rattle.wasm_grammar.proofs.Common.{nat_eq, append-nil, append_assoc, subst, ◌-◌, length-append, ◌^◌, flat_map-append, flat_map_more}
 use Rattle.wasm_grammar.proofs.Common.{All-head, All-tail, All, flat_map, SectionFrame, IsAccepted, header_bytes, sized_bytes, frame_bytes}
-use Rattle.wasm_grammar.proofs.Common.{IsFrame, FitsAfter, CodeDivision, ended, kind_of, code, header_event, section_event, code_events}
-use Rattle.wasm_grammar.proofs.Common.{FrameEvents, FramesEvents, Tile, SectionContext, end_at_section, version, tile, section, code_start}
-use Rattle.wasm_grammar.proofs.Common.{final, verdict, section_grammar, code_id, Reads, events_of, Event, bytes_of, context_of, bodies_left}
-use Rattle.wasm_grammar.proofs.Common.{bytes_left, grammar, is_start, Faultless, Encoding, Module}
+use Rattle.wasm_grammar.proofs.Common.{IsFrame, FitsAfter, CodeDivision, ended, kind_of, header_event, section_event, code_events}
+use Rattle.wasm_grammar.proofs.Common.{FrameEvents, FramesEvents, Tile, version, tile, section, code_start, final, verdict, section_grammar}
+use Rattle.wasm_grammar.proofs.Common.{code_id, Reads, events_of, Event, bytes_of, context_of, bodies_left, bytes_left, grammar, is_start}
+use Rattle.wasm_grammar.proofs.Common.{Faultless, Encoding, Module}
 use Rattle.wasm_grammar.proofs.accepted.Counts.{Knows}
 use Rattle.wasm_grammar.proofs.accepted.Endings.{end_to}
-use Rattle.wasm_grammar.proofs.accepted.KindIds.{code_has_its_id}
 use Rattle.wasm_grammar.proofs.accepted.Knows.{grammar_closed, knows_header, knows_section, knows_code}
 use Rattle.wasm_grammar.proofs.accepted.Steps.{section_step, code_step, division_count, division_length, Through, bodies_walk}
 use Rattle.wasm_grammar.proofs.accepted.Tiles.{made, IsWhole, whole_or_code, header_version, header_tile}
@@ -124,12 +123,6 @@ module_step start fs f z d q r i a =
       };
     }
 
--- the same in any encoding
-code_frame : (start : ℕ) (encoding : Encoding) (fs : List SectionFrame) (f : SectionFrame) → encoding ≡ Module → Reached start encoding fs
-    → start + length (stream_of encoding (fs ++ f ∷ [])) < 2 ^ 64 → IsFrame encoding f → FitsAfter encoding fs f
-    → kind_of encoding f.id ≡ code → Reached start encoding (fs ++ f ∷ [])
-code_frame start encoding fs f e q r i a k = grind (arith, module_step)
-
 -- one more frame that fits
 frame_step : (start : ℕ) (encoding : Encoding) (fs : List SectionFrame) (f : SectionFrame) → Reached start encoding fs
     → start + length (stream_of encoding (fs ++ f ∷ [])) < 2 ^ 64 → IsFrame encoding f → FitsAfter encoding fs f
@@ -137,7 +130,7 @@ frame_step : (start : ℕ) (encoding : Encoding) (fs : List SectionFrame) (f : S
 frame_step start encoding fs f q r i a =
     elim (whole_or_code (kind_of encoding f.id)) [
       | inl w ↦ whole_step start encoding fs f q r i a w
-      | inr k ↦ code_frame start encoding fs f (code_has_its_id encoding f.id k).0 q r i a k
+      | inr k ↦ (grind (arith, module_step))
     ]
 
 -- all frames, from some on
@@ -160,11 +153,6 @@ begins start encoding = record {
   there = grind (arith, header_tile, append-nil, knows_header, header_tile_event);
 }
 
--- where a stream may end and nothing follows it ends
-end_verdict : (p : SectionContext) (o : ℕ) → end_at_section p o ≡ ended o → verdict (section_grammar p o) [] ≡ final (ended o)
-unfolding verdict section_grammar
-end_verdict p o e = ap final e
-
 -- the tiles of an accepted stream are its frames
 pub accepted_walk : (stream : List ℕ) (start : ℕ) → start + length stream < 2 ^ 64 → (a : IsAccepted stream)
     → Reached start a.encoding a.frames
@@ -175,9 +163,10 @@ accepted_walk stream start r a =
 -- the stream ends after them
 pub accepted_ends_there : (stream : List ℕ) (start : ℕ) (a : IsAccepted stream) (q : Reached start a.encoding a.frames)
     → Reads stream start q.tiles (ended (start + length stream))
+unfolding verdict section_grammar
 accepted_ends_there stream start a q =
     let v : verdict (grammar start q.tiles) [] ≡ final (ended (start + length (bytes_of q.tiles))) =
-    search (grammar_closed, end_verdict, end_to) in
+    search (grammar_closed, end_to) in
     grind (arith, append-nil)
 
 -- an accepted stream's reading ends at its end

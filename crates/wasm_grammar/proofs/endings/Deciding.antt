@@ -1,18 +1,16 @@
 -- If bytes don't suffice, something else is there after the suffix that decides than where the stream ends.
-use Rattle.wasm_grammar.proofs.Common.{arith, ◌≡◌, Bool, true, false, cond, List, [], ◌∷◌, ◌++◌, refl, ℕ, ◌+◌, length, None, ◌<◌, ◌&&◌, ◌∙◌}
+use Rattle.wasm_grammar.proofs.Common.{arith, ◌≡◌, Bool, true, false, cond, List, [], ◌∷◌, ◌++◌, refl, ℕ, length, None, ◌<◌, ◌&&◌, ◌∙◌}
 use Rattle.wasm_grammar.proofs.Common.{nat_lt, nat_eq, Option, ◌-◌, take, drop, nat_le, length-append, Some, le-leb, ◌≢◌, replicate}
 use Rattle.wasm_grammar.proofs.Common.{leb-true, and_parts, append_cancel_left, take-append-le, drop-append-le, length-replicate, list_any}
-use Rattle.wasm_grammar.proofs.Common.{number-used, number-more, FaultAt, at_offset, magic, agree, name_limit, after_size, name, Number}
-use Rattle.wasm_grammar.proofs.Common.{number, FunctionWithoutCode, DataCountWithoutData, BadMagic, MagicAtSection, UnexpectedEof}
-use Rattle.wasm_grammar.proofs.Common.{MalformedSectionId, VarU32, Ending, fault, ended, Form, kind_of, when, whole, Kind, code}
-use Rattle.wasm_grammar.proofs.Common.{wrong_content, Tile, SectionContext, end_at_section, wrong_data, check, bytes, header_of, code_entry}
-use Rattle.wasm_grammar.proofs.Common.{Shape, final, after, Grammar, accept, u32_field, content_grammar, after_id, section_start, Verdict}
-use Rattle.wasm_grammar.proofs.Common.{after_number, verdict, header_grammar, section_grammar, body_grammar, grammar, ending_of_number}
-use Rattle.wasm_grammar.proofs.Common.{deciding_ending, enough, wants, later, later_number, waiting, Encoding}
+use Rattle.wasm_grammar.proofs.Common.{number-used, number-more, FaultAt, at_offset, magic, agree, name, Number, number}
+use Rattle.wasm_grammar.proofs.Common.{FunctionWithoutCode, DataCountWithoutData, MagicAtSection, UnexpectedEof, MalformedSectionId, VarU32}
+use Rattle.wasm_grammar.proofs.Common.{Ending, fault, ended, wrong_content, Tile, SectionContext, end_at_section, check, bytes, code_entry}
+use Rattle.wasm_grammar.proofs.Common.{final, after, Grammar, accept, u32_field, after_id, section_start, Verdict, after_number, verdict}
+use Rattle.wasm_grammar.proofs.Common.{header_grammar, section_grammar, body_grammar, grammar, ending_of_number, deciding_ending, enough}
+use Rattle.wasm_grammar.proofs.Common.{wants, later, later_number, waiting}
 use Rattle.std.proofs.lemmas.Bool.{leb-false}
 use Rattle.std.proofs.lemmas.List.{take_all, drop_all}
 use Rattle.wasm_base.proofs.NumberLaws.{number-long}
-use Rattle.wasm_grammar.specs.Content.{wrong_name}
 use Rattle.wasm_grammar.proofs.endings.BadNumbers.{bad_hint}
 use Rattle.wasm_grammar.proofs.endings.Waiting.{later-wants}
 use Rattle.wasm_grammar.proofs.parts.Bounds.{final_same}
@@ -58,19 +56,14 @@ bytes_differs count o xs next n h s ih true e w z =
     grind (arith, leb-true, length-append, take-append-le, drop-append-le, later-wants, after_same)
 bytes_differs count o xs next n h s ih false e w z = grind (arith, leb-false, length-append, length-replicate, take_all, drop_all, le-leb)
 
-unmagic : (o : ℕ) (e : Ending) (next : ℕ → Grammar) (id : ℕ) (xs ys : List ℕ) → agree (id ∷ xs) magic ≡ false
-    → verdict (section_start o e next) (id ∷ xs) ≡ verdict (section_start o e next) (id ∷ (xs ++ ys))
-    → after (id ∷ []) (verdict (next id) xs) ≡ after (id ∷ []) (verdict (next id) (xs ++ ys))
-unfolding verdict
-unmagic o e next id xs ys p z = grind (arith, agree-more)
-
 start_differs : (o : ℕ) (e : Ending) (next : ℕ → Grammar) (id : ℕ) (xs : List ℕ) (n h : ℕ) → Differs (section_start o e next)
     → ((m : ℕ) → waiting (next id) xs ≡ wants m h → verdict (next id) xs ≢ verdict (next id) (xs ++ deciding_ending (next id) xs))
     → (a l : Bool) → agree (id ∷ xs) magic ≡ a → nat_le 4 (length (id ∷ xs)) ≡ l
     → cond a (cond l enough (wants 4 (4 - length (id ∷ xs)))) (later 1 (waiting (next id) xs)) ≡ wants n h
     → verdict (section_start o e next) (id ∷ xs) ≢ verdict (section_start o e next)
     ((id ∷ xs) ++ cond a (drop (length (id ∷ xs)) magic) (deciding_ending (next id) xs))
-start_differs o e next id xs n h f g a l w z c d = grind (arith, leb-false, unmagic)
+unfolding verdict
+start_differs o e next id xs n h f g a l w z c d = grind (arith, leb-false, agree-more)
 
 -- if bytes don't suffice, something else is there after the suffix that decides
 pub differs : (g : Grammar) → Differs g → (xs : List ℕ) (n h : ℕ) → waiting g xs ≡ wants n h
@@ -94,57 +87,13 @@ abbrev NotMissing : (offset : ℕ) → Option FaultAt → Type 0
 NotMissing o None = Unit {0}
 NotMissing o (Some f) = f ≢ at_offset UnexpectedEof o
 
-name_other_at : (o : ℕ) (c : List ℕ) → 0 < length c → (n : Number) → number VarU32 c ≡ n
-    → NotMissing o (wrong_name o (after_size (Some name_limit) c n))
-name_other_at o c l n e = grind (arith, bad_hint, number-used)
-
-name_other : (o : ℕ) (c : List ℕ) → 0 < length c → NotMissing o (wrong_name o (name (Some name_limit) c))
-unfolding name
-name_other o c l = name_other_at o c l (number VarU32 c) refl
-
-content_other : (form : Form) (o : ℕ) (c : List ℕ) → 0 < length c → NotMissing o (wrong_content form o c)
-unfolding wrong_content
-content_other form o c l = grind (arith, name_other, bad_hint)
-
-data_other : (p : SectionContext) (form : Form) (id o q : ℕ) (c : List ℕ) → NotMissing q (wrong_data p form id o c)
-data_other p form id o q c = grind arith
-
-checked_twice : (a b : Option FaultAt) (s : Shape) (o : ℕ) → NotMissing o a → NotMissing o b
-    → verdict (check a (check b (accept s))) [] ≢ final (fault (at_offset UnexpectedEof o))
-unfolding verdict
-checked_twice a b s o e f g = grind (arith, final_same)
-
-Differs-content : (p : SectionContext) (kind : Kind) (id o n : ℕ) → Differs (content_grammar p kind id o n)
-Differs-content p (whole form) id o n = search (checked_twice, content_other, data_other)
-Differs-content p code id o n = λ v k l. tt
-
 body_there : (c : List ℕ) (o : ℕ) → verdict (accept (code_entry c)) [] ≢ final (fault (at_offset UnexpectedEof o))
 unfolding verdict
 body_there c o z = cc
 
-Differs-body : (m l o : ℕ) → Differs (body_grammar m l o)
-unfolding body_grammar
-Differs-body m l o = grind (arith, body_there)
-
-version_other : (o p bits : ℕ) (e : Option Encoding) → verdict (header_of o bits e) [] ≢ final (fault (at_offset UnexpectedEof p))
-unfolding verdict
-version_other o p bits e f = grind arith
-
-magic_other : (b : Bool) (o : ℕ) (next : List ℕ → Grammar) → verdict (check (when b (at_offset BadMagic o)) (bytes 4 (o + 4) next)) [] ≢
-    final (fault (at_offset UnexpectedEof o))
-unfolding verdict
-magic_other b o next e = grind arith
-
-Differs-header : (o : ℕ) → Differs (header_grammar o)
-unfolding header_grammar
-Differs-header o = grind (arith, magic_other, version_other)
-
 end_other : (a b : Bool) (o : ℕ) → cond a (fault (at_offset FunctionWithoutCode o))
     (cond b (fault (at_offset DataCountWithoutData o)) (ended o)) ≢ fault (at_offset MalformedSectionId o)
 end_other a b o e = grind arith
-
-final_is : (e f : Ending) → final e ≡ final f → e ≡ f
-final_is e f z = cc
 
 -- a custom section whose length is the magic's second byte is longer than the magic's other bytes
 
@@ -171,13 +120,14 @@ whole_magic o e next id (b ∷ c ∷ []) a l = cc
 whole_magic o e next id (b ∷ c ∷ d ∷ xs) a l = absurd (omega arith)
 
 Differs-section : (p : SectionContext) (o : ℕ) → Differs (section_grammar p o)
-unfolding section_grammar verdict
+unfolding section_grammar verdict wrong_content name
 Differs-section p o = (
-  λ id v k l. Differs-content p (kind_of p.encoding id) id (o + 1 + k) v,
+  λ id v k l. (grind (arith, final_same, bad_hint, number-used)),
   λ z. end_other (list_any (nat_lt 0) p.functions && nat_eq (length p.codes) 0)
-      (list_any (nat_lt 0) p.data_counts && nat_eq (length p.datas) 0) o (final_is _ _ z),
+      (list_any (nat_lt 0) p.data_counts && nat_eq (length p.datas) 0) o (grind arith),
   λ id xs a l z. begun_start p o id xs a l (z ∙ whole_magic o (end_at_section p o) (after_id p o) id xs a l),
 )
 
 pub Differs-grammar : (start : ℕ) (ts : List Tile) → Differs (grammar start ts)
-Differs-grammar start ts = grind (arith, Differs-header, Differs-section, Differs-body)
+unfolding body_grammar header_grammar verdict
+Differs-grammar start ts = grind (arith, Differs-section, body_there)

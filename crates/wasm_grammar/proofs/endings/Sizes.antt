@@ -1,10 +1,10 @@
 -- A suffix that decides consists of bytes, at most 2^32 of them.
 use Rattle.wasm_grammar.proofs.Common.{arith, ◌≡◌, ◌⊎◌, Bool, true, false, cond, List, [], ◌∷◌, refl, ℕ, ◌+◌, length, ◌≤◌, None, ◌<◌}
-use Rattle.wasm_grammar.proofs.Common.{nat_lt, Option, suc, ◌-◌, take, drop, ◌^◌, Some, replicate, length-replicate, length-drop, All-nil}
-use Rattle.wasm_grammar.proofs.Common.{All, last_place-lt, of_four, Number, read, bad, ends_at, last_place, number, Fault, VarU32, Tile}
-use Rattle.wasm_grammar.proofs.Common.{SectionContext, check, bytes, header_of, Grammar, u32_field, section_start, header_grammar}
-use Rattle.wasm_grammar.proofs.Common.{section_grammar, body_grammar, grammar, ending_of_number, deciding_ending, Encoding}
-use Rattle.std.proofs.Common.{slice_index, add-one, lit≤}
+use Rattle.wasm_grammar.proofs.Common.{nat_lt, Option, suc, take, drop, ◌^◌, Some, replicate, length-replicate, length-drop, All-nil, All}
+use Rattle.wasm_grammar.proofs.Common.{last_place-lt, Number, read, bad, ends_at, last_place, number, Fault, VarU32, Tile, check, bytes}
+use Rattle.wasm_grammar.proofs.Common.{Grammar, u32_field, section_start, header_grammar, section_grammar, body_grammar, grammar}
+use Rattle.wasm_grammar.proofs.Common.{ending_of_number, deciding_ending}
+use Rattle.std.proofs.Common.{slice_index, add-one}
 use Rattle.std.proofs.lemmas.List.Elements.{All-replicate, All-drop}
 use Rattle.wasm_base.proofs.Numbers.{sum_below}
 use Rattle.wasm_base.specs.Number.{septets, is_unused_right}
@@ -47,9 +47,6 @@ pub record IsSmall (ending : List ℕ) : Type 0 where
   pub each : All (λ b. b < 256) ending
   pub bound : length ending ≤ 2 ^ 32
 
-small_nil : IsSmall []
-small_nil = record { each = All-nil (λ b. b < 256); bound = omega arith }
-
 small_many : (n b : ℕ) → b < 256 → n ≤ 2 ^ 32 → IsSmall (replicate n b)
 small_many n b l m = record { each = All-replicate (λ b. b < 256) n b l; bound = omega (arith, length-replicate n b, m) }
 
@@ -60,38 +57,17 @@ small_number : (xs : List ℕ) (next : ℕ → ℕ → Grammar) → ((v k : ℕ)
     → (n : Number) → number VarU32 xs ≡ n → IsSmall (ending_of_number n (λ v k. deciding_ending (next v k) (drop k xs)))
 small_number xs next ih n e = grind (arith, read_below)
 
-small_bytes : (n : ℕ) (xs : List ℕ) (ending : List ℕ) → n ≤ 2 ^ 32 → IsSmall ending → (b : Bool)
-    → IsSmall (cond b ending (replicate (n - length xs) 0))
-small_bytes n xs ending l s b = grind (arith, small_many)
-
 small_ending : (g : Grammar) → Bounded g → (xs : List ℕ) → IsSmall (deciding_ending g xs)
 unfolding deciding_ending
 small_ending (check None next) b xs = let s : IsSmall (deciding_ending next xs) = small_ending next b xs in s
 small_ending (u32_field o next) b xs = small_number xs next (λ v k l zs. small_ending (next v k) (b v k l) zs) (number VarU32 xs) refl
-small_ending (bytes n o next) b xs = search (small_bytes, small_ending (next (take n xs)) (b.1 (take n xs)) (drop n xs))
+small_ending (bytes n o next) b xs = grind (arith, small_ending (next (take n xs)) (b.1 (take n xs)) (drop n xs), small_many)
 small_ending (section_start o e next) b [] = grind arith
 small_ending (section_start o e next) b (id ∷ xs) = grind (arith, small_ending (next id) (b id) xs, small_drop)
-small_ending _ b xs = small_nil
+small_ending _ b xs = grind (arith, All-nil)
 
 -- ---- the grammars of a stream
 
-Bounded-section : (p : SectionContext) (o : ℕ) → Bounded (section_grammar p o)
-unfolding section_grammar
-Bounded-section p o = grind arith
-
-Bounded-body : (m l o : ℕ) → Bounded (body_grammar m l o)
-unfolding body_grammar
-Bounded-body m l o = grind arith
-
-Bounded-header_of : (o bits : ℕ) (e : Option Encoding) → Bounded (header_of o bits e)
-Bounded-header_of o bits e = grind arith
-
-Bounded-header : (o : ℕ) → Bounded (header_grammar o)
-unfolding header_grammar
-Bounded-header o = (lit≤ tt, λ a. (lit≤ tt, λ b. Bounded-header_of o (of_four b) _))
-
-Bounded-grammar : (start : ℕ) (ts : List Tile) → Bounded (grammar start ts)
-Bounded-grammar start ts = grind (arith, Bounded-header, Bounded-section, Bounded-body)
-
 pub ending_is_small : (start : ℕ) (ts : List Tile) (xs : List ℕ) → IsSmall (deciding_ending (grammar start ts) xs)
-ending_is_small start ts xs = small_ending (grammar start ts) (Bounded-grammar start ts) xs
+unfolding section_grammar header_grammar body_grammar
+ending_is_small start ts xs = small_ending (grammar start ts) (grind arith) xs

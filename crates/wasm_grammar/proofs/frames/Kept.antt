@@ -1,13 +1,12 @@
 -- Sections that have no rank may go, and come.
 use Rattle.wasm_grammar.proofs.Common.{arith, ◌≡◌, inl, inr, Bool, true, false, cond, List, [], ◌∷◌, ◌++◌, refl, ap, ℕ, ◌+◌, length, ◌<◌}
-use Rattle.wasm_grammar.proofs.Common.{◌||◌, sym, ◌∙◌, nat_lt, ltb-true, subst, All-nil, All-cons, All-head, All-tail, All, Any, filter}
-use Rattle.wasm_grammar.proofs.Common.{list_any, SectionFrame, frame_count, frame_rank, IsSection, IsMatched, IsAccepted, Sized}
-use Rattle.wasm_grammar.proofs.Common.{sized_bytes, FitsAfter, CodeDivision, kind_of, whole, Kind, code, rank_of, body_events, code_events}
-use Rattle.wasm_grammar.proofs.Common.{body_event, KindEvents, data_count_id, function_id, Event, shifted_event, shifted_events, Encoding}
-use Rattle.wasm_grammar.proofs.Common.{Module}
+use Rattle.wasm_grammar.proofs.Common.{sym, ◌∙◌, nat_lt, ltb-true, subst, All-nil, All-cons, All-head, All-tail, All, Any, filter, list_any}
+use Rattle.wasm_grammar.proofs.Common.{SectionFrame, frame_count, frame_rank, IsSection, IsMatched, IsAccepted, Sized, sized_bytes}
+use Rattle.wasm_grammar.proofs.Common.{FitsAfter, CodeDivision, kind_of, whole, Kind, code, rank_of, body_events, code_events}
+use Rattle.wasm_grammar.proofs.Common.{data_count_id, function_id, Event, shifted_events, Encoding, Module}
 use Rattle.std.proofs.Common.{ltb-false}
 use Rattle.std.proofs.lemmas.List.Elements.{All-filter, All-weaker}
-use Rattle.wasm_grammar.specs.FrameEvents.{has_rank, SayTheSame}
+use Rattle.wasm_grammar.specs.FrameEvents.{KindEvents, has_rank, SayTheSame}
 use Rattle.wasm_grammar.specs.FrameLaws.{FramesReadTheSame, RanklessMayGo}
 use Rattle.wasm_grammar.proofs.PlainLists.{any_of, any_to, all_prefix, Spares, filter_twice}
 use Rattle.wasm_grammar.proofs.accepted.Counts.{is_section, section_yes, yes_section}
@@ -15,15 +14,9 @@ use Rattle.wasm_grammar.proofs.accepted.Counts.{is_section, section_yes, yes_sec
 -- ---- the remaining elements of lists
 
 module _ {X : Type 0} where
-  -- what passes remains
-  any_step : (p q : X → Bool) (x : X) (xs : List X) → Spares p q x → list_any p (filter q xs) ≡ list_any p xs → (b c : Bool) → p x ≡ b → q x
-      ≡ c
-      → list_any p (cond c (x ∷ filter q xs) (filter q xs)) ≡ (b || list_any p xs)
-  any_step p q x xs e f b c g h = grind arith
-
   any_left : (p q : X → Bool) (xs : List X) → All (Spares p q) xs → list_any p (filter q xs) ≡ list_any p xs
   any_left p q [] a = refl
-  any_left p q (x ∷ xs) a = grind (arith, any_step, All-head, All-tail, any_left p q xs (All-tail (Spares p q) x xs a))
+  any_left p q (x ∷ xs) a = grind (arith, All-head, All-tail, any_left p q xs (All-tail (Spares p q) x xs a))
 
   -- a remaining element was in the list, after all the remaining ones before it
   record LeftAfter (q : X → Bool) (xs : List X) (earlier : List X) (x : X) : Type 0 where
@@ -104,14 +97,11 @@ fits_same encoding earlier others f s a = record {
 
 -- ---- events at another offset
 
-body_event_moves : (features at by : ℕ) (s : Sized) → shifted_event by (body_event features at s) ≡ body_event features (at + by) s
-body_event_moves features at by s = grind arith
-
 body_events_move : (features at by : ℕ) (bodies : List Sized) → shifted_events by (body_events features at bodies)
     ≡ body_events features (at + by) bodies
 body_events_move features at by [] = refl
 body_events_move features at by (s ∷ bodies) =
-    grind (arith, body_event_moves, body_events_move features (at + length (sized_bytes s)) by bodies)
+    grind (arith, body_events_move features (at + length (sized_bytes s)) by bodies)
 
 code_events_move : (features at by : ℕ) (f : SectionFrame) (d : CodeDivision f.sized.content)
     → shifted_events by (code_events features at f d) ≡ code_events features (at + by) f d

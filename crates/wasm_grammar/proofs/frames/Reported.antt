@@ -1,11 +1,11 @@
 -- The sections that are reported of tiles.
-use Rattle.wasm_grammar.proofs.Common.{arith, ◌≡◌, Bool, cond, List, [], ◌∷◌, ◌++◌, refl, ℕ, ◌+◌, length, None, append-nil, Option, ◌-◌}
-use Rattle.wasm_grammar.proofs.Common.{length-append, Some, option_to_list, Range, Ending, kind_of, whole, Kind, Tile, SectionContext}
-use Rattle.wasm_grammar.proofs.Common.{version, tile, section, code_start, code_entry, Shape, content_grammar, verdict, section_grammar}
-use Rattle.wasm_grammar.proofs.Common.{body_grammar, events_of, Event, last_event, tile_report, event_of, section_of, sections_of, bytes_of}
-use Rattle.wasm_grammar.proofs.Common.{encoding_of, grammar, Encoding, Module}
+use Rattle.wasm_grammar.proofs.Common.{arith, ◌≡◌, Bool, cond, List, [], ◌∷◌, ◌++◌, ℕ, ◌+◌, length, None, append-nil, Option, ◌-◌}
+use Rattle.wasm_grammar.proofs.Common.{length-append, Some, option_to_list, Range, Ending, kind_of, whole, Tile, SectionContext, version}
+use Rattle.wasm_grammar.proofs.Common.{tile, section, code_start, code_entry, Shape, verdict, section_grammar, body_grammar, events_of}
+use Rattle.wasm_grammar.proofs.Common.{Event, last_event, tile_report, event_of, section_of, sections_of, bytes_of, encoding_of, grammar}
+use Rattle.wasm_grammar.proofs.Common.{Encoding, Module}
 use Rattle.std.proofs.lemmas.List.Elements.{filter_map-append}
-use Rattle.wasm_grammar.proofs.parts.Placed.{Each, each_tile, bodied, headed}
+use Rattle.wasm_grammar.proofs.parts.Placed.{each_tile, bodied, headed}
 use Rattle.wasm_grammar.proofs.readings.EndToEnd.{Closes, tile_closes}
 
 -- ---- a tile of an encoding
@@ -17,15 +17,11 @@ Kinded encoding (code_start count width size) = encoding ≡ Module
 Kinded encoding (code_entry content) = Unit {0}
 Kinded encoding (version num other) = ⊥
 
-kinded_content : (p : SectionContext) (kind : Kind) (id o n : ℕ) → kind ≡ kind_of p.encoding id
-    → Each (Kinded p.encoding) (content_grammar p kind id o n)
-kinded_content p kind id o n e = grind arith
-
 kinded_section : (p : SectionContext) (o : ℕ) (xs : List ℕ) (t : Tile) → verdict (section_grammar p o) xs ≡ tile t
     → Kinded p.encoding t.shape
 unfolding section_grammar
 kinded_section p o xs t e = each_tile (Kinded p.encoding) (section_grammar p o)
-    (λ id x n k y z. kinded_content p (kind_of p.encoding id) id (o + 1 + k) n refl) xs t e
+    (λ id x n k y z. (grind arith)) xs t e
 
 kinded_at : (b : Bool) (p : SectionContext) (m l o : ℕ) (xs : List ℕ) (t : Tile)
     → verdict (cond b (section_grammar p o) (body_grammar m l o)) xs ≡ tile t → Kinded p.encoding t.shape

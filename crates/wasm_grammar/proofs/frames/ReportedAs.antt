@@ -1,7 +1,7 @@
 -- The sections of an accepted stream determine its reading, and there is one division into sections.
 use Rattle.wasm_grammar.proofs.Common.{arith, ◌≡◌, List, [], ◌∷◌, refl, ℕ, ◌+◌, length, sym, ◌∙◌, All-head, All-tail, All, flat_map}
-use Rattle.wasm_grammar.proofs.Common.{SectionFrame, Sized, sized_bytes, IsSized, frame_bytes, CodeDivision, ended, Kind, code_events}
-use Rattle.wasm_grammar.proofs.Common.{FramesEvents, KindEvents, Reads, Event, Encoding}
+use Rattle.wasm_grammar.proofs.Common.{SectionFrame, Sized, sized_bytes, IsSized, frame_bytes, CodeDivision, ended, code_events}
+use Rattle.wasm_grammar.proofs.Common.{FramesEvents, Reads, Event, Encoding}
 use Rattle.wasm_grammar.specs.FrameLaws.{OneDivision, FramesGiveEvents}
 use Rattle.wasm_grammar.proofs.accepted.Walks.{ReportedAs, Reached, accepted_walk, accepted_ends_there}
 use Rattle.wasm_grammar.proofs.frames.Same.{prefixes_same, numbers_same, sized_same, frames_same}
@@ -21,29 +21,18 @@ bodies_same (s ∷ ss) (t ∷ ts) a b n e =
     grind (arith, All-tail, bodies_same ss ts (All-tail IsSized s ss a) (All-tail IsSized t ts b) (omega arith) q.1)
 bodies_same _ _ a b n e = absurd (omega arith)
 
--- a code section has one division
-division_same : (content : List ℕ) (d e : CodeDivision content) → (d.field ≡ e.field) × (d.bodies ≡ e.bodies)
-division_same content d e =
-    let n : ((length d.bodies ≡ length e.bodies) × (length d.field ≡ length e.field)) = grind (arith, numbers_same) in
-    grind (arith, prefixes_same, bodies_same)
-
 code_events_same : (features at : ℕ) (f : SectionFrame) (d e : CodeDivision f.sized.content) → code_events features at f d
     ≡ code_events features at f e
 code_events_same features at f d e =
-    let q : ((d.field ≡ e.field) × (d.bodies ≡ e.bodies)) = division_same f.sized.content d e in
+    let q : ((d.field ≡ e.field) × (d.bodies ≡ e.bodies)) = grind (arith, numbers_same, prefixes_same, bodies_same) in
     grind arith
-
--- a section has one list of events
-kind_events_same : (features at : ℕ) (k : Kind) (f : SectionFrame) (xs ys : List Event) → KindEvents features at k f xs
-    → KindEvents features at k f ys → xs ≡ ys
-kind_events_same features at k f xs ys x y = grind (arith, code_events_same)
 
 -- and so have sections
 frames_events_same : (features : ℕ) (encoding : Encoding) (at : ℕ) (frames : List SectionFrame) (xs ys : List Event)
     → FramesEvents features encoding at frames xs → FramesEvents features encoding at frames ys → xs ≡ ys
 frames_events_same features encoding at [] xs ys x y = x ∙ sym y
 frames_events_same features encoding at (f ∷ frames) xs ys (a, b, w, h, t) (c, d, v, i, u) =
-    grind (arith, kind_events_same, frames_events_same features encoding (at + length (frame_bytes f)) frames b d t u)
+    grind (arith, frames_events_same features encoding (at + length (frame_bytes f)) frames b d t u, code_events_same)
 
 -- ---- determined by sections
 

@@ -22,9 +22,6 @@ numbers_same xs ys us vs m n p q e =
 pub sized_same : (s t : Sized) (us vs : List ℕ) → IsSized s → IsSized t → sized_bytes s ++ us ≡ sized_bytes t ++ vs → (s ≡ t) × (us ≡ vs)
 sized_same s t us vs p q e = grind (arith, append_assoc, numbers_same, prefixes_same)
 
-frame_same : (f g : SectionFrame) → f.id ≡ g.id → f.sized ≡ g.sized → f ≡ g
-frame_same f g e h = λ i. record { id = e i; sized = h i }
-
 -- sections are, of the same bytes
 pub frames_same : (fs gs : List SectionFrame) → All (λ f. IsSized f.sized) fs → All (λ f. IsSized f.sized) gs → flat_map frame_bytes fs
     ≡ flat_map frame_bytes gs → fs ≡ gs
@@ -33,7 +30,7 @@ frames_same (f ∷ fs) (g ∷ gs) a b e =
     let i : f.id ≡ g.id = cc in
     let q : ((f.sized ≡ g.sized) × (flat_map frame_bytes fs ≡ flat_map frame_bytes gs)) =
     grind (arith, sized_same, All-head) in
-    let h : f ≡ g = frame_same f g i q.0 in
+    let h : f ≡ g = grind arith in
     let t : fs ≡ gs = frames_same fs gs (All-tail (λ x. IsSized x.sized) f fs a) (All-tail (λ x. IsSized x.sized) g gs b) q.1 in
     cc
 frames_same _ _ a b e = cc

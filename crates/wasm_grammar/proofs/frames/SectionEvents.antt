@@ -2,7 +2,7 @@
 use Rattle.wasm_grammar.proofs.Common.{arith, ◌≡◌, ◌⊎◌, inl, inr, Bool, true, false, cond, List, [], ◌∷◌, ◌++◌, ap, ℕ, ◌+◌, length, None}
 use Rattle.wasm_grammar.proofs.Common.{sym, Option, subst, ◌-◌, length-append, Some, Range, IsNumber, IsFormed, Form, kind_of, code}
 use Rattle.wasm_grammar.proofs.Common.{AtOffsets, Tile, SectionContext, tile, section, code_grammar, verdict, section_grammar, body_grammar}
-use Rattle.wasm_grammar.proofs.Common.{events_of, event_of, section_report, section_of, bytes_of, grammar, Faultless}
+use Rattle.wasm_grammar.proofs.Common.{events_of, event_of, section_report, section_of, Faultless}
 use Rattle.wasm_grammar.specs.Laws.{EventsSayTheirBytes}
 use Rattle.wasm_grammar.specs.Reading.{Report}
 use Rattle.wasm_grammar.specs.SectionEvents.{bytes_of_bodies, SaysContent, SaysItsBytes}
@@ -40,9 +40,6 @@ abbrev range_in : Range ℕ → Option (ℕ × Range ℕ) → Range ℕ
 range_in other (Some x) = x.1
 range_in other None = other
 
-id_is : (i j : ℕ) (r s : Range ℕ) → Same j s (Some (i, r)) → i ≡ j
-id_is i j r s e = ap id_in e
-
 range_is : (i j : ℕ) (r s : Range ℕ) → Same j s (Some (i, r)) → r ≡ s
 range_is i j r s e = ap (range_in r) e
 
@@ -64,7 +61,7 @@ section_says features o p t q s = at (whole_or_code (kind_of p.encoding s.id))
         let z : t ≡ made (section w.0 s.id c.content) (s.id ∷ (s.field ++ c.content)) = cc in
         let n : IsNumber s.field (length c.content) = rw c.long s.whole in
         subst (λ (x : Tile). SaysItsBytes features o (event_of features o x)) (sym z)
-        (grind (arith, good_from, said, length-append, made, id_is, range_is))
+        (grind (arith, good_from, said, length-append, made, range_is))
     at (inr k) =
         let g : verdict (code_grammar p (o + 1 + length s.field) s.size) s.others
         ≡ tile s.rest = cc in
@@ -82,17 +79,13 @@ inside_says : (features o : ℕ) (b : Bool) (p : SectionContext) (m l : ℕ) (t 
 inside_says features o true p m l t q v = section_says features o p t q (section_parts p o t.bytes t v)
 inside_says features o false p m l t q v = body_tile_says features o m l t (body_parts m l o t.bytes t v)
 
-tile_says : (start features : ℕ) (ts : List Tile) (t : Tile) → verdict (grammar start ts) t.bytes ≡ tile t
-    → SaysItsBytes features (start + length (bytes_of ts)) (event_of features (start + length (bytes_of ts)) t)
-tile_says start features [] t v = grind (arith, headed)
-tile_says start features (u ∷ ts) t v = search (inside_says, report_after)
-
 -- ---- all events
 
 tiles_say : (start features : ℕ) (ts : List Tile) → Faultless start ts
     → AtOffsets (SaysItsBytes features) start (events_of start features ts)
 tiles_say start features [] f = tt
-tiles_say start features (t ∷ ts) f = grind (arith, at_offsets_more, tiles_consume, tile_says, tiles_say start features ts f.0)
+tiles_say start features (t ∷ ts) f =
+    grind (arith, at_offsets_more, tiles_consume, tiles_say start features ts f.0, headed, inside_says, report_after)
 
 pub events_say_their_bytes : EventsSayTheirBytes
 events_say_their_bytes stream start features events r = grind (arith, at_offsets_more, tiles_say)

@@ -1,9 +1,9 @@
 -- The events of a header's tile, and of the tiles of sections.
 use Rattle.wasm_grammar.proofs.Common.{arith, ◌≡◌, List, [], ◌∷◌, ◌++◌, refl, ap, ℕ, ◌+◌, length, sym, ◌∙◌, append-nil, append_assoc, subst}
 use Rattle.wasm_grammar.proofs.Common.{◌-◌, length-append, flat_map, SectionFrame, header_bytes, Sized, sized_bytes, frame_bytes}
-use Rattle.wasm_grammar.proofs.Common.{CodeDivision, Form, header_event, section_event, FrameEvents, FramesEvents, body_event, section}
-use Rattle.wasm_grammar.proofs.Common.{code_id, Event, event_of, Encoding}
-use Rattle.wasm_grammar.specs.FrameEvents.{start_event}
+use Rattle.wasm_grammar.proofs.Common.{CodeDivision, Form, header_event, section_event, FrameEvents, FramesEvents, section, code_id, Event}
+use Rattle.wasm_grammar.proofs.Common.{event_of, Encoding}
+use Rattle.wasm_grammar.specs.FrameEvents.{body_event, start_event}
 use Rattle.wasm_grammar.proofs.accepted.Tiles.{made, header_version}
 use Rattle.wasm_grammar.specs.Grammar
 

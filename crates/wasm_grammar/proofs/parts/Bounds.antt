@@ -1,10 +1,10 @@
 -- Where the faults of a grammar lie.
 use Rattle.wasm_grammar.proofs.Common.{arith, ◌≡◌, Bool, cond, List, [], ◌∷◌, refl, ℕ, ◌+◌, length, ◌≤◌, None, Option, take, drop, nat_le}
 use Rattle.wasm_grammar.proofs.Common.{length-append, Some, le_refl, length-take-le, length-drop, number-used, FaultAt, at_offset, Number}
-use Rattle.wasm_grammar.proofs.Common.{number, UnexpectedEof, VarU32, Ending, fault, ended, Form, kind_of, when, whole, Kind, code}
-use Rattle.wasm_grammar.proofs.Common.{wrong_content, Tile, SectionContext, end_at_section, wrong_data, check, bytes, final, after, Grammar}
-use Rattle.wasm_grammar.proofs.Common.{accept, u32_field, content_grammar, whole_grammar, after_length, section_start, Verdict}
-use Rattle.wasm_grammar.proofs.Common.{after_number, reject, verdict, header_grammar, section_grammar, body_grammar, bytes_of, grammar}
+use Rattle.wasm_grammar.proofs.Common.{number, UnexpectedEof, VarU32, Ending, fault, ended, Form, kind_of, when, Kind, wrong_content, Tile}
+use Rattle.wasm_grammar.proofs.Common.{SectionContext, wrong_data, check, bytes, final, after, Grammar, accept, u32_field, after_length}
+use Rattle.wasm_grammar.proofs.Common.{section_start, Verdict, after_number, reject, verdict, header_grammar, section_grammar, body_grammar}
+use Rattle.wasm_grammar.proofs.Common.{bytes_of, grammar}
 use Rattle.wasm_grammar.specs.Laws.{FaultLiesWithin}
 use Rattle.wasm_grammar.proofs.parts.Places.{number_place, name_place}
 
@@ -77,27 +77,15 @@ data_wrong : (p : SectionContext) (kind : Form) (id offset : ℕ) (content : Lis
     → MayLie offset offset (wrong_data p kind id offset content)
 data_wrong p kind id offset content = grind arith
 
-Within-whole : (low here : ℕ) (p : SectionContext) (kind : Form) (id offset size : ℕ) → low ≤ offset → offset ≡ here
-    → Within low here (whole_grammar p kind id offset size)
-Within-whole low here p kind id offset size l z = grind (arith, content_wrong, data_wrong)
-
-Within-content : (low here : ℕ) (p : SectionContext) (kind : Kind) (id offset size : ℕ) → low ≤ offset → offset ≡ here
-    → Within low here (content_grammar p kind id offset size)
-Within-content low here p code id offset size l z = grind arith
-Within-content low here p (whole form) id offset size l z = Within-whole low here p form id offset size l z
-
-end_lies : (p : SectionContext) (offset : ℕ) → EndsIn offset offset (end_at_section p offset)
-end_lies p offset = grind arith
-
 Within-sized : (o : ℕ) (p : SectionContext) (kind : Kind) (id size width : ℕ)
     → Within o (o + 1 + width) (after_length p kind id (o + 1) (o + 1 + width) size)
-Within-sized o p kind id size width = grind (arith, Within-content)
+Within-sized o p kind id size width = grind (arith, content_wrong, data_wrong)
 
 Within-section : (p : SectionContext) (o : ℕ) → Within o o (section_grammar p o)
 unfolding section_grammar
 Within-section p o = (
   (le_refl o, le_refl o),
-  end_lies p o,
+  (grind arith),
   λ id. (
     when_lies o (o + 1) _ _ (omega arith, omega arith),
     (

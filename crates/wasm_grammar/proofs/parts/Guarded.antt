@@ -1,13 +1,10 @@
 -- What each grammar of the stream keeps: its tiles are guarded, and take at least one byte.
 use Rattle.wasm_grammar.proofs.Common.{arith, ◌≡◌, Bool, true, cond, List, ◌∷◌, ◌++◌, refl, ℕ, ◌+◌, length, ◌≤◌, ◌<◌, eqb-true, Option}
 use Rattle.wasm_grammar.proofs.Common.{zero, suc, take, drop, length-append, leb-true, and_parts, length-take-le, number-used, FaultAt}
-use Rattle.wasm_grammar.proofs.Common.{magic, agree, read, number, VarU32, Ending, kind_of, Kind, Tile, SectionContext, tile, check, bytes}
-use Rattle.wasm_grammar.proofs.Common.{Grammar, u32_field, content_grammar, after_length, after_id, section_start, body_of, verdict}
-use Rattle.wasm_grammar.proofs.Common.{header_grammar, section_grammar, body_grammar, grammar}
+use Rattle.wasm_grammar.proofs.Common.{magic, agree, read, number, VarU32, kind_of, Tile, SectionContext, tile, check, bytes, Grammar}
+use Rattle.wasm_grammar.proofs.Common.{u32_field, after_length, after_id, body_of, verdict, header_grammar, section_grammar, body_grammar}
+use Rattle.wasm_grammar.proofs.Common.{grammar}
 use Rattle.wasm_grammar.proofs.parts.Verdicts.{Guarded, after-tile}
-
-Guarded-content : (p : SectionContext) (k : Kind) (id o n : ℕ) → Guarded (content_grammar p k id o n)
-Guarded-content p k id o n = grind arith
 
 -- a tile after a test that fails
 pub refused : (e : Option FaultAt) (g : Grammar) (xs : List ℕ) (t : Tile) → verdict (check e g) xs ≡ tile t → verdict g xs ≡ tile t
@@ -50,37 +47,21 @@ longer p o id xs s w e =
     numbered (o + 1) _ xs s (refused _ _ xs s w) in
     grind (arith, number-used, and_parts, eqb-true, one_byte, bytes_least, refused)
 
-pub Guarded-section : (p : SectionContext) (o : ℕ) → Guarded (section_grammar p o)
-unfolding section_grammar
-Guarded-section p o = λ id. (λ size width. Guarded-content p (kind_of p.encoding id) id (o + 1 + width) size, longer p o id)
-
 pub Guarded-header : (o : ℕ) → Guarded (header_grammar o)
 unfolding header_grammar
 Guarded-header o = grind arith
 
-pub Guarded-body : (m l o : ℕ) → Guarded (body_grammar m l o)
-unfolding body_grammar
-Guarded-body m l o = grind arith
-
 pub Guarded-inside_at : (b : Bool) (p : SectionContext) (m l o : ℕ) → Guarded (cond b (section_grammar p o) (body_grammar m l o))
-Guarded-inside_at b p m l o = grind (arith, Guarded-section, Guarded-body)
+unfolding body_grammar section_grammar
+Guarded-inside_at b p m l o = grind (arith, longer)
 
 pub Guarded-grammar : (start : ℕ) (ts : List Tile) → Guarded (grammar start ts)
 Guarded-grammar start ts = grind (arith, Guarded-header, Guarded-inside_at)
-
-least_start : (o : ℕ) (z : Ending) (next : ℕ → Grammar) (xs : List ℕ) (t : Tile) → verdict (section_start o z next) xs ≡ tile t
-    → 0 < length t.bytes
-unfolding verdict
-least_start o z next xs t e = grind arith
 
 least_body : (m l o : ℕ) (xs : List ℕ) (t : Tile) → verdict (body_grammar m l o) xs ≡ tile t → 0 < length t.bytes
 unfolding body_grammar verdict
 least_body zero l o xs t e = cc
 least_body (suc m) l o xs t e = number_least o (body_of o l) xs t e
-
-least_section : (p : SectionContext) (o : ℕ) (xs : List ℕ) (t : Tile) → verdict (section_grammar p o) xs ≡ tile t → 0 < length t.bytes
-unfolding section_grammar
-least_section p o xs t e = least_start o _ _ xs t e
 
 pub least_header : (o : ℕ) (xs : List ℕ) (t : Tile) → verdict (header_grammar o) xs ≡ tile t → 0 < length t.bytes
 unfolding header_grammar
@@ -88,7 +69,8 @@ least_header o xs t e = let l : 4 ≤ length t.bytes = bytes_least 4 o _ xs t e 
 
 pub least_inside : (b : Bool) (p : SectionContext) (m l o : ℕ) (xs : List ℕ) (t : Tile)
     → verdict (cond b (section_grammar p o) (body_grammar m l o)) xs ≡ tile t → 0 < length t.bytes
-least_inside b p m l o xs t e = grind (arith, least_section, least_body)
+unfolding section_grammar verdict
+least_inside b p m l o xs t e = grind (arith, least_body)
 
 -- each tile has a byte
 pub tile_least : (start : ℕ) (ts : List Tile) (xs : List ℕ) (t : Tile) → verdict (grammar start ts) xs ≡ tile t → 0 < length t.bytes

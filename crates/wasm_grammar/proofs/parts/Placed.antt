@@ -1,10 +1,9 @@
 -- What is at a place is what may come there.
 use Rattle.wasm_grammar.proofs.Common.{arith, ◌≡◌, Bool, true, false, cond, List, [], ◌∷◌, refl, ℕ, ◌+◌, None, ◌<◌, not, ◌&&◌, sym, nat_lt}
-use Rattle.wasm_grammar.proofs.Common.{Option, subst, zero, suc, take, drop, list_all, FaultAt, Number, number, VarU32, Ending, kind_of}
-use Rattle.wasm_grammar.proofs.Common.{when, whole, Kind, code, rank_of, Tile, SectionContext, version, tile, check, bytes, header_of}
-use Rattle.wasm_grammar.proofs.Common.{section, code_start, code_entry, Shape, final, after, Grammar, accept, u32_field, content_grammar}
-use Rattle.wasm_grammar.proofs.Common.{section_start, Verdict, after_number, reject, verdict, header_grammar, section_grammar, body_grammar}
-use Rattle.wasm_grammar.proofs.Common.{context_of, grammar, tile_rank, Encoding}
+use Rattle.wasm_grammar.proofs.Common.{subst, zero, suc, take, drop, list_all, FaultAt, Number, number, VarU32, kind_of, whole, when, Kind}
+use Rattle.wasm_grammar.proofs.Common.{code, rank_of, Tile, SectionContext, version, tile, check, bytes, section, code_start, code_entry}
+use Rattle.wasm_grammar.proofs.Common.{Shape, after, Grammar, accept, u32_field, content_grammar, section_start, Verdict, after_number}
+use Rattle.wasm_grammar.proofs.Common.{reject, verdict, header_grammar, section_grammar, body_grammar, context_of, grammar, tile_rank}
 use Rattle.wasm_grammar.proofs.parts.Verdicts.{after-tile}
 
 -- what each tile of a grammar is known to be
@@ -24,22 +23,14 @@ each_number : (P : Shape → Type 0) (o : ℕ) (xs : List ℕ) (n : Number) (nex
     → ((v k : ℕ) (s : Tile) → next v k ≡ tile s → P s.shape) → after_number o xs n next ≡ tile t → P t.shape
 each_number P o xs n next t v k = grind arith
 
-each_test : (P : Shape → Type 0) (b : Bool) (v : Verdict) (e : Ending) (t : Tile) → (v ≡ tile t → P t.shape) → cond b v (final e) ≡ tile t
-    → P t.shape
-each_test P b v e t h w = grind arith
-
-each_test' : (P : Shape → Type 0) (b : Bool) (v : Verdict) (e : Ending) (t : Tile) → (v ≡ tile t → P t.shape) → cond b (final e) v ≡ tile t
-    → P t.shape
-each_test' P b v e t h w = grind arith
-
 pub each_tile : (P : Shape → Type 0) (g : Grammar) → Each P g → (xs : List ℕ) (t : Tile) → verdict g xs ≡ tile t → P t.shape
 unfolding verdict
 each_tile P (accept s) h xs t e = grind arith
 each_tile P (check None next) h xs t w = each_tile P next (h refl) xs t w
 each_tile P (u32_field o next) h xs t w = each_number P o xs (number VarU32 xs) (λ v k. verdict (next v k) (drop k xs)) t
     (λ v k. each_tile P (next v k) (h v k) (drop k xs)) w
-each_tile P (bytes n o next) h xs t w = grind (arith, each_test, each_after, each_tile P (next (take n xs)) (h (take n xs)) (drop n xs))
-each_tile P (section_start o z next) h (id ∷ xs) t w = grind (arith, each_test', each_after, each_tile P (next id) (h id) xs)
+each_tile P (bytes n o next) h xs t w = grind (arith, each_after, each_tile P (next (take n xs)) (h (take n xs)) (drop n xs))
+each_tile P (section_start o z next) h (id ∷ xs) t w = grind (arith, each_after, each_tile P (next id) (h id) xs)
 each_tile P _ h _ t w = cc
 
 -- a section of this rank may follow
@@ -80,12 +71,9 @@ abbrev pub IsHeader : Shape → Type 0
 IsHeader (version num encoding) = Unit {0}
 IsHeader _ = ⊥
 
-header_each : (o bits : ℕ) (e : Option Encoding) → Each IsHeader (header_of o bits e)
-header_each o bits e = grind arith
-
 pub headed : (o : ℕ) (xs : List ℕ) (t : Tile) → verdict (header_grammar o) xs ≡ tile t → IsHeader t.shape
 unfolding header_grammar
-headed o xs t e = each_tile IsHeader (header_grammar o) (λ a x b. header_each o _ _) xs t e
+headed o xs t e = each_tile IsHeader (header_grammar o) (λ a x b. (grind arith)) xs t e
 
 -- where this holds of a tile's rank, it ranks above each tile before it
 abbrev pub Fresh : List Tile → Shape → Type 0

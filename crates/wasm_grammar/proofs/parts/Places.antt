@@ -1,7 +1,7 @@
 -- What is wrong with bytes is wrong at one of them, or at their end.
 use Rattle.wasm_grammar.proofs.Common.{arith, ◌≡◌, Bool, cond, List, refl, ℕ, length, ◌≤◌, None, ◌<◌, nat_lt, Option, suc, ◌-◌, Some}
-use Rattle.wasm_grammar.proofs.Common.{length-drop, number-used, last_place-lt, named, refused, after_size, name, Number, read, bad}
-use Rattle.wasm_grammar.proofs.Common.{ends_at, last_place, number, Fault, VarU32}
+use Rattle.wasm_grammar.proofs.Common.{length-drop, number-used, last_place-lt, named, name, read, bad, ends_at, last_place, number, Fault}
+use Rattle.wasm_base.specs.Name.{refused}
 use Rattle.wasm_base.specs.Number.{most_bytes}
 use Rattle.wasm_base.specs.declared.fault.NumberKind.{NumberKind}
 
@@ -22,20 +22,12 @@ pub number_place : (kind : NumberKind) (xs : List ℕ) (f : Fault) (p : ℕ) →
 unfolding number
 number_place kind xs f p r = place_at kind xs (last_place xs) f p refl r
 
-name_place_at : (limit : Option ℕ) (xs : List ℕ) (n : Number) (f : Fault) (p : ℕ) → number VarU32 xs ≡ n → after_size limit xs n
-    ≡ refused f p → p ≤ length xs
-name_place_at limit xs n f p e r = grind (arith, number_place, number-used, length-drop)
-
 -- a name is wrong at one of the bytes, or at their end
 pub name_place : (limit : Option ℕ) (xs : List ℕ) (f : Fault) (p : ℕ) → name limit xs ≡ refused f p → p ≤ length xs
 unfolding name
-name_place limit xs f p r = name_place_at limit xs (number VarU32 xs) f p refl r
-
-name_used_at : (limit : Option ℕ) (xs : List ℕ) (n : Number) (shown : List ℕ) (k : ℕ) → number VarU32 xs ≡ n → after_size limit xs n
-    ≡ named shown k → k ≤ length xs
-name_used_at limit xs n shown k e r = grind (arith, number-used, length-drop)
+name_place limit xs f p r = grind (arith, number_place, number-used, length-drop)
 
 -- a name takes no more than the bytes that are there
 pub name_used : (limit : Option ℕ) (xs shown : List ℕ) (k : ℕ) → name limit xs ≡ named shown k → k ≤ length xs
 unfolding name
-name_used limit xs shown k r = name_used_at limit xs (number VarU32 xs) shown k refl r
+name_used limit xs shown k r = grind (arith, number-used, length-drop)

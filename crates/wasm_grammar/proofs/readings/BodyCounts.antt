@@ -2,9 +2,7 @@
 use Rattle.wasm_grammar.proofs.Common.{arith, ◌≡◌, ◌⊎◌, inl, inr, Bool, true, false, cond, List, [], ◌∷◌, ◌++◌, refl, ap, ℕ, ◌+◌, length}
 use Rattle.wasm_grammar.proofs.Common.{sym, ◌∙◌, nat_eq, eqb-true, append_assoc, subst, ◌-◌, length-append, append_cancel_left, All-nil}
 use Rattle.wasm_grammar.proofs.Common.{All-push, All, Ending, Tile, tile, final, verdict, section_grammar, body_grammar, events_of, Event}
-use Rattle.wasm_grammar.proofs.Common.{last_event, tile_report, event_of, stream_end, bytes_of, context_of, bodies_left, bytes_left}
-use Rattle.wasm_grammar.proofs.Common.{grammar, Faultless}
-use Rattle.wasm_base.specs.Window.{Window}
+use Rattle.wasm_grammar.proofs.Common.{last_event, tile_report, event_of, bytes_of, context_of, bodies_left, bytes_left, grammar, Faultless}
 use Rattle.wasm_grammar.specs.Reading.{code_start, code_entry}
 use Rattle.wasm_grammar.specs.SectionLaws.{BodiesFollowTheirCount}
 use Rattle.wasm_grammar.specs.Sections.{ReportsBody, BodiesFollow}
@@ -20,9 +18,6 @@ split_end : {X : Type 0} (xs earlier later : List X) (x y : X) → xs ++ x ∷ [
 split_end {X} xs earlier later x y e = grind (arith, split_last, append_cancel_left, append_assoc)
 
 -- ---- which reports are a start or a body
-
-no_last : (end : Ending) (w : Window) → stream_end end ≡ code_entry w → ⊥
-no_last end w e = cc
 
 -- ---- after a start
 
@@ -93,7 +88,7 @@ follows start features (t ∷ ts) f before after e count from to size z c =
 -- the same of the reading, with how it ends
 ends : (start features : ℕ) (ts : List Tile) (rest : List ℕ) (end : Ending) → verdict (grammar start ts) rest ≡ final end
     → (count : ℕ) (after : List Event) → Open ts count after → BodiesFollow count (after ++ last_event end ∷ [])
-ends start features ts rest end v count after s = grind (arith, no_last, inside_end, eqb-true)
+ends start features ts rest end v count after s = grind (arith, inside_end, eqb-true)
 
 shut_follow : (count : ℕ) (after : List Event) → Shut count after → BodiesFollow count after
 shut_follow count after s = grind arith

@@ -2,13 +2,14 @@
 use Rattle.wasm_grammar.proofs.Common.{arith, ◌≡◌, Bool, cond, List, [], ◌∷◌, ◌++◌, refl, ap, ℕ, ◌+◌, length, ◌≤◌, None, ◌&&◌, sym, ◌∙◌}
 use Rattle.wasm_grammar.proofs.Common.{append-nil, append_assoc, subst, ◌-◌, take, drop, nat_le, length-append, flat_map-append}
 use Rattle.wasm_grammar.proofs.Common.{length-take-le, take_at, drop_at, number-used, at_offset, magic, agree, Number, number}
-use Rattle.wasm_grammar.proofs.Common.{MagicAtSection, UnexpectedEof, VarU32, Ending, fault, ended, Form, kind_of, Kind, AtOffsets}
-use Rattle.wasm_grammar.proofs.Common.{consumed_by, Tile, SectionContext, version, tile, check, bytes, section, code_start, code_entry}
-use Rattle.wasm_grammar.proofs.Common.{Shape, final, after, Grammar, accept, u32_field, content_grammar, section_start, Verdict}
-use Rattle.wasm_grammar.proofs.Common.{after_number, reject, verdict, header_grammar, section_grammar, body_grammar, Reads, events_of}
-use Rattle.wasm_grammar.proofs.Common.{Event, last_event, tile_report, event_of, section_report, stream_end, bytes_of, grammar, Faultless}
+use Rattle.wasm_grammar.proofs.Common.{MagicAtSection, UnexpectedEof, VarU32, Ending, fault, ended, Form, Kind, AtOffsets, consumed_by}
+use Rattle.wasm_grammar.proofs.Common.{Tile, SectionContext, version, tile, check, bytes, section, code_start, code_entry, Shape, final}
+use Rattle.wasm_grammar.proofs.Common.{after, Grammar, accept, u32_field, content_grammar, section_start, Verdict, after_number, reject}
+use Rattle.wasm_grammar.proofs.Common.{verdict, header_grammar, section_grammar, body_grammar, Reads, events_of, Event, last_event}
+use Rattle.wasm_grammar.proofs.Common.{tile_report, event_of, section_report, bytes_of, grammar, Faultless}
 use Rattle.wasm_grammar.specs.EventRanges.{LiesIn, LiesBetween, EndToEnd}
 use Rattle.wasm_grammar.specs.Laws.{EventsLieEndToEnd}
+use Rattle.wasm_grammar.specs.Reading.{stream_end}
 use Rattle.wasm_grammar.proofs.parts.Places.{name_used}
 use Rattle.wasm_grammar.proofs.parts.Verdicts.{after-tile}
 use Rattle.wasm_grammar.proofs.readings.Endings.{header_end, inside_end}
@@ -71,24 +72,10 @@ closes passed _ _ t c h = cc
 Closing-content : (passed : List ℕ) (p : SectionContext) (kind : Kind) (id o n : ℕ) → Closing passed (content_grammar p kind id o n)
 Closing-content passed p kind id o n = grind (arith, length-append)
 
-Closing-section : (p : SectionContext) (o : ℕ) → Closing [] (section_grammar p o)
-unfolding section_grammar
-Closing-section p o = λ id size width b e. Closing-content (id ∷ b) p (kind_of p.encoding id) id (o + 1 + width) size
-
-Closing-header : (o : ℕ) → Closing [] (header_grammar o)
-unfolding header_grammar
-Closing-header o = grind arith
-
-Closing-body : (m l o : ℕ) → Closing [] (body_grammar m l o)
-unfolding body_grammar
-Closing-body m l o = grind arith
-
-Closing-grammar : (start : ℕ) (ts : List Tile) → Closing [] (grammar start ts)
-Closing-grammar start ts = grind (arith, Closing-header, Closing-section, Closing-body)
-
 -- a tile's bytes end with its content
 pub tile_closes : (start : ℕ) (ts : List Tile) (xs : List ℕ) (t : Tile) → verdict (grammar start ts) xs ≡ tile t → Closes t.shape t.bytes
-tile_closes start ts xs t h = closes [] (grammar start ts) xs t (Closing-grammar start ts) h
+unfolding header_grammar section_grammar body_grammar
+tile_closes start ts xs t h = closes [] (grammar start ts) xs t (grind (arith, Closing-content)) h
 
 -- ---- where a stream ends
 
@@ -124,14 +111,10 @@ range_is : (stream : List ℕ) (start low high : ℕ) (content : List ℕ) → P
     → LiesIn (high - length content) ((high - length content) + length content) low high
 range_is stream start low high content p = grind arith
 
-whole_range : (stream : List ℕ) (start low high : ℕ) (content : List ℕ) → Placed stream start low high content
-    → LiesIn (high - length content) high low high
-whole_range stream start low high content p = grind arith
-
 section_lies : (stream : List ℕ) (start low high features : ℕ) (kind : Form) (id : ℕ) (content : List ℕ)
     → Placed stream start low high content → LiesBetween stream start features low high
     (section_report features (high - length content) high kind id content)
-section_lies stream start low high features kind id content e = grind (arith, name_used, whole_range)
+section_lies stream start low high features kind id content e = grind (arith, name_used)
 
 lies_between : (stream earlier passed rest : List ℕ) (start low high features : ℕ) (shape : Shape) → stream ≡ earlier ++ (passed ++ rest)
     → low ≡ start + length earlier → high ≡ low + length passed → Closes shape passed

@@ -2,17 +2,16 @@
 use Rattle.wasm_grammar.proofs.Common.{arith, ◌≡◌, ◌⊎◌, inl, Bool, cond, List, [], ◌∷◌, ◌++◌, refl, ap, ℕ, ◌+◌, length, None, not, ◌∙◌}
 use Rattle.wasm_grammar.proofs.Common.{nat_lt, nat_eq, Option, subst, zero, suc, ◌-◌, take, drop, nat_le, length-append, Some, FaultAt}
 use Rattle.wasm_grammar.proofs.Common.{at_offset, magic, agree, of_four, Number, number, BadMagic, MagicAtSection, UnexpectedEof}
-use Rattle.wasm_grammar.proofs.Common.{MalformedSectionId, VarU32, Ending, fault, Form, kind_of, when, whole, Kind, code, wrong_content}
-use Rattle.wasm_grammar.proofs.Common.{Tile, SectionContext, end_at_section, tile, check, bytes, header_of, version_of, section, Shape}
-use Rattle.wasm_grammar.proofs.Common.{final, after, Grammar, accept, u32_field, content_grammar, whole_grammar, after_length, after_id}
-use Rattle.wasm_grammar.proofs.Common.{section_start, Verdict, after_number, reject, body_of, verdict, header_grammar, section_grammar}
-use Rattle.wasm_grammar.proofs.Common.{body_grammar, events_of, tile_report, event_of, section_report, shifted_event, shifted_events}
-use Rattle.wasm_grammar.proofs.Common.{bytes_of, context_of, bodies_left, bytes_left, grammar, Faultless, Encoding}
+use Rattle.wasm_grammar.proofs.Common.{MalformedSectionId, VarU32, Ending, fault, Form, kind_of, when, Kind, wrong_content, Tile}
+use Rattle.wasm_grammar.proofs.Common.{SectionContext, tile, check, bytes, version_of, section, Shape, final, after, Grammar, accept}
+use Rattle.wasm_grammar.proofs.Common.{u32_field, after_length, after_id, section_start, Verdict, after_number, reject, body_of, verdict}
+use Rattle.wasm_grammar.proofs.Common.{header_grammar, section_grammar, body_grammar, events_of, tile_report, event_of, section_report}
+use Rattle.wasm_grammar.proofs.Common.{shifted_events, bytes_of, context_of, bodies_left, bytes_left, grammar, Faultless}
 use Rattle.std.proofs.Common.{option_map, subst₂}
 use Rattle.std.proofs.lemmas.List.{map-append}
 use Rattle.wasm_base.specs.declared.fault.Fault.TheVariants.{SectionTooLarge}
 use Rattle.wasm_grammar.specs.Laws.{StartOnlyMoves}
-use Rattle.wasm_grammar.specs.Shifted.{shifted_fault, shifted_ending, shifted_report, PassesTheTop}
+use Rattle.wasm_grammar.specs.Shifted.{shifted_event, shifted_fault, shifted_ending, shifted_report, PassesTheTop}
 use Rattle.wasm_grammar.specs.Tiling.{inside}
 use Rattle.wasm_grammar.proofs.readings.EndToEnd.{Closes, tile_closes}
 use Rattle.wasm_grammar.proofs.readings.Readings.{reads_same}
@@ -56,11 +55,6 @@ number_moves : (by o : ℕ) (next then : ℕ → ℕ → Grammar) (xs : List ℕ
     (after_number (o + by) xs n (λ v k. verdict (then v k) (drop k xs)))
 number_moves by o next then xs ih n = grind arith
 
-bytes_move : (by o : ℕ) (prefix : List ℕ) (v w : Verdict) → Moves by v w → (b : Bool)
-    → Moves by (cond b (after prefix v) (final (fault (at_offset UnexpectedEof o))))
-    (cond b (after prefix w) (final (fault (at_offset UnexpectedEof (o + by)))))
-bytes_move by o prefix v w m b = grind arith
-
 start_moves : (by o id : ℕ) (v w : Verdict) → Moves by v w → (b : Bool)
     → Moves by (cond b (final (fault (at_offset MagicAtSection o))) (after (id ∷ []) v))
     (cond b (final (fault (at_offset MagicAtSection (o + by)))) (after (id ∷ []) w))
@@ -72,7 +66,7 @@ verdict_moves by (check e next) h xs (f, then, z, m, l) = grind (arith, verdict_
 verdict_moves by (u32_field o next) h xs (then, z, l) =
     rw z (number_moves by o next then xs (λ v k zs. verdict_moves by (next v k) (then v k) zs (l v k)) (number VarU32 xs))
 verdict_moves by (bytes count o next) h xs (then, z, l) =
-    grind (arith, bytes_move, verdict_moves by (next (take count xs)) (then (take count xs)) (drop count xs) (l (take count xs)))
+    grind (arith, verdict_moves by (next (take count xs)) (then (take count xs)) (drop count xs) (l (take count xs)))
 verdict_moves by (section_start o e next) h [] (then, z, l) = grind arith
 verdict_moves by (section_start o e next) h (id ∷ xs) (then, z, l) =
     grind (arith, start_moves, verdict_moves by (next id) (then id) xs (l id))
@@ -88,18 +82,9 @@ content_wrong : (by : ℕ) (kind : Form) (o : ℕ) (content : List ℕ)
 unfolding wrong_content
 content_wrong by kind o content = grind arith
 
-Like-whole : (by : ℕ) (p : SectionContext) (kind : Form) (id o n : ℕ)
-    → Like by (whole_grammar p kind id o n) (whole_grammar p kind id (o + by) n)
-Like-whole by p kind id o n = grind (arith, content_wrong)
-
-Like-content : (by : ℕ) (p : SectionContext) (kind : Kind) (id o n : ℕ)
-    → Like by (content_grammar p kind id o n) (content_grammar p kind id (o + by) n)
-Like-content by p code id o n = grind arith
-Like-content by p (whole form) id o n = Like-whole by p form id o n
-
 Like-sized : (by : ℕ) (p : SectionContext) (kind : Kind) (id field o n : ℕ)
     → Like by (after_length p kind id field o n) (after_length p kind id (field + by) (o + by) n)
-Like-sized by p kind id field o n = grind (arith, Like-content)
+Like-sized by p kind id field o n = grind (arith, content_wrong)
 
 Like-framed : (by : ℕ) (p : SectionContext) (o id : ℕ) → Like by (after_id p o id) (after_id p (o + by) id)
 Like-framed by p o id = (
@@ -117,14 +102,11 @@ Like-framed by p o id = (
   ),
 )
 
-end_moves : (by : ℕ) (p : SectionContext) (o : ℕ) → end_at_section p (o + by) ≡ shifted_ending by (end_at_section p o)
-end_moves by p o = grind arith
-
 Like-section : (by : ℕ) (p : SectionContext) (o : ℕ) → Like by (section_grammar p o) (section_grammar p (o + by))
 unfolding section_grammar
 Like-section by p o = (
   after_id p (o + by),
-  ap (λ (x : Ending). section_start (o + by) x (after_id p (o + by))) (end_moves by p o),
+  ap (λ (x : Ending). section_start (o + by) x (after_id p (o + by))) (grind arith),
   λ id.
       Like-framed by p o id,
 )
@@ -143,9 +125,6 @@ unfolding body_grammar
 Like-body by zero code_bytes o = refl
 Like-body by (suc bodies) code_bytes o = (_, refl, λ n width. Like-body_of by o code_bytes n width)
 
-Like-header_of : (by o bits : ℕ) (e : Option Encoding) → Like by (header_of o bits e) (header_of (o + by) bits e)
-Like-header_of by o bits e = grind arith
-
 Like-header : (by o : ℕ) → Like by (header_grammar o) (header_grammar (o + by))
 unfolding header_grammar
 Like-header by o = (
@@ -159,7 +138,7 @@ Like-header by o = (
     (
       λ four. version_of (o + by) (of_four four),
       ap (λ (x : ℕ). bytes 4 x (λ four. version_of (o + by) (of_four four))) (omega arith),
-      λ four. Like-header_of by o (of_four four) _,
+      λ four. (grind arith),
     ),
   ),
 )
