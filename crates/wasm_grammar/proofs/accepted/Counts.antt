@@ -88,7 +88,7 @@ pub same_to : (encoding : Encoding) (n c : ℕ) (fs : List SectionFrame) → Has
     → list_all (nat_eq c) (counts_of encoding n fs) ≡ true
 same_to encoding n c fs a = all_counts encoding n (nat_eq c) fs
     ∙ all_to (advances encoding n (nat_eq c)) (λ g. IsSection encoding n g → frame_count g ≡ c)
-    (λ g h. (grind arith)) fs a
+    (λ g h. grind arith) fs a
 
 -- what the test of counts says
 pub same_of : (encoding : Encoding) (n c : ℕ) (fs : List SectionFrame) → list_all (nat_eq c) (counts_of encoding n fs) ≡ true

@@ -1,9 +1,8 @@
 -- What tiles say of the frames that they make, tile by tile.
 use Rattle.wasm_grammar.proofs.Common.{arith, ◌≡◌, true, false, List, [], ◌∷◌, ◌++◌, ap, ℕ, ◌+◌, length, sym, ◌∙◌, nat_eq, eqb-true, lt-ltb}
-use Rattle.wasm_grammar.proofs.Common.{and_comm, and_from, list_all-append, SectionFrame, frame_count, items, kind_of, whole, Kind}
-use Rattle.wasm_grammar.proofs.Common.{data_count, code, Tile, version, section, code_start, code_entry, section_grammar, body_grammar}
-use Rattle.wasm_grammar.proofs.Common.{code_id, bytes_of, context_of, bodies_left, bytes_left, grammar, is_start, Encoding, Module}
-use Rattle.wasm_grammar.specs.Tiling.{count_in}
+use Rattle.wasm_grammar.proofs.Common.{and_comm, and_from, list_all-append, SectionFrame, frame_count, kind_of, Tile, version, section}
+use Rattle.wasm_grammar.proofs.Common.{code_start, code_entry, section_grammar, body_grammar, code_id, bytes_of, context_of, bodies_left}
+use Rattle.wasm_grammar.proofs.Common.{bytes_left, grammar, is_start, Encoding, Module}
 use Rattle.wasm_grammar.proofs.accepted.Counts.{one_count, counts_of, counts_push, Knows}
 use Rattle.wasm_grammar.proofs.accepted.Tiles.{made, IsWhole, header_version, not_code}
 
@@ -26,17 +25,6 @@ knows_header encoding bytes = search (and_from, lt-ltb)
 pub knows_body : (encoding : Encoding) (fs : List SectionFrame) (ts : List Tile) (content bytes : List ℕ)
     → Knows encoding fs (context_of ts) → Knows encoding fs (context_of (made (code_entry content) bytes ∷ ts))
 knows_body encoding fs ts content bytes k = grind (arith, lt-ltb)
-
--- a section of this kind has a count
-abbrev pub IsCounting : Kind → Type 0
-IsCounting (whole items) = Unit {0}
-IsCounting (whole data_count) = Unit {0}
-IsCounting other = ⊥
-
--- a component's section adds no count
-abbrev kind_count : (n id : ℕ) → Kind → (content others : List ℕ) → List ℕ
-kind_count n id (whole form) content others = count_in n (section form id content) others
-kind_count n id code content others = others
 
 -- counts with those of one more frame are the counts of all frames
 counts_more : (encoding : Encoding) (n : ℕ) (fs : List SectionFrame) (f : SectionFrame) (old new : List ℕ) → old ≡ counts_of encoding n fs

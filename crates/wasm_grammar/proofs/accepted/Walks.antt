@@ -130,7 +130,7 @@ frame_step : (start : ℕ) (encoding : Encoding) (fs : List SectionFrame) (f : S
 frame_step start encoding fs f q r i a =
     elim (whole_or_code (kind_of encoding f.id)) [
       | inl w ↦ whole_step start encoding fs f q r i a w
-      | inr k ↦ (grind (arith, module_step))
+      | inr k ↦ grind (arith, module_step)
     ]
 
 -- all frames, from some on

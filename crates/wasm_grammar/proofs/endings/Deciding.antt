@@ -1,13 +1,13 @@
 -- If bytes don't suffice, something else is there after the suffix that decides than where the stream ends.
 use Rattle.wasm_grammar.proofs.Common.{arith, ◌≡◌, Bool, true, false, cond, List, [], ◌∷◌, ◌++◌, refl, ℕ, length, None, ◌<◌, ◌&&◌, ◌∙◌}
-use Rattle.wasm_grammar.proofs.Common.{nat_lt, nat_eq, Option, ◌-◌, take, drop, nat_le, length-append, Some, le-leb, ◌≢◌, replicate}
-use Rattle.wasm_grammar.proofs.Common.{leb-true, and_parts, append_cancel_left, take-append-le, drop-append-le, length-replicate, list_any}
-use Rattle.wasm_grammar.proofs.Common.{number-used, number-more, FaultAt, at_offset, magic, agree, name, Number, number}
-use Rattle.wasm_grammar.proofs.Common.{FunctionWithoutCode, DataCountWithoutData, MagicAtSection, UnexpectedEof, MalformedSectionId, VarU32}
-use Rattle.wasm_grammar.proofs.Common.{Ending, fault, ended, wrong_content, Tile, SectionContext, end_at_section, check, bytes, code_entry}
-use Rattle.wasm_grammar.proofs.Common.{final, after, Grammar, accept, u32_field, after_id, section_start, Verdict, after_number, verdict}
-use Rattle.wasm_grammar.proofs.Common.{header_grammar, section_grammar, body_grammar, grammar, ending_of_number, deciding_ending, enough}
-use Rattle.wasm_grammar.proofs.Common.{wants, later, later_number, waiting}
+use Rattle.wasm_grammar.proofs.Common.{nat_lt, nat_eq, ◌-◌, take, drop, nat_le, length-append, le-leb, ◌≢◌, replicate, leb-true, and_parts}
+use Rattle.wasm_grammar.proofs.Common.{append_cancel_left, take-append-le, drop-append-le, length-replicate, list_any, number-used}
+use Rattle.wasm_grammar.proofs.Common.{number-more, at_offset, magic, agree, name, Number, number, FunctionWithoutCode}
+use Rattle.wasm_grammar.proofs.Common.{DataCountWithoutData, MagicAtSection, UnexpectedEof, MalformedSectionId, VarU32, Ending, fault}
+use Rattle.wasm_grammar.proofs.Common.{ended, wrong_content, Tile, SectionContext, end_at_section, check, bytes, code_entry, final, after}
+use Rattle.wasm_grammar.proofs.Common.{Grammar, accept, u32_field, after_id, section_start, Verdict, after_number, verdict, header_grammar}
+use Rattle.wasm_grammar.proofs.Common.{section_grammar, body_grammar, grammar, ending_of_number, deciding_ending, enough, wants, later}
+use Rattle.wasm_grammar.proofs.Common.{later_number, waiting}
 use Rattle.std.proofs.lemmas.Bool.{leb-false}
 use Rattle.std.proofs.lemmas.List.{take_all, drop_all}
 use Rattle.wasm_base.proofs.NumberLaws.{number-long}
@@ -82,11 +82,6 @@ differs _ p xs n h w = cc
 
 -- ---- the grammars of a stream
 
--- if something is wrong, it isn't that bytes are missing at this offset
-abbrev NotMissing : (offset : ℕ) → Option FaultAt → Type 0
-NotMissing o None = Unit {0}
-NotMissing o (Some f) = f ≢ at_offset UnexpectedEof o
-
 body_there : (c : List ℕ) (o : ℕ) → verdict (accept (code_entry c)) [] ≢ final (fault (at_offset UnexpectedEof o))
 unfolding verdict
 body_there c o z = cc
@@ -94,8 +89,6 @@ body_there c o z = cc
 end_other : (a b : Bool) (o : ℕ) → cond a (fault (at_offset FunctionWithoutCode o))
     (cond b (fault (at_offset DataCountWithoutData o)) (ended o)) ≢ fault (at_offset MalformedSectionId o)
 end_other a b o e = grind arith
-
--- a custom section whose length is the magic's second byte is longer than the magic's other bytes
 
 -- the first bytes of the magic are no header
 begun_magic : (p : SectionContext) (o : ℕ) (xs : List ℕ) → agree xs (0x61 ∷ 0x73 ∷ 0x6d ∷ []) ≡ true → length xs < 3
@@ -122,7 +115,7 @@ whole_magic o e next id (b ∷ c ∷ d ∷ xs) a l = absurd (omega arith)
 Differs-section : (p : SectionContext) (o : ℕ) → Differs (section_grammar p o)
 unfolding section_grammar verdict wrong_content name
 Differs-section p o = (
-  λ id v k l. (grind (arith, final_same, bad_hint, number-used)),
+  λ id v k l. grind (arith, final_same, bad_hint, number-used),
   λ z. end_other (list_any (nat_lt 0) p.functions && nat_eq (length p.codes) 0)
       (list_any (nat_lt 0) p.data_counts && nat_eq (length p.datas) 0) o (grind arith),
   λ id xs a l z. begun_start p o id xs a l (z ∙ whole_magic o (end_at_section p o) (after_id p o) id xs a l),

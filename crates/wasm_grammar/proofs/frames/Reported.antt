@@ -21,7 +21,7 @@ kinded_section : (p : SectionContext) (o : ℕ) (xs : List ℕ) (t : Tile) → v
     → Kinded p.encoding t.shape
 unfolding section_grammar
 kinded_section p o xs t e = each_tile (Kinded p.encoding) (section_grammar p o)
-    (λ id x n k y z. (grind arith)) xs t e
+    (λ id x n k y z. grind arith) xs t e
 
 kinded_at : (b : Bool) (p : SectionContext) (m l o : ℕ) (xs : List ℕ) (t : Tile)
     → verdict (cond b (section_grammar p o) (body_grammar m l o)) xs ≡ tile t → Kinded p.encoding t.shape

@@ -32,10 +32,6 @@ said features from to kind id content g = grind arith
 abbrev Same : (id : ℕ) (range : Range ℕ) → Option (ℕ × Range ℕ) → Type 0
 Same id range report = report ≡ Some (id, range)
 
-abbrev id_in : Option (ℕ × Range ℕ) → ℕ
-id_in (Some x) = x.0
-id_in None = 0
-
 abbrev range_in : Range ℕ → Option (ℕ × Range ℕ) → Range ℕ
 range_in other (Some x) = x.1
 range_in other None = other

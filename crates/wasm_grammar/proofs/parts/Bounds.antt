@@ -66,9 +66,6 @@ verdict_lies low here (section_start o e next) (id ∷ xs) f w h = grind (arith,
 when_lies : (low high : ℕ) (t : Bool) (e : FaultAt) → Between low high e.offset → MayLie low high (when t e)
 when_lies low high t e w = grind arith
 
-lies : (low high a : ℕ) → low ≤ a → a ≤ high → Between low high a
-lies low high a l m = (l, m)
-
 content_wrong : (kind : Form) (offset : ℕ) (content : List ℕ) → MayLie offset (offset + length content) (wrong_content kind offset content)
 unfolding wrong_content
 content_wrong kind offset content = grind (arith, number_place, name_place)

@@ -73,7 +73,7 @@ IsHeader _ = ⊥
 
 pub headed : (o : ℕ) (xs : List ℕ) (t : Tile) → verdict (header_grammar o) xs ≡ tile t → IsHeader t.shape
 unfolding header_grammar
-headed o xs t e = each_tile IsHeader (header_grammar o) (λ a x b. (grind arith)) xs t e
+headed o xs t e = each_tile IsHeader (header_grammar o) (λ a x b. grind arith) xs t e
 
 -- where this holds of a tile's rank, it ranks above each tile before it
 abbrev pub Fresh : List Tile → Shape → Type 0

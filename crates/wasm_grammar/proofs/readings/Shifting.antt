@@ -138,7 +138,7 @@ Like-header by o = (
     (
       λ four. version_of (o + by) (of_four four),
       ap (λ (x : ℕ). bytes 4 x (λ four. version_of (o + by) (of_four four))) (omega arith),
-      λ four. (grind arith),
+      λ four. grind arith,
     ),
   ),
 )
