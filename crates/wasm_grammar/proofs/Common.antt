@@ -5,7 +5,7 @@ pub use Rattle.std.proofs.Common.{lt-ltb, Option, subst, zero, suc, ◌-◌, tak
 pub use Rattle.std.proofs.Common.{replicate, leb-true, option_to_list, map, le_refl}
 pub use Rattle.std.proofs.Math.Bool.{and_comm}
 pub use Rattle.std.proofs.lemmas.Bool.{and_parts, and_from}
-pub use Rattle.std.proofs.lemmas.Grind.{flat_map-append}
+pub use Rattle.std.proofs.lemmas.Grind.{common_steps, flat_map-append}
 pub use Rattle.std.proofs.lemmas.List.{length-take-le, flat_map_more, take_at, drop_at, append_cancel_left, take-append-le, drop-append-le}
 pub use Rattle.std.proofs.lemmas.List.{length-replicate, length-drop}
 pub use Rattle.std.proofs.lemmas.List.Elements.{All-nil, All-cons, All-head, All-tail, All-push}

@@ -1,13 +1,13 @@
 -- What the tiles before a section say to it, reported of the frames before it.
 use Rattle.wasm_grammar.proofs.Common.{arith, ◌≡◌, Bool, true, false, cond, List, [], ◌∷◌, ◌++◌, refl, ℕ, length, ◌<◌, not, ◌&&◌, sym, ◌∙◌}
-use Rattle.wasm_grammar.proofs.Common.{nat_lt, nat_eq, eqb-true, eq-eqb, append-nil, append_assoc, and_comm, list_all-append, All, list_all}
-use Rattle.wasm_grammar.proofs.Common.{list_any, SectionFrame, frame_count, frame_rank, IsSection, SectionContext, code_id, data_count_id}
-use Rattle.wasm_grammar.proofs.Common.{data_id, function_id, Encoding, Module, Component}
+use Rattle.wasm_grammar.proofs.Common.{nat_lt, nat_eq, eqb-true, eq-eqb, append-nil, append_assoc, and_comm, common_steps, list_all-append}
+use Rattle.wasm_grammar.proofs.Common.{All, list_all, list_any, SectionFrame, frame_count, frame_rank, IsSection, SectionContext, code_id}
+use Rattle.wasm_grammar.proofs.Common.{data_count_id, data_id, function_id, Encoding, Module, Component}
 use Rattle.std.proofs.Common.{◌||◌}
 use Rattle.std.proofs.Math.Bool.{or_comm}
 use Rattle.std.proofs.Math.Dec.{eqb-suc-zero}
 use Rattle.std.proofs.lemmas.List.Folds.{list_any-append}
-use Rattle.wasm_grammar.proofs.PlainLists.{all_of, all_to}
+use Rattle.wasm_grammar.proofs.PlainLists.{all_to}
 
 -- whether a frame is a module's section with this id
 abbrev pub is_section : Encoding → ℕ → SectionFrame → Bool
@@ -69,9 +69,7 @@ any_counts encoding n p (f ∷ fs) = grind (arith, list_any-append, or_comm, any
 -- one more section, if it is one, is one more count
 none_step : (b : Bool) (c : ℕ) (xs : List ℕ) (t : Bool) → nat_eq (length xs) 0 ≡ not t → nat_eq (length (xs ++ cond b (c ∷ []) [])) 0
     ≡ not (b || t)
-none_step true c [] t h = refl
-none_step true c (x ∷ xs) t h = eqb-suc-zero (length (xs ++ c ∷ []))
-none_step false c xs t h = rw append-nil h
+none_step b c xs t e = grind (arith, common_steps, eqb-suc-zero, append-nil)
 
 -- there is no count exactly if there is no such section
 pub no_counts : (encoding : Encoding) (n : ℕ) (fs : List SectionFrame) → nat_eq (length (counts_of encoding n fs)) 0
@@ -93,6 +91,4 @@ same_to encoding n c fs a = all_counts encoding n (nat_eq c) fs
 -- what the test of counts says
 pub same_of : (encoding : Encoding) (n c : ℕ) (fs : List SectionFrame) → list_all (nat_eq c) (counts_of encoding n fs) ≡ true
     → HasCount encoding n c fs
-same_of encoding n c fs e =
-    all_of (advances encoding n (nat_eq c)) (λ g. IsSection encoding n g → frame_count g ≡ c)
-    (λ g h s. sym (eqb-true c (frame_count g) (grind (arith, yes_section)))) fs (sym (all_counts encoding n (nat_eq c) fs) ∙ e)
+same_of encoding n c fs e = grind (arith, common_steps, eqb-true, yes_section, all_counts)

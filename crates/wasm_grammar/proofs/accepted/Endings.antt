@@ -1,10 +1,10 @@
 -- A reading ends at the end exactly where no section misses its other section.
 use Rattle.wasm_grammar.proofs.Common.{arith, ◌≡◌, inl, inr, Bool, true, false, cond, List, refl, ℕ, length, ◌<◌, ◌&&◌, sym, ◌∙◌, nat_lt}
-use Rattle.wasm_grammar.proofs.Common.{nat_eq, ltb-true, lt-ltb, and_parts, and_from, Any, list_any, at_offset, FunctionWithoutCode}
-use Rattle.wasm_grammar.proofs.Common.{DataCountWithoutData, SectionFrame, frame_count, IsSection, IsMatched, fault, ended, SectionContext}
-use Rattle.wasm_grammar.proofs.Common.{end_at_section, data_count_id, function_id, Encoding}
+use Rattle.wasm_grammar.proofs.Common.{nat_eq, ltb-true, lt-ltb, and_parts, and_from, common_steps, Any, list_any, at_offset}
+use Rattle.wasm_grammar.proofs.Common.{FunctionWithoutCode, DataCountWithoutData, SectionFrame, frame_count, IsSection, IsMatched, fault}
+use Rattle.wasm_grammar.proofs.Common.{ended, SectionContext, end_at_section, data_count_id, function_id, Encoding}
 use Rattle.std.proofs.lemmas.Bool.{and_cases, and_right, false_from_ne_true}
-use Rattle.wasm_grammar.proofs.PlainLists.{any_of, none_of}
+use Rattle.wasm_grammar.proofs.PlainLists.{any_of}
 use Rattle.wasm_grammar.proofs.accepted.Counts.{is_section, counts_of, Knows, section_yes, yes_section, any_counts, offends}
 use Rattle.wasm_grammar.proofs.accepted.Fits.{some_to, some_from}
 
@@ -29,11 +29,7 @@ matched_any encoding n other fs m z e =
 -- sections without a count above 0 are matched
 matched_none : (encoding : Encoding) (n other : ℕ) (fs : List SectionFrame) → list_any (nat_lt 0) (counts_of encoding n fs) ≡ false
     → IsMatched encoding n other fs
-matched_none encoding n other fs e =
-    none_of (offends encoding n (nat_lt 0)) (λ g. IsSection encoding n g → 0 < frame_count g → Any (IsSection encoding other) fs)
-    (λ g h s l. let z : (is_section encoding n g && nat_lt 0 (frame_count g))
-    ≡ true = and_from _ _ (yes_section encoding n g s) (lt-ltb 0 (frame_count g) l) in cc)
-    fs (sym (any_counts encoding n (nat_lt 0) fs) ∙ e)
+matched_none encoding n other fs e = grind (arith, common_steps, and_from, yes_section, lt-ltb, any_counts)
 
 -- sections are matched where the other section is
 matched_some : (encoding : Encoding) (n other : ℕ) (fs : List SectionFrame) → Any (IsSection encoding other) fs

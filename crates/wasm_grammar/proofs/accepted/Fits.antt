@@ -1,9 +1,9 @@
 -- A section may follow other tiles exactly if it fits after their frames.
-use Rattle.wasm_grammar.proofs.Common.{arith, ◌≡◌, ◌⊎◌, Bool, true, false, List, ap, ℕ, length, None, ◌<◌, not, ◌&&◌, ◌∙◌, nat_lt, nat_eq}
-use Rattle.wasm_grammar.proofs.Common.{eqb-true, eq-eqb, ltb-true, lt-ltb, All, Any, SectionFrame, frame_count, frame_rank, IsSection, Form}
-use Rattle.wasm_grammar.proofs.Common.{items, kind_of, whole, SectionContext, wrong_count, wrong_data, data_count_id, data_id, function_id}
-use Rattle.wasm_grammar.proofs.Common.{Encoding, Module}
-use Rattle.wasm_grammar.proofs.PlainLists.{all_of, all_to, any_of, any_to}
+use Rattle.wasm_grammar.proofs.Common.{arith, ◌≡◌, ◌⊎◌, Bool, true, false, List, ℕ, length, None, ◌<◌, not, ◌&&◌, ◌∙◌, nat_lt, nat_eq}
+use Rattle.wasm_grammar.proofs.Common.{eqb-true, eq-eqb, ltb-true, lt-ltb, common_steps, All, Any, SectionFrame, frame_count, frame_rank}
+use Rattle.wasm_grammar.proofs.Common.{IsSection, Form, items, kind_of, whole, SectionContext, wrong_count, wrong_data, data_count_id}
+use Rattle.wasm_grammar.proofs.Common.{data_id, function_id, Encoding, Module}
+use Rattle.wasm_grammar.proofs.PlainLists.{all_to, any_of}
 use Rattle.wasm_grammar.proofs.accepted.Counts.{is_section, counts_of, Knows, section_yes, yes_section, no_counts, HasCount, same_to}
 use Rattle.wasm_grammar.proofs.accepted.Counts.{same_of}
 use Rattle.wasm_grammar.proofs.accepted.Tiles.{IsWhole, same_form}
@@ -23,16 +23,12 @@ rank_to encoding fs p k r h = follows_to r (p.may_follow r)
 -- a section that may follow ranks above the frames
 pub rank_from : (encoding : Encoding) (fs : List SectionFrame) (p : SectionContext) → Knows encoding fs p → (r : ℕ) → Follows p r → 0 < r
     → All (λ g. frame_rank encoding g < r) fs
-rank_from encoding fs p k r f l =
-    all_of (λ (g : SectionFrame). nat_lt (frame_rank encoding g) r) (λ g. frame_rank encoding g < r)
-    (λ g. ltb-true (frame_rank encoding g) r) fs
-    (grind arith)
+rank_from encoding fs p k r f l = grind (arith, common_steps, ltb-true)
 
 -- there is a section with this id
 pub some_to : (encoding : Encoding) (n : ℕ) (fs : List SectionFrame) → Any (IsSection encoding n) fs
     → nat_eq (length (counts_of encoding n fs)) 0 ≡ false
-some_to encoding n fs a =
-    no_counts encoding n fs ∙ ap not (any_to (is_section encoding n) (IsSection encoding n) (λ g. yes_section encoding n g) fs a)
+some_to encoding n fs a = grind (arith, common_steps, no_counts, yes_section)
 
 -- where there is a count, there is a section with this id
 pub some_from : (encoding : Encoding) (n : ℕ) (fs : List SectionFrame) → nat_eq (length (counts_of encoding n fs)) 0 ≡ false

@@ -1,14 +1,14 @@
 -- The frames that tiles are, and the code section within which they end.
 use Rattle.wasm_grammar.proofs.Common.{arith, ◌≡◌, ◌⊎◌, true, List, [], ◌∷◌, ◌++◌, refl, ℕ, ◌+◌, length, None, sym, ◌∙◌, nat_eq, append-nil}
-use Rattle.wasm_grammar.proofs.Common.{append_assoc, ◌-◌, length-append, lit<, flat_map_more, All-nil, All-push, All, flat_map, IsNumber}
-use Rattle.wasm_grammar.proofs.Common.{SectionFrame, frame_count, frame_rank, IsSection, Sized, sized_bytes, IsSized, frame_bytes, IsFrame}
-use Rattle.wasm_grammar.proofs.Common.{FitsAfter, CodeDivision, kind_of, code, rank_of, Tile, SectionContext, wrong_count, tile, section}
-use Rattle.wasm_grammar.proofs.Common.{code_start, code_entry, content_grammar, verdict, code_id, data_id, bytes_of, context_of}
+use Rattle.wasm_grammar.proofs.Common.{append_assoc, ◌-◌, length-append, lit<, common_steps, flat_map_more, All-nil, All-push, All}
+use Rattle.wasm_grammar.proofs.Common.{flat_map, IsNumber, SectionFrame, frame_count, IsSection, Sized, sized_bytes, IsSized, frame_bytes}
+use Rattle.wasm_grammar.proofs.Common.{IsFrame, FitsAfter, CodeDivision, kind_of, code, rank_of, Tile, SectionContext, wrong_count, tile}
+use Rattle.wasm_grammar.proofs.Common.{section, code_start, code_entry, content_grammar, verdict, code_id, bytes_of, context_of}
 use Rattle.wasm_grammar.proofs.Common.{bodies_left, bytes_left, encoding_of, Encoding, Module}
 use Rattle.wasm_grammar.proofs.PlainLists.{split_last}
 use Rattle.wasm_grammar.proofs.accepted.Contents.{good_from}
 use Rattle.wasm_grammar.proofs.accepted.Counts.{Knows}
-use Rattle.wasm_grammar.proofs.accepted.Fits.{rank_from, CodeFits, code_from, data_from}
+use Rattle.wasm_grammar.proofs.accepted.Fits.{rank_from, code_from, data_from}
 use Rattle.wasm_grammar.proofs.accepted.KindIds.{code_has_its_id}
 use Rattle.wasm_grammar.proofs.accepted.Knows.{knows_section, knows_code, knows_body}
 use Rattle.wasm_grammar.proofs.accepted.Parts.{SectionParts, WholeParts, content_parts, HeadParts, head_parts, BodyParts}
@@ -136,14 +136,7 @@ whole_settled ts o t q s w =
 code_fits : (p : SectionContext) (fs : List SectionFrame) → Knows Module fs p → (at count : ℕ)
     → Follows p (rank_of (kind_of Module code_id) code_id)
     → wrong_count p at count ≡ None → (f : SectionFrame) → f.id ≡ code_id → frame_count f ≡ count → FitsAfter Module fs f
-code_fits p fs k at count r w f z c =
-    let g : CodeFits Module fs (frame_count f) = grind (arith, code_from) in
-    record {
-      ranks = rank_from Module fs p k (frame_rank Module f) (cc);
-      bodies = λ y. g.bodies;
-      functions = λ y. g.functions;
-      segments = λ y. let u : code_id ≡ data_id = sym z ∙ y.1 in absurd (omega arith);
-    }
+code_fits p fs k at count r w f z c = grind (arith, common_steps, code_from, rank_from)
 
 -- after whole sections, the head of a code section
 pub code_pending : (ts : List Tile) (o : ℕ) (t : Tile) → Settled ts → (s : SectionParts (context_of ts) o t) → kind_of (encoding_of ts) s.id
@@ -185,10 +178,7 @@ code_pending ts o t q s e =
 -- how many they are
 body_bytes : (head : List ℕ) (bodies : List Sized) (s : Sized) → length head + length (flat_map sized_bytes bodies) + length (sized_bytes s)
     ≡ length head + length (flat_map sized_bytes (bodies ++ s ∷ []))
-body_bytes head bodies s =
-    let e : length ((head ++ flat_map sized_bytes bodies) ++ sized_bytes s)
-    ≡ length (head ++ flat_map sized_bytes (bodies ++ s ∷ [])) = grind (arith, flat_map_more) in
-    grind (arith, length-append)
+body_bytes head bodies s = grind (arith, common_steps, flat_map_more, length-append)
 
 -- within a code section, one more body
 pub body_pending : (ts : List Tile) (t : Tile) → Pending ts → BodyParts (bodies_left ts) (bytes_left ts) t → Pending (t ∷ ts)

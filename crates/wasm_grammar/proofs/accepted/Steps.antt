@@ -1,7 +1,7 @@
 -- A good section that fits after other tiles is one tile more, or the head of a code section and its bodies.
 use Rattle.wasm_grammar.proofs.Common.{arith, ◌≡◌, true, false, List, [], ◌∷◌, ◌++◌, refl, ap, ℕ, ◌+◌, length, ◌≤◌, ◌<◌, ◌∙◌, nat_eq}
-use Rattle.wasm_grammar.proofs.Common.{append-nil, append_assoc, subst, suc, ◌-◌, length-append, ◌^◌, All-head, All-tail, All, flat_map}
-use Rattle.wasm_grammar.proofs.Common.{SectionFrame, frame_count, Sized, sized_bytes, IsSized, frame_bytes, IsFrame, FitsAfter}
+use Rattle.wasm_grammar.proofs.Common.{append-nil, append_assoc, subst, suc, ◌-◌, length-append, ◌^◌, common_steps, All-head, All-tail, All}
+use Rattle.wasm_grammar.proofs.Common.{flat_map, SectionFrame, frame_count, Sized, sized_bytes, IsSized, frame_bytes, IsFrame, FitsAfter}
 use Rattle.wasm_grammar.proofs.Common.{CodeDivision, kind_of, body_events, Tile, SectionContext, tile, section, code_start, code_entry}
 use Rattle.wasm_grammar.proofs.Common.{verdict, section_grammar, code_id, events_of, bytes_of, context_of, bodies_left, bytes_left, grammar}
 use Rattle.wasm_grammar.proofs.Common.{is_start, Faultless, Encoding, Module}
@@ -18,12 +18,7 @@ use Rattle.wasm_grammar.proofs.frames.TileEvents.{body_tile_event}
 head_of_frame : (p : SectionContext) (fs : List SectionFrame) (o : ℕ) (f : SectionFrame) → Knows p.encoding fs p → IsFrame p.encoding f
     → FitsAfter p.encoding fs f → o + length (frame_bytes f) < 2 ^ 64
     → HeadIsRight p o f.id f.sized.field (length f.sized.content)
-head_of_frame p fs o f k i a r = record {
-  below = i.id;
-  number = i.sized;
-  room = omega (arith, length-append f.sized.field f.sized.content);
-  follows = search rank_to;
-}
+head_of_frame p fs o f k i a r = grind (arith, common_steps, length-append, rank_to)
 
 -- a good section that fits after tiles of its own encoding is a tile
 section_at : (p : SectionContext) (fs : List SectionFrame) (o : ℕ) (f : SectionFrame) → o + length (frame_bytes f) < 2 ^ 64

@@ -1,11 +1,11 @@
 -- An accepted stream's reading ends at its end.
 use Rattle.wasm_grammar.proofs.Common.{arith, ◌≡◌, inl, inr, true, false, List, [], ◌∷◌, ◌++◌, refl, ap, ℕ, ◌+◌, length, ◌≤◌, ◌<◌, sym, ◌∙◌}
-use Rattle.wasm_grammar.proofs.Common.{nat_eq, append-nil, append_assoc, subst, ◌-◌, length-append, ◌^◌, flat_map-append, flat_map_more}
-use Rattle.wasm_grammar.proofs.Common.{All-head, All-tail, All, flat_map, SectionFrame, IsAccepted, header_bytes, sized_bytes, frame_bytes}
-use Rattle.wasm_grammar.proofs.Common.{IsFrame, FitsAfter, CodeDivision, ended, kind_of, header_event, section_event, code_events}
-use Rattle.wasm_grammar.proofs.Common.{FrameEvents, FramesEvents, Tile, version, tile, section, code_start, final, verdict, section_grammar}
-use Rattle.wasm_grammar.proofs.Common.{code_id, Reads, events_of, Event, bytes_of, context_of, bodies_left, bytes_left, grammar, is_start}
-use Rattle.wasm_grammar.proofs.Common.{Faultless, Encoding, Module}
+use Rattle.wasm_grammar.proofs.Common.{nat_eq, append-nil, append_assoc, subst, ◌-◌, length-append, ◌^◌, common_steps, flat_map-append}
+use Rattle.wasm_grammar.proofs.Common.{flat_map_more, All-head, All-tail, All, flat_map, SectionFrame, IsAccepted, header_bytes}
+use Rattle.wasm_grammar.proofs.Common.{sized_bytes, frame_bytes, IsFrame, FitsAfter, CodeDivision, ended, kind_of, header_event}
+use Rattle.wasm_grammar.proofs.Common.{section_event, code_events, FrameEvents, FramesEvents, Tile, version, tile, section, code_start}
+use Rattle.wasm_grammar.proofs.Common.{final, verdict, section_grammar, code_id, Reads, events_of, Event, bytes_of, context_of, bodies_left}
+use Rattle.wasm_grammar.proofs.Common.{bytes_left, grammar, is_start, Faultless, Encoding, Module}
 use Rattle.wasm_grammar.proofs.accepted.Counts.{Knows}
 use Rattle.wasm_grammar.proofs.accepted.Endings.{end_to}
 use Rattle.wasm_grammar.proofs.accepted.Knows.{grammar_closed, knows_header, knows_section, knows_code}
@@ -52,10 +52,7 @@ stream_more encoding fs f prefix e = ap (λ (x : List ℕ). x ++ frame_bytes f) 
 room_for : (start : ℕ) (encoding : Encoding) (fs : List SectionFrame) (f : SectionFrame) (prefix : List ℕ) → prefix ≡ stream_of encoding fs
     → start + length (stream_of encoding (fs ++ f ∷ [])) < 2 ^ 64
     → (start + length prefix) + length (frame_bytes f) < 2 ^ 64
-room_for start encoding fs f prefix e r =
-    let l : length prefix + length (frame_bytes f) ≡ length (stream_of encoding (fs ++ f ∷ [])) = sym (length-append prefix (frame_bytes f))
-    ∙ ap (λ (x : List ℕ). length x) (stream_more encoding fs f prefix e) in
-    omega arith
+room_for start encoding fs f prefix e r = grind (arith, common_steps, length-append, stream_more)
 
 -- one more frame, with its events
 reported_more :

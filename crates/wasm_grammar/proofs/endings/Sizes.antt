@@ -1,9 +1,9 @@
 -- A suffix that decides consists of bytes, at most 2^32 of them.
 use Rattle.wasm_grammar.proofs.Common.{arith, ◌≡◌, ◌⊎◌, Bool, true, false, cond, List, [], ◌∷◌, refl, ℕ, ◌+◌, length, ◌≤◌, None, ◌<◌}
-use Rattle.wasm_grammar.proofs.Common.{nat_lt, Option, suc, take, drop, ◌^◌, Some, replicate, length-replicate, length-drop, All-nil, All}
-use Rattle.wasm_grammar.proofs.Common.{last_place-lt, Number, read, bad, ends_at, last_place, number, Fault, VarU32, Tile, check, bytes}
-use Rattle.wasm_grammar.proofs.Common.{Grammar, u32_field, section_start, header_grammar, section_grammar, body_grammar, grammar}
-use Rattle.wasm_grammar.proofs.Common.{ending_of_number, deciding_ending}
+use Rattle.wasm_grammar.proofs.Common.{nat_lt, Option, suc, take, drop, ◌^◌, replicate, common_steps, length-replicate, length-drop}
+use Rattle.wasm_grammar.proofs.Common.{All-nil, All, last_place-lt, Number, read, bad, ends_at, last_place, number, Fault, VarU32, Tile}
+use Rattle.wasm_grammar.proofs.Common.{check, bytes, Grammar, u32_field, section_start, header_grammar, section_grammar, body_grammar}
+use Rattle.wasm_grammar.proofs.Common.{grammar, ending_of_number, deciding_ending}
 use Rattle.std.proofs.Common.{slice_index, add-one}
 use Rattle.std.proofs.lemmas.List.Elements.{All-replicate, All-drop}
 use Rattle.wasm_base.proofs.Numbers.{sum_below}
@@ -25,8 +25,7 @@ last_below : (xs : List ℕ) (i : ℕ) → i < length xs → (nat_lt (suc i) 5 �
 last_below xs i l h = grind (arith, sum_at)
 
 read_below_at : (xs : List ℕ) (o : Option ℕ) (v k : ℕ) → last_place xs ≡ o → ends_at VarU32 xs o ≡ read v k → v < 2 ^ 32
-read_below_at xs None v k e r = grind arith
-read_below_at xs (Some i) v k e r = search (below_at, last_below, last_place-lt)
+read_below_at xs o v k e f = grind (arith, common_steps, below_at, last_below, last_place-lt)
 
 read_below : (xs : List ℕ) (v k : ℕ) → number VarU32 xs ≡ read v k → v < 2 ^ 32
 unfolding number

@@ -1,8 +1,8 @@
 -- The sections of a reading ascend in rank.
 use Rattle.wasm_grammar.proofs.Common.{arith, ◌≡◌, true, List, [], ◌∷◌, ◌++◌, ap, ℕ, ◌+◌, length, ◌<◌, sym, ◌∙◌, nat_lt, append-nil}
-use Rattle.wasm_grammar.proofs.Common.{append_assoc, ltb-true, subst, option_to_list, and_parts, All-push, All, list_all, Range, Ending}
-use Rattle.wasm_grammar.proofs.Common.{kind_of, Kind, code, rank_of, Tile, section, Shape, code_id, events_of, Event, last_event, event_of}
-use Rattle.wasm_grammar.proofs.Common.{sections_of, bytes_of, encoding_of, Faultless, tile_rank, Encoding, Module}
+use Rattle.wasm_grammar.proofs.Common.{append_assoc, ltb-true, subst, option_to_list, and_parts, common_steps, All-push, All, list_all}
+use Rattle.wasm_grammar.proofs.Common.{Range, Ending, kind_of, Kind, code, rank_of, Tile, section, Shape, code_id, events_of, Event}
+use Rattle.wasm_grammar.proofs.Common.{last_event, event_of, sections_of, bytes_of, encoding_of, Faultless, tile_rank, Encoding, Module}
 use Rattle.std.proofs.Common.{get_or}
 use Rattle.std.proofs.lemmas.List.Quantifiers.{all_pairs_push}
 use Rattle.std.specs.List.{AllPairs}
@@ -27,11 +27,7 @@ Under encoding r s = rank_in encoding s.0 < r
 
 under_push : (encoding : Encoding) (r high : ℕ) (s : Shape) (xs : List (ℕ × Range ℕ)) → Kinded encoding s → tile_rank s < r
     → All (Under encoding r) xs → All (Under encoding r) (xs ++ option_to_list (section_at high s))
-under_push encoding r high (section kind id content) xs k l a =
-    All-push (Under encoding r) xs _ a (grind arith)
-under_push encoding r high (Grammar.code_start count width size) xs k l a = search (All-push, code_report)
-under_push encoding r high (Grammar.code_entry content) xs k l a = subst (All (Under encoding r)) (sym (append-nil xs)) a
-under_push encoding r high (Grammar.version num other) xs k l a = absurd k
+under_push encoding r high s xs e f g = grind (arith, common_steps, All-push, code_report, append-nil)
 
 all_under : (start features r : ℕ) (t : Tile) (ts : List Tile) → Faultless start (t ∷ ts)
     → list_all (λ (u : Tile). nat_lt (tile_rank u.shape) r) (t ∷ ts) ≡ true

@@ -1,10 +1,10 @@
 -- Where the faults of a grammar lie.
 use Rattle.wasm_grammar.proofs.Common.{arith, ◌≡◌, Bool, cond, List, [], ◌∷◌, refl, ℕ, ◌+◌, length, ◌≤◌, None, Option, take, drop, nat_le}
-use Rattle.wasm_grammar.proofs.Common.{length-append, Some, le_refl, length-take-le, length-drop, number-used, FaultAt, at_offset, Number}
-use Rattle.wasm_grammar.proofs.Common.{number, UnexpectedEof, VarU32, Ending, fault, ended, Form, kind_of, when, Kind, wrong_content, Tile}
-use Rattle.wasm_grammar.proofs.Common.{SectionContext, wrong_data, check, bytes, final, after, Grammar, accept, u32_field, after_length}
-use Rattle.wasm_grammar.proofs.Common.{section_start, Verdict, after_number, reject, verdict, header_grammar, section_grammar, body_grammar}
-use Rattle.wasm_grammar.proofs.Common.{bytes_of, grammar}
+use Rattle.wasm_grammar.proofs.Common.{length-append, Some, le_refl, common_steps, length-take-le, length-drop, number-used, FaultAt}
+use Rattle.wasm_grammar.proofs.Common.{at_offset, Number, number, UnexpectedEof, VarU32, Ending, fault, ended, Form, when, Kind}
+use Rattle.wasm_grammar.proofs.Common.{wrong_content, Tile, SectionContext, wrong_data, check, bytes, final, after, Grammar, accept}
+use Rattle.wasm_grammar.proofs.Common.{u32_field, after_length, section_start, Verdict, after_number, reject, verdict, header_grammar}
+use Rattle.wasm_grammar.proofs.Common.{section_grammar, body_grammar, bytes_of, grammar}
 use Rattle.wasm_grammar.specs.Laws.{FaultLiesWithin}
 use Rattle.wasm_grammar.proofs.parts.Places.{number_place, name_place}
 
@@ -80,18 +80,7 @@ Within-sized o p kind id size width = grind (arith, content_wrong, data_wrong)
 
 Within-section : (p : SectionContext) (o : ℕ) → Within o o (section_grammar p o)
 unfolding section_grammar
-Within-section p o = (
-  (le_refl o, le_refl o),
-  (grind arith),
-  λ id. (
-    when_lies o (o + 1) _ _ (omega arith, omega arith),
-    (
-      (omega arith, omega arith),
-      λ size width.
-          Within-sized o p (kind_of p.encoding id) id size width,
-    ),
-  ),
-)
+Within-section p o = grind (arith, common_steps, le_refl, when_lies, Within-sized)
 
 Within-body : (bodies code_bytes o : ℕ) → Within o o (body_grammar bodies code_bytes o)
 unfolding body_grammar

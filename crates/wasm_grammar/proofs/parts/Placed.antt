@@ -1,9 +1,10 @@
 -- What is at a place is what may come there.
 use Rattle.wasm_grammar.proofs.Common.{arith, ◌≡◌, Bool, true, false, cond, List, [], ◌∷◌, refl, ℕ, ◌+◌, None, ◌<◌, not, ◌&&◌, sym, nat_lt}
-use Rattle.wasm_grammar.proofs.Common.{subst, zero, suc, take, drop, list_all, FaultAt, Number, number, VarU32, kind_of, whole, when, Kind}
-use Rattle.wasm_grammar.proofs.Common.{code, rank_of, Tile, SectionContext, version, tile, check, bytes, section, code_start, code_entry}
-use Rattle.wasm_grammar.proofs.Common.{Shape, after, Grammar, accept, u32_field, content_grammar, section_start, Verdict, after_number}
-use Rattle.wasm_grammar.proofs.Common.{reject, verdict, header_grammar, section_grammar, body_grammar, context_of, grammar, tile_rank}
+use Rattle.wasm_grammar.proofs.Common.{subst, zero, suc, take, drop, common_steps, list_all, FaultAt, Number, number, VarU32, kind_of}
+use Rattle.wasm_grammar.proofs.Common.{whole, when, Kind, code, rank_of, Tile, SectionContext, version, tile, check, bytes, section}
+use Rattle.wasm_grammar.proofs.Common.{code_start, code_entry, Shape, after, Grammar, accept, u32_field, content_grammar, section_start}
+use Rattle.wasm_grammar.proofs.Common.{Verdict, after_number, reject, verdict, header_grammar, section_grammar, body_grammar, context_of}
+use Rattle.wasm_grammar.proofs.Common.{grammar, tile_rank}
 use Rattle.wasm_grammar.proofs.parts.Verdicts.{after-tile}
 
 -- what each tile of a grammar is known to be
@@ -80,17 +81,14 @@ abbrev pub Fresh : List Tile → Shape → Type 0
 Fresh ts s = 0 < tile_rank s → list_all (λ (u : Tile). nat_lt (tile_rank u.shape) (tile_rank s)) ts ≡ true
 
 fresh_placed : (ts : List Tile) (s : Shape) → Placed (context_of ts) s → Fresh ts s
-fresh_placed ts (section kind id content) f h = grind arith
-fresh_placed ts (code_start count width size) f h = grind arith
-fresh_placed ts _ f h = absurd f
+fresh_placed ts s e f = grind (arith, common_steps)
 
 fresh_body : (ts : List Tile) (s : Shape) → IsBody s → Fresh ts s
 fresh_body ts s e f = grind arith
 
 fresh_at : (b : Bool) (ts : List Tile) (m l o : ℕ) (d : List ℕ) (t : Tile)
     → verdict (cond b (section_grammar (context_of ts) o) (body_grammar m l o)) d ≡ tile t → Fresh ts t.shape
-fresh_at true ts m l o d t e = fresh_placed ts t.shape (placed (context_of ts) o d t e)
-fresh_at false ts m l o d t e = fresh_body ts t.shape (bodied m l o d t e)
+fresh_at b ts m l o d t e = grind (arith, common_steps, fresh_placed, placed, fresh_body, bodied)
 
 pub fresh : (start : ℕ) (ts : List Tile) (d : List ℕ) (t : Tile) → verdict (grammar start ts) d ≡ tile t → Fresh ts t.shape
 fresh start [] d t e = λ h. refl

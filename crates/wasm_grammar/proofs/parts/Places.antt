@@ -1,5 +1,5 @@
 -- What is wrong with bytes is wrong at one of them, or at their end.
-use Rattle.wasm_grammar.proofs.Common.{arith, ◌≡◌, Bool, cond, List, refl, ℕ, length, ◌≤◌, None, ◌<◌, nat_lt, Option, suc, ◌-◌, Some}
+use Rattle.wasm_grammar.proofs.Common.{arith, ◌≡◌, Bool, cond, List, refl, ℕ, length, ◌≤◌, ◌<◌, nat_lt, Option, suc, ◌-◌, common_steps}
 use Rattle.wasm_grammar.proofs.Common.{length-drop, number-used, last_place-lt, named, name, read, bad, ends_at, last_place, number, Fault}
 use Rattle.wasm_base.specs.Name.{refused}
 use Rattle.wasm_base.specs.Number.{most_bytes}
@@ -14,8 +14,7 @@ some_bytes kind = grind arith
 
 place_at : (kind : NumberKind) (xs : List ℕ) (o : Option ℕ) (f : Fault) (p : ℕ) → last_place xs ≡ o → ends_at kind xs o ≡ bad f p
     → p < length xs
-place_at kind xs None f p e r = grind arith
-place_at kind xs (Some i) f p e r = search (some_place, last_place-lt, some_bytes)
+place_at kind xs o f p e g = grind (arith, common_steps, some_place, last_place-lt, some_bytes)
 
 -- a number is wrong at one of its bytes
 pub number_place : (kind : NumberKind) (xs : List ℕ) (f : Fault) (p : ℕ) → number kind xs ≡ bad f p → p < length xs

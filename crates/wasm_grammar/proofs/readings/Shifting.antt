@@ -1,10 +1,10 @@
 -- The start offset only moves offsets.
-use Rattle.wasm_grammar.proofs.Common.{arith, ◌≡◌, ◌⊎◌, inl, Bool, cond, List, [], ◌∷◌, ◌++◌, refl, ap, ℕ, ◌+◌, length, None, not, ◌∙◌}
-use Rattle.wasm_grammar.proofs.Common.{nat_lt, nat_eq, Option, subst, zero, suc, ◌-◌, take, drop, nat_le, length-append, Some, FaultAt}
-use Rattle.wasm_grammar.proofs.Common.{at_offset, magic, agree, of_four, Number, number, BadMagic, MagicAtSection, UnexpectedEof}
+use Rattle.wasm_grammar.proofs.Common.{arith, ◌≡◌, ◌⊎◌, inl, Bool, cond, List, [], ◌∷◌, ◌++◌, refl, ap, ℕ, ◌+◌, length, None, not, nat_lt}
+use Rattle.wasm_grammar.proofs.Common.{nat_eq, Option, subst, zero, suc, ◌-◌, take, drop, nat_le, length-append, Some, common_steps}
+use Rattle.wasm_grammar.proofs.Common.{FaultAt, at_offset, magic, agree, of_four, Number, number, BadMagic, MagicAtSection, UnexpectedEof}
 use Rattle.wasm_grammar.proofs.Common.{MalformedSectionId, VarU32, Ending, fault, Form, kind_of, when, Kind, wrong_content, Tile}
-use Rattle.wasm_grammar.proofs.Common.{SectionContext, tile, check, bytes, version_of, section, Shape, final, after, Grammar, accept}
-use Rattle.wasm_grammar.proofs.Common.{u32_field, after_length, after_id, section_start, Verdict, after_number, reject, body_of, verdict}
+use Rattle.wasm_grammar.proofs.Common.{SectionContext, tile, check, bytes, version_of, Shape, final, after, Grammar, accept, u32_field}
+use Rattle.wasm_grammar.proofs.Common.{after_length, after_id, section_start, Verdict, after_number, reject, body_of, verdict}
 use Rattle.wasm_grammar.proofs.Common.{header_grammar, section_grammar, body_grammar, events_of, tile_report, event_of, section_report}
 use Rattle.wasm_grammar.proofs.Common.{shifted_events, bytes_of, context_of, bodies_left, bytes_left, grammar, Faultless}
 use Rattle.std.proofs.Common.{option_map, subst₂}
@@ -189,19 +189,11 @@ content_place by low high passed before content h c = grind (arith, length-appen
 
 report_moves : (by features low high : ℕ) (shape : Shape) (passed : List ℕ) → high ≡ low + length passed → Closes shape passed
     → tile_report features (low + by) (high + by) shape ≡ shifted_report by (tile_report features low high shape)
-report_moves by features low high (Grammar.version num encoding) passed h c = refl
-report_moves by features low high (section kind id content) passed h (before, c) =
-    ap (λ (x : ℕ). section_report features x (high + by) kind id content) (search content_place)
-    ∙ section_moves by features (high - length content) high kind id content
-report_moves by features low high (Grammar.code_start count width size) passed h c = grind arith
-report_moves by features low high (Grammar.code_entry content) passed h (before, c) =
-    rw (content_place by low high passed before content h c)
+report_moves by features low high shape passed e f = grind (arith, common_steps, content_place, section_moves)
 
 event_moves : (by features o : ℕ) (t : Tile) → Closes t.shape t.bytes → event_of features (o + by) t
     ≡ shifted_event by (event_of features o t)
-event_moves by features o t c =
-    let z : o + by + length t.bytes ≡ o + length t.bytes + by = omega arith in
-    grind (arith, report_moves)
+event_moves by features o t c = grind (arith, common_steps, report_moves)
 
 events_move : (by start features : ℕ) (ts : List Tile) → Faultless start ts → events_of (start + by) features ts
     ≡ shifted_events by (events_of start features ts)
