@@ -19,7 +19,7 @@ pub use Rattle.wasm_base.specs.FaultAt.{FaultAt, at_offset}
 pub use Rattle.wasm_base.specs.Header.{magic, agree}
 pub use Rattle.wasm_base.specs.Name.{of_four, named}
 unfoldable pub use Rattle.wasm_base.specs.Name.{name}
-pub use Rattle.wasm_base.specs.Number.{Number, read, bad, ends_at, last_place}
+pub use Rattle.wasm_base.specs.Number.{Number, read, bad}
 unfoldable pub use Rattle.wasm_base.specs.Number.{number}
 pub use Rattle.wasm_base.specs.declared.fault.Fault.{Fault}
 pub use Rattle.wasm_base.specs.declared.fault.Fault.TheVariants.{FunctionWithoutCode, DataCountWithoutData, BadMagic, MagicAtSection}

@@ -66,16 +66,11 @@ pub any_counts : (encoding : Encoding) (n : ℕ) (p : ℕ → Bool) (fs : List S
 any_counts encoding n p [] = refl
 any_counts encoding n p (f ∷ fs) = grind (arith, list_any-append, or_comm, any_counts encoding n p fs)
 
--- one more section, if it is one, is one more count
-none_step : (b : Bool) (c : ℕ) (xs : List ℕ) (t : Bool) → nat_eq (length xs) 0 ≡ not t → nat_eq (length (xs ++ cond b (c ∷ []) [])) 0
-    ≡ not (b || t)
-none_step b c xs t e = grind (arith, common_steps, eqb-suc-zero, append-nil)
-
 -- there is no count exactly if there is no such section
 pub no_counts : (encoding : Encoding) (n : ℕ) (fs : List SectionFrame) → nat_eq (length (counts_of encoding n fs)) 0
     ≡ not (list_any (is_section encoding n) fs)
 no_counts encoding n [] = refl
-no_counts encoding n (f ∷ fs) = search (none_step, no_counts encoding n fs)
+no_counts encoding n (f ∷ fs) = grind (arith, no_counts encoding n fs, common_steps, eqb-suc-zero, append-nil)
 
 -- each section with this id has this count
 abbrev pub HasCount : Encoding → ℕ → ℕ → List SectionFrame → Type 0

@@ -1,8 +1,8 @@
 -- A reading ends at the end exactly where no section misses its other section.
-use Rattle.wasm_grammar.proofs.Common.{arith, ◌≡◌, inl, inr, Bool, true, false, cond, List, refl, ℕ, length, ◌<◌, ◌&&◌, sym, ◌∙◌, nat_lt}
-use Rattle.wasm_grammar.proofs.Common.{nat_eq, ltb-true, lt-ltb, and_parts, and_from, common_steps, Any, list_any, at_offset}
-use Rattle.wasm_grammar.proofs.Common.{FunctionWithoutCode, DataCountWithoutData, SectionFrame, frame_count, IsSection, IsMatched, fault}
-use Rattle.wasm_grammar.proofs.Common.{ended, SectionContext, end_at_section, data_count_id, function_id, Encoding}
+use Rattle.wasm_grammar.proofs.Common.{arith, ◌≡◌, Bool, true, false, cond, List, refl, ℕ, length, ◌<◌, ◌&&◌, sym, ◌∙◌, nat_lt, nat_eq}
+use Rattle.wasm_grammar.proofs.Common.{ltb-true, lt-ltb, and_parts, and_from, common_steps, Any, list_any, at_offset, FunctionWithoutCode}
+use Rattle.wasm_grammar.proofs.Common.{DataCountWithoutData, SectionFrame, frame_count, IsSection, IsMatched, fault, ended, SectionContext}
+use Rattle.wasm_grammar.proofs.Common.{end_at_section, data_count_id, function_id, Encoding}
 use Rattle.std.proofs.lemmas.Bool.{and_cases, and_right, false_from_ne_true}
 use Rattle.wasm_grammar.proofs.PlainLists.{any_of}
 use Rattle.wasm_grammar.proofs.accepted.Counts.{is_section, counts_of, Knows, section_yes, yes_section, any_counts, offends}
@@ -26,25 +26,6 @@ matched_any encoding n other fs m z e =
     let f : nat_eq (length (counts_of encoding other fs)) 0 ≡ false = some_to encoding other fs (h a.4.0 a.4.1) in
     cc
 
--- sections without a count above 0 are matched
-matched_none : (encoding : Encoding) (n other : ℕ) (fs : List SectionFrame) → list_any (nat_lt 0) (counts_of encoding n fs) ≡ false
-    → IsMatched encoding n other fs
-matched_none encoding n other fs e = grind (arith, common_steps, and_from, yes_section, lt-ltb, any_counts)
-
--- sections are matched where the other section is
-matched_some : (encoding : Encoding) (n other : ℕ) (fs : List SectionFrame) → Any (IsSection encoding other) fs
-    → IsMatched encoding n other fs
-matched_some encoding n other fs a = λ k d l s h. a
-
--- sections that miss none are matched
-pub matched_from : (encoding : Encoding) (n other : ℕ) (fs : List SectionFrame) → misses encoding n other fs ≡ false
-    → IsMatched encoding n other fs
-matched_from encoding n other fs e =
-    elim (and_cases (list_any (nat_lt 0) (counts_of encoding n fs)) (nat_eq (length (counts_of encoding other fs)) 0) e) [
-      | inl a ↦ matched_none encoding n other fs a
-      | inr b ↦ matched_some encoding n other fs (some_from encoding other fs b)
-    ]
-
 -- how a stream ends, reported of its frames
 misses_same : (encoding : Encoding) (fs : List SectionFrame) (p : SectionContext) → Knows encoding fs p → (o : ℕ)
     → end_at_section p o ≡ cond (misses encoding function_id 10 fs) (fault (at_offset FunctionWithoutCode o))
@@ -59,4 +40,5 @@ end_to encoding fs p k o a b = grind (arith, misses_same, false_from_ne_true, ma
 -- frames after which a stream may end are matched
 pub end_from : (encoding : Encoding) (fs : List SectionFrame) (p : SectionContext) → Knows encoding fs p → (o e : ℕ) → end_at_section p o
     ≡ ended e → IsMatched encoding function_id 10 fs × IsMatched encoding data_count_id 11 fs
-end_from encoding fs p k o e h = grind (arith, misses_same, matched_from)
+end_from encoding fs p k o e h =
+    grind (arith, misses_same, and_cases, common_steps, and_from, yes_section, lt-ltb, any_counts, some_from)

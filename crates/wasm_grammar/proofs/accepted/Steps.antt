@@ -11,14 +11,8 @@ use Rattle.wasm_grammar.proofs.accepted.Contents.{good_to}
 use Rattle.wasm_grammar.proofs.accepted.Counts.{Knows}
 use Rattle.wasm_grammar.proofs.accepted.Fits.{rank_to, CodeFits, code_to, data_to}
 use Rattle.wasm_grammar.proofs.accepted.Knows.{grammar_open, knows_body}
-use Rattle.wasm_grammar.proofs.accepted.Tiles.{made, IsWhole, HeadIsRight, number_on, section_tile, code_head_tile, body_tile}
+use Rattle.wasm_grammar.proofs.accepted.Tiles.{made, IsWhole, number_on, section_tile, code_head_tile, body_tile}
 use Rattle.wasm_grammar.proofs.frames.TileEvents.{body_tile_event}
-
--- what comes before a good section's content is right, if the section fits
-head_of_frame : (p : SectionContext) (fs : List SectionFrame) (o : ℕ) (f : SectionFrame) → Knows p.encoding fs p → IsFrame p.encoding f
-    → FitsAfter p.encoding fs f → o + length (frame_bytes f) < 2 ^ 64
-    → HeadIsRight p o f.id f.sized.field (length f.sized.content)
-head_of_frame p fs o f k i a r = grind (arith, common_steps, length-append, rank_to)
 
 -- a good section that fits after tiles of its own encoding is a tile
 section_at : (p : SectionContext) (fs : List SectionFrame) (o : ℕ) (f : SectionFrame) → o + length (frame_bytes f) < 2 ^ 64
@@ -26,7 +20,7 @@ section_at : (p : SectionContext) (fs : List SectionFrame) (o : ℕ) (f : Sectio
     → (w : IsWhole (kind_of p.encoding f.id)) → verdict (section_grammar p o) (frame_bytes f)
     ≡ tile (made (section w.0 f.id f.sized.content) (frame_bytes f))
 section_at p fs o f r k i a w =
-    section_tile p o f.id f.sized.field f.sized.content (head_of_frame p fs o f k i a r) w
+    section_tile p o f.id f.sized.field f.sized.content (grind (arith, common_steps, length-append, rank_to)) w
     (grind arith)
     (λ at. good_to w.0 at f.sized.content (grind arith))
     (λ at. data_to p.encoding fs p k f at a.segments w.0 w.1)

@@ -1,35 +1,17 @@
 -- A suffix that decides consists of bytes, at most 2^32 of them.
-use Rattle.wasm_grammar.proofs.Common.{arith, ◌≡◌, ◌⊎◌, Bool, true, false, cond, List, [], ◌∷◌, refl, ℕ, ◌+◌, length, ◌≤◌, None, ◌<◌}
-use Rattle.wasm_grammar.proofs.Common.{nat_lt, Option, suc, take, drop, ◌^◌, replicate, common_steps, length-replicate, length-drop}
-use Rattle.wasm_grammar.proofs.Common.{All-nil, All, last_place-lt, Number, read, bad, ends_at, last_place, number, Fault, VarU32, Tile}
+use Rattle.wasm_grammar.proofs.Common.{arith, ◌≡◌, List, [], ◌∷◌, refl, ℕ, length, ◌≤◌, None, ◌<◌, take, drop, ◌^◌, replicate, common_steps}
+use Rattle.wasm_grammar.proofs.Common.{length-replicate, length-drop, All-nil, All, last_place-lt, Number, read, number, VarU32, Tile}
 use Rattle.wasm_grammar.proofs.Common.{check, bytes, Grammar, u32_field, section_start, header_grammar, section_grammar, body_grammar}
 use Rattle.wasm_grammar.proofs.Common.{grammar, ending_of_number, deciding_ending}
-use Rattle.std.proofs.Common.{slice_index, add-one}
+use Rattle.std.proofs.Common.{add-one}
 use Rattle.std.proofs.lemmas.List.Elements.{All-replicate, All-drop}
 use Rattle.wasm_base.proofs.Numbers.{sum_below}
-use Rattle.wasm_base.specs.Number.{septets, is_unused_right}
 
 -- ---- a number has 32 bits
 
-below_at : (a b c : Bool) (w v i k p q : ℕ) (f g : Fault) → ((a ≡ true) ⊎ ((b ≡ false) × (c ≡ true)) → w < 2 ^ 32)
-    → cond a (read w (suc i)) (cond b (bad f p) (cond c (read w (suc i)) (bad g q))) ≡ read v k → v < 2 ^ 32
-below_at a b c w v i k p q f g h e = grind arith
-
-sum_at : (xs : List ℕ) (i : ℕ) → i < length xs → i < 5 → (i + 1 < 5) ⊎ (is_unused_right VarU32 (slice_index xs i) ≡ true)
-    → septets (take (suc i) xs) < 2 ^ 32
-sum_at xs i l m h = let s : septets (take (i + 1) xs) < 2 ^ 32 = sum_below VarU32 xs i l m h in rw add-one at s
-
--- the sum of the septets, by where the last of them is
-last_below : (xs : List ℕ) (i : ℕ) → i < length xs → (nat_lt (suc i) 5 ≡ true)
-    ⊎ ((nat_lt 5 (suc i) ≡ false) × (is_unused_right VarU32 (slice_index xs i) ≡ true)) → septets (take (suc i) xs) < 2 ^ 32
-last_below xs i l h = grind (arith, sum_at)
-
-read_below_at : (xs : List ℕ) (o : Option ℕ) (v k : ℕ) → last_place xs ≡ o → ends_at VarU32 xs o ≡ read v k → v < 2 ^ 32
-read_below_at xs o v k e f = grind (arith, common_steps, below_at, last_below, last_place-lt)
-
 read_below : (xs : List ℕ) (v k : ℕ) → number VarU32 xs ≡ read v k → v < 2 ^ 32
 unfolding number
-read_below xs v k r = read_below_at xs (last_place xs) v k refl r
+read_below xs v k r = grind (arith, common_steps, last_place-lt, sum_below, add-one)
 
 -- ---- every grammar
 

@@ -1,10 +1,10 @@
 -- Where the faults of a grammar lie.
 use Rattle.wasm_grammar.proofs.Common.{arith, ◌≡◌, Bool, cond, List, [], ◌∷◌, refl, ℕ, ◌+◌, length, ◌≤◌, None, Option, take, drop, nat_le}
 use Rattle.wasm_grammar.proofs.Common.{length-append, Some, le_refl, common_steps, length-take-le, length-drop, number-used, FaultAt}
-use Rattle.wasm_grammar.proofs.Common.{at_offset, Number, number, UnexpectedEof, VarU32, Ending, fault, ended, Form, when, Kind}
-use Rattle.wasm_grammar.proofs.Common.{wrong_content, Tile, SectionContext, wrong_data, check, bytes, final, after, Grammar, accept}
-use Rattle.wasm_grammar.proofs.Common.{u32_field, after_length, section_start, Verdict, after_number, reject, verdict, header_grammar}
-use Rattle.wasm_grammar.proofs.Common.{section_grammar, body_grammar, bytes_of, grammar}
+use Rattle.wasm_grammar.proofs.Common.{at_offset, Number, number, UnexpectedEof, VarU32, Ending, fault, ended, Form, wrong_content, Tile}
+use Rattle.wasm_grammar.proofs.Common.{SectionContext, wrong_data, check, bytes, final, after, Grammar, accept, u32_field, section_start}
+use Rattle.wasm_grammar.proofs.Common.{Verdict, after_number, reject, verdict, header_grammar, section_grammar, body_grammar, bytes_of}
+use Rattle.wasm_grammar.proofs.Common.{grammar}
 use Rattle.wasm_grammar.specs.Laws.{FaultLiesWithin}
 use Rattle.wasm_grammar.proofs.parts.Places.{number_place, name_place}
 
@@ -63,9 +63,6 @@ verdict_lies low here (section_start o e next) (id ∷ xs) f w h = grind (arith,
 
 -- ---- the grammars of a stream
 
-when_lies : (low high : ℕ) (t : Bool) (e : FaultAt) → Between low high e.offset → MayLie low high (when t e)
-when_lies low high t e w = grind arith
-
 content_wrong : (kind : Form) (offset : ℕ) (content : List ℕ) → MayLie offset (offset + length content) (wrong_content kind offset content)
 unfolding wrong_content
 content_wrong kind offset content = grind (arith, number_place, name_place)
@@ -74,13 +71,9 @@ data_wrong : (p : SectionContext) (kind : Form) (id offset : ℕ) (content : Lis
     → MayLie offset offset (wrong_data p kind id offset content)
 data_wrong p kind id offset content = grind arith
 
-Within-sized : (o : ℕ) (p : SectionContext) (kind : Kind) (id size width : ℕ)
-    → Within o (o + 1 + width) (after_length p kind id (o + 1) (o + 1 + width) size)
-Within-sized o p kind id size width = grind (arith, content_wrong, data_wrong)
-
 Within-section : (p : SectionContext) (o : ℕ) → Within o o (section_grammar p o)
 unfolding section_grammar
-Within-section p o = grind (arith, common_steps, le_refl, when_lies, Within-sized)
+Within-section p o = grind (arith, common_steps, le_refl, content_wrong, data_wrong)
 
 Within-body : (bodies code_bytes o : ℕ) → Within o o (body_grammar bodies code_bytes o)
 unfolding body_grammar

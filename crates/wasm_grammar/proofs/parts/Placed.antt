@@ -83,12 +83,9 @@ Fresh ts s = 0 < tile_rank s → list_all (λ (u : Tile). nat_lt (tile_rank u.sh
 fresh_placed : (ts : List Tile) (s : Shape) → Placed (context_of ts) s → Fresh ts s
 fresh_placed ts s e f = grind (arith, common_steps)
 
-fresh_body : (ts : List Tile) (s : Shape) → IsBody s → Fresh ts s
-fresh_body ts s e f = grind arith
-
 fresh_at : (b : Bool) (ts : List Tile) (m l o : ℕ) (d : List ℕ) (t : Tile)
     → verdict (cond b (section_grammar (context_of ts) o) (body_grammar m l o)) d ≡ tile t → Fresh ts t.shape
-fresh_at b ts m l o d t e = grind (arith, common_steps, fresh_placed, placed, fresh_body, bodied)
+fresh_at b ts m l o d t e = grind (arith, common_steps, fresh_placed, placed, bodied)
 
 pub fresh : (start : ℕ) (ts : List Tile) (d : List ℕ) (t : Tile) → verdict (grammar start ts) d ≡ tile t → Fresh ts t.shape
 fresh start [] d t e = λ h. refl

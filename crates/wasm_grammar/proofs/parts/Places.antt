@@ -1,25 +1,13 @@
 -- What is wrong with bytes is wrong at one of them, or at their end.
-use Rattle.wasm_grammar.proofs.Common.{arith, ◌≡◌, Bool, cond, List, refl, ℕ, length, ◌≤◌, ◌<◌, nat_lt, Option, suc, ◌-◌, common_steps}
-use Rattle.wasm_grammar.proofs.Common.{length-drop, number-used, last_place-lt, named, name, read, bad, ends_at, last_place, number, Fault}
+use Rattle.wasm_grammar.proofs.Common.{arith, ◌≡◌, List, ℕ, length, ◌≤◌, ◌<◌, Option, common_steps, length-drop, number-used, last_place-lt}
+use Rattle.wasm_grammar.proofs.Common.{named, name, bad, number, Fault}
 use Rattle.wasm_base.specs.Name.{refused}
-use Rattle.wasm_base.specs.Number.{most_bytes}
 use Rattle.wasm_base.specs.declared.fault.NumberKind.{NumberKind}
-
-some_place : (a b c : Bool) (w i m n p : ℕ) (f g h : Fault) → nat_lt m (suc i) ≡ b → i < n → 0 < m
-    → cond a (read w (suc i)) (cond b (bad f (m - 1)) (cond c (read w (suc i)) (bad g i))) ≡ bad h p → p < n
-some_place a b c w i m n p f g h l s k e = grind arith
-
-some_bytes : (kind : NumberKind) → 0 < most_bytes kind
-some_bytes kind = grind arith
-
-place_at : (kind : NumberKind) (xs : List ℕ) (o : Option ℕ) (f : Fault) (p : ℕ) → last_place xs ≡ o → ends_at kind xs o ≡ bad f p
-    → p < length xs
-place_at kind xs o f p e g = grind (arith, common_steps, some_place, last_place-lt, some_bytes)
 
 -- a number is wrong at one of its bytes
 pub number_place : (kind : NumberKind) (xs : List ℕ) (f : Fault) (p : ℕ) → number kind xs ≡ bad f p → p < length xs
 unfolding number
-number_place kind xs f p r = place_at kind xs (last_place xs) f p refl r
+number_place kind xs f p r = grind (arith, common_steps, last_place-lt)
 
 -- a name is wrong at one of the bytes, or at their end
 pub name_place : (limit : Option ℕ) (xs : List ℕ) (f : Fault) (p : ℕ) → name limit xs ≡ refused f p → p ≤ length xs

@@ -3,15 +3,15 @@ use Rattle.wasm_grammar.proofs.Common.{arith, ◌≡◌, ◌⊎◌, inl, Bool, c
 use Rattle.wasm_grammar.proofs.Common.{nat_eq, Option, subst, zero, suc, ◌-◌, take, drop, nat_le, length-append, Some, common_steps}
 use Rattle.wasm_grammar.proofs.Common.{FaultAt, at_offset, magic, agree, of_four, Number, number, BadMagic, MagicAtSection, UnexpectedEof}
 use Rattle.wasm_grammar.proofs.Common.{MalformedSectionId, VarU32, Ending, fault, Form, kind_of, when, Kind, wrong_content, Tile}
-use Rattle.wasm_grammar.proofs.Common.{SectionContext, tile, check, bytes, version_of, Shape, final, after, Grammar, accept, u32_field}
+use Rattle.wasm_grammar.proofs.Common.{SectionContext, tile, check, bytes, version_of, final, after, Grammar, accept, u32_field}
 use Rattle.wasm_grammar.proofs.Common.{after_length, after_id, section_start, Verdict, after_number, reject, body_of, verdict}
-use Rattle.wasm_grammar.proofs.Common.{header_grammar, section_grammar, body_grammar, events_of, tile_report, event_of, section_report}
-use Rattle.wasm_grammar.proofs.Common.{shifted_events, bytes_of, context_of, bodies_left, bytes_left, grammar, Faultless}
+use Rattle.wasm_grammar.proofs.Common.{header_grammar, section_grammar, body_grammar, events_of, event_of, shifted_events, bytes_of}
+use Rattle.wasm_grammar.proofs.Common.{context_of, bodies_left, bytes_left, grammar, Faultless}
 use Rattle.std.proofs.Common.{option_map, subst₂}
 use Rattle.std.proofs.lemmas.List.{map-append}
 use Rattle.wasm_base.specs.declared.fault.Fault.TheVariants.{SectionTooLarge}
 use Rattle.wasm_grammar.specs.Laws.{StartOnlyMoves}
-use Rattle.wasm_grammar.specs.Shifted.{shifted_event, shifted_fault, shifted_ending, shifted_report, PassesTheTop}
+use Rattle.wasm_grammar.specs.Shifted.{shifted_event, shifted_fault, shifted_ending, PassesTheTop}
 use Rattle.wasm_grammar.specs.Tiling.{inside}
 use Rattle.wasm_grammar.proofs.readings.EndToEnd.{Closes, tile_closes}
 use Rattle.wasm_grammar.proofs.readings.Readings.{reads_same}
@@ -179,21 +179,13 @@ faultless_back by start (t ∷ ts) f = (
 
 -- ---- what is reported
 
-pub section_moves : (by features from to : ℕ) (kind : Form) (id : ℕ) (content : List ℕ)
-    → section_report features (from + by) (to + by) kind id content ≡ shifted_report by (section_report features from to kind id content)
-section_moves by features from to kind id content = grind arith
-
 content_place : (by low high : ℕ) (passed before content : List ℕ) → high ≡ low + length passed → passed ≡ before ++ content
     → high + by - length content ≡ (high - length content) + by
 content_place by low high passed before content h c = grind (arith, length-append)
 
-report_moves : (by features low high : ℕ) (shape : Shape) (passed : List ℕ) → high ≡ low + length passed → Closes shape passed
-    → tile_report features (low + by) (high + by) shape ≡ shifted_report by (tile_report features low high shape)
-report_moves by features low high shape passed e f = grind (arith, common_steps, content_place, section_moves)
-
 event_moves : (by features o : ℕ) (t : Tile) → Closes t.shape t.bytes → event_of features (o + by) t
     ≡ shifted_event by (event_of features o t)
-event_moves by features o t c = grind (arith, common_steps, report_moves)
+event_moves by features o t c = grind (arith, common_steps, content_place)
 
 events_move : (by start features : ℕ) (ts : List Tile) → Faultless start ts → events_of (start + by) features ts
     ≡ shifted_events by (events_of start features ts)
