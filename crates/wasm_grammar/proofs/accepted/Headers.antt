@@ -14,7 +14,7 @@ abbrev pub header_bits : Encoding → ℕ
 header_bits Module = 1
 header_bits Component = 65549
 
--- the same as bytes
+-- the four bytes after the magic
 abbrev pub last_four : Encoding → List ℕ
 last_four Module = 0x01 ∷ 0x00 ∷ 0x00 ∷ 0x00 ∷ []
 last_four Component = 0x0d ∷ 0x00 ∷ 0x01 ∷ 0x00 ∷ []

@@ -113,7 +113,7 @@ whole_parts p kind id o size xs t h =
     refuse_parts _ _ b.others b.rest c.1 in
     search (ends_there, takes_parts)
 
--- the same for each of its kinds
+-- the content of a section that is one tile, by its kind
 pub content_parts : (p : SectionContext) (kind : Kind) (id o size : ℕ) (xs : List ℕ) (t : Tile) (w : IsWhole kind)
     → verdict (content_grammar p kind id o size) xs ≡ tile t → WholeParts p w.0 id o size t
 content_parts p kind id o size xs t w h = grind (arith, whole_parts)

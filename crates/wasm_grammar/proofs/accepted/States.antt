@@ -175,7 +175,7 @@ code_pending ts o t q s e =
     } in
     rw z r
 
--- how many they are
+-- how many bytes the count and the bodies have with one more body
 body_bytes : (head : List ℕ) (bodies : List Sized) (s : Sized) → length head + length (flat_map sized_bytes bodies) + length (sized_bytes s)
     ≡ length head + length (flat_map sized_bytes (bodies ++ s ∷ []))
 body_bytes head bodies s = grind (arith, common_steps, flat_map_more, length-append)

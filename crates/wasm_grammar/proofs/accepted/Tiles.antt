@@ -80,7 +80,7 @@ not_code form e = cc
 pub same_form : (one other : Form) → whole one ≡ whole other → one ≡ other
 same_form one other e = cc
 
--- the same for a kind that is one tile
+-- content with no fault is a tile, by the kind of its section
 content_tile : (p : SectionContext) (kind : Kind) (id o : ℕ) (content : List ℕ) (w : IsWhole kind) → wrong_content w.0 o content ≡ None
     → wrong_data p w.0 id (o + length content) content ≡ None
     → verdict (content_grammar p kind id o (length content)) content ≡ tile (made (section w.0 id content) content)

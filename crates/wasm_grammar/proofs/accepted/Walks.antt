@@ -130,7 +130,7 @@ frame_step start encoding fs f q r i a =
       | inr k ↦ grind (arith, module_step)
     ]
 
--- all frames, from some on
+-- the frames after some that are reached are reached
 frames_walk : (start : ℕ) (encoding : Encoding) (all : List SectionFrame) → start + length (stream_of encoding all) < 2 ^ 64
     → ((earlier later : List SectionFrame) (f : SectionFrame) → all ≡ earlier ++ f ∷ later → FitsAfter encoding earlier f)
     → (later earlier : List SectionFrame) → earlier ++ later ≡ all → All (IsFrame encoding) later → Reached start encoding earlier

@@ -7,7 +7,7 @@ use Rattle.wasm_base.proofs.NumberLaws.{number-short}
 use Rattle.wasm_grammar.specs.Waiting.{Waiting}
 use Rattle.wasm_grammar.proofs.parts.Verdicts.{agree_same, agree-more, Guarded, Cut, verdict-cut}
 
--- Bytes that suffice still do, whatever follows.
+-- ---- bytes that suffice still do, whatever follows
 
 wait_number : (xs ys : List ℕ) (next : ℕ → ℕ → Grammar)
     → ((v k : ℕ) (zs : List ℕ) → waiting (next v k) zs ≡ enough → waiting (next v k) (zs ++ ys) ≡ enough)
@@ -49,7 +49,7 @@ tile_decided g gd xs t w =
     let c : Cut g xs t = verdict-cut g gd xs t w in
     grind (arith, waiting-more)
 
--- Where bytes don't suffice, there are fewer than are needed, and at least one more is asked for.
+-- ---- where bytes don't suffice, there are fewer than are needed, and at least one more is requested
 
 pub record Asks (xs : List ℕ) (need hint : ℕ) : Type 0 where
   pub above : length xs < need

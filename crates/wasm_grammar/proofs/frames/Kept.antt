@@ -54,7 +54,7 @@ module _ {X : Type 0} where
   all_passed P p h [] a = All-nil P
   all_passed P p h (x ∷ xs) a = passed_step P p h x xs (all_passed P p h xs) (p x) refl a
 
-  -- the same of two lists of which the same pass
+  -- what holds of all that fail a test holds of each of two lists of which the same pass, if it holds of each of one
   all_same : (P : X → Type 0) (p : X → Bool) → ((x : X) → p x ≡ false → P x) → (xs ys : List X) → filter p xs ≡ filter p ys → All P xs
       → All P ys
   all_same P p h xs ys e a = all_passed P p h ys (subst (All P) e (All-filter p P xs a))

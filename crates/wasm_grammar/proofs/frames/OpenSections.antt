@@ -46,7 +46,7 @@ module _ (start : ℕ) (Closed Open : List Tile → Type 0) (g : Goes start Clos
   step u ts t h (inl q) false e o v = grind arith
   step u ts t h (inr q) false e o v = grind (arith, body_parts)
 
-  -- all tiles of bytes
+  -- tiles of bytes are whole sections, or whole sections and a prefix of a code section
   pub sections_of_tiles : (t : Tile) (ts : List Tile) → Faultless start (t ∷ ts) → All (λ b. b < 256) (bytes_of (t ∷ ts)) → Closed (t ∷ ts)
       ⊎ Open (t ∷ ts)
   sections_of_tiles t [] f a = inl (g.header t a f.1)

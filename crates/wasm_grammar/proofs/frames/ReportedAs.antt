@@ -27,7 +27,7 @@ code_events_same features at f d e =
     let q : ((d.field ≡ e.field) × (d.bodies ≡ e.bodies)) = grind (arith, numbers_same, prefixes_same, bodies_same) in
     grind arith
 
--- and so have sections
+-- sections have one list of events
 frames_events_same : (features : ℕ) (encoding : Encoding) (at : ℕ) (frames : List SectionFrame) (xs ys : List Event)
     → FramesEvents features encoding at frames xs → FramesEvents features encoding at frames ys → xs ≡ ys
 frames_events_same features encoding at [] xs ys x y = x ∙ sym y

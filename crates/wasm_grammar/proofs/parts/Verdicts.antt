@@ -62,7 +62,7 @@ verdict-more (section_start offset e next) (id ∷ xs) ys w =
     start_more offset id xs ys next (λ zs. verdict-more (next id) zs ys) (agree (id ∷ xs) magic) (nat_le 4 (length (id ∷ xs))) refl refl w
 verdict-more _ xs ys w = refl
 
--- What a tile is does not wait, and depends on its bytes alone.
+-- ---- what a tile is depends on its bytes alone
 
 pub after-tile : (prefix : List ℕ) (v : Verdict) (t : Tile) → after prefix v ≡ tile t → (s : Tile) × (v ≡ tile s)
     × (t ≡ record s { bytes = prefix ++ s.bytes })

@@ -17,8 +17,6 @@ split_end : {X : Type 0} (xs earlier later : List X) (x y : X) → xs ++ x ∷ [
     → ((y ≡ x) × (later ≡ [])) ⊎ ((more : List X) × (xs ≡ earlier ++ y ∷ more) × (later ≡ more ++ x ∷ []))
 split_end {X} xs earlier later x y e = grind (arith, split_last, append_cancel_left, append_assoc)
 
--- ---- which reports are a start or a body
-
 -- ---- after a start
 
 -- bodies alone, with those that are missed as many as it counts
@@ -36,7 +34,7 @@ record Shut (count : ℕ) (after : List Event) : Type 0 where
   other : ¬ ReportsBody next
   many : length bodies ≡ count
 
--- whatever follows
+-- further events change nothing
 shut_more : (count : ℕ) (after : List Event) (e : Event) → Shut count after → Shut count (after ++ e ∷ [])
 shut_more count after e s = grind (arith, append_assoc)
 
@@ -85,7 +83,7 @@ follows start features (t ∷ ts) f before after e count from to size z c =
     more t (u ∷ ts) f l (inl s) = open_more start features u ts t count l (nat_eq (bodies_left (u ∷ ts) + bytes_left (u ∷ ts)) 0) refl
         (start + length (bytes_of (u ∷ ts))) f.1 s
 
--- the same of the reading, with how it ends
+-- after a start among the events of a reading, which end with its last event
 ends : (start features : ℕ) (ts : List Tile) (rest : List ℕ) (end : Ending) → verdict (grammar start ts) rest ≡ final end
     → (count : ℕ) (after : List Event) → Open ts count after → BodiesFollow count (after ++ last_event end ∷ [])
 ends start features ts rest end v count after s = grind (arith, inside_end, eqb-true)

@@ -31,7 +31,7 @@ Closing passed (u32_field o next) = (v k : ℕ) (b : List ℕ) → length b ≡ 
 Closing passed (bytes count o next) = (b : List ℕ) → Closing (passed ++ b) (next b)
 Closing passed (section_start o e next) = (id : ℕ) → Closing (passed ++ id ∷ []) (next id)
 
--- the same after more bytes
+-- a tile that ends with its content still does after a prefix
 closes_after : (passed prefix : List ℕ) (v : Verdict) (t : Tile)
     → ((s : Tile) → v ≡ tile s → Closes s.shape ((passed ++ prefix) ++ s.bytes)) → after prefix v ≡ tile t
     → Closes t.shape (passed ++ t.bytes)
