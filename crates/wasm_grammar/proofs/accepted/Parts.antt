@@ -1,10 +1,11 @@
 -- Tiles are bytes in the textbook form.
-use Rattle.wasm_grammar.proofs.Common.{arith, ◌≡◌, Bool, cond, List, [], ◌∷◌, ◌++◌, refl, ℕ, ◌+◌, length, ◌≤◌, None, ◌<◌, not, ◌&&◌, nat_lt}
-use Rattle.wasm_grammar.proofs.Common.{append-nil, Option, zero, suc, ◌-◌, take, drop, nat_le, length-take-le, number-used, FaultAt}
-use Rattle.wasm_grammar.proofs.Common.{at_offset, magic, agree, MagicAtSection, UnexpectedEof, IsNumber, Ending, fault, Form, kind_of, when}
-use Rattle.wasm_grammar.proofs.Common.{Kind, rank_of, wrong_content, Tile, SectionContext, wrong_count, wrong_data, tile, check, bytes}
-use Rattle.wasm_grammar.proofs.Common.{section, code_start, code_entry, Shape, final, after, Grammar, accept, u32_field, content_grammar}
-use Rattle.wasm_grammar.proofs.Common.{whole_grammar, code_grammar, after_length, after_id, verdict, section_grammar, body_grammar}
+use Rattle.wasm_grammar.proofs.Common.{arith, ◌≡◌, Bool, cond, List, [], ◌∷◌, ◌++◌, refl, ℕ, ◌+◌, length, ◌≤◌, None, ◌<◌, ◌&&◌, nat_lt}
+use Rattle.wasm_grammar.proofs.Common.{append-nil, Option, zero, suc, ◌-◌, take, drop, nat_le, common_steps, length-take-le, number-used}
+use Rattle.wasm_grammar.proofs.Common.{FaultAt, at_offset, magic, agree, MagicAtSection, UnexpectedEof, IsNumber, Ending, fault, Form}
+use Rattle.wasm_grammar.proofs.Common.{kind_of, when, Kind, rank_of, wrong_content, Tile, SectionContext, wrong_count, wrong_data, tile}
+use Rattle.wasm_grammar.proofs.Common.{check, bytes, section, code_start, code_entry, Shape, final, after, Grammar, accept, u32_field}
+use Rattle.wasm_grammar.proofs.Common.{content_grammar, whole_grammar, code_grammar, after_length, after_id, verdict, section_grammar}
+use Rattle.wasm_grammar.proofs.Common.{body_grammar}
 use Rattle.wasm_grammar.proofs.accepted.Tiles.{made, IsWhole}
 use Rattle.wasm_grammar.proofs.parts.Guarded.{Numbered, numbered}
 use Rattle.wasm_grammar.proofs.parts.Placed.{Follows, none_when}
@@ -78,10 +79,7 @@ framed_parts : (p : SectionContext) (o id : ℕ) (xs : List ℕ) (s t : Tile) �
 framed_parts p o id xs s t h e =
     let a : ((when (nat_le 128 id) _ ≡ None) × (verdict _ xs ≡ tile s)) = refuse_parts _ _ xs s h in
     let n : NumberParts (λ size width. after_length p (kind_of p.encoding id) id (o + 1) (o + 1 + width) size) s = search number_parts in
-    let c : ((when (nat_lt 0 (rank_of (kind_of p.encoding id) id) && not (p.may_follow (rank_of (kind_of p.encoding id) id))) _ ≡ None)
-    × (verdict (content_grammar p (kind_of p.encoding id) id (o + 1 + length n.field) n.value) n.others ≡ tile n.rest)) =
-    refuse_parts _ _ n.others n.rest (refuse_parts _ _ n.others n.rest n.goes_on).1 in
-    grind (arith, none_when)
+    grind (arith, common_steps, refuse_parts, none_when)
 
 -- what a section's tile consists of, if it begins no header
 start_at : (b : Bool) (p : SectionContext) (o id : ℕ) (xs : List ℕ) (x : FaultAt) (t : Tile)
@@ -108,10 +106,7 @@ whole_parts : (p : SectionContext) (kind : Form) (id o size : ℕ) (xs : List �
 whole_parts p kind id o size xs t h =
     let b : BytesParts size (λ content. check (wrong_content kind o content)
     (check (wrong_data p kind id (o + size) content) (accept (section kind id content)))) t = bytes_parts size o _ xs t h in
-    let c : ((wrong_content kind o b.prefix ≡ None) × (verdict _ b.others ≡ tile b.rest)) = refuse_parts _ _ b.others b.rest b.goes_on in
-    let d : ((wrong_data p kind id (o + size) b.prefix ≡ None) × (verdict (accept (section kind id b.prefix)) b.others ≡ tile b.rest)) =
-    refuse_parts _ _ b.others b.rest c.1 in
-    search (ends_there, takes_parts)
+    grind (arith, common_steps, refuse_parts, ends_there, takes_parts)
 
 -- the content of a section that is one tile, by its kind
 pub content_parts : (p : SectionContext) (kind : Kind) (id o size : ℕ) (xs : List ℕ) (t : Tile) (w : IsWhole kind)
@@ -133,18 +128,7 @@ pub head_parts : (p : SectionContext) (o size : ℕ) (xs : List ℕ) (t : Tile) 
 head_parts p o size xs t h =
     let n : NumberParts (λ count width. check (when (nat_lt size width) _)
     (check (wrong_count p o count) (accept (code_start count width (size - width))))) t = number_parts o _ xs t h in
-    let a : ((when (nat_lt size (length n.field)) _ ≡ None) × (verdict _ n.others ≡ tile n.rest)) =
-    refuse_parts _ _ n.others n.rest n.goes_on in
-    let b : ((wrong_count p o n.value ≡ None) × (verdict (accept (code_start n.value (length n.field) (size - length n.field))) n.others
-    ≡ tile n.rest)) = refuse_parts _ _ n.others n.rest a.1 in
-    record {
-      count = n.value;
-      head = n.field;
-      whole = n.whole;
-      fits = grind arith;
-      right = b.0;
-      is = search (ends_there, takes_parts);
-    }
+    grind (arith, common_steps, refuse_parts, ends_there, takes_parts)
 
 -- a body, in a code section of which m bodies and l bytes remain
 pub record BodyParts (m l : ℕ) (t : Tile) : Type 0 where
@@ -163,9 +147,4 @@ body_parts zero l o xs t h = cc
 body_parts (suc m) l o xs t h =
     let n : NumberParts (λ size width. check (when (nat_lt l (width + size)) (at_offset UnexpectedEof o))
     (bytes size (o + width) (λ content. accept (code_entry content)))) t = number_parts o _ xs t h in
-    let a : ((when (nat_lt l (length n.field + n.value)) (at_offset UnexpectedEof o) ≡ None)
-    × (verdict (bytes n.value (o + length n.field) (λ content. accept (code_entry content))) n.others ≡ tile n.rest)) =
-    refuse_parts _ _ n.others n.rest n.goes_on in
-    let b : BytesParts n.value (λ content. accept (code_entry content)) n.rest = search bytes_parts in
-    let r : n.rest ≡ made (code_entry b.prefix) b.prefix = search (ends_there, takes_parts) in
-    grind arith
+    grind (arith, common_steps, refuse_parts, bytes_parts, ends_there, takes_parts)

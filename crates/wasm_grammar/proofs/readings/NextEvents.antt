@@ -1,8 +1,8 @@
 -- The event that comes next in a reading.
 use Rattle.wasm_grammar.proofs.Common.{arith, ◌≡◌, ◌⊎◌, inl, inr, List, [], ◌∷◌, ◌++◌, refl, ap, ℕ, ◌+◌, length, ◌<◌, sym, ◌∙◌, append-nil}
-use Rattle.wasm_grammar.proofs.Common.{append_assoc, length-append, append_cancel_left, Ending, consumed_by, Tile, tile, final, Verdict}
-use Rattle.wasm_grammar.proofs.Common.{verdict, NextEvent, Reads, events_of, Event, last_event, Reading, event_of, bytes_of, grammar}
-use Rattle.wasm_grammar.proofs.Common.{Faultless}
+use Rattle.wasm_grammar.proofs.Common.{append_assoc, length-append, common_steps, append_cancel_left, Ending, consumed_by, Tile, tile}
+use Rattle.wasm_grammar.proofs.Common.{final, Verdict, verdict, NextEvent, Reads, events_of, Event, last_event, Reading, event_of, bytes_of}
+use Rattle.wasm_grammar.proofs.Common.{grammar, Faultless}
 use Rattle.wasm_grammar.proofs.parts.Guarded.{tile_least}
 use Rattle.wasm_grammar.proofs.readings.EndToEnd.{tiles_consume}
 use Rattle.wasm_grammar.proofs.readings.Longest.{longest}
@@ -70,10 +70,8 @@ tile_comes start features ts rest t f v before later e r c =
     let g : Grown start ts rest t = grows start ts rest t f v in
     let l = longest (bytes_of ts ++ rest) start r.tiles (t ∷ ts) r.end g.rest r.reads g.faultless (grind (arith, append_assoc)) in
     let m : MoreEvents (events_of start features (t ∷ ts)) (events_of start features (l.0 ++ t ∷ ts)) = search events_later in
-    let all : before ++ e ∷ later ≡ events_of start features ts ++ event_of features (start + length (bytes_of ts)) t
-    ∷ (m.more ++ last_event r.end ∷ []) = grind (arith, append_assoc) in
     same_place (events_of start features ts) before (event_of features (start + length (bytes_of ts)) t) e (m.more ++ last_event r.end ∷ [])
-    later (tiles_each start features ts f) (inl g.some) all (c ∙ sym (tiles_consume start features ts))
+    later (tiles_each start features ts f) (inl g.some) (grind (arith, append_assoc)) (c ∙ sym (tiles_consume start features ts))
 
 -- the last event
 end_comes : (start features : ℕ) (ts : List Tile) (rest : List ℕ) (end : Ending) → Faultless start ts → verdict (grammar start ts) rest
@@ -82,9 +80,7 @@ end_comes : (start features : ℕ) (ts : List Tile) (rest : List ℕ) (end : End
 end_comes start features ts rest end f v before later e r c =
     let here : Reads (bytes_of ts ++ rest) start ts end = record { rest = rest; whole = refl; faultless = f; stops = v } in
     let z = reads_same (bytes_of ts ++ rest) start r.tiles ts r.end end r.reads here in
-    let all : before ++ e ∷ later ≡ events_of start features ts ++ last_event end ∷ [] = cc in
-    same_place (events_of start features ts) before (last_event end) e [] later (tiles_each start features ts f) (inr refl) all
-    (c ∙ sym (tiles_consume start features ts))
+    grind (arith, common_steps, same_place, tiles_each, tiles_consume)
 
 pub comes_next : (start features : ℕ) (ts : List Tile) (rest : List ℕ) (v : Verdict) → Faultless start ts → verdict (grammar start ts) rest
     ≡ v → (before later : List Event) (e : Event) → Reading (bytes_of ts ++ rest) start features (before ++ e ∷ later)
