@@ -1,5 +1,5 @@
--- What the crates above may cite of the proofs of this one: the statements of laws, and how a listing goes on, each in the words
--- of specs/.
+-- What the crates above may cite of the proofs of this one: the statements of laws, where a feeder is, and how a listing goes on, each in
+-- the words of specs/.
 pub use Rattle.wasm_text.proofs.ForCallers.{cut_of}
 pub use Rattle.wasm_feeder.proofs.Adding.{steps_in}
 pub use Rattle.wasm_feeder.proofs.Beside.{both}
