@@ -1,35 +1,22 @@
 -- Where a caller is in a stream: at its start, after more bytes arrived, and after a call.
-use Rattle.std.proofs.Common.{◌≡◌, ℕ, ◌+◌, ◌^◌, ◌<◌, ◌≤◌, Bool, true, false, nat_eq, List, [], ◌∷◌, ◌++◌, length, Result, Ok, Err, refl}
-use Rattle.std.proofs.Common.{sym, ap, subst, subst₂, ◌∙◌, arith, length-append, append_assoc, append-nil, inl, inr}
-use Rattle.std.proofs.lemmas.List.{take_at, drop_at, nil_from_length}
-use Rattle.std.specs.Prelude.{◌⊎◌}
-use Rattle.wasm_base.specs.FaultAt.{FaultAt, fault_at, at_offset}
-use Rattle.wasm_base.specs.declared.error.Error.{Error}
-use Rattle.wasm_base.specs.declared.fault.Fault.TheVariants.{OffsetRange}
-use Rattle.wasm_grammar.specs.Content.{Ending, fault, ended}
-use Rattle.wasm_grammar.specs.EventRanges.{consumed_by}
-use Rattle.wasm_parser.specs.GivesNextEvent.{MayBe, IsUndecided}
-use Rattle.wasm_grammar.specs.Grammar.{Tile, Verdict, tile, final, Grammar, verdict}
-use Rattle.wasm_parser.specs.ParseAnswer.{IsPayload, report_of, is_end, said, refuses, ParseAnswer}
-use Rattle.wasm_parser.proofs.AnswerTables.{Answers, AsksFor, AnswersOn, as_table, answer_past, goes_on}
-use Rattle.wasm_parser.specs.ParserState.{ParserState, initial_state, grammar_of}
-use Rattle.wasm_grammar.specs.Reading.{stream_end, Event, tile_report, event_of, events_of, last_event, Reading}
-use Rattle.wasm_parser.specs.StateAfter.{state_after_tile}
-use Rattle.wasm_grammar.specs.Tiling.{bytes_of, grammar}
-use Rattle.wasm_grammar.specs.Waiting.{Waiting, enough, wants, waiting}
-use Rattle.wasm_parser.specs.declared.payload.Payload.{Payload}
-use Rattle.wasm_parser.proofs.AnswerBounds.{asks_never, consumes}
-use Rattle.wasm_grammar.proofs.readings.EndToEnd.{tiles_consume}
+use Rattle.wasm_parser.proofs.Common.{◌≡◌, ℕ, ◌+◌, ◌^◌, ◌<◌, ◌≤◌, Bool, true, false, nat_eq, List, [], ◌∷◌, ◌++◌, length, Result, Ok, Err}
+use Rattle.wasm_parser.proofs.Common.{refl, sym, ap, subst, subst₂, ◌∙◌, arith, length-append, append_assoc, append-nil, inl, inr, take_at}
+use Rattle.wasm_parser.proofs.Common.{drop_at, ◌⊎◌, FaultAt, fault_at, at_offset, Error, OffsetRange, waiting-asks, verdict-more}
+use Rattle.wasm_parser.proofs.Common.{tiles_consume, Grown, grows, Ending, fault, ended, consumed_by, Tile, Verdict, tile, final, Grammar}
+use Rattle.wasm_parser.proofs.Common.{verdict, stream_end, Event, tile_report, event_of, events_of, last_event, Reading, bytes_of, grammar}
+use Rattle.wasm_parser.proofs.Common.{Waiting, enough, wants, waiting, Along, MayBe, IsPayload, report_of, is_end, said, refuses}
+use Rattle.wasm_parser.proofs.Common.{ParseAnswer, ParserState, initial_state, grammar_of, state_after_tile, Chunk, NeedMoreData, Parsed}
+use Rattle.wasm_parser.proofs.Common.{Payload}
+use Rattle.std.proofs.lemmas.List.{nil_from_length}
+use Rattle.wasm_parser.specs.Along.{ReadingBegins, BeginsEach, ReadsEach, Came, GoesAlong, taken_by, is_last, SaysTheSame, AnswersGoAlong}
+use Rattle.wasm_parser.specs.GivesNextEvent.{IsUndecided}
+use Rattle.wasm_grammar.proofs.endings.Waiting.{Asks}
 use Rattle.wasm_grammar.proofs.readings.NextEvents.{MoreEvents, events_later}
-use Rattle.wasm_grammar.proofs.parts.Verdicts.{verdict-more}
+use Rattle.wasm_grammar.proofs.readings.Readings.{Onward, onward}
+use Rattle.wasm_parser.proofs.AnswerBounds.{asks_never, consumes}
+use Rattle.wasm_parser.proofs.AnswerTables.{Answers, AsksFor, AnswersOn, as_table, answer_past, goes_on}
 use Rattle.wasm_parser.proofs.Parsing.{decided_tile}
-use Rattle.wasm_grammar.proofs.readings.Readings.{Grown, grows, Onward, onward}
-use Rattle.wasm_grammar.proofs.endings.Waiting.{Asks, waiting-asks}
 use Rattle.wasm_parser.proofs.StateLaws.{grammar_same, nothing_passed, state_goes_on, state_goes_on-tiles}
-use Rattle.wasm_parser.specs.Along.{Along, ReadingBegins, BeginsEach, ReadsEach, Came, GoesAlong, taken_by, is_last}
-use Rattle.wasm_parser.specs.Along.{SaysTheSame, AnswersGoAlong}
-use Rattle.wasm_parser.specs.declared.payload.Chunk.{Chunk}
-use Rattle.wasm_parser.specs.declared.payload.Chunk.TheVariants.{NeedMoreData, Parsed}
 
 -- ---- where nothing is read
 

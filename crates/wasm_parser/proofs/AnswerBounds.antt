@@ -1,24 +1,17 @@
 -- How far a call of the parser, and a walk over a whole stream, go.
-use Rattle.std.proofs.Common.{◌≡◌, ℕ, ◌+◌, ◌<◌, ◌≤◌, ◌^◌, Bool, true, false, cond, List, ◌++◌, length, Result, Ok, Err, nat_eq}
-use Rattle.std.proofs.Common.{nat_lt, ltb-false, refl, arith, length-append, inl, inr}
-use Rattle.std.specs.Prelude.{◌⊎◌}
-use Rattle.wasm_base.specs.declared.error.Error.{Error}
-use Rattle.wasm_parser.specs.ParseAnswer.{report_of, is_end, Consumes, AsksForSome, IsRequest, ParseAnswer, FaultsWithin, IsUnchanged}
-use Rattle.wasm_parser.proofs.AnswerTables.{Answers, AsksFor, AnswersOn, as_table, goes_on}
-use Rattle.wasm_grammar.specs.Waiting.{Waiting, wants, waiting}
-use Rattle.wasm_grammar.specs.Content.{fault, ended}
-use Rattle.wasm_grammar.specs.Grammar.{Tile, Verdict, tile, final, header_grammar, verdict}
-use Rattle.wasm_parser.specs.ParserState.{ParserState, known_context, grammar_of}
-use Rattle.wasm_grammar.specs.Tiling.{inside}
-use Rattle.wasm_parser.specs.declared.payload.Payload.{Payload}
-use Rattle.wasm_parser.specs.declared.payload.Chunk.{Chunk}
-use Rattle.wasm_parser.specs.declared.payload.Chunk.TheVariants.{NeedMoreData, Parsed}
-use Rattle.wasm_parser.proofs.Bounds.{parser_fault_lies}
-use Rattle.wasm_grammar.proofs.parts.Verdicts.{Cut, verdict-cut, verdict-more}
-use Rattle.wasm_grammar.proofs.endings.Waiting.{waiting-asks, waiting-more}
-use Rattle.wasm_parser.proofs.Parsing.{answered}
+use Rattle.wasm_parser.proofs.Common.{◌≡◌, ℕ, ◌+◌, ◌^◌, ◌<◌, ◌≤◌, Bool, true, false, nat_eq, List, ◌++◌, length, Result, Ok, Err, refl}
+use Rattle.wasm_parser.proofs.Common.{arith, length-append, inl, inr, cond, nat_lt, ltb-false, ◌⊎◌, Error, waiting-asks, Guarded-header}
+use Rattle.wasm_parser.proofs.Common.{Guarded-inside_at, verdict-more, fault, ended, Tile, Verdict, tile, final, verdict, header_grammar}
+use Rattle.wasm_parser.proofs.Common.{inside, Waiting, wants, waiting, report_of, is_end, ParseAnswer, IsRequest, ParserState, grammar_of}
+use Rattle.wasm_parser.proofs.Common.{known_context, Chunk, NeedMoreData, Parsed, Payload}
+use Rattle.wasm_parser.specs.ParseAnswer.{Consumes, AsksForSome, FaultsWithin, IsUnchanged}
 use Rattle.wasm_parser.specs.ParserLaws.{AnswersLast}
-use Rattle.wasm_grammar.proofs.parts.Guarded.{Guarded-header, Guarded-inside_at, least_header, least_inside}
+use Rattle.wasm_grammar.proofs.endings.Waiting.{waiting-more}
+use Rattle.wasm_grammar.proofs.parts.Guarded.{least_header, least_inside}
+use Rattle.wasm_grammar.proofs.parts.Verdicts.{Cut, verdict-cut}
+use Rattle.wasm_parser.proofs.AnswerTables.{Answers, AsksFor, AnswersOn, as_table, goes_on}
+use Rattle.wasm_parser.proofs.Bounds.{parser_fault_lies}
+use Rattle.wasm_parser.proofs.Parsing.{answered}
 
 -- ---- tiles
 

@@ -1,19 +1,10 @@
 -- The result of a call by what comes next: the equation of `ParseAnswer`, case by case.
-use Rattle.std.proofs.Common.{◌≡◌, ℕ, ◌+◌, ◌^◌, ◌<◌, ◌≤◌, Bool, true, false, List, length, Result, Ok, Err}
-use Rattle.std.proofs.Common.{nat_lt, ltb-true, ltb-false, refl, arith}
-use Rattle.wasm_base.specs.FaultAt.{FaultAt, fault_at, at_offset}
-use Rattle.wasm_base.specs.declared.error.Error.{Error}
-use Rattle.wasm_base.specs.declared.fault.Fault.TheVariants.{OffsetRange}
-use Rattle.wasm_grammar.specs.Content.{fault, ended}
-use Rattle.wasm_grammar.specs.Grammar.{Shape, Verdict, tile, final, verdict}
-use Rattle.wasm_grammar.specs.Reading.{stream_end, tile_report}
-use Rattle.wasm_grammar.specs.Waiting.{Waiting, wants, waiting}
-use Rattle.wasm_parser.specs.ParseAnswer.{Answer, asks, refuses, said, answer_by, answer_in_time, answer_to}
-use Rattle.wasm_parser.specs.ParseAnswer.{state_after_answer, AnswerBegins, IsPayload, ParseAnswer, is_end}
-use Rattle.wasm_parser.specs.ParserState.{ParserState, ended_state, grammar_of}
-use Rattle.wasm_parser.specs.StateAfter.{state_after_tile}
-use Rattle.wasm_parser.specs.declared.payload.Chunk.{Chunk}
-use Rattle.wasm_parser.specs.declared.payload.Chunk.TheVariants.{NeedMoreData, Parsed}
+use Rattle.wasm_parser.proofs.Common.{◌≡◌, ℕ, ◌+◌, ◌^◌, ◌<◌, ◌≤◌, Bool, true, false, List, length, Result, Ok, Err, refl, arith, nat_lt}
+use Rattle.wasm_parser.proofs.Common.{ltb-false, ltb-true, FaultAt, fault_at, at_offset, Error, OffsetRange, fault, ended, Verdict, tile}
+use Rattle.wasm_parser.proofs.Common.{final, Shape, verdict, stream_end, tile_report, Waiting, wants, waiting, IsPayload, is_end, said}
+use Rattle.wasm_parser.proofs.Common.{refuses, ParseAnswer, ParserState, grammar_of, ended_state, state_after_tile, Chunk, NeedMoreData}
+use Rattle.wasm_parser.proofs.Common.{Parsed}
+use Rattle.wasm_parser.specs.ParseAnswer.{Answer, asks, answer_by, answer_in_time, answer_to, state_after_answer, AnswerBegins}
 
 -- ---- the tables
 

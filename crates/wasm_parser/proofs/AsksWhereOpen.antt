@@ -1,18 +1,12 @@
 -- A parser asks for more exactly where streams differ.
-use Rattle.std.proofs.Common.{◌≡◌, ℕ, ◌+◌, ◌^◌, ◌<◌, Bool, false, List, ◌++◌, length, Result, sym, arith, length-append}
-use Rattle.wasm_base.specs.declared.error.Error.{Error}
-use Rattle.wasm_grammar.specs.Grammar.{Verdict, verdict}
-use Rattle.wasm_parser.specs.ParseAnswer.{IsRequest, ParseAnswer}
-use Rattle.wasm_parser.proofs.AnswerTables.{Answers, AsksFor, AnswersOn, as_table}
-use Rattle.wasm_parser.specs.ParserState.{ParserState, IsStateAfter, grammar_of}
-use Rattle.wasm_grammar.specs.Reading.{Stream}
-use Rattle.wasm_grammar.specs.Tiling.{grammar}
+use Rattle.wasm_parser.proofs.Common.{◌≡◌, ℕ, ◌+◌, ◌^◌, ◌<◌, Bool, false, List, ◌++◌, length, Result, sym, arith, length-append, Error}
+use Rattle.wasm_parser.proofs.Common.{enough_is_decided, Verdict, verdict, Stream, grammar, Waiting, enough, wants, waiting, ParseAnswer}
+use Rattle.wasm_parser.proofs.Common.{IsRequest, ParserState, grammar_of, IsStateAfter, Chunk}
 use Rattle.wasm_grammar.specs.Undecided.{TwoStreams}
 use Rattle.wasm_parser.specs.AsksWhereOpen.{AsksWhereOpen}
-use Rattle.wasm_grammar.specs.Waiting.{Waiting, enough, wants, waiting}
-use Rattle.wasm_parser.specs.declared.payload.Chunk.{Chunk}
+use Rattle.wasm_grammar.proofs.endings.Undecided.{two_streams}
+use Rattle.wasm_parser.proofs.AnswerTables.{Answers, AsksFor, AnswersOn, as_table}
 use Rattle.wasm_parser.proofs.StateLaws.{grammar_same}
-use Rattle.wasm_grammar.proofs.endings.Undecided.{enough_is_decided, two_streams}
 
 -- a result is no request
 no_request : (p new : ParserState) (v : Verdict) (r : Result Chunk Error) → Answers p v r new → IsRequest r → ⊥

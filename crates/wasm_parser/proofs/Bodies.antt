@@ -1,26 +1,16 @@
 -- What is in a code section: its head and its bodies.
-use Rattle.std.proofs.Common.{◌≡◌, ℕ, zero, suc, ◌+◌, ◌-◌, ◌<◌, ◌≤◌, Bool, true, false, not, ◌&&◌, length, take, drop, option_to_list}
-use Rattle.std.proofs.Common.{Some, None, Result, Ok, Err, nat_lt, nat_eq, refl, sym, ap, subst, ◌∙◌, arith, le-ltb}
-use Rattle.std.proofs.lemmas.List.{length-take-le}
-use Rattle.std.specs.List.{list_all, list_any}
-use Rattle.wasm_base.specs.FaultAt.{FaultAt, fault_at, hint_of, at_offset}
-use Rattle.wasm_base.specs.Hints.{hint_at, missing_at}
-use Rattle.wasm_base.specs.Number.{unsigned_at}
-use Rattle.wasm_base.specs.Window.{Window, Place, advanced, window_over}
-use Rattle.wasm_base.specs.declared.error.Error.{Error}
-use Rattle.wasm_base.specs.declared.fault.Fault.TheVariants.{UnexpectedEof, FunctionCodeDiffer, CodeWithoutFunction, TrailingCode}
-use Rattle.wasm_base.specs.declared.fault.NumberKind.TheVariants.{VarU32}
-use Rattle.wasm_parser.specs.ParseAnswer.{IsPayload, MatchesGrammar, ReadsByGrammar}
-use Rattle.wasm_grammar.specs.Content.{when}
-use Rattle.wasm_parser.specs.ReadsPart.{content_at}
-use Rattle.wasm_grammar.specs.Grammar
-use Rattle.wasm_grammar.specs.Grammar.{SectionContext, Grammar, accept, check, u32_field, bytes, wrong_count, code_grammar, body_of}
-use Rattle.wasm_grammar.specs.Grammar.{body_grammar}
-use Rattle.wasm_grammar.specs.Reading.{code_start, code_entry}
-use Rattle.wasm_parser.specs.declared.payload.Payload.{Payload}
+use Rattle.wasm_parser.proofs.Common.{◌≡◌, ℕ, ◌+◌, ◌<◌, ◌≤◌, Bool, true, false, nat_eq, length, Result, Ok, Err, refl, sym, ap, subst, ◌∙◌}
+use Rattle.wasm_parser.proofs.Common.{arith, nat_lt, zero, suc, ◌-◌, not, ◌&&◌, take, drop, option_to_list, Some, None, le-ltb}
+use Rattle.wasm_parser.proofs.Common.{length-take-le, list_all, list_any, FaultAt, fault_at, at_offset, hint_of, hint_at, missing_at}
+use Rattle.wasm_parser.proofs.Common.{unsigned_at, Window, Place, advanced, window_over, Error, UnexpectedEof, FunctionCodeDiffer}
+use Rattle.wasm_parser.proofs.Common.{CodeWithoutFunction, TrailingCode, VarU32, when, Grammar, SectionContext, accept, check, u32_field}
+use Rattle.wasm_parser.proofs.Common.{bytes, body_grammar, code_start, IsPayload, MatchesGrammar, ReadsByGrammar, content_at, Payload}
+use Rattle.wasm_grammar.specs.Grammar.{wrong_count, code_grammar, body_of}
+use Rattle.wasm_grammar.specs.Reading.{code_entry}
 use Rattle.wasm_parser.proofs.Framed.{HasContent, has_content, too_few}
 use Rattle.wasm_parser.proofs.ReadingFields.{report_bytes, report_missing, report_number, report_no_number, report_wrong, report_right}
 use Rattle.wasm_parser.proofs.ReadingFields.{report_whole, report_stops, ReadNumber, read_number}
+use Rattle.wasm_grammar.specs.Grammar
 
 -- ---- the head of a code section
 

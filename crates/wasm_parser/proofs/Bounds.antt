@@ -1,9 +1,5 @@
 -- The offsets of the faults that a parser returns.
-use Rattle.std.proofs.Common.{◌≡◌, ℕ, ◌+◌, List, length}
-use Rattle.wasm_base.specs.FaultAt.{FaultAt}
-use Rattle.wasm_grammar.specs.Content.{fault}
-use Rattle.wasm_grammar.specs.Grammar.{final, verdict}
-use Rattle.wasm_parser.specs.ParserState.{ParserState, grammar_of}
+use Rattle.wasm_parser.proofs.Common.{◌≡◌, ℕ, ◌+◌, List, length, FaultAt, fault, final, verdict, ParserState, grammar_of}
 use Rattle.wasm_grammar.proofs.parts.Bounds.{Between, verdict_lies, Within-any}
 
 -- the same of a parser, wherever it is

@@ -1,16 +1,11 @@
 -- A code section that is begun ends below the top of the offsets.
-use Rattle.std.proofs.Common.{◌≡◌, ℕ, ◌+◌, ◌^◌, ◌<◌, Bool, true, false, cond, List, [], ◌∷◌, length, take, drop}
-use Rattle.std.proofs.Common.{None, nat_le, refl, arith, length-append, leb-true}
-use Rattle.std.proofs.lemmas.List.{length-take-le}
-use Rattle.wasm_base.specs.Number.{Number, read, number}
-use Rattle.wasm_base.specs.declared.fault.NumberKind.TheVariants.{VarU32}
-use Rattle.wasm_base.proofs.NumberLaws.{Used, number-used}
-use Rattle.wasm_grammar.specs.Content.{Ending}
-use Rattle.wasm_grammar.specs.Grammar.{Shape, code_start, Tile, Verdict, tile, final, Grammar, accept, reject}
-use Rattle.wasm_grammar.specs.Grammar.{check, u32_field, bytes, section_start, after, after_number, verdict, SectionContext}
-use Rattle.wasm_grammar.specs.Grammar.{header_grammar, section_grammar, body_grammar}
-use Rattle.wasm_parser.specs.ParserState.{ParserState, known_context, grammar_of}
-use Rattle.wasm_grammar.specs.Tiling.{inside}
+use Rattle.wasm_parser.proofs.Common.{◌≡◌, ℕ, ◌+◌, ◌^◌, ◌<◌, Bool, true, false, List, [], ◌∷◌, length, refl, arith, length-append, cond}
+use Rattle.wasm_parser.proofs.Common.{take, drop, None, nat_le, leb-true, length-take-le, number-used, Number, read, number, VarU32, Ending}
+use Rattle.wasm_parser.proofs.Common.{Tile, Verdict, tile, final, Grammar, Shape, SectionContext, accept, check, u32_field, bytes, reject}
+use Rattle.wasm_parser.proofs.Common.{section_start, after, after_number, verdict, header_grammar, body_grammar, section_grammar, inside}
+use Rattle.wasm_parser.proofs.Common.{ParserState, grammar_of, known_context}
+use Rattle.wasm_base.proofs.NumberLaws.{Used}
+use Rattle.wasm_grammar.specs.Grammar.{code_start}
 use Rattle.wasm_grammar.proofs.parts.Verdicts.{after-tile}
 
 -- The section that a tile begins and that goes on here ends below the top.

@@ -1,13 +1,7 @@
 -- What the events of a reading consumed that ends at the stream's end.
-use Rattle.std.proofs.Common.{◌≡◌, ℕ, ◌+◌, List, [], ◌∷◌, ◌++◌, length, nat_eq, refl, ap, sym, ◌∙◌, append-nil}
-use Rattle.std.proofs.lemmas.Grind.{flat_map-append}
-use Rattle.wasm_grammar.specs.Content.{Ending, ended}
-use Rattle.wasm_grammar.specs.Grammar.{Tile, final, verdict}
-use Rattle.wasm_grammar.specs.Reading.{stream_end, Event, events_of, last_event}
-use Rattle.wasm_grammar.specs.EventRanges.{consumed_by}
-use Rattle.wasm_grammar.specs.Tiling.{bytes_of, grammar, context_of, bodies_left, bytes_left}
-use Rattle.wasm_grammar.proofs.readings.EndToEnd.{tiles_consume}
-use Rattle.wasm_grammar.proofs.readings.Endings.{header_end, inside_end}
+use Rattle.wasm_parser.proofs.Common.{◌≡◌, ℕ, ◌+◌, nat_eq, List, [], ◌∷◌, ◌++◌, length, refl, sym, ap, ◌∙◌, append-nil, flat_map-append}
+use Rattle.wasm_parser.proofs.Common.{tiles_consume, header_end, inside_end, Ending, ended, consumed_by, Tile, final, verdict, stream_end}
+use Rattle.wasm_parser.proofs.Common.{Event, events_of, last_event, bytes_of, grammar, context_of, bodies_left, bytes_left}
 use Rattle.wasm_parser.specs.ParserLaws.{EndConsumesAll}
 
 -- the last of a list that has one more

@@ -1,21 +1,16 @@
 -- Contents that are one number, or begin with a count.
-use Rattle.std.proofs.Common.{◌≡◌, ℕ, ◌+◌, ◌<◌, Bool, true, false, List, length, take, Some, None, Ok, Err}
-use Rattle.std.proofs.Common.{nat_eq, subst, ◌∙◌, arith, lt-ltb, le-ltb, length-drop}
-use Rattle.std.proofs.lemmas.List.{length-take-le}
-use Rattle.wasm_base.specs.FaultAt.{FaultAt, fault_at, hint_of, at_offset}
-use Rattle.wasm_base.specs.Number.{Number, number, in_window, unsigned_at}
-use Rattle.wasm_base.specs.Section.{Section}
-use Rattle.wasm_base.specs.Window.{Window, Place, place, window_over}
-use Rattle.wasm_base.specs.declared.error.Error.{Error}
+use Rattle.wasm_parser.proofs.Common.{◌≡◌, ℕ, ◌+◌, ◌<◌, Bool, true, false, nat_eq, List, length, Ok, Err, subst, ◌∙◌, arith, take, Some}
+use Rattle.wasm_parser.proofs.Common.{None, le-ltb, lt-ltb, length-take-le, FaultAt, fault_at, at_offset, hint_of, Number, number}
+use Rattle.wasm_parser.proofs.Common.{in_window, unsigned_at, Section, Window, Place, window_over, place, Error, StartContent}
+use Rattle.wasm_parser.proofs.Common.{DataCountContent, DataCountDiffer, VarU32, when, items, index, data_count, count_of, Form}
+use Rattle.wasm_parser.proofs.Common.{wrong_content, SectionContext, whole_grammar, wrong_data, Report, counted, start_section}
+use Rattle.wasm_parser.proofs.Common.{data_count_section, section_report, IsPayload, report_of, ReadsByGrammar, counted_by}
+use Rattle.wasm_parser.proofs.Common.{BeginsAfterCount, is_miscounted_by, content_at, Payload}
+use Rattle.std.proofs.Common.{length-drop}
 use Rattle.wasm_base.specs.declared.fault.Fault.{Fault}
-use Rattle.wasm_base.specs.declared.fault.Fault.TheVariants.{StartContent, DataCountContent, DataCountDiffer}
-use Rattle.wasm_base.specs.declared.fault.NumberKind.TheVariants.{VarU32}
-use Rattle.wasm_parser.specs.ParseAnswer.{counted_by, report_of, BeginsAfterCount, ItemsBegin, IsPayload, ReadsByGrammar}
-use Rattle.wasm_grammar.specs.Content.{items, index, data_count, wrong_single, when, wrong_content, value_of, count_of, Form}
-use Rattle.wasm_parser.specs.ReadsPart.{content_at, ReadsSingleNumber, IsCounted, ReadsCounted, is_miscounted_by}
-use Rattle.wasm_grammar.specs.Grammar.{SectionContext, whole_grammar, wrong_data}
-use Rattle.wasm_grammar.specs.Reading.{Report, counted, start_section, data_count_section, section_report}
-use Rattle.wasm_parser.specs.declared.payload.Payload.{Payload}
+use Rattle.wasm_grammar.specs.Content.{wrong_single, value_of}
+use Rattle.wasm_parser.specs.ParseAnswer.{ItemsBegin}
+use Rattle.wasm_parser.specs.ReadsPart.{ReadsSingleNumber, IsCounted, ReadsCounted}
 use Rattle.wasm_parser.proofs.Framed.{HasContent, has_content, whole_good, whole_bad, whole_miscounted}
 
 -- ---- numbers

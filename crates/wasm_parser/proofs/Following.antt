@@ -1,29 +1,16 @@
 -- What a call of a parser says of the reading of a stream.
-use Rattle.std.proofs.Common.{◌≡◌, ℕ, ◌+◌, ◌≤◌, Bool, true, false, cond, nat_eq, List, [], ◌∷◌, ◌++◌, length, take, Result, Ok, Err}
-use Rattle.std.proofs.Common.{refl, sym, ap, subst, subst₂, ◌∙◌, arith, length-append, append-nil, inl, inr}
-use Rattle.std.proofs.lemmas.List.{take_at}
-use Rattle.std.specs.Prelude.{◌⊎◌}
-use Rattle.wasm_base.specs.declared.error.Error.{Error}
-use Rattle.wasm_base.specs.FaultAt.{FaultAt}
-use Rattle.wasm_parser.specs.ParseAnswer.{ParseAnswer}
-use Rattle.wasm_parser.proofs.AnswerTables.{Answers, AnswersOn, as_table}
-use Rattle.wasm_grammar.specs.Content.{Ending, fault, ended}
-use Rattle.wasm_grammar.specs.Grammar.{Tile, Verdict, tile, final, verdict, header_grammar, section_grammar, body_grammar}
-use Rattle.wasm_grammar.specs.Reading.{Event, stream_end, event_of, last_event, Reading}
-use Rattle.wasm_grammar.specs.EventRanges.{consumed_by}
-use Rattle.wasm_parser.specs.ParserState.{ParserState, IsStateAfter, known_context, grammar_of, ended_state}
-use Rattle.wasm_parser.specs.ParserLaws.{SomeNextEvent}
+use Rattle.wasm_parser.proofs.Common.{◌≡◌, ℕ, ◌+◌, ◌≤◌, Bool, true, false, nat_eq, List, [], ◌∷◌, ◌++◌, length, Result, Ok, Err, refl, sym}
+use Rattle.wasm_parser.proofs.Common.{ap, subst, subst₂, ◌∙◌, arith, length-append, append-nil, inl, inr, cond, take, take_at, ◌⊎◌, FaultAt}
+use Rattle.wasm_parser.proofs.Common.{Error, verdict-more, header_end, inside_end, Grown, grows, Ending, fault, ended, consumed_by, Tile}
+use Rattle.wasm_parser.proofs.Common.{Verdict, tile, final, verdict, header_grammar, body_grammar, section_grammar, stream_end, Event}
+use Rattle.wasm_parser.proofs.Common.{event_of, last_event, Reading, bytes_of, grammar, Waiting, enough, wants, waiting, MayBe, ParseAnswer}
+use Rattle.wasm_parser.proofs.Common.{ParserState, grammar_of, known_context, ended_state, IsStateAfter, Chunk, Parsed}
 use Rattle.wasm_grammar.specs.NextEvent.{NextEvent}
-use Rattle.wasm_parser.specs.GivesNextEvent.{MayBe, GivesEvent, GivesNextEvent}
-use Rattle.wasm_grammar.specs.Tiling.{bytes_of, grammar}
-use Rattle.wasm_grammar.specs.Waiting.{Waiting, enough, wants, waiting}
-use Rattle.wasm_parser.specs.declared.payload.Chunk.{Chunk}
-use Rattle.wasm_parser.specs.declared.payload.Chunk.TheVariants.{Parsed}
-use Rattle.wasm_grammar.proofs.readings.Endings.{header_end, inside_end}
-use Rattle.wasm_grammar.proofs.parts.Verdicts.{verdict-more}
-use Rattle.wasm_grammar.proofs.readings.Readings.{Grown, grows}
-use Rattle.wasm_parser.proofs.StateLaws.{grammar_same, state_goes_on}
+use Rattle.wasm_parser.specs.GivesNextEvent.{GivesEvent, GivesNextEvent}
+use Rattle.wasm_parser.specs.ParserLaws.{SomeNextEvent}
 use Rattle.wasm_grammar.proofs.readings.NextEvents.{event_at, comes_next, next_there}
+use Rattle.wasm_parser.proofs.AnswerTables.{Answers, AnswersOn, as_table}
+use Rattle.wasm_parser.proofs.StateLaws.{grammar_same, state_goes_on}
 
 -- the same by a parser that is there
 next_is : (p : ParserState) (start : ℕ) (prefix rest : List ℕ) (s : IsStateAfter p start prefix) (v : Verdict) → verdict (grammar_of p) rest

@@ -1,31 +1,23 @@
 -- What is at the start of a section, and what is read there.
-use Rattle.std.proofs.Common.{◌≡◌, ℕ, nat_eq, ◌+◌, ◌-◌, ◌^◌, ◌<◌, ◌≤◌, Bool, true, false, not, ◌&&◌, List, [], ◌∷◌, length, take, drop}
-use Rattle.std.proofs.Common.{Some, None, Result, Ok, Err, nat_le, nat_lt, refl, sym, ap, subst, subst₂, arith, le-leb, lt-ltb, le-ltb}
-use Rattle.std.specs.List.{starts_with}
+use Rattle.wasm_parser.proofs.Common.{◌≡◌, ℕ, ◌+◌, ◌^◌, ◌<◌, ◌≤◌, Bool, true, false, nat_eq, List, [], ◌∷◌, length, Result, Ok, Err, refl}
+use Rattle.wasm_parser.proofs.Common.{sym, ap, subst, subst₂, arith, nat_lt, ◌-◌, not, ◌&&◌, take, drop, Some, None, le-ltb, nat_le, lt-ltb}
+use Rattle.wasm_parser.proofs.Common.{le-leb, length-take-le, FaultAt, fault_at, at_offset, hint_of, magic, agree, hint_at, missing_at}
+use Rattle.wasm_parser.proofs.Common.{name_limit, text_at, unsigned_at, Window, Place, advanced, window_over, place, Error, UnexpectedEof}
+use Rattle.wasm_parser.proofs.Common.{MagicAtSection, OutOfOrder, VarU32, when, Form, Kind, custom, unknown, kind_of, wrong_content}
+use Rattle.wasm_parser.proofs.Common.{Grammar, SectionContext, u32_field, whole_grammar, wrong_data, content_grammar, after_length, verdict}
+use Rattle.wasm_parser.proofs.Common.{section_grammar, section_report, custom_section, unknown_section, enough, waiting, IsPayload}
+use Rattle.wasm_parser.proofs.Common.{MatchesGrammar, ReadsByGrammar, MatchesVerdict, HintsAs, ParserState, known_context, content_at}
+use Rattle.wasm_parser.proofs.Common.{Payload, CustomSection}
 use Rattle.std.proofs.lemmas.Bool.{lt-leb}
-use Rattle.std.proofs.lemmas.List.{length-take-le}
-use Rattle.wasm_base.specs.FaultAt.{FaultAt, fault_at, hint_of, at_offset}
-use Rattle.wasm_base.specs.Header.{magic, agree}
-use Rattle.wasm_base.specs.Hints.{hint_at, missing_at}
-use Rattle.wasm_base.specs.Name.{name_limit, text_at, first_of, byte_at}
-use Rattle.wasm_base.specs.Number.{unsigned_at}
-use Rattle.wasm_base.specs.Window.{Window, Place, place, advanced, window_over}
-use Rattle.wasm_base.specs.declared.error.Error.{Error}
-use Rattle.wasm_base.specs.declared.fault.Fault.TheVariants.{UnexpectedEof, MagicAtSection, MalformedSectionId, SectionTooLarge, OutOfOrder}
-use Rattle.wasm_base.specs.declared.fault.NumberKind.TheVariants.{VarU32}
-use Rattle.wasm_parser.specs.ParseAnswer.{IsPayload, MatchesVerdict, HintsAs, MatchesGrammar, ReadsByGrammar}
-use Rattle.wasm_parser.specs.ParserState.{ParserState, known_context}
-use Rattle.wasm_grammar.specs.Waiting.{enough, waiting}
-use Rattle.wasm_grammar.specs.Content.{Kind, custom, unknown, kind_of, rank_of, when, wrong_content, Form}
-use Rattle.wasm_parser.specs.ReadsPart.{content_at, ReadsNextSection}
+use Rattle.std.specs.List.{starts_with}
+use Rattle.wasm_base.specs.Name.{first_of, byte_at}
+use Rattle.wasm_base.specs.declared.fault.Fault.TheVariants.{MalformedSectionId, SectionTooLarge}
 use Rattle.wasm_custom.specs.Custom.{Custom, IsCustom}
-use Rattle.wasm_grammar.specs.Grammar.{SectionContext, Grammar, u32_field, verdict, whole_grammar, wrong_data}
-use Rattle.wasm_grammar.specs.Grammar.{content_grammar, after_length, after_id, section_grammar}
-use Rattle.wasm_grammar.specs.Reading.{section_report, custom_section, unknown_section}
-use Rattle.wasm_parser.specs.declared.payload.Payload.{Payload}
-use Rattle.wasm_parser.specs.declared.payload.Payload.TheVariants.{CustomSection}
-use Rattle.wasm_parser.proofs.ReadingFields.{report_at, report_bytes, report_missing, report_number, report_no_number}
-use Rattle.wasm_parser.proofs.ReadingFields.{report_wrong, report_right, report_whole, ReadNumber, read_number}
+use Rattle.wasm_grammar.specs.Content.{rank_of}
+use Rattle.wasm_grammar.specs.Grammar.{after_id}
+use Rattle.wasm_parser.specs.ReadsPart.{ReadsNextSection}
+use Rattle.wasm_parser.proofs.ReadingFields.{report_at, report_bytes, report_missing, report_number, report_no_number, report_wrong}
+use Rattle.wasm_parser.proofs.ReadingFields.{report_right, report_whole, ReadNumber, read_number}
 
 -- after an id of 128 or more
 pub framed_bad : (context : SectionContext) (start id : ℕ) (p : Place) (e : Error) (a : Place) → 128 ≤ id → fault_at e

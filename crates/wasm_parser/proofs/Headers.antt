@@ -1,20 +1,15 @@
 -- What is read of a header.
-use Rattle.std.proofs.Common.{◌≡◌, ℕ, ◌+◌, ◌/◌, ◌%◌, ◌≤◌, Bool, true, false, cond, not, List, length, take, drop, Some, None, Result, Ok}
-use Rattle.std.proofs.Common.{Err, nat_lt, refl, sym, ap, ◌∙◌, ltb-true, ltb-false}
-use Rattle.wasm_base.specs.FaultAt.{fault_at, hint_of, at_offset}
-use Rattle.wasm_base.specs.Hints.{hint_at, missing_at, missing_of_header}
-use Rattle.wasm_base.specs.Header.{magic, agree, header_version_at}
+use Rattle.wasm_parser.proofs.Common.{◌≡◌, ℕ, ◌+◌, ◌≤◌, Bool, true, false, List, length, Result, Ok, Err, refl, sym, ap, ◌∙◌, cond, nat_lt}
+use Rattle.wasm_parser.proofs.Common.{ltb-false, ltb-true, not, take, drop, Some, None, fault_at, at_offset, hint_of, magic, agree, hint_at}
+use Rattle.wasm_parser.proofs.Common.{missing_at, Outcome, ◌>>=◌, Place, advanced, Error, UnexpectedEof, UnknownVersion, when}
+use Rattle.wasm_parser.proofs.Common.{header_grammar, tile_report, IsPayload, MatchesGrammar, Payload}
+use Rattle.std.proofs.Common.{◌/◌, ◌%◌}
+use Rattle.wasm_base.specs.Header.{header_version_at}
+use Rattle.wasm_base.specs.Hints.{missing_of_header}
 use Rattle.wasm_base.specs.Name.{of_four, u32_at}
-use Rattle.wasm_base.specs.Outcome.{Outcome, ◌>>=◌}
-use Rattle.wasm_base.specs.Window.{Place, advanced}
-use Rattle.wasm_base.specs.declared.error.Error.{Error}
-use Rattle.wasm_base.specs.declared.fault.Fault.TheVariants.{UnexpectedEof, BadMagic, UnknownVersion}
-use Rattle.wasm_parser.specs.ParseAnswer.{IsPayload, MatchesGrammar}
-use Rattle.wasm_grammar.specs.Content.{when}
-use Rattle.wasm_grammar.specs.Grammar.{version, encoding_named, version_of, header_grammar}
-use Rattle.wasm_grammar.specs.Reading.{tile_report}
+use Rattle.wasm_base.specs.declared.fault.Fault.TheVariants.{BadMagic}
+use Rattle.wasm_grammar.specs.Grammar.{version, encoding_named, version_of}
 use Rattle.wasm_grammar.specs.declared.encoding.Encoding.{Encoding}
-use Rattle.wasm_parser.specs.declared.payload.Payload.{Payload}
 use Rattle.wasm_parser.proofs.ReadingFields.{report_bytes, report_missing, report_wrong, report_right, report_whole, report_stops}
 
 abbrev Bits : Type 0

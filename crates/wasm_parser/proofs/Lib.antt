@@ -5,6 +5,7 @@ pub mod AsksWhereOpen
 pub mod Bodies
 pub mod Bounds
 pub mod CodeFits
+pub mod Common
 pub mod Consumed
 pub mod Counted
 pub mod Following

@@ -1,21 +1,14 @@
 -- What a parser reads at its offset, and what it then returns.
-use Rattle.std.proofs.Common.{◌≡◌, ℕ, ◌+◌, ◌-◌, ◌^◌, ◌<◌, Bool, true, false, not, List, length, Result, Ok, Err, nat_eq, refl}
-use Rattle.std.proofs.Common.{subst, sym, arith, add-zero}
-use Rattle.wasm_base.specs.Window.{Window, Place, place, window_over}
-use Rattle.wasm_base.specs.declared.error.Error.{Error}
-use Rattle.wasm_grammar.specs.Content.{fault, ended}
-use Rattle.wasm_grammar.specs.Grammar.{Tile, Verdict, tile, final, Grammar, body_grammar, verdict}
-use Rattle.wasm_parser.specs.ParseAnswer.{IsPayload, MatchesVerdict, MatchesGrammar, Advances, ParseAnswer, report_of}
-use Rattle.wasm_parser.specs.ParserState.{ParserState, grammar_of, is_at_section}
+use Rattle.wasm_parser.proofs.Common.{◌≡◌, ℕ, ◌+◌, ◌^◌, ◌<◌, Bool, true, false, nat_eq, List, length, Result, Ok, Err, refl, sym, subst}
+use Rattle.wasm_parser.proofs.Common.{arith, ◌-◌, not, Window, Place, window_over, place, Error, headed, bodied, fault, ended, Tile}
+use Rattle.wasm_parser.proofs.Common.{Verdict, tile, final, Grammar, verdict, body_grammar, tile_report, IsPayload, report_of, ParseAnswer}
+use Rattle.wasm_parser.proofs.Common.{MatchesGrammar, MatchesVerdict, Advances, ParserState, grammar_of, is_at_section, state_after_tile}
+use Rattle.wasm_parser.proofs.Common.{missing_bytes, Chunk, Parsed, Payload}
+use Rattle.std.proofs.Common.{add-zero}
 use Rattle.wasm_parser.specs.ReadsPart.{IsBegun, Refuses, ReadsHeader, ReadsBody, ReadsNext}
-use Rattle.wasm_grammar.specs.Reading.{tile_report}
-use Rattle.wasm_parser.specs.StateAfter.{implies_nothing, missing_bytes, state_after_tile}
-use Rattle.wasm_parser.specs.declared.payload.Chunk.{Chunk}
-use Rattle.wasm_parser.specs.declared.payload.Chunk.TheVariants.{Parsed}
-use Rattle.wasm_parser.specs.declared.payload.Payload.{Payload}
+use Rattle.wasm_parser.specs.StateAfter.{implies_nothing}
 use Rattle.wasm_parser.proofs.CodeFits.{tile_fits}
 use Rattle.wasm_parser.proofs.Parsing.{answers_tile}
-use Rattle.wasm_grammar.proofs.parts.Placed.{headed, bodied}
 
 -- ---- by what the parser expects
 

@@ -1,25 +1,15 @@
 -- What a call of `parse` returns.
-use Rattle.std.proofs.Common.{◌≡◌, ℕ, ◌+◌, ◌^◌, ◌<◌, ◌≤◌, Bool, true, false, cond, List, [], length, Some}
-use Rattle.std.proofs.Common.{Result, Ok, Err, nat_eq, refl, arith}
-use Rattle.wasm_parser.specs.ReadsPart.{is_lacking}
-use Rattle.wasm_base.specs.FaultAt.{fault_at, at_offset}
-use Rattle.wasm_base.specs.declared.error.Error.{Error}
-use Rattle.wasm_base.specs.declared.fault.Fault.TheVariants.{OffsetRange, FunctionWithoutCode, DataCountWithoutData}
-use Rattle.wasm_parser.specs.ParseAnswer.{report_of, Advances, ParseAnswer}
-use Rattle.wasm_parser.proofs.AnswerTables.{Answers, AnswersOn, from_table}
-use Rattle.wasm_parser.specs.StateAfter.{state_after}
-use Rattle.wasm_grammar.specs.Content.{Ending, fault, ended}
-use Rattle.wasm_grammar.specs.Grammar.{Tile, Verdict, tile, final, SectionContext, end_at_section, header_grammar, section_grammar, verdict}
-use Rattle.wasm_parser.specs.ParserState.{ParserState, known_context, grammar_of, is_at_section, ended_state}
-use Rattle.wasm_grammar.specs.Tiling.{inside}
-use Rattle.wasm_grammar.specs.Waiting.{Waiting, enough, asked, waiting, asked_at_section}
-use Rattle.wasm_parser.specs.declared.payload.Payload.{Payload}
-use Rattle.wasm_parser.specs.declared.payload.Payload.TheVariants.{End}
-use Rattle.wasm_parser.specs.declared.payload.Chunk.{Chunk}
-use Rattle.wasm_parser.specs.declared.payload.Chunk.TheVariants.{NeedMoreData, Parsed}
-use Rattle.wasm_grammar.proofs.parts.Verdicts.{Guarded}
-use Rattle.wasm_grammar.proofs.parts.Guarded.{Guarded-header, Guarded-inside_at}
+use Rattle.wasm_parser.proofs.Common.{◌≡◌, ℕ, ◌+◌, ◌^◌, ◌<◌, ◌≤◌, Bool, true, false, nat_eq, List, [], length, Result, Ok, Err, refl, arith}
+use Rattle.wasm_parser.proofs.Common.{cond, Some, fault_at, at_offset, Error, OffsetRange, Guarded-header, Guarded-inside_at, Ending, fault}
+use Rattle.wasm_parser.proofs.Common.{ended, Tile, Verdict, tile, final, SectionContext, verdict, header_grammar, section_grammar, inside}
+use Rattle.wasm_parser.proofs.Common.{Waiting, enough, waiting, report_of, ParseAnswer, Advances, ParserState, grammar_of, known_context}
+use Rattle.wasm_parser.proofs.Common.{ended_state, is_at_section, is_lacking, state_after, Chunk, NeedMoreData, Parsed, Payload, End}
+use Rattle.wasm_base.specs.declared.fault.Fault.TheVariants.{FunctionWithoutCode, DataCountWithoutData}
+use Rattle.wasm_grammar.specs.Grammar.{end_at_section}
+use Rattle.wasm_grammar.specs.Waiting.{asked, asked_at_section}
 use Rattle.wasm_grammar.proofs.endings.Waiting.{tile_decided}
+use Rattle.wasm_grammar.proofs.parts.Verdicts.{Guarded}
+use Rattle.wasm_parser.proofs.AnswerTables.{Answers, AnswersOn, from_table}
 
 -- ---- how the stream ends where a section may start
 

@@ -1,17 +1,13 @@
 -- The items of payloads are those of their windows.
-use Rattle.std.specs.Prelude.{◌≡◌, ℕ}
-use Rattle.std.proofs.Common.{refl, ap, subst}
-use Rattle.wasm_base.specs.Item.{ReadsAs}
-use Rattle.wasm_base.specs.Outcome.{Outcome}
-use Rattle.wasm_base.specs.Section.{Section, all_items, GivesItems, NextItem, NextItemIn}
-use Rattle.wasm_base.specs.Window.{Window, Place, place}
+use Rattle.wasm_parser.proofs.Common.{◌≡◌, ℕ, refl, ap, subst, ReadsAs, Outcome, Section, Window, Place, place, Report, counted, counted_by}
+use Rattle.wasm_parser.proofs.Common.{BeginsAfterCount, CustomSection, End}
 use Rattle.wasm_base.proofs.Runs.{runs_give_items, runs_give_owned_items}
+use Rattle.wasm_base.specs.Section.{all_items, GivesItems, NextItem, NextItemIn}
 use Rattle.wasm_items.specs.RecGroups.{rec_group_parts, rec_group_at}
-use Rattle.wasm_parser.specs.ParseAnswer.{unread, BeginsAfterCount, counted_by}
+use Rattle.wasm_parser.specs.ParseAnswer.{unread}
 use Rattle.wasm_parser.specs.PayloadItems.{NextOf, GivesWindow, GivesTypes, NoOthersAreCounted}
-use Rattle.wasm_grammar.specs.Reading.{Report, counted}
 use Rattle.wasm_parser.specs.declared.payload.Payload.TheVariants.{Version, StartSection, DataCountSection, CodeSectionStart}
-use Rattle.wasm_parser.specs.declared.payload.Payload.TheVariants.{CodeSectionEntry, CustomSection, UnknownSection, End}
+use Rattle.wasm_parser.specs.declared.payload.Payload.TheVariants.{CodeSectionEntry, UnknownSection}
 
 abbrev window_in : Report → Window → Window
 window_in (counted id count w) other = w

@@ -1,21 +1,11 @@
 -- How what is at a place is reported, field by field.
-use Rattle.std.proofs.Common.{◌≡◌, ℕ, ◌<◌, ◌≤◌, List, length, take, Option, Some, None, Result, Ok, Err, refl, sym}
-use Rattle.std.proofs.Common.{subst, arith, length-append}
-use Rattle.std.proofs.lemmas.List.{length-take-le}
-use Rattle.wasm_base.specs.FaultAt.{FaultAt, fault_at, hint_of, at_offset}
-use Rattle.wasm_base.specs.Hints.{hint_at, missing_at}
-use Rattle.wasm_base.specs.Number.{Number, read, number, in_window, unsigned_at}
-use Rattle.wasm_base.specs.Window.{Place, advanced}
-use Rattle.wasm_base.specs.declared.error.Error.{Error}
-use Rattle.wasm_base.specs.declared.fault.Fault.TheVariants.{UnexpectedEof}
-use Rattle.wasm_base.specs.declared.fault.NumberKind.TheVariants.{VarU32}
-use Rattle.wasm_base.proofs.NumberLaws.{number-used}
+use Rattle.wasm_parser.proofs.Common.{◌≡◌, ℕ, ◌<◌, ◌≤◌, List, length, Result, Ok, Err, refl, sym, subst, arith, length-append, take, Some}
+use Rattle.wasm_parser.proofs.Common.{None, Option, length-take-le, number-used, FaultAt, fault_at, at_offset, hint_of, hint_at, missing_at}
+use Rattle.wasm_parser.proofs.Common.{Number, read, number, in_window, unsigned_at, Place, advanced, Error, UnexpectedEof, VarU32, Verdict}
+use Rattle.wasm_parser.proofs.Common.{Grammar, Shape, accept, check, u32_field, bytes, reject, after, after_number, verdict, tile_report}
+use Rattle.wasm_parser.proofs.Common.{Waiting, waiting, IsPayload, MatchesGrammar, MatchesVerdict, HintsAs, Payload}
 use Rattle.wasm_base.proofs.Texts.{advanced_twice}
-use Rattle.wasm_parser.specs.ParseAnswer.{IsPayload, MatchesVerdict, HintsAs, MatchesGrammar}
-use Rattle.wasm_grammar.specs.Grammar.{Shape, Verdict, after, after_number, Grammar, accept, reject, check, u32_field, bytes, verdict}
-use Rattle.wasm_grammar.specs.Reading.{tile_report}
-use Rattle.wasm_grammar.specs.Waiting.{Waiting, later, later_number, waiting}
-use Rattle.wasm_parser.specs.declared.payload.Payload.{Payload}
+use Rattle.wasm_grammar.specs.Waiting.{later, later_number}
 use Rattle.wasm_grammar.proofs.endings.BadNumbers.{bad_hint}
 
 -- a tile that begins with these bytes

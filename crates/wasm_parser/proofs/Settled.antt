@@ -1,6 +1,6 @@
 -- Stored parsers whose code section ends within the offsets of a stream.
-use Rattle.std.proofs.Common.{◌≡◌, ◌+◌, ◌-◌, ◌<◌, ◌^◌, ℕ, min, ap, arith}
-use Rattle.wasm_parser.specs.Stored.{numbers_of, parser_of}
+use Rattle.wasm_parser.proofs.Common.{◌≡◌, ℕ, ◌+◌, ◌^◌, ◌<◌, ap, arith, ◌-◌, numbers_of, parser_of}
+use Rattle.std.proofs.Common.{min}
 use Rattle.wasm_parser.specs.declared.stored.StoredParser.{StoredParser}
 
 -- Their numbers are the parser.

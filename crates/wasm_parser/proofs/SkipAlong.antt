@@ -1,13 +1,8 @@
 -- Where a caller is after a part that was skipped.
-use Rattle.std.proofs.Common.{◌≡◌, ℕ, ◌+◌, ◌<◌, List, [], ◌∷◌, ◌++◌, length, Some, refl, sym, ap, subst, subst₂, ◌∙◌, arith, length-append}
-use Rattle.std.proofs.Common.{append_assoc}
-use Rattle.wasm_base.specs.FaultAt.{at_offset}
-use Rattle.wasm_base.specs.declared.fault.Fault.TheVariants.{UnexpectedEof}
-use Rattle.wasm_grammar.specs.Content.{fault}
-use Rattle.wasm_grammar.specs.Reading.{Event, last_event, Reading, tile_report}
-use Rattle.wasm_parser.specs.Along.{Along}
-use Rattle.wasm_parser.specs.ParserState.{ParserState}
-use Rattle.wasm_parser.specs.SkipNext.{Skip, SkipsPart, PassesTile, SkipCame, SkippingGoesAlong, skip_in}
+use Rattle.wasm_parser.proofs.Common.{◌≡◌, ℕ, ◌+◌, ◌<◌, List, [], ◌∷◌, ◌++◌, length, refl, sym, ap, subst, subst₂, ◌∙◌, arith}
+use Rattle.wasm_parser.proofs.Common.{length-append, append_assoc, Some, at_offset, UnexpectedEof, fault, Event, tile_report, last_event}
+use Rattle.wasm_parser.proofs.Common.{Reading, Along, ParserState, Skip, SkipsPart, skip_in}
+use Rattle.wasm_parser.specs.SkipNext.{PassesTile, SkipCame, SkippingGoesAlong}
 use Rattle.wasm_parser.proofs.Along.{pushed, event_here, offset_is, along_tile, reading_here}
 
 whole : (start features : ℕ) (given : List ℕ) (p : ParserState) (first others : List ℕ) (events : List Event) (skip : Skip)

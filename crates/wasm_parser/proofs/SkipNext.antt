@@ -1,35 +1,26 @@
 -- What is skipped by its first fields is the next tile of every stream that goes on with them.
-use Rattle.std.proofs.Common.{◌≡◌, ℕ, zero, suc, ◌+◌, ◌-◌, ◌<◌, ◌≤◌, ◌^◌, Bool, true, false, cond, not, ◌&&◌, ◌||◌, ◌==◌, List, [], ◌∷◌}
-use Rattle.std.proofs.Common.{◌++◌, length, take, drop, Option}
-use Rattle.std.proofs.Common.{Some, None, Ok, Err, option_to_list, is_some, nat_lt, nat_le, nat_eq, refl, sym, ap, subst, ◌∙◌, arith}
-use Rattle.std.proofs.Common.{append-nil, length-append, leb-true, le-leb, ltb-true, le-ltb, append_assoc}
+use Rattle.wasm_parser.proofs.Common.{◌≡◌, ℕ, ◌+◌, ◌^◌, ◌<◌, ◌≤◌, Bool, true, false, nat_eq, List, [], ◌∷◌, ◌++◌, length, Ok, Err, refl}
+use Rattle.wasm_parser.proofs.Common.{sym, ap, subst, ◌∙◌, arith, length-append, append-nil, cond, nat_lt, ltb-true, zero, suc, ◌-◌, not}
+use Rattle.wasm_parser.proofs.Common.{◌&&◌, take, drop, option_to_list, Some, None, le-ltb, nat_le, leb-true, le-leb, Option, is_some}
+use Rattle.wasm_parser.proofs.Common.{and_parts, length-take-le, number-used, FaultAt, at_offset, magic, agree, name_limit, text_at, Number}
+use Rattle.wasm_parser.proofs.Common.{read, number, in_window, unsigned_at, Outcome, ◌>>=◌, Place, advanced, window_over, place}
+use Rattle.wasm_parser.proofs.Common.{UnexpectedEof, VarU32, fault, when, items, index, data_count, Form, Kind, custom, unknown, kind_of}
+use Rattle.wasm_parser.proofs.Common.{wrong_content, Tile, tile, final, Grammar, Shape, SectionContext, accept, check, u32_field, bytes}
+use Rattle.wasm_parser.proofs.Common.{section_start, whole_grammar, wrong_data, after_length, section, code_entry, verdict, body_grammar}
+use Rattle.wasm_parser.proofs.Common.{section_grammar, data_id, tile_report, Report, counted, section_report, custom_section}
+use Rattle.wasm_parser.proofs.Common.{unknown_section, ParserState, grammar_of, known_context, Skip, SkipsPart, skip_in, state_after}
+use Rattle.std.proofs.Common.{◌||◌, ◌==◌}
 use Rattle.std.proofs.Math.Seq.{take-append-add}
-use Rattle.std.proofs.lemmas.Bool.{and_parts}
-use Rattle.std.proofs.lemmas.List.{take-append-le, drop-append-le, length-take-le, length-drop}
-use Rattle.wasm_base.specs.FaultAt.{FaultAt, at_offset}
-use Rattle.wasm_base.specs.Header.{magic, agree}
-use Rattle.wasm_base.specs.Name.{Name, named, refused, name, name_limit, after_size, text_at, name_in_window}
-use Rattle.wasm_base.specs.Number.{Number, read, number, in_window, unsigned_at}
-use Rattle.wasm_base.specs.Outcome.{Outcome, ◌>>=◌}
-use Rattle.wasm_base.specs.Window.{Place, place, advanced, window_over}
-use Rattle.wasm_base.specs.declared.fault.Fault.TheVariants.{UnexpectedEof}
-use Rattle.wasm_base.specs.declared.fault.NumberKind.TheVariants.{VarU32}
-use Rattle.wasm_base.proofs.NumberLaws.{number-more, number-used}
-use Rattle.wasm_grammar.specs.Content.{fault, when, kind_of, wrong_content, Form, Kind, whole, code, custom, items, index, data_count}
-use Rattle.wasm_grammar.specs.Content.{unknown}
-use Rattle.wasm_grammar.specs.Grammar.{Shape, Tile, tile, final, Grammar, verdict, check, u32_field, bytes, section_start}
-use Rattle.wasm_grammar.specs.Grammar.{SectionContext, wrong_data, accept, section, code_entry, body_grammar, section_grammar}
-use Rattle.wasm_grammar.specs.Grammar.{whole_grammar, after_length}
-use Rattle.wasm_grammar.specs.Ids.{data_id}
-use Rattle.wasm_grammar.specs.Reading.{Report, custom_section, counted, unknown_section, code_entry as body_report, section_report}
-use Rattle.wasm_grammar.specs.Reading.{tile_report}
+use Rattle.std.proofs.lemmas.List.{take-append-le, drop-append-le, length-drop}
+use Rattle.wasm_base.proofs.NumberLaws.{number-more}
+use Rattle.wasm_base.specs.Name.{Name, named, refused, name, after_size, name_in_window}
+use Rattle.wasm_grammar.specs.Content.{whole, code}
+use Rattle.wasm_grammar.specs.Reading.{code_entry as body_report}
 use Rattle.wasm_parser.specs.ReadsPart.{is_other}
-use Rattle.wasm_parser.specs.SkipNext as skip
-use Rattle.wasm_parser.specs.ParserState.{ParserState, known_context, grammar_of}
-use Rattle.wasm_parser.specs.StateAfter.{state_after}
-use Rattle.wasm_parser.specs.SkipNext.{Head, Skip, SkipsPart, report_with, skip_in, skip_at, fields_at, stays, is_cut, is_in_order}
-use Rattle.wasm_parser.specs.SkipNext.{skip_of_head, sized_skip_at, content_skip_at, body_skip_at, section_skip_at}
+use Rattle.wasm_parser.specs.SkipNext.{Head, report_with, skip_at, fields_at, stays, is_cut, is_in_order, skip_of_head, sized_skip_at}
+use Rattle.wasm_parser.specs.SkipNext.{content_skip_at, body_skip_at, section_skip_at}
 use Rattle.wasm_grammar.proofs.parts.Verdicts.{agree-more}
+use Rattle.wasm_parser.specs.SkipNext as skip
 
 -- Whatever bytes come after these, the grammar has a tile of this many bytes if there are enough, and otherwise a fault
 -- at this offset.

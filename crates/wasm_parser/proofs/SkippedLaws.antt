@@ -1,25 +1,20 @@
 -- What is after the rest of a code section that a parser passes.
-use Rattle.std.proofs.Common.{◌≡◌, ℕ, ◌+◌, ◌<◌, ◌≤◌, Bool, true, false, cond, List, [], ◌∷◌, ◌++◌, length, Some, None, is_some}
-use Rattle.std.proofs.Common.{nat_eq, refl, sym, ap, subst, ◌∙◌, arith, length-append, append-nil, append_assoc}
-use Rattle.std.proofs.lemmas.Grind.{flat_map-append}
+use Rattle.wasm_parser.proofs.Common.{◌≡◌, ℕ, ◌+◌, ◌<◌, ◌≤◌, Bool, true, false, nat_eq, List, [], ◌∷◌, ◌++◌, length, refl, sym, ap, subst}
+use Rattle.wasm_parser.proofs.Common.{◌∙◌, arith, length-append, append_assoc, append-nil, cond, Some, None, is_some, flat_map-append}
+use Rattle.wasm_parser.proofs.Common.{All-nil, All-cons, All, Window, bodied, tiles_consume, consumed_by, Tile, tile, Shape, SectionContext}
+use Rattle.wasm_parser.proofs.Common.{code_entry, verdict, body_grammar, section_grammar, Event, tile_report, event_of, events_of, bytes_of}
+use Rattle.wasm_parser.proofs.Common.{grammar, bytes_left, is_start, counts, Along, ParserState, IsStateAfter, greatest, skipped_state}
 use Rattle.std.proofs.lemmas.List.{append_cancel_left}
-use Rattle.std.proofs.lemmas.List.Elements.{All-nil, All-cons, All-append}
-use Rattle.std.specs.Prelude.{All}
-use Rattle.wasm_base.specs.Window.{Window}
-use Rattle.wasm_parser.specs.Along.{Along}
-use Rattle.wasm_grammar.specs.EventRanges.{consumed_by}
-use Rattle.wasm_grammar.specs.Grammar.{Shape, code_entry, Tile, tile, SectionContext, verdict, section_grammar, body_grammar}
-use Rattle.wasm_parser.specs.ParserState.{ParserState, IsStateAfter, greatest, ends_in_code, skipped_state}
-use Rattle.wasm_grammar.specs.Tiling.{is_start, bytes_of, encoding_of, counts, bytes_left, grammar, Faultless}
-use Rattle.wasm_grammar.specs.Reading as reading
-use Rattle.wasm_grammar.specs.Reading.{Event, tile_report, event_of, events_of}
+use Rattle.std.proofs.lemmas.List.Elements.{All-append}
 use Rattle.wasm_grammar.specs.Sections.{ReportsBody}
+use Rattle.wasm_grammar.specs.Tiling.{encoding_of, Faultless}
+use Rattle.wasm_parser.specs.ParserState.{ends_in_code}
 use Rattle.wasm_parser.specs.Skipped.{CompletesCode, SkipsSection, LeavesOut, SkippingLeavesOutBodies}
-use Rattle.wasm_grammar.proofs.readings.EndToEnd.{tiles_consume}
+use Rattle.wasm_grammar.proofs.parts.Guarded.{tile_least}
+use Rattle.wasm_grammar.proofs.parts.Placed.{IsBody}
 use Rattle.wasm_grammar.proofs.readings.Longest.{longest}
 use Rattle.wasm_grammar.proofs.readings.Readings.{stops_at}
-use Rattle.wasm_grammar.proofs.parts.Placed.{IsBody, bodied}
-use Rattle.wasm_grammar.proofs.parts.Guarded.{tile_least}
+use Rattle.wasm_grammar.specs.Reading as reading
 
 -- where bytes of a code section are left, a body comes
 body_at : (b : Bool) (context : SectionContext) (bodies code_bytes offset : ℕ) (d : List ℕ) (t : Tile) → nat_eq (bodies + code_bytes) 0 ≡ b

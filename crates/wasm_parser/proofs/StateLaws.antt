@@ -1,19 +1,18 @@
 -- What a parser knows is what the tiles before it say.
-use Rattle.std.proofs.Common.{◌≡◌, ℕ, ◌+◌, ◌<◌, max, Bool, true, false, cond, ◌&&◌, List, [], ◌∷◌, ◌++◌, length, option_to_list, Option}
-use Rattle.std.proofs.Common.{Some, nat_lt, nat_eq, refl, sym, ap, ◌∙◌, arith, length-append, ltb-true, eqb-true}
-use Rattle.std.specs.List.{list_all}
-use Rattle.std.proofs.lemmas.Bool.{and_parts}
-use Rattle.wasm_grammar.specs.Content.{Kind, items, data_count, index, count_of, kind_of}
-use Rattle.wasm_grammar.specs.Grammar.{Shape, section, code_start, Tile, tile, SectionContext, verdict}
-use Rattle.wasm_grammar.specs.Grammar.{header_grammar, section_grammar, content_grammar}
-use Rattle.wasm_grammar.specs.Tiling.{bytes_of, grammar, context_of, inside, encoding_in, tile_rank, count_in, counts}
-use Rattle.wasm_grammar.specs.Tiling.{bodies_left, bytes_left, bodies_after, bytes_after, is_start}
-use Rattle.wasm_parser.specs.StateAfter.{known_rank, state_after_tile}
-use Rattle.wasm_parser.specs.ParserState.{ParserState, initial_state, greatest, is_of_code, IsStateAfter, known_context, grammar_of}
+use Rattle.wasm_parser.proofs.Common.{◌≡◌, ℕ, ◌+◌, ◌<◌, Bool, true, false, nat_eq, List, [], ◌∷◌, ◌++◌, length, refl, sym, ap, ◌∙◌, arith}
+use Rattle.wasm_parser.proofs.Common.{length-append, cond, nat_lt, ltb-true, ◌&&◌, option_to_list, Some, Option, eqb-true, and_parts}
+use Rattle.wasm_parser.proofs.Common.{list_all, headed, bodied, Grown, grows, items, index, data_count, count_of, Kind, kind_of, Tile, tile}
+use Rattle.wasm_parser.proofs.Common.{Shape, SectionContext, content_grammar, section, verdict, header_grammar, section_grammar, data_id}
+use Rattle.wasm_parser.proofs.Common.{function_id, bytes_of, grammar, inside, context_of, bodies_left, bytes_left, is_start, counts}
+use Rattle.wasm_parser.proofs.Common.{ParserState, initial_state, grammar_of, known_context, IsStateAfter, greatest, state_after_tile}
+use Rattle.std.proofs.Common.{max}
+use Rattle.wasm_grammar.specs.Grammar.{code_start}
+use Rattle.wasm_grammar.specs.Ids.{place_of, code_id, data_count_id, start_id}
+use Rattle.wasm_grammar.specs.Tiling.{encoding_in, tile_rank, count_in, bodies_after, bytes_after}
+use Rattle.wasm_parser.specs.ParserState.{is_of_code}
+use Rattle.wasm_parser.specs.StateAfter.{known_rank}
 use Rattle.wasm_grammar.proofs.accepted.KindIds.{IdOf, id_of_kind}
-use Rattle.wasm_grammar.proofs.readings.Readings.{Grown, grows}
-use Rattle.wasm_grammar.proofs.parts.Placed.{Each, each_tile, bodied, headed, Fresh, fresh}
-use Rattle.wasm_grammar.specs.Ids.{place_of, code_id, data_count_id, data_id, function_id, start_id}
+use Rattle.wasm_grammar.proofs.parts.Placed.{Each, each_tile, Fresh, fresh}
 
 max_lt : (a g r : ℕ) → nat_lt (max a g) r ≡ (nat_lt a r && nat_lt g r)
 max_lt a g r = grind arith

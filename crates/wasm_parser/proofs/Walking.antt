@@ -1,31 +1,22 @@
 -- What a walk of a whole stream yields.
-use Rattle.std.proofs.Common.{◌≡◌, ℕ, ◌+◌, ◌<◌, ◌^◌, Bool, true, false, List, [], ◌∷◌, ◌++◌, length, drop, Option, Some, None, Result, Ok}
-use Rattle.std.proofs.Common.{Err, refl, sym, ap, subst, ◌∙◌, arith, length-append, append_assoc}
-use Rattle.std.proofs.lemmas.List.{drop_at}
-use Rattle.std.proofs.lemmas.List.Elements.{All-nil, All-cons}
-use Rattle.std.specs.declared.ops.Range.{Range}
-use Rattle.std.specs.List.{cons_option}
-use Rattle.std.specs.Prelude.{◌↔◌, map, filter_map, All}
+use Rattle.wasm_parser.proofs.Common.{◌≡◌, ℕ, ◌+◌, ◌^◌, ◌<◌, Bool, true, false, List, [], ◌∷◌, ◌++◌, length, Result, Ok, Err, refl, sym, ap}
+use Rattle.wasm_parser.proofs.Common.{subst, ◌∙◌, arith, length-append, append_assoc, drop, Some, None, Option, drop_at, All-nil, All-cons}
+use Rattle.wasm_parser.proofs.Common.{All, fault_at, Error, Grown, grows, Ending, fault, ended, Tile, Verdict, tile, final, verdict}
+use Rattle.wasm_parser.proofs.Common.{stream_end, Event, event_of, events_of, last_event, Reading, Stream, Report, bytes_of, grammar}
+use Rattle.wasm_parser.proofs.Common.{report_of, is_end, ParserState, initial_state, grammar_of, IsStateAfter, state_after_tile, Parsed}
+use Rattle.wasm_parser.proofs.Common.{Payload}
 use Rattle.std.specs.Iterator.{Yields}
-use Rattle.wasm_base.specs.FaultAt.{fault_at}
-use Rattle.wasm_base.specs.declared.error.Error.{Error}
-use Rattle.wasm_parser.specs.ParseAnswer.{report_of, is_end}
-use Rattle.wasm_grammar.specs.Content.{Ending, fault, ended}
-use Rattle.wasm_grammar.specs.Grammar.{Tile, Verdict, tile, final, verdict}
-use Rattle.wasm_grammar.specs.Reading.{Report, stream_end, Event, event_of, events_of, last_event, Reading, Stream}
+use Rattle.std.specs.List.{cons_option}
+use Rattle.std.specs.Prelude.{◌↔◌, map, filter_map}
+use Rattle.std.specs.declared.ops.Range.{Range}
 use Rattle.wasm_grammar.specs.Sections.{section_of, sections_of, TiledBySections}
-use Rattle.wasm_parser.specs.ParserState.{ParserState, IsStateAfter, initial_state, grammar_of}
-use Rattle.wasm_parser.specs.StateAfter.{state_after_tile}
-use Rattle.wasm_grammar.specs.Tiling.{bytes_of, grammar}
-use Rattle.wasm_parser.specs.ParseAll.{HoldsItems, Walk, walk_over, consumed_between, NextPayload, sections_given}
-use Rattle.wasm_parser.specs.ParseAll.{given_report, event_report, EndsAt, GivesReading, WalksWhole}
-use Rattle.wasm_parser.specs.declared.payload.Chunk.TheVariants.{Parsed}
-use Rattle.wasm_parser.specs.declared.payload.Payload.{Payload}
+use Rattle.wasm_parser.specs.ParseAll.{HoldsItems, Walk, walk_over, consumed_between, NextPayload, sections_given, given_report}
+use Rattle.wasm_parser.specs.ParseAll.{event_report, EndsAt, GivesReading, WalksWhole}
 use Rattle.wasm_grammar.proofs.accepted.Accepting.{accepted_ends}
-use Rattle.wasm_grammar.proofs.readings.Readings.{Grown, grows, reads_same, reading_same}
 use Rattle.wasm_grammar.proofs.frames.SectionPlaces.{sections_tile}
-use Rattle.wasm_parser.proofs.StateLaws.{grammar_same, nothing_passed, state_goes_on, state_goes_on-tiles}
+use Rattle.wasm_grammar.proofs.readings.Readings.{reads_same, reading_same}
 use Rattle.wasm_parser.proofs.AnswerTables.{Answers, goes_on, as_table}
+use Rattle.wasm_parser.proofs.StateLaws.{grammar_same, nothing_passed, state_goes_on, state_goes_on-tiles}
 
 -- ---- one step
 

@@ -1,10 +1,6 @@
-use Rattle.std.proofs.Common.{ℕ, List, [], ◌∷◌, length, nat_lt, ◌&&◌, ◌+◌, ◌-◌, not, nat_eq, ap, sym, ◌∙◌, arith}
-use Rattle.std.proofs.lemmas.Result.{err_from_is_err_and}
-use Rattle.std.specs.List.{list_all, list_any}
-use Rattle.wasm_base.specs.FaultAt.{at_offset}
-use Rattle.wasm_base.specs.Window.{place}
-use Rattle.wasm_base.specs.declared.fault.Fault.TheVariants.{UnexpectedEof, FunctionCodeDiffer, CodeWithoutFunction}
-use Rattle.wasm_grammar.specs.Reading.{code_start}
+use Rattle.wasm_parser.proofs.Common.{ℕ, ◌+◌, nat_eq, List, [], ◌∷◌, length, sym, ap, ◌∙◌, arith, nat_lt, ◌-◌, not, ◌&&◌}
+use Rattle.wasm_parser.proofs.Common.{err_from_is_err_and, list_all, list_any, at_offset, place, UnexpectedEof, FunctionCodeDiffer}
+use Rattle.wasm_parser.proofs.Common.{CodeWithoutFunction, code_start}
 use Rattle.wasm_parser.proofs.Bodies.{code_no_count, code_short, code_wrong, code_read, counts_differ, no_function, right_count}
 use Rattle.wasm_parser.proofs.contents.code.Goals as goal
 

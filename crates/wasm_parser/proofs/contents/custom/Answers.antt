@@ -1,7 +1,4 @@
-use Rattle.std.proofs.Common.{Err, sym, ap, ◌∙◌}
-use Rattle.std.proofs.lemmas.Result.{err_from_is_err_and}
-use Rattle.wasm_base.specs.Window.{place}
-use Rattle.wasm_grammar.specs.Content.{custom}
+use Rattle.wasm_parser.proofs.Common.{Err, sym, ap, ◌∙◌, err_from_is_err_and, place, custom}
 use Rattle.wasm_parser.proofs.Framed.{whole_missing, custom_read, custom_refused}
 use Rattle.wasm_parser.proofs.contents.custom.Goals as goal
 

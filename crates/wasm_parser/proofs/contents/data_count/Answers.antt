@@ -1,9 +1,4 @@
-use Rattle.std.proofs.Common.{refl}
-use Rattle.std.proofs.lemmas.Result.{err_from_is_err_and}
-use Rattle.wasm_base.specs.Window.{place}
-use Rattle.wasm_grammar.specs.Content.{data_count}
-use Rattle.wasm_base.specs.declared.fault.Fault.TheVariants.{DataCountContent}
-use Rattle.wasm_grammar.specs.Reading.{data_count_section}
+use Rattle.wasm_parser.proofs.Common.{refl, err_from_is_err_and, place, DataCountContent, data_count, data_count_section}
 use Rattle.wasm_parser.proofs.Counted.{data_count_single, single_section, single_section_refused}
 use Rattle.wasm_parser.proofs.Framed.{whole_missing}
 use Rattle.wasm_parser.proofs.contents.data_count.Goals as goal

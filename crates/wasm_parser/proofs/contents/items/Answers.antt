@@ -1,11 +1,5 @@
-use Rattle.std.proofs.Common.{Err, ap, sym, ◌∙◌}
-use Rattle.wasm_parser.specs.ParseAnswer.{report_of}
-use Rattle.wasm_parser.specs.ReadsPart.{is_miscounted_by}
-use Rattle.std.proofs.lemmas.Result.{err_from_is_err_and}
-use Rattle.wasm_base.specs.FaultAt.{at_offset}
-use Rattle.wasm_base.specs.Window.{place}
-use Rattle.wasm_base.specs.declared.fault.Fault.TheVariants.{DataCountDiffer}
-use Rattle.wasm_grammar.specs.Content.{items}
+use Rattle.wasm_parser.proofs.Common.{Err, sym, ap, ◌∙◌, err_from_is_err_and, at_offset, place, DataCountDiffer, items, report_of}
+use Rattle.wasm_parser.proofs.Common.{is_miscounted_by}
 use Rattle.wasm_parser.proofs.Counted.{items_read, items_miscounted, items_refused}
 use Rattle.wasm_parser.proofs.Framed.{whole_missing}
 use Rattle.wasm_parser.proofs.contents.items.Goals as goal

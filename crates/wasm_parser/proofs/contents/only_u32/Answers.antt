@@ -1,6 +1,4 @@
-use Rattle.std.proofs.Common.{Err, sym, eqb-true, ap, ◌∙◌}
-use Rattle.wasm_base.specs.FaultAt.{at_offset}
-use Rattle.wasm_base.specs.Window.{place}
+use Rattle.wasm_parser.proofs.Common.{Err, sym, ap, ◌∙◌, eqb-true, at_offset, place}
 use Rattle.wasm_parser.proofs.Counted.{single_refused, single_trailing, single_read}
 use Rattle.wasm_parser.proofs.contents.only_u32.Goals as goal
 

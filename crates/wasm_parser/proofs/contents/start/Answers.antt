@@ -1,9 +1,4 @@
-use Rattle.std.proofs.Common.{refl}
-use Rattle.std.proofs.lemmas.Result.{err_from_is_err_and}
-use Rattle.wasm_base.specs.Window.{place}
-use Rattle.wasm_grammar.specs.Content.{index}
-use Rattle.wasm_base.specs.declared.fault.Fault.TheVariants.{StartContent}
-use Rattle.wasm_grammar.specs.Reading.{start_section}
+use Rattle.wasm_parser.proofs.Common.{refl, err_from_is_err_and, place, StartContent, index, start_section}
 use Rattle.wasm_parser.proofs.Counted.{start_single, single_section, single_section_refused}
 use Rattle.wasm_parser.proofs.Framed.{whole_missing}
 use Rattle.wasm_parser.proofs.contents.start.Goals as goal

@@ -1,7 +1,4 @@
-use Rattle.std.proofs.Common.{refl}
-use Rattle.std.proofs.lemmas.Result.{err_from_is_err_and}
-use Rattle.wasm_base.specs.Window.{place}
-use Rattle.wasm_grammar.specs.Content.{unknown}
+use Rattle.wasm_parser.proofs.Common.{refl, err_from_is_err_and, place, unknown}
 use Rattle.wasm_parser.proofs.Framed.{whole_missing, unknown_read}
 use Rattle.wasm_parser.proofs.contents.unknown.Goals as goal
 

@@ -1,5 +1,4 @@
-use Rattle.std.proofs.Common.{◌∙◌}
-use Rattle.wasm_base.specs.Window.{place}
+use Rattle.wasm_parser.proofs.Common.{◌∙◌, place}
 use Rattle.wasm_parser.proofs.Framed.{begins_with_magic}
 use Rattle.wasm_parser.proofs.header.magic_follows.Goals as goal
 

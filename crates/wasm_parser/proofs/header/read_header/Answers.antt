@@ -1,8 +1,4 @@
-use Rattle.std.proofs.Common.{◌+◌, Some, ap, arith, ◌∙◌, refl}
-use Rattle.std.proofs.lemmas.Result.{err_from_is_err_and}
-use Rattle.wasm_base.specs.FaultAt.{at_offset}
-use Rattle.wasm_base.specs.Window.{place}
-use Rattle.wasm_base.specs.declared.fault.Fault.TheVariants.{UnknownVersion}
+use Rattle.wasm_parser.proofs.Common.{◌+◌, refl, ap, ◌∙◌, arith, Some, err_from_is_err_and, at_offset, place, UnknownVersion}
 use Rattle.wasm_parser.proofs.Headers.{ReadHeader, header_read, header_report, header_unnamed, header_refused}
 use Rattle.wasm_parser.proofs.header.read_header.Goals as goal
 

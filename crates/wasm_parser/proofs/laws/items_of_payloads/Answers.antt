@@ -1,8 +1,6 @@
-use Rattle.wasm_base.specs.Item.{ReadsAs}
-use Rattle.wasm_base.specs.Number.{unsigned_at}
+use Rattle.wasm_parser.proofs.Common.{ReadsAs, unsigned_at, VarU32, data_id, function_id}
 use Rattle.wasm_base.specs.Section.{AtItsOffset}
-use Rattle.wasm_base.specs.declared.fault.NumberKind.TheVariants.{VarU32}
-use Rattle.wasm_grammar.specs.Ids.{data_id, element_id, export_id, function_id, global_id, import_id, memory_id, table_id, tag_id}
+use Rattle.wasm_grammar.specs.Ids.{element_id, export_id, global_id, import_id, memory_id, table_id, tag_id}
 use Rattle.wasm_items.specs.Data.{data_parts, data_at}
 use Rattle.wasm_items.specs.Elements.{element_at}
 use Rattle.wasm_items.specs.Exports.{export_parts, export_at}

@@ -1,8 +1,7 @@
-use Rattle.std.proofs.Common.{sym}
-use Rattle.wasm_parser.specs.Stored.{numbers_of}
-use Rattle.wasm_parser.proofs.Following.{gives_next}
+use Rattle.wasm_parser.proofs.Common.{sym, numbers_of}
 use Rattle.wasm_parser.proofs.AnswerBounds.{consumes, asks_for_some, faults_within, unchanged}
 use Rattle.wasm_parser.proofs.AsksWhereOpen.{asks_where_open}
+use Rattle.wasm_parser.proofs.Following.{gives_next}
 use Rattle.wasm_parser.proofs.parser.Parser.parse.Goals as goal
 
 pub returns-clause-consumes : goal.returns-clause-consumes

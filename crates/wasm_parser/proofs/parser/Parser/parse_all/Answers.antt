@@ -1,4 +1,4 @@
-use Rattle.std.proofs.Common.{◌<◌, arith}
+use Rattle.wasm_parser.proofs.Common.{◌<◌, arith}
 use Rattle.std.proofs.lemmas.List.Elements.{All-from_get_or}
 use Rattle.wasm_parser.proofs.Walking.{walks_whole}
 use Rattle.wasm_parser.proofs.parser.Parser.parse_all.Goals as goal

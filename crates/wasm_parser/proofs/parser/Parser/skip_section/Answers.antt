@@ -1,6 +1,4 @@
-use Rattle.std.proofs.Common.{◌+◌, ap, ◌∙◌}
-use Rattle.wasm_parser.specs.Stored.{numbers_of}
-use Rattle.wasm_parser.specs.ParserState.{skipped_state}
+use Rattle.wasm_parser.proofs.Common.{◌+◌, ap, ◌∙◌, skipped_state, numbers_of}
 use Rattle.wasm_parser.proofs.SkippedLaws.{skips_section, in_code_where_skippable}
 use Rattle.wasm_parser.proofs.parser.Parser.skip_section.Goals as goal
 

@@ -1,8 +1,5 @@
-use Rattle.std.proofs.lemmas.Result.{err_from_is_err_and}
-use Rattle.wasm_base.specs.Window.{place}
-use Rattle.wasm_parser.specs.ParserState.{known_context}
+use Rattle.wasm_parser.proofs.Common.{err_from_is_err_and, place, known_context, numbers_of}
 use Rattle.wasm_parser.proofs.Framed.{framed_bad, framed_no_size, framed_sized}
-use Rattle.wasm_parser.specs.Stored.{numbers_of}
 use Rattle.wasm_parser.proofs.stored.StoredParser.after_id.Goals as goal
 
 pub returns-then-id-ge128 : goal.returns-then-id-ge128

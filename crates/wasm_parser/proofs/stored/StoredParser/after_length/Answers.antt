@@ -1,12 +1,6 @@
-use Rattle.std.proofs.Common.{Some, sym, ap, arith, ◌∙◌}
-use Rattle.wasm_base.specs.FaultAt.{at_offset}
-use Rattle.wasm_base.specs.Window.{place}
-use Rattle.wasm_base.specs.declared.fault.Fault.TheVariants.{OutOfOrder}
-use Rattle.wasm_grammar.specs.Content.{kind_of}
+use Rattle.wasm_parser.proofs.Common.{sym, ap, ◌∙◌, arith, Some, at_offset, place, OutOfOrder, kind_of, known_context, numbers_of}
 use Rattle.wasm_grammar.specs.KindInCode.{kind_is}
-use Rattle.wasm_parser.specs.ParserState.{known_context}
 use Rattle.wasm_parser.proofs.Framed.{sized_large, sized_as, sized_disordered, sized_ordered}
-use Rattle.wasm_parser.specs.Stored.{numbers_of}
 use Rattle.wasm_parser.proofs.stored.StoredParser.after_length.Goals as goal
 
 pub returns-then-from-original_position : goal.returns-then-from-original_position

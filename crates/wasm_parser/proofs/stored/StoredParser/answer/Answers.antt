@@ -1,6 +1,5 @@
-use Rattle.std.proofs.Common.{sym, arith}
+use Rattle.wasm_parser.proofs.Common.{sym, arith, numbers_of}
 use Rattle.wasm_parser.proofs.Parsing.{asks_at_section}
-use Rattle.wasm_parser.specs.Stored.{numbers_of}
 use Rattle.wasm_parser.proofs.stored.StoredParser.answer.Goals as goal
 
 pub returns-in-Some-clause-answers : goal.returns-in-Some-clause-answers

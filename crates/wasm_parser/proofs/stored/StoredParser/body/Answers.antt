@@ -1,8 +1,4 @@
-use Rattle.std.proofs.Common.{ap, ◌∙◌, arith, refl}
-use Rattle.std.proofs.lemmas.Result.{err_from_is_err_and}
-use Rattle.wasm_base.specs.FaultAt.{at_offset}
-use Rattle.wasm_base.specs.Window.{place}
-use Rattle.wasm_base.specs.declared.fault.Fault.TheVariants.{UnexpectedEof, TrailingCode}
+use Rattle.wasm_parser.proofs.Common.{refl, ap, ◌∙◌, arith, err_from_is_err_and, at_offset, place, UnexpectedEof, TrailingCode}
 use Rattle.wasm_parser.proofs.Bodies.{no_body_left, body_no_size, past_same, body_past, body_missing, body_read}
 use Rattle.wasm_parser.proofs.stored.StoredParser.body.Goals as goal
 

@@ -1,6 +1,4 @@
-use Rattle.std.proofs.Common.{option_to_list, sym, ap}
-use Rattle.wasm_parser.specs.ParserState.{known_context}
-use Rattle.wasm_parser.specs.Stored.{numbers_of}
+use Rattle.wasm_parser.proofs.Common.{sym, ap, option_to_list, known_context, numbers_of}
 use Rattle.wasm_parser.proofs.stored.StoredParser.content.Goals as goal
 
 pub returns-in-Custom : goal.returns-in-Custom

@@ -1,6 +1,4 @@
-use Rattle.std.proofs.Common.{◌∙◌, arith, refl}
-use Rattle.wasm_parser.specs.ReadsPart.{is_lacking}
-use Rattle.wasm_parser.specs.Stored.{numbers_of}
+use Rattle.wasm_parser.proofs.Common.{refl, ◌∙◌, arith, is_lacking, numbers_of}
 use Rattle.wasm_parser.proofs.Parsing.{functions_alone, data_count_alone, nothing_lacks}
 use Rattle.wasm_parser.proofs.stored.StoredParser.end.Goals as goal
 

@@ -1,8 +1,5 @@
-use Rattle.std.proofs.Common.{◌-◌, false, ap, ◌∙◌, arith}
-use Rattle.wasm_parser.specs.ParseAnswer.{report_of}
-use Rattle.wasm_parser.specs.StateAfter.{missing_bodies, missing_bytes, reports_code}
-use Rattle.wasm_parser.specs.ParserState.{ParserState}
-use Rattle.wasm_parser.specs.Stored.{numbers_of}
+use Rattle.wasm_parser.proofs.Common.{false, ap, ◌∙◌, arith, ◌-◌, report_of, ParserState, missing_bytes, numbers_of}
+use Rattle.wasm_parser.specs.StateAfter.{missing_bodies, reports_code}
 use Rattle.wasm_parser.proofs.stored.StoredParser.learn_and_pass.Goals as goal
 
 pub returns-clause-state : goal.returns-clause-state

@@ -1,14 +1,9 @@
-use Rattle.std.proofs.Common.{Bool, List, Result, subst, sym, ℕ, ◌≡◌}
-use Rattle.wasm_base.specs.declared.error.Error.{Error}
+use Rattle.wasm_parser.proofs.Common.{◌≡◌, ℕ, Bool, List, Result, sym, subst, Error, ParseAnswer, ParserState, parser_of, Chunk}
 use Rattle.wasm_parser.proofs.AnswerBounds.{asks_for_some, consumes, faults_within}
 use Rattle.wasm_parser.proofs.AsksWhereOpen.{asks_where_open}
 use Rattle.wasm_parser.proofs.Following.{gives_next}
 use Rattle.wasm_parser.proofs.Settled.{settled}
 use Rattle.wasm_parser.proofs.stored.StoredParser.parse.Goals as goal
-use Rattle.wasm_parser.specs.ParseAnswer.{ParseAnswer}
-use Rattle.wasm_parser.specs.ParserState.{ParserState}
-use Rattle.wasm_parser.specs.Stored.{parser_of}
-use Rattle.wasm_parser.specs.declared.payload.Chunk.{Chunk}
 
 -- what the same parsers return
 of_same : {p q r s : ParserState} {eof : Bool} {bytes : List ℕ} {answer : Result Chunk Error} → q ≡ p → r ≡ s

@@ -1,6 +1,4 @@
-use Rattle.std.proofs.Common.{sym}
-use Rattle.wasm_base.specs.Window.{place}
-use Rattle.wasm_parser.specs.Stored.{numbers_of}
+use Rattle.wasm_parser.proofs.Common.{sym, place, numbers_of}
 use Rattle.wasm_parser.proofs.NextParts.{next_header, next_body, not_true}
 use Rattle.wasm_parser.proofs.stored.StoredParser.read.Goals as goal
 

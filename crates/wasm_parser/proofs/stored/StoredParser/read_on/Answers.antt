@@ -1,7 +1,5 @@
-use Rattle.std.proofs.Common.{arith, refl}
-use Rattle.wasm_base.specs.Window.{place}
+use Rattle.wasm_parser.proofs.Common.{refl, arith, place, numbers_of}
 use Rattle.wasm_parser.proofs.NextParts.{window_fits, window_section, window_answered, window_refused}
-use Rattle.wasm_parser.specs.Stored.{numbers_of}
 use Rattle.wasm_parser.proofs.stored.StoredParser.read_on.Goals as goal
 
 pub advance-requires-clause-fits : goal.advance-requires-clause-fits

@@ -1,9 +1,5 @@
-use Rattle.std.proofs.Common.{ap, ◌∙◌}
-use Rattle.wasm_base.specs.FaultAt.{at_offset}
-use Rattle.wasm_base.specs.Window.{place}
-use Rattle.wasm_base.specs.declared.fault.Fault.TheVariants.{MagicAtSection}
+use Rattle.wasm_parser.proofs.Common.{ap, ◌∙◌, at_offset, place, MagicAtSection, numbers_of}
 use Rattle.wasm_parser.proofs.Framed.{section_magic, section_framed}
-use Rattle.wasm_parser.specs.Stored.{numbers_of}
 use Rattle.wasm_parser.proofs.stored.StoredParser.section.Goals as goal
 
 pub returns-then-magic_follows : goal.returns-then-magic_follows

@@ -1,4 +1,4 @@
-use Rattle.std.proofs.Common.{sym}
+use Rattle.wasm_parser.proofs.Common.{sym}
 use Rattle.wasm_parser.specs.SkipNext.{skip_is}
 use Rattle.wasm_parser.proofs.SkipNext.{skips_part}
 use Rattle.wasm_parser.proofs.stored.StoredParser.skip_next.Goals as goal
