@@ -167,10 +167,9 @@ module _ (start features : ℕ) (given : List ℕ) (p : ParserState) (held : Lis
   along_same : (new : ParserState) (rest : List ℕ) → new ≡ p → held ≡ rest → Along start features given new rest events
   along_same new rest s w = subst₂ (λ (x : ParserState) (y : List ℕ). Along start features given x y events) (sym s) w a
 
-  answered : (eof : Bool) (x : Result Chunk Error) (bytes : List ℕ) (new : ParserState) (rest : List ℕ) (v : Verdict) → (eof ≡ true)
-      ⊎ (waiting (grammar_of p) held ≡ enough) → verdict (grammar_of p) held ≡ v → Answers p v x new → held ≡ bytes ++ rest → length bytes
-      ≡ taken_by x
-      → GoesAlong start features eof given events x bytes new rest
+  answered : (eof : Bool) (x : Result Chunk Error) (bytes : List ℕ) (new : ParserState) (rest : List ℕ) (v : Verdict)
+      → (eof ≡ true) ⊎ (waiting (grammar_of p) held ≡ enough) → verdict (grammar_of p) held ≡ v → Answers p v x new → held ≡ bytes ++ rest
+      → length bytes ≡ taken_by x → GoesAlong start features eof given events x bytes new rest
   answered eof (Ok (NeedMoreData hint)) bytes new rest v d e r w n = absurd (asks_never p new hint v r)
   answered eof (Ok (Parsed consumed payload)) bytes new rest (tile t) d e r w n = grind (arith, tile_came)
   answered eof (Ok (Parsed consumed payload)) bytes new rest (final (ended offset)) d e r w n =
@@ -202,9 +201,8 @@ module _ (start features : ℕ) (given : List ℕ) (p : ParserState) (held : Lis
   asked need hint (Err error) bytes new rest e r w n = absurd r
 
   answered_on : (eof : Bool) (x : Result Chunk Error) (bytes : List ℕ) (new : ParserState) (rest : List ℕ) (u : Waiting)
-      → waiting (grammar_of p) held ≡ u → AnswersOn eof u p (verdict (grammar_of p) held) x new → held ≡ bytes ++ rest → length bytes
-      ≡ taken_by x
-      → GoesAlong start features eof given events x bytes new rest
+      → waiting (grammar_of p) held ≡ u → AnswersOn eof u p (verdict (grammar_of p) held) x new → held ≡ bytes ++ rest
+      → length bytes ≡ taken_by x → GoesAlong start features eof given events x bytes new rest
   answered_on true x bytes new rest u e r w n = answered true x bytes new rest (verdict (grammar_of p) held) (inl refl) refl r w n
   answered_on false x bytes new rest enough e r w n = answered false x bytes new rest (verdict (grammar_of p) held) (inr e) refl r w n
   answered_on false x bytes new rest (wants need hint) e r w n = asked need hint x bytes new rest e r w n
@@ -234,13 +232,12 @@ consumed start features given p held events a = grind (arith, tiles_consume)
 positive : (k : ℕ) → nat_eq k 0 ≡ false → 0 < k
 positive k e = grind arith
 
-below : (p new : ParserState) (eof : Bool) (held : List ℕ) (chunk : Chunk) → ParseAnswer p eof held (Ok chunk) new
-    → p.offset + length held < 2 ^ 64
-below p new eof held chunk a = grind arith
+module _ (p new : ParserState) (eof : Bool) (held : List ℕ) where
+  below : (chunk : Chunk) → ParseAnswer p eof held (Ok chunk) new → p.offset + length held < 2 ^ 64
+  below chunk a = grind arith
 
-asks : (p new : ParserState) (eof : Bool) (held : List ℕ) (hint : ℕ) → ParseAnswer p eof held (Ok (NeedMoreData hint)) new
-    → IsUndecided p eof held hint
-asks p new eof held hint a = grind arith
+  asks : (hint : ℕ) → ParseAnswer p eof held (Ok (NeedMoreData hint)) new → IsUndecided p eof held hint
+  asks hint a = grind arith
 
 past_the_top : (p new : ParserState) (eof : Bool) (held : List ℕ) (answer : Result Chunk Error) → ParseAnswer p eof held answer new
     → 2 ^ 64 ≤ p.offset + length held → said answer ≡ refuses (at_offset OffsetRange p.offset)

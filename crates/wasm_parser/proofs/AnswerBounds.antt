@@ -51,8 +51,7 @@ is_on p new eof rest r a = grind arith
 -- ---- what a call consumes
 
 consumes_at : (p new : ParserState) (rest : List ℕ) (consumed : ℕ) (payload : Payload) (v : Verdict) → verdict (grammar_of p) rest ≡ v
-    → Answers p v (Ok (Parsed consumed payload)) new
-    → (consumed ≤ length rest) × (nat_eq consumed 0 ≡ is_end (report_of payload))
+    → Answers p v (Ok (Parsed consumed payload)) new → (consumed ≤ length rest) × (nat_eq consumed 0 ≡ is_end (report_of payload))
 consumes_at p new rest consumed payload (tile t) e a =
     let k : Takes rest t = tile_takes p rest t e in
     grind (arith, length-append, not_zero, goes_on)
@@ -88,18 +87,17 @@ faults_by true p new eof rest (Err e) t h = faults_on p new eof rest e
     (grind (arith, is_on, as_table))
 faults_by false p new eof rest (Err e) t h = grind arith
 
-pub faults_within : (p new : ParserState) (eof : Bool) (rest : List ℕ) (r : Result Chunk Error) → ParseAnswer p eof rest r new
-    → FaultsWithin p rest r
-faults_within p new eof rest r h = faults_by (nat_lt (p.offset + length rest) (2 ^ 64)) p new eof rest r refl h
+module _ (p new : ParserState) where
+  pub faults_within : (eof : Bool) (rest : List ℕ) (r : Result Chunk Error) → ParseAnswer p eof rest r new → FaultsWithin p rest r
+  faults_within eof rest r h = faults_by (nat_lt (p.offset + length rest) (2 ^ 64)) p new eof rest r refl h
 
--- ---- what a fault or a request leaves
+  -- ---- what a fault or a request leaves
 
-pub asks_never : (p new : ParserState) (hint : ℕ) (v : Verdict) → Answers p v (Ok (NeedMoreData hint)) new → ⊥
-asks_never p new hint v a = grind arith
+  pub asks_never : (hint : ℕ) (v : Verdict) → Answers p v (Ok (NeedMoreData hint)) new → ⊥
+  asks_never hint v a = grind arith
 
-pub unchanged : (p new : ParserState) (eof : Bool) (rest : List ℕ) (r : Result Chunk Error) → ParseAnswer p eof rest r new
-    → IsUnchanged p r new
-unchanged p new eof rest r h = grind arith
+  pub unchanged : (eof : Bool) (rest : List ℕ) (r : Result Chunk Error) → ParseAnswer p eof rest r new → IsUnchanged p r new
+  unchanged eof rest r h = grind arith
 
 -- ---- what a request asks for
 

@@ -103,8 +103,7 @@ no_body_left (suc n) code_bytes p e a z f hint = absurd (omega arith)
 
 -- a size that is not read
 pub body_no_size : (bodies code_bytes : ℕ) (p : Place) (e : Error) (a : Place) → 0 < bodies → unsigned_at VarU32 p ≡ Err (fault_at e)
-    → hint_of e
-    ≡ hint_at 1 (fault_at e).fault → ReadsByGrammar (body_grammar bodies code_bytes p.offset) p (Err e) a
+    → hint_of e ≡ hint_at 1 (fault_at e).fault → ReadsByGrammar (body_grammar bodies code_bytes p.offset) p (Err e) a
 body_no_size bodies code_bytes p e a l h hint = search (body_there, report_no_number)
 
 -- after a size, by whether the body passes its section
@@ -122,15 +121,13 @@ body_sized bodies code_bytes p q size past r a m l h next =
     (rw w (next s)))
 
 -- whether a body passes its section, by the same numbers
-pub past_same : {l code_bytes b q a p : ℕ} {found past : Bool} (size : ℕ) → l ≡ code_bytes → b ≡ q → a ≡ p
-    → found ≡ nat_lt l (b - a + size) → found
-    ≡ past → nat_lt code_bytes (q - p + size) ≡ past
+pub past_same : {l code_bytes b q a p : ℕ} {found past : Bool} (size : ℕ) → l ≡ code_bytes → b ≡ q → a ≡ p → found ≡ nat_lt l (b - a + size)
+    → found ≡ past → nat_lt code_bytes (q - p + size) ≡ past
 past_same size x y z e f = (λ i. nat_lt (sym x i) (sym y i - sym z i + size)) ∙ (sym e ∙ f)
 
 -- a body that passes its section
 pub body_past : (bodies code_bytes : ℕ) (p q : Place) (size : ℕ) (e : Error) (a : Place) → 0 < bodies → unsigned_at VarU32 p ≡ Ok (size, q)
-    → nat_lt code_bytes (q.offset - p.offset + size) ≡ true
-    → fault_at e ≡ at_offset UnexpectedEof p.offset → hint_of e ≡ None
+    → nat_lt code_bytes (q.offset - p.offset + size) ≡ true → fault_at e ≡ at_offset UnexpectedEof p.offset → hint_of e ≡ None
     → ReadsByGrammar (body_grammar bodies code_bytes p.offset) p (Err e) a
 body_past bodies code_bytes p q size e a l h past f hint =
     let m : ReadNumber p size q = read_number p size q h in
@@ -139,10 +136,8 @@ body_past bodies code_bytes p q size e a l h past f hint =
 
 -- bytes that are missing of a body that lies in its section
 pub body_missing : (bodies code_bytes : ℕ) (p q : Place) (size : ℕ) (e : Error) (a : Place) → 0 < bodies
-    → unsigned_at VarU32 p ≡ Ok (size, q)
-    → nat_lt code_bytes (q.offset - p.offset + size) ≡ false
-    → content_at size q ≡ Err (fault_at e) → hint_of e ≡ hint_at (missing_at size q) (fault_at e).fault
-    → ReadsByGrammar (body_grammar bodies code_bytes p.offset) p (Err e) a
+    → unsigned_at VarU32 p ≡ Ok (size, q) → nat_lt code_bytes (q.offset - p.offset + size) ≡ false → content_at size q ≡ Err (fault_at e)
+    → hint_of e ≡ hint_at (missing_at size q) (fault_at e).fault → ReadsByGrammar (body_grammar bodies code_bytes p.offset) p (Err e) a
 body_missing bodies code_bytes p q size e a l h past c hint =
     let m : ReadNumber p size q = read_number p size q h in
     let t = too_few size (advanced m.used p) (fault_at e) (cc) in
@@ -157,10 +152,8 @@ body_content p q size w b m h = has_content size (advanced m.used p) w b (subst 
 
 -- a body
 pub body_read : (bodies code_bytes : ℕ) (p q : Place) (size : ℕ) (w : Window) (b : Place) (payload : Payload) → 0 < bodies
-    → unsigned_at VarU32 p
-    ≡ Ok (size, q) → nat_lt code_bytes (q.offset - p.offset + size) ≡ false
-    → content_at size q ≡ Ok (w, b) → IsPayload (code_entry w) payload
-    → ReadsByGrammar (body_grammar bodies code_bytes p.offset) p (Ok payload) b
+    → unsigned_at VarU32 p ≡ Ok (size, q) → nat_lt code_bytes (q.offset - p.offset + size) ≡ false → content_at size q ≡ Ok (w, b)
+    → IsPayload (code_entry w) payload → ReadsByGrammar (body_grammar bodies code_bytes p.offset) p (Ok payload) b
 body_read bodies code_bytes p q size w b payload l h past k report =
     let m : ReadNumber p size q = read_number p size q h in
     let c : HasContent size (advanced m.used p) w b = body_content p q size w b m k in

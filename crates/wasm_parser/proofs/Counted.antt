@@ -20,8 +20,7 @@ single_good : (trailing : Fault) (p : Place) (v : ℕ) (q : Place) (n : Number) 
 single_good trailing p v q n h l = grind (arith, le-ltb, length-drop)
 
 single_more : (trailing : Fault) (p : Place) (v : ℕ) (q : Place) (f : FaultAt) (n : Number) → in_window p n ≡ Ok (v, q) → 0 < length q.rest
-    → f
-    ≡ at_offset trailing q.offset → wrong_single trailing p.offset p.rest n ≡ Some f
+    → f ≡ at_offset trailing q.offset → wrong_single trailing p.offset p.rest n ≡ Some f
 single_more trailing p v q f n h l e = grind (arith, lt-ltb, length-drop)
 
 -- ---- the result of a call that reads one number
@@ -91,27 +90,25 @@ items_read context id size p w q payload h n m =
     let t = report_counted id size p w q i.s h i.counted in
     grind (arith, whole_good, data_wrong)
 
--- one whose count is not the one that was announced
-pub items_miscounted : (context : SectionContext) (id size : ℕ) (p : Place) (w : Window) (q : Place) (payload : Payload) (e : Error)
-    (a : Place) → content_at size p ≡ Ok (w, q) → ReadsCounted id w (Ok payload) → true
-    ≡ is_miscounted_by context.data_counts (report_of payload)
-    → fault_at e ≡ at_offset DataCountDiffer q.offset → hint_of e ≡ None
-    → ReadsByGrammar (whole_grammar context items id p.offset size) p (Err e) a
-items_miscounted context id size p w q payload e a h n m f hint =
-    let i : HoldsItems id w payload = holds_items id w payload n in
-    let k : HasContent size p w q = has_content size p w q h in
-    let g = count_read size p w q i.s.count (place i.s.reader) h i.counted.gives in
-    let d = data_wrong context id (p.offset + size) (take size p.rest) i.s (report_of payload) true i.report g.1 m in
-    whole_miscounted context items id size p w q e a h g.0 (cc) hint
+module _ (context : SectionContext) (id size : ℕ) (p : Place) (w : Window) (q : Place) where
+  -- one whose count is not the one that was announced
+  pub items_miscounted : (payload : Payload) (e : Error) (a : Place) → content_at size p ≡ Ok (w, q) → ReadsCounted id w (Ok payload)
+      → true ≡ is_miscounted_by context.data_counts (report_of payload) → fault_at e ≡ at_offset DataCountDiffer q.offset → hint_of e ≡ None
+      → ReadsByGrammar (whole_grammar context items id p.offset size) p (Err e) a
+  items_miscounted payload e a h n m f hint =
+      let i : HoldsItems id w payload = holds_items id w payload n in
+      let k : HasContent size p w q = has_content size p w q h in
+      let g = count_read size p w q i.s.count (place i.s.reader) h i.counted.gives in
+      let d = data_wrong context id (p.offset + size) (take size p.rest) i.s (report_of payload) true i.report g.1 m in
+      whole_miscounted context items id size p w q e a h g.0 (cc) hint
 
--- one whose count was refused
-pub items_refused : (context : SectionContext) (id size : ℕ) (p : Place) (w : Window) (q : Place) (e : Error) (a : Place)
-    → content_at size p ≡ Ok (w, q) → unsigned_at VarU32 (place w) ≡ Err (fault_at e)
-    → hint_of e ≡ None → ReadsByGrammar (whole_grammar context items id p.offset size) p (Err e) a
-unfolding unsigned_at wrong_content
-items_refused context id size p w q e a h n hint =
-    let k : HasContent size p w q = has_content size p w q h in
-    whole_bad context items id size p w q e a h (grind arith) hint
+  -- one whose count was refused
+  pub items_refused : (e : Error) (a : Place) → content_at size p ≡ Ok (w, q) → unsigned_at VarU32 (place w) ≡ Err (fault_at e)
+      → hint_of e ≡ None → ReadsByGrammar (whole_grammar context items id p.offset size) p (Err e) a
+  unfolding unsigned_at wrong_content
+  items_refused e a h n hint =
+      let k : HasContent size p w q = has_content size p w q h in
+      whole_bad context items id size p w q e a h (grind arith) hint
 
 -- a form whose content is one number: what is wrong with it, and what is reported of it
 pub record IsSingle (trailing : Fault) (form : Form) (says : (value from to : ℕ) → Report) : Type 0 where

@@ -88,8 +88,7 @@ gives_decided p new eof start prefix bytes rest e n r d a =
 
 gives_on : (p new : ParserState) (eof : Bool) (start : ℕ) (prefix bytes rest : List ℕ) (e : Event)
     (n : IsNext p eof start prefix bytes rest e) (r : Result Chunk Error) (w : Waiting) → waiting (grammar_of p) bytes ≡ w
-    → AnswersOn eof w p (verdict (grammar_of p) bytes) r new
-    → GivesEvent e p eof start prefix bytes r new
+    → AnswersOn eof w p (verdict (grammar_of p) bytes) r new → GivesEvent e p eof start prefix bytes r new
 gives_on p new true start prefix bytes rest e n r w q a = gives_decided p new true start prefix bytes rest e n r (inl refl) a
 gives_on p new false start prefix bytes rest e n r enough q a = gives_decided p new false start prefix bytes rest e n r (inr q) a
 gives_on p new false start prefix bytes rest e n r (wants need hint) q a = grind arith

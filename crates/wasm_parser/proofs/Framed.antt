@@ -30,30 +30,29 @@ framed_bad context start id p e a h f hint =
 good_id : (start id : ℕ) → id < 128 → when (nat_le 128 id) (at_offset MalformedSectionId start) ≡ None
 good_id start id h = rw (lt-leb 128 id h) refl
 
--- after a good id, where no length is read
-pub framed_no_size : (context : SectionContext) (start id : ℕ) (p : Place) (e : Error) (a : Place) → id < 128 → start + 1 ≡ p.offset
-    → unsigned_at VarU32 p ≡ Err (fault_at e) → hint_of e ≡ hint_at 1 (fault_at e).fault
-    → ReadsByGrammar (after_id context start id) p (Err e) a
-framed_no_size context start id p e a h o n hint =
-    let next : ℕ → ℕ → ℕ → Grammar = λ x size width. after_length context (kind_of context.encoding id) id x (x + width) size in
-    let r : (s : ℕ) → MatchesGrammar s p (u32_field (start + 1) (next (start + 1))) (Err e) a = λ s.
-    subst (λ (x : ℕ). MatchesGrammar s p (u32_field x (next x)) (Err e) a) (sym o) (report_no_number s p (next p.offset) e a n hint) in
-    λ s. report_right s p (when (nat_le 128 id) (at_offset MalformedSectionId start)) _ (Err e) a (good_id start id h) (r s)
+module _ (context : SectionContext) (start id : ℕ) (p : Place) where
+  -- after a good id, where no length is read
+  pub framed_no_size : (e : Error) (a : Place) → id < 128 → start + 1 ≡ p.offset → unsigned_at VarU32 p ≡ Err (fault_at e)
+      → hint_of e ≡ hint_at 1 (fault_at e).fault → ReadsByGrammar (after_id context start id) p (Err e) a
+  framed_no_size e a h o n hint =
+      let next : ℕ → ℕ → ℕ → Grammar = λ x size width. after_length context (kind_of context.encoding id) id x (x + width) size in
+      let r : (s : ℕ) → MatchesGrammar s p (u32_field (start + 1) (next (start + 1))) (Err e) a = λ s.
+      subst (λ (x : ℕ). MatchesGrammar s p (u32_field x (next x)) (Err e) a) (sym o) (report_no_number s p (next p.offset) e a n hint) in
+      λ s. report_right s p (when (nat_le 128 id) (at_offset MalformedSectionId start)) _ (Err e) a (good_id start id h) (r s)
 
--- after a good id and a length
-pub framed_sized : (context : SectionContext) (start id : ℕ) (p q : Place) (v : ℕ) (r : Result Payload Error) (a : Place) → id < 128
-    → start + 1 ≡ p.offset → unsigned_at VarU32 p ≡ Ok (v, q)
-    → ReadsByGrammar (after_length context (kind_of context.encoding id) id p.offset q.offset v) q r a
-    → ReadsByGrammar (after_id context start id) p r a
-framed_sized context start id p q v r a h o n next =
-    let m : ReadNumber p v q = read_number p v q n in
-    let at_q : (s : ℕ) → MatchesGrammar s (advanced m.used p) (after_length context (kind_of context.encoding id) id p.offset
-    (p.offset + m.used) v) r a =
-    λ s. subst (λ (x : Place). MatchesGrammar s x (after_length context (kind_of context.encoding id) id p.offset x.offset v) r a) m.after
-    (next s) in
-    λ s. report_right s p (when (nat_le 128 id) (at_offset MalformedSectionId start)) _ r a (good_id start id h)
-    (rw o (report_number s p p.offset
-    (λ size width. after_length context (kind_of context.encoding id) id p.offset (p.offset + width) size) r a v m.used m.reads (at_q s)))
+  -- after a good id and a length
+  pub framed_sized : (q : Place) (v : ℕ) (r : Result Payload Error) (a : Place) → id < 128 → start + 1 ≡ p.offset
+      → unsigned_at VarU32 p ≡ Ok (v, q) → ReadsByGrammar (after_length context (kind_of context.encoding id) id p.offset q.offset v) q r a
+      → ReadsByGrammar (after_id context start id) p r a
+  framed_sized q v r a h o n next =
+      let m : ReadNumber p v q = read_number p v q n in
+      let at_q : (s : ℕ) → MatchesGrammar s (advanced m.used p) (after_length context (kind_of context.encoding id) id p.offset
+      (p.offset + m.used) v) r a =
+      λ s. subst (λ (x : Place). MatchesGrammar s x (after_length context (kind_of context.encoding id) id p.offset x.offset v) r a) m.after
+      (next s) in
+      λ s. report_right s p (when (nat_le 128 id) (at_offset MalformedSectionId start)) _ r a (good_id start id h)
+      (rw o (report_number s p p.offset
+      (λ size width. after_length context (kind_of context.encoding id) id p.offset (p.offset + width) size) r a v m.used m.reads (at_q s)))
 
 -- a content that would end past the top of the offsets
 pub sized_large : (context : SectionContext) (kind : Kind) (id field size : ℕ) (p : Place) (e : Error) (a : Place)
@@ -89,9 +88,8 @@ sized_ordered context kind id field size p r a h k next =
     search (report_right, le-ltb)
 
 -- the same for the kind that was found
-pub sized_as : (context : SectionContext) (found kind : Kind) (id field size : ℕ) (p : Place) (r : Result Payload Error) (a : Place) → found
-    ≡ kind
-    → ReadsByGrammar (after_length context found id field p.offset size) p r a
+pub sized_as : (context : SectionContext) (found kind : Kind) (id field size : ℕ) (p : Place) (r : Result Payload Error) (a : Place)
+    → found ≡ kind → ReadsByGrammar (after_length context found id field p.offset size) p r a
     → ReadsByGrammar (after_length context kind id field p.offset size) p r a
 sized_as context found kind id field size p r a same next = subst
     (λ (k : Kind). ReadsByGrammar (after_length context k id field p.offset size) p r a) same next
@@ -121,9 +119,8 @@ has_content size p w q h = grind arith
 
 -- good content, reported by a payload
 pub whole_good : (context : SectionContext) (kind : Form) (id size : ℕ) (p : Place) (w : Window) (q : Place) (payload : Payload)
-    → content_at size p ≡ Ok (w, q) → wrong_content kind p.offset (take size p.rest) ≡ None
-    → wrong_data context kind id (p.offset + size) (take size p.rest) ≡ None
-    → IsPayload (section_report p.features p.offset (p.offset + size) kind id (take size p.rest)) payload
+    → content_at size p ≡ Ok (w, q) → wrong_content kind p.offset (take size p.rest) ≡ None → wrong_data context kind id (p.offset + size)
+    (take size p.rest) ≡ None → IsPayload (section_report p.features p.offset (p.offset + size) kind id (take size p.rest)) payload
     → ReadsByGrammar (whole_grammar context kind id p.offset size) p (Ok payload) q
 whole_good context kind id size p w q payload h good counts report =
     grind (arith, has_content, length-take-le, report_bytes, report_right, report_whole)
@@ -138,9 +135,8 @@ whole_bad context kind id size p w q e a h wrong hint =
 
 -- good content whose count differs from the one that was announced
 pub whole_miscounted : (context : SectionContext) (kind : Form) (id size : ℕ) (p : Place) (w : Window) (q : Place) (e : Error) (a : Place)
-    → content_at size p ≡ Ok (w, q) → wrong_content kind p.offset (take size p.rest) ≡ None
-    → wrong_data context kind id (p.offset + size) (take size p.rest) ≡ Some (fault_at e) → hint_of e ≡ None
-    → ReadsByGrammar (whole_grammar context kind id p.offset size) p (Err e) a
+    → content_at size p ≡ Ok (w, q) → wrong_content kind p.offset (take size p.rest) ≡ None → wrong_data context kind id (p.offset + size)
+    (take size p.rest) ≡ Some (fault_at e) → hint_of e ≡ None → ReadsByGrammar (whole_grammar context kind id p.offset size) p (Err e) a
 whole_miscounted context kind id size p w q e a h good wrong hint =
     let c : HasContent size p w q = has_content size p w q h in
     search (report_bytes, report_right, report_wrong)
@@ -168,8 +164,7 @@ good_unknown offset content = refl
 
 -- a custom section that was read, and one whose name was refused
 pub custom_read : (context : SectionContext) (id size : ℕ) (p : Place) (w : Window) (q : Place) (c : Custom) → content_at size p ≡ Ok (w, q)
-    → IsCustom w c
-    → ReadsByGrammar (whole_grammar context custom id p.offset size) p (Ok (CustomSection c)) q
+    → IsCustom w c → ReadsByGrammar (whole_grammar context custom id p.offset size) p (Ok (CustomSection c)) q
 custom_read context id size p w q c h is = grind (arith, has_content, good_custom, whole_good)
 
 pub custom_refused : (context : SectionContext) (id size : ℕ) (p : Place) (w : Window) (q : Place) (e : Error) (a : Place)
@@ -180,9 +175,8 @@ custom_refused context id size p w q e a h wrong hint =
     whole_bad context custom id size p w q e a h (grind (arith, bad_custom)) hint
 
 -- an unknown section
-pub unknown_read : (context : SectionContext) (id size : ℕ) (p : Place) (w : Window) (q : Place) (payload : Payload) → content_at size p
-    ≡ Ok (w, q)
-    → IsPayload (unknown_section id (place w).rest w.start (w.start + length w.bytes)) payload
+pub unknown_read : (context : SectionContext) (id size : ℕ) (p : Place) (w : Window) (q : Place) (payload : Payload)
+    → content_at size p ≡ Ok (w, q) → IsPayload (unknown_section id (place w).rest w.start (w.start + length w.bytes)) payload
     → ReadsByGrammar (whole_grammar context unknown id p.offset size) p (Ok payload) q
 unknown_read context id size p w q payload h report = grind (arith, has_content, length-take-le, whole_good, good_unknown)
 
@@ -199,8 +193,7 @@ unfolding section_grammar waiting
 magic_decides xs context o b g m l = grind arith
 
 pub section_magic : (p : ParserState) (here : Place) (e : Error) (a : Place) → true ≡ (agree here.rest magic && nat_le 4 (length here.rest))
-    → 0 < length here.rest → fault_at e ≡ at_offset MagicAtSection here.offset → hint_of e ≡ None
-    → ReadsNextSection p here (Err e) a
+    → 0 < length here.rest → fault_at e ≡ at_offset MagicAtSection here.offset → hint_of e ≡ None → ReadsNextSection p here (Err e) a
 section_magic p here e a m l f hint = grind (arith, magic_at, magic_decides)
 
 -- a section after its id

@@ -52,8 +52,7 @@ pub record ReadHeader (p : Place) (bits : ℕ) (q : Place) : Type 0 where
   pub place : q ≡ advanced 4 (advanced 4 p)
 
 read_at : (few other fewer : Bool) (p : Place) (bits : ℕ) (q : Place) → nat_lt (length p.rest) 4 ≡ few → agree (take 4 p.rest) magic ≡ other
-    → nat_lt (length (drop 4 p.rest)) 4 ≡ fewer
-    → version_steps few other fewer p ≡ Ok (bits, q) → ReadHeader p bits q
+    → nat_lt (length (drop 4 p.rest)) 4 ≡ fewer → version_steps few other fewer p ≡ Ok (bits, q) → ReadHeader p bits q
 read_at false true false p bits q a b c h =
     let z : (of_four (take 4 (drop 4 p.rest)), advanced 4 (advanced 4 p)) ≡ (bits, q) = cc in
     record {
@@ -81,23 +80,22 @@ report_eight s p bits q r a h t =
     rw h.four v in
     search (report_bytes, report_right)
 
--- a header of a known version
-pub header_report : (p : Place) (bits : ℕ) (q : Place) (e : Encoding) (payload : Payload) → header_version_at p ≡ Ok (bits, q) → Some e
-    ≡ encoding_named (bits % 65536) (bits / 65536)
-    → IsPayload (tile_report q.features p.offset q.offset (version (bits % 65536) e)) payload
-    → MatchesGrammar p.offset p (header_grammar p.offset) (Ok payload) q
-header_report p bits q e payload h n t =
-    report_eight p.offset p bits q (Ok payload) q (header_read p bits q h)
-    (rw (← n) (search report_whole))
+module _ (p : Place) (bits : ℕ) (q : Place) where
+  -- a header of a known version
+  pub header_report : (e : Encoding) (payload : Payload) → header_version_at p ≡ Ok (bits, q) → Some e ≡ encoding_named (bits % 65536)
+      (bits / 65536) → IsPayload (tile_report q.features p.offset q.offset (version (bits % 65536) e)) payload
+      → MatchesGrammar p.offset p (header_grammar p.offset) (Ok payload) q
+  header_report e payload h n t =
+      report_eight p.offset p bits q (Ok payload) q (header_read p bits q h)
+      (rw (← n) (search report_whole))
 
--- one of an unknown version
-pub header_unnamed : (p : Place) (bits : ℕ) (q : Place) (e : Error) → header_version_at p ≡ Ok (bits, q) → None
-    ≡ encoding_named (bits % 65536) (bits / 65536)
-    → fault_at e ≡ record { fault = UnknownVersion; offset = p.offset + 4; number = Some bits } → hint_of e ≡ None
-    → MatchesGrammar p.offset p (header_grammar p.offset) (Err e) q
-header_unnamed p bits q e h n f hint =
-    report_eight p.offset p bits q (Err e) q (header_read p bits q h)
-    (rw (← n) (search report_stops))
+  -- one of an unknown version
+  pub header_unnamed : (e : Error) → header_version_at p ≡ Ok (bits, q) → None ≡ encoding_named (bits % 65536) (bits / 65536)
+      → fault_at e ≡ record { fault = UnknownVersion; offset = p.offset + 4; number = Some bits } → hint_of e ≡ None
+      → MatchesGrammar p.offset p (header_grammar p.offset) (Err e) q
+  header_unnamed e h n f hint =
+      report_eight p.offset p bits q (Err e) q (header_read p bits q h)
+      (rw (← n) (search report_stops))
 
 -- none
 
@@ -111,10 +109,9 @@ missing_by_steps : (few : Bool) (p : Place) → nat_lt (length p.rest) 4 ≡ few
 missing_by_steps true p e = rw e refl
 missing_by_steps false p e = rw e refl
 
-refused_at : (few other fewer : Bool) (p : Place) (e : Error) (a : Place) → nat_lt (length p.rest) 4 ≡ few → agree (take 4 p.rest) magic
-    ≡ other → nat_lt (length (drop 4 p.rest)) 4 ≡ fewer
-    → version_steps few other fewer p ≡ Err (fault_at e) → hint_of e ≡ hint_at (steps_missing few other p) (fault_at e).fault
-    → MatchesGrammar p.offset p (header_grammar p.offset) (Err e) a
+refused_at : (few other fewer : Bool) (p : Place) (e : Error) (a : Place) → nat_lt (length p.rest) 4 ≡ few
+    → agree (take 4 p.rest) magic ≡ other → nat_lt (length (drop 4 p.rest)) 4 ≡ fewer → version_steps few other fewer p ≡ Err (fault_at e)
+    → hint_of e ≡ hint_at (steps_missing few other p) (fault_at e).fault → MatchesGrammar p.offset p (header_grammar p.offset) (Err e) a
 unfolding header_grammar
 refused_at true other fewer p e a x y z h hint =
     let f : at_offset UnexpectedEof p.offset ≡ fault_at e = cc in

@@ -15,17 +15,15 @@ use Rattle.wasm_parser.proofs.Parsing.{answers_tile}
 pub not_true : (b : Bool) → true ≡ not b → b ≡ false
 not_true b e = grind arith
 
-matches : (p : ParserState) (here after : Place) (r : Result Payload Error) (g : Grammar) → grammar_of p ≡ g
-    → MatchesGrammar p.offset here g r after → ReadsNext p here r after
-matches p here after r g e m = grind arith
+module _ (p : ParserState) (here after : Place) (r : Result Payload Error) where
+  matches : (g : Grammar) → grammar_of p ≡ g → MatchesGrammar p.offset here g r after → ReadsNext p here r after
+  matches g e m = grind arith
 
-pub next_header : (p : ParserState) (here after : Place) (r : Result Payload Error) → p.expects_header ≡ true → here.offset ≡ p.offset
-    → ReadsHeader here r after → ReadsNext p here r after
-next_header p here after r h o m = grind arith
+  pub next_header : p.expects_header ≡ true → here.offset ≡ p.offset → ReadsHeader here r after → ReadsNext p here r after
+  next_header h o m = grind arith
 
 pub next_body : (p : ParserState) (here after : Place) (r : Result Payload Error) → p.expects_header ≡ false
-    → nat_eq (p.bodies + p.code_bytes) 0
-    ≡ false → here.offset ≡ p.offset → ReadsBody p here r after → ReadsNext p here r after
+    → nat_eq (p.bodies + p.code_bytes) 0 ≡ false → here.offset ≡ p.offset → ReadsBody p here r after → ReadsNext p here r after
 next_body p here after r h c o m = matches p here after r (body_grammar p.bodies p.code_bytes p.offset) (rw (h, c) refl)
     (subst (λ (x : ℕ). MatchesGrammar p.offset here (body_grammar p.bodies p.code_bytes x) r after) o (m p.offset))
 
@@ -33,8 +31,7 @@ next_body p here after r h c o m = matches p here after r (body_grammar p.bodies
 
 fits_at : (p : ParserState) (here after : Place) (payload : Payload) (end : ℕ) (v : Verdict) → verdict (grammar_of p) here.rest ≡ v
     → MatchesVerdict p.offset here v (Ok payload) after → here.offset ≡ p.offset → end ≡ after.offset → end < 2 ^ 64
-    → p.offset + p.code_bytes < 2 ^ 64
-    → end + missing_bytes (report_of payload) (end - p.offset) p.code_bytes < 2 ^ 64
+    → p.offset + p.code_bytes < 2 ^ 64 → end + missing_bytes (report_of payload) (end - p.offset) p.code_bytes < 2 ^ 64
 fits_at p here after payload end v e m o at l k = grind (arith, tile_fits)
 
 pub advance_fits : (p : ParserState) (here after : Place) (payload : Payload) (end : ℕ) → ReadsNext p here (Ok payload) after → here.offset
@@ -71,8 +68,7 @@ answers_at p q eof here after payload end (final (ended x)) e m l o f at a = abs
 
 pub answers_read : (p q : ParserState) (eof : Bool) (here after : Place) (payload : Payload) (end : ℕ) → ReadsNext p here (Ok payload) after
     → p.offset + length here.rest < 2 ^ 64 → here.offset ≡ p.offset → here.features ≡ p.features → end ≡ after.offset
-    → Advances p payload end q
-    → ParseAnswer p eof here.rest (Ok (Parsed (end - p.offset) payload)) q
+    → Advances p payload end q → ParseAnswer p eof here.rest (Ok (Parsed (end - p.offset) payload)) q
 answers_read p q eof here after payload end m l o f at a = answers_at p q eof here after payload end (verdict (grammar_of p) here.rest) refl
     m.0 l o f at a
 
@@ -83,19 +79,17 @@ at_window : (p : ParserState) (w : Window) (bytes : List ℕ) (r : Result Payloa
     → ReadsNext p (place (window_over p.features p.offset bytes)) r after
 at_window p w bytes r after e m = subst (λ (x : Window). ReadsNext p (place x) r after) e m
 
-pub window_fits : (p : ParserState) (w : Window) (bytes : List ℕ) (after : Place) (payload : Payload) (end : ℕ) → w
-    ≡ window_over p.features p.offset bytes → ReadsNext p (place w) (Ok payload) after → end ≡ after.offset → end < 2 ^ 64
-    → p.offset + p.code_bytes < 2 ^ 64
-    → end + missing_bytes (report_of payload) (end - p.offset) p.code_bytes < 2 ^ 64
-window_fits p w bytes after payload end e m at l k =
-    advance_fits p (place (window_over p.features p.offset bytes)) after payload end (at_window p w bytes (Ok payload) after e m)
-    (add-zero p.offset) at l k
+module _ (p : ParserState) (w : Window) (bytes : List ℕ) (after : Place) (payload : Payload) where
+  pub window_fits : (end : ℕ) → w ≡ window_over p.features p.offset bytes → ReadsNext p (place w) (Ok payload) after → end ≡ after.offset
+      → end < 2 ^ 64 → p.offset + p.code_bytes < 2 ^ 64 → end + missing_bytes (report_of payload) (end - p.offset) p.code_bytes < 2 ^ 64
+  window_fits end e m at l k =
+      advance_fits p (place (window_over p.features p.offset bytes)) after payload end (at_window p w bytes (Ok payload) after e m)
+      (add-zero p.offset) at l k
 
-pub window_section : (p : ParserState) (w : Window) (bytes : List ℕ) (after : Place) (payload : Payload)
-    → w ≡ window_over p.features p.offset bytes → ReadsNext p (place w) (Ok payload) after
-    → implies_nothing (report_of payload) ≡ true → is_at_section p ≡ true
-window_section p w bytes after payload e m n =
-    section_of p (place (window_over p.features p.offset bytes)) after payload _ refl (at_window p w bytes (Ok payload) after e m).0 n
+  pub window_section : w ≡ window_over p.features p.offset bytes → ReadsNext p (place w) (Ok payload) after
+      → implies_nothing (report_of payload) ≡ true → is_at_section p ≡ true
+  window_section e m n =
+      section_of p (place (window_over p.features p.offset bytes)) after payload _ refl (at_window p w bytes (Ok payload) after e m).0 n
 
 pub window_answered : (p q : ParserState) (eof : Bool) (w : Window) (bytes : List ℕ) (after : Place) (payload : Payload) (start end : ℕ) → w
     ≡ window_over p.features p.offset bytes → start ≡ p.offset → ReadsNext p (place w) (Ok payload) after → p.offset + length bytes < 2 ^ 64
@@ -104,8 +98,7 @@ window_answered p q eof w bytes after payload start end e s m l at a =
     rw s (answers_read p q eof (place (window_over p.features p.offset bytes)) after payload end
     (at_window p w bytes (Ok payload) after e m) l (add-zero p.offset) refl at a)
 
-pub window_refused : (p : ParserState) (eof : Bool) (w : Window) (bytes : List ℕ) (after : Place) (e : Error) (r : Result Chunk Error) → w
-    ≡ window_over p.features p.offset bytes → ReadsNext p (place w) (Err e) after → p.offset + length bytes < 2 ^ 64 → IsBegun p eof bytes
-    → Refuses eof e r
-    → ParseAnswer p eof bytes r p
+pub window_refused : (p : ParserState) (eof : Bool) (w : Window) (bytes : List ℕ) (after : Place) (e : Error) (r : Result Chunk Error)
+    → w ≡ window_over p.features p.offset bytes → ReadsNext p (place w) (Err e) after → p.offset + length bytes < 2 ^ 64
+    → IsBegun p eof bytes → Refuses eof e r → ParseAnswer p eof bytes r p
 window_refused p eof w bytes after e r same m l b f = grind arith

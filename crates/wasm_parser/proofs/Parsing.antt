@@ -26,14 +26,12 @@ ends_as p q e r l h x a = grind (arith, Answers, at_end)
 
 -- functions with no code
 pub functions_alone : (p : ParserState) (x : Error) → p.offset < 2 ^ 64 → is_at_section p ≡ true → true ≡ is_lacking p.functions p.codes
-    → fault_at x ≡ at_offset FunctionWithoutCode p.offset
-    → ParseAnswer p true [] (Err x) p
+    → fault_at x ≡ at_offset FunctionWithoutCode p.offset → ParseAnswer p true [] (Err x) p
 functions_alone p x l h a f = ends_as p p (fault (at_offset FunctionWithoutCode p.offset)) (Err x) l h (rw (← a) refl) (f, refl)
 
 -- data that is announced and missing
 pub data_count_alone : (p : ParserState) (x : Error) → p.offset < 2 ^ 64 → is_at_section p ≡ true → false ≡ is_lacking p.functions p.codes
-    → true ≡ is_lacking p.data_counts p.datas
-    → fault_at x ≡ at_offset DataCountWithoutData p.offset → ParseAnswer p true [] (Err x) p
+    → true ≡ is_lacking p.data_counts p.datas → fault_at x ≡ at_offset DataCountWithoutData p.offset → ParseAnswer p true [] (Err x) p
 data_count_alone p x l h a b f = ends_as p p (fault (at_offset DataCountWithoutData p.offset)) (Err x) l h (rw (← a, ← b) refl) (f, refl)
 
 -- nothing is lacking

@@ -34,8 +34,7 @@ report_missing s p n o next e a l f h = grind arith
 
 -- a number, that is read or not
 pub report_number : (s : ℕ) (p : Place) (o : ℕ) (next : ℕ → ℕ → Grammar) (r : Result Payload Error) (a : Place) (v k : ℕ)
-    → number VarU32 p.rest ≡ read v k
-    → MatchesGrammar s (advanced k p) (next v k) r a → MatchesGrammar s p (u32_field o next) r a
+    → number VarU32 p.rest ≡ read v k → MatchesGrammar s (advanced k p) (next v k) r a → MatchesGrammar s p (u32_field o next) r a
 unfolding verdict waiting
 report_number s p o next r a v k e h = grind (arith, number-used, report_at, length-take-le)
 
@@ -46,21 +45,19 @@ no_number : (s : ℕ) (p : Place) (next : ℕ → ℕ → Verdict) (later : ℕ 
 no_number s p next later e a n t f h = grind (arith, bad_hint)
 
 pub report_no_number : (s : ℕ) (p : Place) (next : ℕ → ℕ → Grammar) (e : Error) (a : Place) → unsigned_at VarU32 p ≡ Err (fault_at e)
-    → hint_of e ≡ hint_at 1 (fault_at e).fault
-    → MatchesGrammar s p (u32_field p.offset next) (Err e) a
+    → hint_of e ≡ hint_at 1 (fault_at e).fault → MatchesGrammar s p (u32_field p.offset next) (Err e) a
 unfolding verdict waiting unsigned_at
 report_no_number s p next e a f h = search no_number
 
--- something wrong, or nothing
-pub report_wrong : (s : ℕ) (p : Place) (f : Option FaultAt) (next : Grammar) (e : Error) (a : Place) → f ≡ Some (fault_at e) → hint_of e
-    ≡ None → MatchesGrammar s p (check f next) (Err e) a
-unfolding verdict waiting
-report_wrong s p f next e a m h = grind arith
+module _ (s : ℕ) (p : Place) (f : Option FaultAt) (next : Grammar) where
+  -- something wrong, or nothing
+  pub report_wrong : (e : Error) (a : Place) → f ≡ Some (fault_at e) → hint_of e ≡ None → MatchesGrammar s p (check f next) (Err e) a
+  unfolding verdict waiting
+  report_wrong e a m h = grind arith
 
-pub report_right : (s : ℕ) (p : Place) (f : Option FaultAt) (next : Grammar) (r : Result Payload Error) (a : Place) → f ≡ None
-    → MatchesGrammar s p next r a → MatchesGrammar s p (check f next) r a
-unfolding verdict waiting
-report_right s p f next r a h k = grind arith
+  pub report_right : (r : Result Payload Error) (a : Place) → f ≡ None → MatchesGrammar s p next r a → MatchesGrammar s p (check f next) r a
+  unfolding verdict waiting
+  report_right r a h k = grind arith
 
 -- the tile is whole
 pub report_whole : (s : ℕ) (p : Place) (shape : Shape) (payload : Payload) (a : Place) → a ≡ p

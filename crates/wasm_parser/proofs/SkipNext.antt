@@ -289,8 +289,7 @@ body_skips_as q features p after s f = by_size (number VarU32 p.rest) refl f
 
 content_skips : (q : ParserState) (features : ℕ) (form : Form) (id size : ℕ) (p : Place) (head : Head) → length p.rest < size
     → ((zs : List ℕ) → Fields (known_context q) features form id p head zs)
-    → Skips (whole_grammar (known_context q) form id p.offset size) p.rest size p.offset
-    (SaysSkip features (sized p.offset size head))
+    → Skips (whole_grammar (known_context q) form id p.offset size) p.rest size p.offset (SaysSkip features (sized p.offset size head))
 unfolding verdict
 content_skips q features form id size p head l f =
     skips_content size p.offset
@@ -309,8 +308,7 @@ content_skips q features form id size p head l f =
 
 sized_skips : (q : ParserState) (features : ℕ) (kind : Kind) (id field size : ℕ) (p : Place) (head : Head) → p.offset + size < 2 ^ 64
     → is_in_order q kind id ≡ true → length p.rest < size → FieldsOf (known_context q) features kind id p head
-    → Skips (after_length (known_context q) kind id field p.offset size) p.rest size p.offset
-    (SaysSkip features (sized p.offset size head))
+    → Skips (after_length (known_context q) kind id field p.offset size) p.rest size p.offset (SaysSkip features (sized p.offset size head))
 sized_skips q features (whole form) id field size p head b o l f =
     let Says : Shape → Type 0 = SaysSkip features (sized p.offset size head) in
     let fits : nat_lt (2 ^ 64 - 1) (p.offset + size) ≡ false = le-ltb _ _ (omega (arith, b)) in

@@ -18,8 +18,7 @@ use Rattle.wasm_grammar.specs.Reading as reading
 
 -- where bytes of a code section are left, a body comes
 body_at : (b : Bool) (context : SectionContext) (bodies code_bytes offset : ℕ) (d : List ℕ) (t : Tile) → nat_eq (bodies + code_bytes) 0 ≡ b
-    → 0 < code_bytes
-    → verdict (cond b (section_grammar context offset) (body_grammar bodies code_bytes offset)) d ≡ tile t → IsBody t.shape
+    → 0 < code_bytes → verdict (cond b (section_grammar context offset) (body_grammar bodies code_bytes offset)) d ≡ tile t → IsBody t.shape
 body_at b context bodies code_bytes offset d t e l v = grind (arith, bodied)
 
 -- tiles after which a parser knows the same as after others, except for the remaining bytes of a code section

@@ -23,20 +23,19 @@ pub may_same : (t : Tile) (ts : List Tile) (r : ℕ) → nat_lt (greatest (t ∷
 may_same t [] r = grind arith
 may_same t (u ∷ ts) r = grind (arith, max_lt, may_same u ts r)
 
-context_same : (p : ParserState) (start : ℕ) (prefix : List ℕ) (s : IsStateAfter p start prefix) (t : Tile) (ts : List Tile) → s.tiles ≡ t
-    ∷ ts → known_context p ≡ context_of (t ∷ ts)
-context_same p start prefix s t ts z = grind (arith, may_same)
+module _ (p : ParserState) (start : ℕ) (prefix : List ℕ) (s : IsStateAfter p start prefix) where
+  context_same : (t : Tile) (ts : List Tile) → s.tiles ≡ t ∷ ts → known_context p ≡ context_of (t ∷ ts)
+  context_same t ts z = grind (arith, may_same)
 
-grammar_at : (p : ParserState) (start : ℕ) (prefix : List ℕ) (s : IsStateAfter p start prefix) (ts : List Tile) → s.tiles ≡ ts
-    → grammar_of p ≡ grammar start ts
-grammar_at p start prefix s [] z = grind arith
-grammar_at p start prefix s (t ∷ ts) z =
-    let h : p.expects_header ≡ false = s.expects_header ∙ ap is_start z in
-    let o : p.offset ≡ start + length (bytes_of (t ∷ ts)) = cc in
-    let m : p.bodies ≡ bodies_left (t ∷ ts) = s.bodies ∙ ap bodies_left z in
-    let l : p.code_bytes ≡ bytes_left (t ∷ ts) = s.code_bytes ∙ ap bytes_left z in
-    let q : known_context p ≡ context_of (t ∷ ts) = context_same p start prefix s t ts z in
-    rw h (λ i. inside (q i) (m i) (l i) (o i))
+  grammar_at : (ts : List Tile) → s.tiles ≡ ts → grammar_of p ≡ grammar start ts
+  grammar_at [] z = grind arith
+  grammar_at (t ∷ ts) z =
+      let h : p.expects_header ≡ false = s.expects_header ∙ ap is_start z in
+      let o : p.offset ≡ start + length (bytes_of (t ∷ ts)) = cc in
+      let m : p.bodies ≡ bodies_left (t ∷ ts) = s.bodies ∙ ap bodies_left z in
+      let l : p.code_bytes ≡ bytes_left (t ∷ ts) = s.code_bytes ∙ ap bytes_left z in
+      let q : known_context p ≡ context_of (t ∷ ts) = context_same t ts z in
+      rw h (λ i. inside (q i) (m i) (l i) (o i))
 
 -- what may come after a prefix is what the parser that is there expects
 pub grammar_same : (p : ParserState) (start : ℕ) (prefix : List ℕ) (s : IsStateAfter p start prefix) → grammar_of p ≡ grammar start s.tiles
@@ -164,8 +163,7 @@ nothing_passed start features = record {
 
 -- bodies or bytes of a code section are left only after its start, or a body
 code_is_open : (t : Tile) (bodies code_bytes : ℕ) (shape : Shape) → 0 < bodies_after shape bodies + bytes_after t shape code_bytes
-    → is_of_code shape
-    ≡ true
+    → is_of_code shape ≡ true
 code_is_open t bodies code_bytes shape l = grind arith
 
 -- a parser whose state is that after the tile that comes next knows what the tiles say, with that one

@@ -45,96 +45,96 @@ here : (start features : ℕ) (stream : List ℕ) (s : Walk) (tiles : List Tile)
     → verdict (grammar_of s.state) s.bytes ≡ verdict (grammar start tiles) s.bytes
 here start features stream s tiles w = rw (grammar_same s.state start w.prefix w.is_after ∙ ap (grammar start) w.same)
 
-within : (start features : ℕ) (stream : List ℕ) (s : Walk) (tiles : List Tile) → Walked start features stream s tiles
-    → s.state.offset + length s.bytes < 2 ^ 64
-within start features stream s tiles w = grind (arith, length-append)
+module _ (start features : ℕ) (stream : List ℕ) where
+  within : (s : Walk) (tiles : List Tile) → Walked start features stream s tiles → s.state.offset + length s.bytes < 2 ^ 64
+  within s tiles w = grind (arith, length-append)
 
--- a reading that stops here
-stops_here : (start features : ℕ) (stream : List ℕ) (s : Walk) (tiles : List Tile) (w : Walked start features stream s tiles) (end : Ending)
-    (x : Report) → verdict (grammar_of s.state) s.bytes ≡ final end → x ≡ stream_end end → ReadsOn start features stream tiles (x ∷ [])
-stops_here start features stream s tiles w end x v t = record {
-  events = last_event end ∷ [];
-  reading = record {
-    tiles = tiles;
-    end = end;
-    reads = record {
-      rest = s.bytes;
-      whole = cc;
-      faultless = grind arith;
-      stops = sym (here start features stream s tiles w) ∙ v;
+  -- a reading that stops here
+  stops_here : (s : Walk) (tiles : List Tile) (w : Walked start features stream s tiles) (end : Ending) (x : Report)
+      → verdict (grammar_of s.state) s.bytes ≡ final end → x ≡ stream_end end → ReadsOn start features stream tiles (x ∷ [])
+  stops_here s tiles w end x v t = record {
+    events = last_event end ∷ [];
+    reading = record {
+      tiles = tiles;
+      end = end;
+      reads = record {
+        rest = s.bytes;
+        whole = cc;
+        faultless = grind arith;
+        stops = sym (here start features stream s tiles w) ∙ v;
+      };
+      listed = refl;
     };
-    listed = refl;
-  };
-  gives = rw t;
-}
+    gives = rw t;
+  }
 
--- a tile more
-goes_further : (start features : ℕ) (stream : List ℕ) (tiles : List Tile) (t : Tile) (x : Report) (others : List Report) → x
-    ≡ event_report (event_of features (start + length (bytes_of tiles)) t) → ReadsOn start features stream (t ∷ tiles) others
-    → ReadsOn start features stream tiles (x ∷ others)
-goes_further start features stream tiles t x others e r = grind (arith, append_assoc)
+  -- a tile more
+  goes_further : (tiles : List Tile) (t : Tile) (x : Report) (others : List Report)
+      → x ≡ event_report (event_of features (start + length (bytes_of tiles)) t) → ReadsOn start features stream (t ∷ tiles) others
+      → ReadsOn start features stream tiles (x ∷ others)
+  goes_further tiles t x others e r = grind (arith, append_assoc)
 
--- the walk after a tile
-steps_on : (start features : ℕ) (stream : List ℕ) (s m : Walk) (tiles : List Tile) (w : Walked start features stream s tiles) (t : Tile)
-    (consumed : ℕ) → verdict (grammar_of s.state) s.bytes ≡ tile t → consumed ≡ length t.bytes
-    → m.state ≡ state_after_tile s.state t → m.bytes ≡ drop consumed s.bytes → Walked start features stream m (t ∷ tiles)
-steps_on start features stream s m tiles w t consumed v n p b =
-    let v' : verdict (grammar start w.is_after.tiles) s.bytes ≡ tile t =
-    rw (grammar_same s.state start w.prefix w.is_after) at v in
-    let g : Grown start w.is_after.tiles s.bytes t = search grows in
-    let d : m.bytes ≡ g.rest = grind (arith, drop_at) in
-    let on : Walked start features stream (record { state = state_after_tile s.state t; bytes = g.rest; ended = m.ended }) (t ∷ tiles) =
-    record {
-      prefix = w.prefix ++ t.bytes;
-      is_after = search state_goes_on;
-      same = search state_goes_on-tiles;
-      whole = w.whole ∙ (ap (λ (y : List ℕ). w.prefix ++ y) g.split ∙ sym (append_assoc w.prefix t.bytes g.rest));
-      takes = w.takes;
-      fits = w.fits;
-    } in
-    grind arith
+  -- the walk after a tile
+  steps_on : (s m : Walk) (tiles : List Tile) (w : Walked start features stream s tiles) (t : Tile) (consumed : ℕ)
+      → verdict (grammar_of s.state) s.bytes ≡ tile t → consumed ≡ length t.bytes → m.state ≡ state_after_tile s.state t
+      → m.bytes ≡ drop consumed s.bytes → Walked start features stream m (t ∷ tiles)
+  steps_on s m tiles w t consumed v n p b =
+      let v' : verdict (grammar start w.is_after.tiles) s.bytes ≡ tile t =
+      rw (grammar_same s.state start w.prefix w.is_after) at v in
+      let g : Grown start w.is_after.tiles s.bytes t = search grows in
+      let d : m.bytes ≡ g.rest = grind (arith, drop_at) in
+      let on : Walked start features stream (record { state = state_after_tile s.state t; bytes = g.rest; ended = m.ended }) (t ∷ tiles) =
+      record {
+        prefix = w.prefix ++ t.bytes;
+        is_after = search state_goes_on;
+        same = search state_goes_on-tiles;
+        whole = w.whole ∙ (ap (λ (y : List ℕ). w.prefix ++ y) g.split ∙ sym (append_assoc w.prefix t.bytes g.rest));
+        takes = w.takes;
+        fits = w.fits;
+      } in
+      grind arith
 
--- ---- the whole walk
+  -- ---- the whole walk
 
--- what an unfinished walk yields
-walks : (start features : ℕ) (stream : List ℕ) (given : List (Result Payload Error)) (s t u : Walk) (tiles : List Tile)
-    → Walked start features stream s tiles → s.ended ≡ false → Yields NextPayload s given t → NextPayload t None u
-    → ReadsOn start features stream tiles (map given_report given)
-walks start features stream [] s t u tiles w going run end = grind arith
-walks start features stream (Err e ∷ given) s t u tiles w going run end =
-    let step = run.1.going going in
-    let none : given ≡ [] = over_gives_nothing run.0 t given step.2 run.2 in
-    let r : ReadsOn start features stream tiles (stream_end (fault (fault_at e)) ∷ []) =
-    refused (verdict (grammar_of s.state) s.bytes) refl
-    ((as_table s.state run.0.state true s.bytes (Err e) step.0).within (within start features stream s tiles w)) in
-    subst (λ (y : List (Result Payload Error)). ReadsOn start features stream tiles (stream_end (fault (fault_at e)) ∷ map given_report y))
-    (sym none) r
-  where
-    refused : (v : Verdict) → verdict (grammar_of s.state) s.bytes ≡ v → Answers s.state v (Err e) run.0.state
-        → ReadsOn start features stream tiles (stream_end (fault (fault_at e)) ∷ [])
-    refused (tile x) q a = absurd a
-    refused (final (fault f)) q a = stops_here start features stream s tiles w (fault f) (stream_end (fault (fault_at e))) q
-        (rw a.0)
-    refused (final (ended o)) q a = absurd a
-walks start features stream (Ok payload ∷ given) s t u tiles w going run end =
-    answered (λ ts on still. walks start features stream given run.0 t u ts on still run.2 end) (verdict (grammar_of s.state) s.bytes) refl
-    (grind (arith, as_table, within))
-  where
-    answered : ((ts : List Tile) → Walked start features stream run.0 ts → run.0.ended ≡ false
-        → ReadsOn start features stream ts (map given_report given)) → (v : Verdict) → verdict (grammar_of s.state) s.bytes ≡ v
-        → Answers s.state v (Ok (Parsed (consumed_between s run.0) payload)) run.0.state
-        → ReadsOn start features stream tiles (report_of payload ∷ map given_report given)
-    answered next (tile x) q a =
-        let on : Walked start features stream run.0 (x ∷ tiles) =
-        grind (arith, steps_on) in
-        let still : run.0.ended ≡ false = grind (arith, goes_on) in
-        goes_further start features stream tiles x (report_of payload) (map given_report given)
-        (cc) (next (x ∷ tiles) on still)
-    answered next (final (fault f)) q a = absurd a
-    answered next (final (ended o)) q a =
-        let over : run.0.ended ≡ true = (run.1.going going).2 ∙ ap is_end a.1.0 in
-        let none : given ≡ [] = over_gives_nothing run.0 t given over run.2 in
-        grind (arith, stops_here)
+  -- what an unfinished walk yields
+  walks : (given : List (Result Payload Error)) (s t u : Walk) (tiles : List Tile) → Walked start features stream s tiles → s.ended ≡ false
+      → Yields NextPayload s given t → NextPayload t None u → ReadsOn start features stream tiles (map given_report given)
+  walks [] s t u tiles w going run end = grind arith
+  walks (Err e ∷ given) s t u tiles w going run end =
+      let step = run.1.going going in
+      let none : given ≡ [] = over_gives_nothing run.0 t given step.2 run.2 in
+      let r : ReadsOn start features stream tiles (stream_end (fault (fault_at e)) ∷ []) =
+      refused (verdict (grammar_of s.state) s.bytes) refl
+      ((as_table s.state run.0.state true s.bytes (Err e) step.0).within (within s tiles w)) in
+      subst (λ (y : List (Result Payload Error)). ReadsOn start features stream tiles
+          (stream_end (fault (fault_at e)) ∷ map given_report y))
+      (sym none) r
+    where
+      refused : (v : Verdict) → verdict (grammar_of s.state) s.bytes ≡ v → Answers s.state v (Err e) run.0.state
+          → ReadsOn start features stream tiles (stream_end (fault (fault_at e)) ∷ [])
+      refused (tile x) q a = absurd a
+      refused (final (fault f)) q a = stops_here s tiles w (fault f) (stream_end (fault (fault_at e))) q
+          (rw a.0)
+      refused (final (ended o)) q a = absurd a
+  walks (Ok payload ∷ given) s t u tiles w going run end =
+      answered (λ ts on still. walks given run.0 t u ts on still run.2 end) (verdict (grammar_of s.state) s.bytes) refl
+      (grind (arith, as_table, within))
+    where
+      answered : ((ts : List Tile) → Walked start features stream run.0 ts → run.0.ended ≡ false
+          → ReadsOn start features stream ts (map given_report given)) → (v : Verdict) → verdict (grammar_of s.state) s.bytes ≡ v
+          → Answers s.state v (Ok (Parsed (consumed_between s run.0) payload)) run.0.state
+          → ReadsOn start features stream tiles (report_of payload ∷ map given_report given)
+      answered next (tile x) q a =
+          let on : Walked start features stream run.0 (x ∷ tiles) =
+          grind (arith, steps_on) in
+          let still : run.0.ended ≡ false = grind (arith, goes_on) in
+          goes_further tiles x (report_of payload) (map given_report given)
+          (cc) (next (x ∷ tiles) on still)
+      answered next (final (fault f)) q a = absurd a
+      answered next (final (ended o)) q a =
+          let over : run.0.ended ≡ true = (run.1.going going).2 ∙ ap is_end a.1.0 in
+          let none : given ≡ [] = over_gives_nothing run.0 t given over run.2 in
+          grind (arith, stops_here)
 
 -- a walk that has not begun
 begins : (start features : ℕ) (bytes : List ℕ) → start + length bytes < 2 ^ 64
