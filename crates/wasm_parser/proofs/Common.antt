@@ -45,8 +45,7 @@ pub use Rattle.wasm_grammar.specs.Grammar.{after_length, section, code_entry}
 unfoldable pub use Rattle.wasm_grammar.specs.Grammar.{verdict, header_grammar, body_grammar, section_grammar}
 pub use Rattle.wasm_grammar.specs.Ids.{data_id, function_id}
 pub use Rattle.wasm_grammar.specs.Reading.{stream_end, Event, tile_report, event_of, events_of, last_event, Reading, Stream, code_start}
-pub use Rattle.wasm_grammar.specs.Reading.{Report, counted, start_section, data_count_section, section_report, custom_section}
-pub use Rattle.wasm_grammar.specs.Reading.{unknown_section}
+pub use Rattle.wasm_grammar.specs.Reading.{Report, counted, start_section, data_count_section, section_report}
 pub use Rattle.wasm_grammar.specs.Tiling.{bytes_of, grammar, inside, context_of, bodies_left, bytes_left, is_start, counts}
 pub use Rattle.wasm_grammar.specs.Waiting.{Waiting, enough, wants}
 unfoldable pub use Rattle.wasm_grammar.specs.Waiting.{waiting}
@@ -59,7 +58,7 @@ pub use Rattle.wasm_parser.specs.ParserState.{is_at_section, greatest, skipped_s
 pub use Rattle.wasm_parser.specs.ReadsPart.{is_miscounted_by, is_lacking}
 unfoldable pub use Rattle.wasm_parser.specs.ReadsPart.{content_at}
 pub use Rattle.wasm_parser.specs.SkipNext.{Skip, SkipsPart, skip_in}
-pub use Rattle.wasm_parser.specs.StateAfter.{state_after_tile, missing_bytes, state_after}
+pub use Rattle.wasm_parser.specs.StateAfter.{state_after_tile, state_after}
 pub use Rattle.wasm_parser.specs.Stored.{numbers_of, parser_of}
 pub use Rattle.wasm_parser.specs.declared.payload.Chunk.{Chunk}
 pub use Rattle.wasm_parser.specs.declared.payload.Chunk.TheVariants.{NeedMoreData, Parsed}

@@ -5,9 +5,8 @@ use Rattle.wasm_parser.proofs.Common.{le-leb, length-take-le, FaultAt, fault_at,
 use Rattle.wasm_parser.proofs.Common.{name_limit, text_at, unsigned_at, Window, Place, advanced, window_over, place, Error, UnexpectedEof}
 use Rattle.wasm_parser.proofs.Common.{MagicAtSection, OutOfOrder, VarU32, when, Form, Kind, custom, unknown, kind_of, wrong_content}
 use Rattle.wasm_parser.proofs.Common.{Grammar, SectionContext, u32_field, whole_grammar, wrong_data, content_grammar, after_length, verdict}
-use Rattle.wasm_parser.proofs.Common.{section_grammar, section_report, custom_section, unknown_section, enough, waiting, IsPayload}
-use Rattle.wasm_parser.proofs.Common.{MatchesGrammar, ReadsByGrammar, MatchesVerdict, HintsAs, ParserState, known_context, content_at}
-use Rattle.wasm_parser.proofs.Common.{Payload, CustomSection}
+use Rattle.wasm_parser.proofs.Common.{section_grammar, section_report, enough, waiting, IsPayload, MatchesGrammar, ReadsByGrammar}
+use Rattle.wasm_parser.proofs.Common.{MatchesVerdict, HintsAs, ParserState, known_context, content_at, Payload, CustomSection}
 use Rattle.std.proofs.lemmas.Bool.{lt-leb}
 use Rattle.std.specs.List.{starts_with}
 use Rattle.wasm_base.specs.Name.{first_of, byte_at}
@@ -15,6 +14,7 @@ use Rattle.wasm_base.specs.declared.fault.Fault.TheVariants.{MalformedSectionId,
 use Rattle.wasm_custom.specs.Custom.{Custom, IsCustom}
 use Rattle.wasm_grammar.specs.Content.{rank_of}
 use Rattle.wasm_grammar.specs.Grammar.{after_id}
+use Rattle.wasm_grammar.specs.Reading.{custom_section, unknown_section}
 use Rattle.wasm_parser.specs.ReadsPart.{ReadsNextSection}
 use Rattle.wasm_parser.proofs.ReadingFields.{report_at, report_bytes, report_missing, report_number, report_no_number, report_wrong}
 use Rattle.wasm_parser.proofs.ReadingFields.{report_right, report_whole, ReadNumber, read_number}

@@ -1,7 +1,7 @@
 -- What is read of a header.
-use Rattle.wasm_parser.proofs.Common.{◌≡◌, ℕ, ◌+◌, ◌≤◌, Bool, true, false, List, length, Result, Ok, Err, refl, sym, ap, ◌∙◌, cond, nat_lt}
-use Rattle.wasm_parser.proofs.Common.{ltb-false, ltb-true, not, take, drop, Some, None, fault_at, at_offset, hint_of, magic, agree, hint_at}
-use Rattle.wasm_parser.proofs.Common.{missing_at, Outcome, ◌>>=◌, Place, advanced, Error, UnexpectedEof, UnknownVersion, when}
+use Rattle.wasm_parser.proofs.Common.{◌≡◌, ℕ, ◌+◌, ◌≤◌, Bool, true, false, List, length, Result, Ok, Err, refl, sym, ap, ◌∙◌, arith, cond}
+use Rattle.wasm_parser.proofs.Common.{nat_lt, ltb-false, ltb-true, not, take, drop, Some, None, fault_at, at_offset, hint_of, magic, agree}
+use Rattle.wasm_parser.proofs.Common.{hint_at, missing_at, Outcome, ◌>>=◌, Place, advanced, Error, UnexpectedEof, UnknownVersion, when}
 use Rattle.wasm_parser.proofs.Common.{header_grammar, tile_report, IsPayload, MatchesGrammar, Payload}
 use Rattle.std.proofs.Common.{◌/◌, ◌%◌}
 use Rattle.wasm_base.specs.Header.{header_version_at}
@@ -31,13 +31,7 @@ version_steps false true fewer p = bits_at fewer (advanced 4 p)
 steps_at : (few : Bool) (p : Place) → nat_lt (length p.rest) 4 ≡ few
     → header_version_at p ≡ version_steps few (agree (take 4 p.rest) magic) (nat_lt (length (drop 4 p.rest)) 4) p
 unfolding header_version_at u32_at
-steps_at true p e = rw e refl
-steps_at false p e = rw e (by_magic (agree (take 4 p.rest) magic))
-  where
-    by_magic : (b : Bool) → (let x : Bits = cond b (bits_at (nat_lt (length (drop 4 p.rest)) 4) (advanced 4 p))
-        (Err (at_offset BadMagic p.offset)) in x) ≡ version_steps false b (nat_lt (length (drop 4 p.rest)) 4) p
-    by_magic true = refl
-    by_magic false = refl
+steps_at few p e = grind arith
 
 steps : (p : Place) → header_version_at p ≡ version_steps (nat_lt (length p.rest) 4) (agree (take 4 p.rest) magic)
     (nat_lt (length (drop 4 p.rest)) 4) p
@@ -53,16 +47,7 @@ pub record ReadHeader (p : Place) (bits : ℕ) (q : Place) : Type 0 where
 
 read_at : (few other fewer : Bool) (p : Place) (bits : ℕ) (q : Place) → nat_lt (length p.rest) 4 ≡ few → agree (take 4 p.rest) magic ≡ other
     → nat_lt (length (drop 4 p.rest)) 4 ≡ fewer → version_steps few other fewer p ≡ Ok (bits, q) → ReadHeader p bits q
-read_at false true false p bits q a b c h =
-    let z : (of_four (take 4 (drop 4 p.rest)), advanced 4 (advanced 4 p)) ≡ (bits, q) = cc in
-    record {
-      there = ltb-false _ _ a;
-      begins = b;
-      after = ltb-false _ _ c;
-      four = ap (λ (x : ℕ × Place). x.0) z;
-      place = sym (ap (λ (x : ℕ × Place). x.1) z);
-    }
-read_at _ _ _ p bits q a b c h = cc
+read_at few other fewer p bits q a b c h = grind (arith, ltb-false)
 
 pub header_read : (p : Place) (bits : ℕ) (q : Place) → header_version_at p ≡ Ok (bits, q) → ReadHeader p bits q
 header_read p bits q h = read_at (nat_lt (length p.rest) 4) (agree (take 4 p.rest) magic) (nat_lt (length (drop 4 p.rest)) 4) p bits q refl
@@ -106,8 +91,7 @@ steps_missing false other p = missing_at 4 (advanced 4 p)
 
 missing_by_steps : (few : Bool) (p : Place) → nat_lt (length p.rest) 4 ≡ few → missing_of_header p
     ≡ steps_missing few (agree (take 4 p.rest) magic) p
-missing_by_steps true p e = rw e refl
-missing_by_steps false p e = rw e refl
+missing_by_steps few p e = grind arith
 
 refused_at : (few other fewer : Bool) (p : Place) (e : Error) (a : Place) → nat_lt (length p.rest) 4 ≡ few
     → agree (take 4 p.rest) magic ≡ other → nat_lt (length (drop 4 p.rest)) 4 ≡ fewer → version_steps few other fewer p ≡ Err (fault_at e)

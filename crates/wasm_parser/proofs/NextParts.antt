@@ -1,12 +1,12 @@
 -- What a parser reads at its offset, and what it then returns.
-use Rattle.wasm_parser.proofs.Common.{◌≡◌, ℕ, ◌+◌, ◌^◌, ◌<◌, Bool, true, false, nat_eq, List, length, Result, Ok, Err, refl, sym, subst}
-use Rattle.wasm_parser.proofs.Common.{arith, ◌-◌, not, Window, Place, window_over, place, Error, headed, bodied, fault, ended, Tile}
-use Rattle.wasm_parser.proofs.Common.{Verdict, tile, final, Grammar, verdict, body_grammar, tile_report, IsPayload, report_of, ParseAnswer}
-use Rattle.wasm_parser.proofs.Common.{MatchesGrammar, MatchesVerdict, Advances, ParserState, grammar_of, is_at_section, state_after_tile}
-use Rattle.wasm_parser.proofs.Common.{missing_bytes, Chunk, Parsed, Payload}
+use Rattle.wasm_parser.proofs.Common.{◌≡◌, ℕ, ◌+◌, ◌^◌, ◌<◌, Bool, true, false, nat_eq, List, length, Result, Ok, Err, refl, subst, arith}
+use Rattle.wasm_parser.proofs.Common.{◌-◌, not, Window, Place, window_over, place, Error, headed, bodied, fault, ended, Tile, Verdict, tile}
+use Rattle.wasm_parser.proofs.Common.{final, Grammar, verdict, body_grammar, tile_report, IsPayload, report_of, ParseAnswer, MatchesGrammar}
+use Rattle.wasm_parser.proofs.Common.{MatchesVerdict, Advances, ParserState, grammar_of, is_at_section, state_after_tile, Chunk, Parsed}
+use Rattle.wasm_parser.proofs.Common.{Payload}
 use Rattle.std.proofs.Common.{add-zero}
 use Rattle.wasm_parser.specs.ReadsPart.{IsBegun, Refuses, ReadsHeader, ReadsBody, ReadsNext}
-use Rattle.wasm_parser.specs.StateAfter.{implies_nothing}
+use Rattle.wasm_parser.specs.StateAfter.{missing_bytes, implies_nothing}
 use Rattle.wasm_parser.proofs.CodeFits.{tile_fits}
 use Rattle.wasm_parser.proofs.Parsing.{answers_tile}
 
@@ -49,10 +49,7 @@ section_at p features from to xs t false false e f v n = grind (arith, bodied)
 
 section_of : (p : ParserState) (here after : Place) (payload : Payload) (v : Verdict) → verdict (grammar_of p) here.rest ≡ v
     → MatchesVerdict p.offset here v (Ok payload) after → implies_nothing (report_of payload) ≡ true → is_at_section p ≡ true
-section_of p here after payload (tile t) e m n =
-    section_at p here.features p.offset (here.offset + length t.bytes) here.rest t _ _ refl refl e (rw (sym m.1.0) n)
-section_of p here after payload (final (fault x)) e m n = absurd m
-section_of p here after payload (final (ended x)) e m n = absurd m
+section_of p here after payload v e m n = grind (arith, section_at)
 
 answers_at : (p q : ParserState) (eof : Bool) (here after : Place) (payload : Payload) (end : ℕ) (v : Verdict)
     → verdict (grammar_of p) here.rest ≡ v → MatchesVerdict p.offset here v (Ok payload) after → p.offset + length here.rest < 2 ^ 64

@@ -1,10 +1,7 @@
 -- Stored parsers whose code section ends within the offsets of a stream.
-use Rattle.wasm_parser.proofs.Common.{◌≡◌, ℕ, ◌+◌, ◌^◌, ◌<◌, ap, arith, ◌-◌, numbers_of, parser_of}
-use Rattle.std.proofs.Common.{min}
+use Rattle.wasm_parser.proofs.Common.{◌≡◌, ◌+◌, ◌^◌, ◌<◌, arith, numbers_of, parser_of}
 use Rattle.wasm_parser.specs.declared.stored.StoredParser.{StoredParser}
 
 -- Their numbers are the parser.
 pub settled : (s : StoredParser) → s.offset + s.code_bytes < 2 ^ 64 → parser_of s ≡ numbers_of s
-settled s fits =
-    let all : min s.code_bytes (2 ^ 64 - 1 - s.offset) ≡ s.code_bytes = omega (arith, fits) in
-    ap (λ (n : ℕ). record (numbers_of s) { code_bytes = n }) all
+settled s fits = grind arith

@@ -7,13 +7,13 @@ use Rattle.wasm_parser.proofs.Common.{read, number, in_window, unsigned_at, Outc
 use Rattle.wasm_parser.proofs.Common.{UnexpectedEof, VarU32, fault, when, items, index, data_count, Form, Kind, custom, unknown, kind_of}
 use Rattle.wasm_parser.proofs.Common.{wrong_content, Tile, tile, final, Grammar, Shape, SectionContext, accept, check, u32_field, bytes}
 use Rattle.wasm_parser.proofs.Common.{section_start, whole_grammar, wrong_data, after_length, section, code_entry, verdict, body_grammar}
-use Rattle.wasm_parser.proofs.Common.{section_grammar, data_id, tile_report, Report, counted, section_report, custom_section}
-use Rattle.wasm_parser.proofs.Common.{unknown_section, ParserState, grammar_of, known_context, Skip, SkipsPart, skip_in, state_after}
+use Rattle.wasm_parser.proofs.Common.{section_grammar, data_id, tile_report, Report, section_report, ParserState, grammar_of, known_context}
+use Rattle.wasm_parser.proofs.Common.{Skip, SkipsPart, skip_in, state_after}
 use Rattle.std.proofs.Common.{◌||◌, ◌==◌}
 use Rattle.std.proofs.Math.Seq.{take-append-add}
 use Rattle.std.proofs.lemmas.List.{take-append-le, drop-append-le, length-drop}
 use Rattle.wasm_base.proofs.NumberLaws.{number-more}
-use Rattle.wasm_base.specs.Name.{Name, named, refused, name, after_size, name_in_window}
+use Rattle.wasm_base.specs.Name.{Name, named, refused, name, name_in_window}
 use Rattle.wasm_grammar.specs.Content.{whole, code}
 use Rattle.wasm_grammar.specs.Reading.{code_entry as body_report}
 use Rattle.wasm_parser.specs.ReadsPart.{is_other}
@@ -119,16 +119,7 @@ skips_content size offset next xs Says l f = record {
 same_name : (xs ys text : List ℕ) (used : ℕ) → name (Some name_limit) xs ≡ named text used
     → name (Some name_limit) (xs ++ ys) ≡ named text used
 unfolding name
-same_name xs ys text used n = by_number (number VarU32 xs) refl n
-  where
-    by_number : (m : Number) → number VarU32 xs ≡ m → after_size (Some name_limit) xs m ≡ named text used
-        → after_size (Some name_limit) (xs ++ ys) (number VarU32 (xs ++ ys)) ≡ named text used
-    by_number (read size k) e n =
-        let w = number_fits xs size k e in
-        let m = same_number xs ys size k e in
-        let d : drop k (xs ++ ys) ≡ drop k xs ++ ys = drop-append-le k xs ys w in
-        grind (arith, length-append, take-append-le)
-    by_number _ e n = cc
+same_name xs ys text used n = grind (arith, number_fits, same_number, drop-append-le, length-append, take-append-le)
 
 abbrev head_or : Head → Outcome Head → Head
 head_or h (Ok x) = x.0
@@ -216,8 +207,7 @@ skip_or s (Ok x) = x.0
 skip_or s (Err e) = s
 
 not_is : (b : Bool) → not b ≡ true → b ≡ false
-not_is true e = cc
-not_is false e = refl
+not_is b e = grind arith
 
 -- the bytes of content that are missing
 cut_short : (size : ℕ) (p : Place) → is_cut size p ≡ true → (length p.rest < size) × (p.offset + size < 2 ^ 64)
@@ -225,10 +215,7 @@ cut_short size p e = let q = and_parts _ _ e in (ltb-true _ _ q.0, ltb-true _ _ 
 
 body_is : (offset size features : ℕ) (content : List ℕ) → length content ≡ size
     → skip_in (body_report (window_over features (offset + size - length content) content)) ≡ Some (sized offset size skip.body)
-body_is offset size features content n =
-    let from : offset + size - length content ≡ offset = omega (arith, n) in
-    let to : offset + size - length content + length content ≡ offset + size = omega (arith, n) in
-    λ i. Some (record { from = from i; to = to i; head = skip.body })
+body_is offset size features content n = grind arith
 
 body_skips : (bodies code_bytes features : ℕ) (p : Place) (size used : ℕ) → number VarU32 p.rest ≡ read size used
     → length (drop used p.rest) < size → nat_eq bodies 0 ≡ false → nat_lt code_bytes (used + size) ≡ false
@@ -309,12 +296,7 @@ content_skips q features form id size p head l f =
 sized_skips : (q : ParserState) (features : ℕ) (kind : Kind) (id field size : ℕ) (p : Place) (head : Head) → p.offset + size < 2 ^ 64
     → is_in_order q kind id ≡ true → length p.rest < size → FieldsOf (known_context q) features kind id p head
     → Skips (after_length (known_context q) kind id field p.offset size) p.rest size p.offset (SaysSkip features (sized p.offset size head))
-sized_skips q features (whole form) id field size p head b o l f =
-    let Says : Shape → Type 0 = SaysSkip features (sized p.offset size head) in
-    let fits : nat_lt (2 ^ 64 - 1) (p.offset + size) ≡ false = le-ltb _ _ (omega (arith, b)) in
-    skips_check _ _ p.rest size p.offset Says (rw fits refl)
-    (skips_check _ _ p.rest size p.offset Says (rw (not_is _ o) refl) (content_skips q features form id size p head l f))
-sized_skips q features code id field size p head b o l f = absurd f
+sized_skips q features kind id field size p head b o l f = grind (arith, le-ltb, skips_check, not_is, content_skips)
 
 pub section_skips_as : (q : ParserState) (features : ℕ) (p after : Place) (s : Skip) → section_skip_at q p ≡ Ok (s, after)
     → SkipsAs (section_grammar (known_context q) p.offset) features p s
@@ -396,11 +378,7 @@ section_skips_as q features p after s f = by_rest p.rest refl f
 -- what is said to later parts is in the first fields
 same_state : (p : ParserState) (to : ℕ) (report : Report) (s : Skip) → skip_in report ≡ Some s
     → state_after p to (report_with s.head) ≡ state_after p to report
-same_state p to (custom_section text data_offset window) s e = grind arith
-same_state p to (counted id count window) s e = grind arith
-same_state p to (unknown_section id contents from end) s e = grind arith
-same_state p to (body_report window) s e = grind arith
-same_state p to _ s e = cc
+same_state p to report s e = grind arith
 
 at_grammar : (p : ParserState) (xs : List ℕ) (s : Skip) (after : Place) (b : Bool) → nat_eq (p.bodies + p.code_bytes) 0 ≡ b
     → cond b (section_skip_at p (record { features = p.features; offset = p.offset; rest = xs }))
@@ -412,8 +390,7 @@ at_grammar p xs s after false e f = body_skips_as p p.features _ after s f
 
 place_is : (features offset : ℕ) (xs : List ℕ) → place (window_over features offset xs)
     ≡ record { features = features; offset = offset; rest = xs }
-place_is features offset xs =
-    let o : offset + 0 ≡ offset = omega arith in λ i. record { features = features; offset = o i; rest = xs }
+place_is features offset xs = grind arith
 
 pub skips_part : (p new : ParserState) (xs : List ℕ) (s : Skip) (after : Place) → p.expects_header ≡ false
     → skip_at p (place (window_over p.features p.offset xs)) ≡ Ok (s, after)

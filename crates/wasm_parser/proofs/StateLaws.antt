@@ -46,10 +46,7 @@ not_true b h = grind arith
 
 -- below the rank of a section there is none of them
 none_in : (n : ℕ) (s : Shape) (xs : List ℕ) → nat_lt (tile_rank s) (place_of n) ≡ true → xs ≡ [] → count_in n s xs ≡ []
-none_in n (section items id content) xs e f = grind (arith, not_true, eqb-true)
-none_in n (section data_count id content) xs e f = grind (arith, not_true, eqb-true)
-none_in n (code_start count width size) xs e f = grind arith
-none_in n _ xs e f = f
+none_in n s xs e f = grind (arith, not_true, eqb-true)
 
 pub counts_none : (n : ℕ) (ts : List Tile) → list_all (λ (u : Tile). nat_lt (tile_rank u.shape) (place_of n)) ts ≡ true → counts n ts ≡ []
 counts_none n [] e = refl

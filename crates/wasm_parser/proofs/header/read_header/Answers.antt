@@ -1,5 +1,5 @@
 use Rattle.wasm_parser.proofs.Common.{◌+◌, refl, ap, ◌∙◌, arith, Some, err_from_is_err_and, at_offset, place, UnknownVersion}
-use Rattle.wasm_parser.proofs.Headers.{ReadHeader, header_read, header_report, header_unnamed, header_refused}
+use Rattle.wasm_parser.proofs.Headers.{header_read, header_report, header_unnamed, header_refused}
 use Rattle.wasm_parser.proofs.header.read_header.Goals as goal
 
 pub returns-in_err-bits : goal.returns-in_err-bits
@@ -8,10 +8,7 @@ returns-in_err-bits c =
     rw (e.1, e.2) (header_refused (place c.args.reader.now) _ _ c.in_err-bits.ensures.gives c.in_err-bits.ensures.hints)
 
 pub overflow_add-start : goal.overflow_add-start
-overflow_add-start c =
-    let h : ReadHeader (place c.args.reader.now) c.in_ok-bits.bits _ =
-    header_read (place c.args.reader.now) c.in_ok-bits.bits _ c.in_ok-bits.ensures.gives in
-    omega (arith, h.there, c.original_position-start.ensures.fits)
+overflow_add-start c = grind (arith, header_read)
 
 pub returns-in-Some : goal.returns-in-Some
 returns-in-Some c = header_report (place c.args.reader.now) c.in_ok-bits.bits (place c.read_header_version.new.self) c.in-Some.encoding _

@@ -3,11 +3,7 @@ use Rattle.wasm_parser.proofs.NextParts.{window_fits, window_section, window_ans
 use Rattle.wasm_parser.proofs.stored.StoredParser.read_on.Goals as goal
 
 pub advance-requires-clause-fits : goal.advance-requires-clause-fits
-advance-requires-clause-fits c =
-    let room = c.requires.room in
-    window_fits (numbers_of c.args.self.now) c.reader-reader.result c.args.bytes.now (place c.read.new.reader) c.in-Ok.payload
-    c.original_position-end.result c.reader-reader.ensures c.in-Ok.ensures c.original_position-end.ensures.offset
-    c.original_position-end.type_inv (omega (arith, room))
+advance-requires-clause-fits c = grind (arith, window_fits)
 
 pub advance-requires-clause-section : goal.advance-requires-clause-section
 advance-requires-clause-section c =
