@@ -59,7 +59,7 @@ pub use Rattle.wasm_parser.specs.ReadsPart.{is_miscounted_by, is_lacking}
 unfoldable pub use Rattle.wasm_parser.specs.ReadsPart.{content_at}
 pub use Rattle.wasm_parser.specs.SkipNext.{Skip, SkipsPart, skip_in}
 pub use Rattle.wasm_parser.specs.StateAfter.{state_after_tile, state_after}
-pub use Rattle.wasm_parser.specs.Stored.{numbers_of, parser_of}
+pub use Rattle.wasm_parser.specs.Stored.{numbers_of}
 pub use Rattle.wasm_parser.specs.declared.payload.Chunk.{Chunk}
 pub use Rattle.wasm_parser.specs.declared.payload.Chunk.TheVariants.{NeedMoreData, Parsed}
 pub use Rattle.wasm_parser.specs.declared.payload.Payload.{Payload}

@@ -1,5 +1,6 @@
 -- Stored parsers whose code section ends within the offsets of a stream.
-use Rattle.wasm_parser.proofs.Common.{◌≡◌, ◌+◌, ◌^◌, ◌<◌, arith, numbers_of, parser_of}
+use Rattle.wasm_parser.proofs.Common.{◌≡◌, ◌+◌, ◌^◌, ◌<◌, arith, numbers_of}
+use Rattle.wasm_parser.specs.Stored.{parser_of}
 use Rattle.wasm_parser.specs.declared.stored.StoredParser.{StoredParser}
 
 -- Their numbers are the parser.

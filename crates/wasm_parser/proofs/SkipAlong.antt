@@ -18,7 +18,7 @@ module _ (start features : ℕ) (given : List ℕ) (p : ParserState) (first othe
       let t : PassesTile p (first ++ (others ++ more)) skip new = s.whole (others ++ more) (omega (arith, n, k)) in
       let l : length bytes ≡ length t.next.bytes = omega (arith, n, t.ends) in
       let z = along_tile start features (given ++ more) p (first ++ (others ++ more)) events b t.next bytes rest new t.is_next l v t.state
-          in
+      in
       record {
         event = event_here start features (given ++ more) p (first ++ (others ++ more)) events b t.next;
         says = subst₂ (λ (f o : ℕ). skip_in (tile_report f o (o + length t.next.bytes) t.next.shape) ≡ Some skip) b.has_features

@@ -107,7 +107,7 @@ module _ (start features : ℕ) (stream : List ℕ) where
       refused (verdict (grammar_of s.state) s.bytes) refl
       ((as_table s.state run.0.state true s.bytes (Err e) step.0).within (within s tiles w)) in
       subst (λ (y : List (Result Payload Error)). ReadsOn start features stream tiles
-          (stream_end (fault (fault_at e)) ∷ map given_report y))
+      (stream_end (fault (fault_at e)) ∷ map given_report y))
       (sym none) r
     where
       refused : (v : Verdict) → verdict (grammar_of s.state) s.bytes ≡ v → Answers s.state v (Err e) run.0.state

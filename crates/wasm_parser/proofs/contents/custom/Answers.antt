@@ -5,8 +5,7 @@ use Rattle.wasm_parser.proofs.contents.custom.Goals as goal
 pub returns-in_err-window : goal.returns-in_err-window
 returns-in_err-window c =
     let e = err_from_is_err_and c.from_residual.result c.from_residual.ensures.1 in
-    λ context. rw (e.1, e.2) (whole_missing context custom c.args.id c.args.size (place c.args.reader.now) _ _ c.in_err-window.ensures.gives
-    c.in_err-window.ensures.hints)
+    λ context. rw (e.1, e.2) (whole_missing context custom _ _ _ _ _ c.in_err-window.ensures.gives c.in_err-window.ensures.hints)
 
 pub returns-in-Err : goal.returns-in-Err
 returns-in-Err c =
@@ -15,5 +14,4 @@ returns-in-Err c =
     c.in_ok-window.ensures.gives (c.in-Err.ensures.reads ∙ ap Err (sym same)) c.without_needed_hint.ensures.hint
 
 pub returns-in-Ok : goal.returns-in-Ok
-returns-in-Ok c = λ context. custom_read context c.args.id c.args.size (place c.args.reader.now) c.in_ok-window.window _ c.in-Ok.section
-    c.in_ok-window.ensures.gives c.in-Ok.ensures.reads
+returns-in-Ok c = λ context. custom_read context _ _ _ _ _ _ c.in_ok-window.ensures.gives c.in-Ok.ensures.reads

@@ -6,8 +6,7 @@ use Rattle.wasm_parser.proofs.contents.data_count.Goals as goal
 pub returns-in_err-window : goal.returns-in_err-window
 returns-in_err-window c =
     let e = err_from_is_err_and c.from_residual.result c.from_residual.ensures.1 in
-    λ context. rw (e.1, e.2) (whole_missing context data_count c.args.id c.args.size (place c.args.reader.now) _ _
-    c.in_err-window.ensures.gives c.in_err-window.ensures.hints)
+    λ context. rw (e.1, e.2) (whole_missing context data_count _ _ _ _ _ c.in_err-window.ensures.gives c.in_err-window.ensures.hints)
 
 pub returns-in_err-count : goal.returns-in_err-count
 returns-in_err-count c =

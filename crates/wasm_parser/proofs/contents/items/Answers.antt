@@ -5,10 +5,9 @@ use Rattle.wasm_parser.proofs.Framed.{whole_missing}
 use Rattle.wasm_parser.proofs.contents.items.Goals as goal
 
 pub returns-in_err-window : goal.returns-in_err-window
-returns-in_err-window c = λ context same.
-    let e = err_from_is_err_and c.from_residual.result c.from_residual.ensures.1 in
-    rw (e.1, e.2) (whole_missing context items c.args.id c.args.size (place c.args.reader.now) _ _ c.in_err-window.ensures.gives
-    c.in_err-window.ensures.hints)
+returns-in_err-window c =
+    λ context same. let e = err_from_is_err_and c.from_residual.result c.from_residual.ensures.1 in
+    rw (e.1, e.2) (whole_missing context items _ _ _ _ _ c.in_err-window.ensures.gives c.in_err-window.ensures.hints)
 
 pub returns-in-Err : goal.returns-in-Err
 returns-in-Err c = λ context same.

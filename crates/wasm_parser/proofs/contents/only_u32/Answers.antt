@@ -14,5 +14,4 @@ returns-then-not-eof-clause-reads c =
     (c.new.ensures.report ∙ ap (at_offset c.args.trailing) c.original_position.ensures.offset)
 
 pub returns-clause-reads : goal.returns-clause-reads
-returns-clause-reads c = single_read c.args.trailing (place c.args.window) c.in-Ok.number (place c.read_var_u32.new.self)
-    c.in-Ok.ensures.gives (eqb-true _ _ (sym c.if-not-eof.ensures))
+returns-clause-reads c = single_read _ _ _ _ c.in-Ok.ensures.gives (eqb-true _ _ (sym c.if-not-eof.ensures))

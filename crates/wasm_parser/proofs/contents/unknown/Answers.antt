@@ -5,8 +5,7 @@ use Rattle.wasm_parser.proofs.contents.unknown.Goals as goal
 pub returns-in_err-window : goal.returns-in_err-window
 returns-in_err-window c =
     let e = err_from_is_err_and c.from_residual.result c.from_residual.ensures.1 in
-    λ context. rw (e.1, e.2) (whole_missing context unknown c.args.id c.args.size (place c.args.reader.now) _ _
-    c.in_err-window.ensures.gives c.in_err-window.ensures.hints)
+    λ context. rw (e.1, e.2) (whole_missing context unknown _ _ _ _ _ c.in_err-window.ensures.gives c.in_err-window.ensures.hints)
 
 pub returns : goal.returns
 returns c = λ context. unknown_read context c.args.id c.args.size (place c.args.reader.now) c.in_ok-window.window _ _

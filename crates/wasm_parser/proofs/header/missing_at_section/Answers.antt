@@ -7,8 +7,10 @@ pub returns-then-starts_with : goal.returns-then-starts_with
 returns-then-starts_with c = begun_asks c.args.bytes.now c.if-is_empty.ensures c.if-bytes-lt4.true c.if-starts_with.ensures.value
 
 pub returns-else-bytes-lt4 : goal.returns-else-bytes-lt4
-returns-else-bytes-lt4 c = elim c.else-bytes-lt4.branch [
-  | else-bytes-lt4-via-then-bytes-lt4+else-starts_with w ↦ other_asks_nothing c.args.bytes.now c.if-is_empty.ensures w.if-bytes-lt4.true
-      w.if-starts_with.ensures.value
-  | else-bytes-lt4-via-else-bytes-lt4 w ↦ long_asks_nothing c.args.bytes.now c.if-is_empty.ensures w.if-bytes-lt4.false
-]
+returns-else-bytes-lt4 c =
+    elim c.else-bytes-lt4.branch [
+      | else-bytes-lt4-via-then-bytes-lt4+else-starts_with w ↦ other_asks_nothing _ c.if-is_empty.ensures
+          w.if-bytes-lt4.true w.if-starts_with.ensures.value
+      | else-bytes-lt4-via-else-bytes-lt4 w ↦ long_asks_nothing _ c.if-is_empty.ensures
+          w.if-bytes-lt4.false
+    ]

@@ -9,7 +9,7 @@ use Rattle.wasm_items.specs.Imports.{bundle_parts, bundle_at}
 use Rattle.wasm_items.specs.Memories.{memory_type_at}
 use Rattle.wasm_items.specs.Tables.{table_at}
 use Rattle.wasm_items.specs.Tags.{tag_type_at}
-use Rattle.wasm_parser.proofs.PayloadItems.{gives, gives_types, no_others_are_counted}
+use Rattle.wasm_parser.proofs.PayloadItems.{gives, gives_types}
 use Rattle.wasm_parser.proofs.laws.items_of_payloads.Goals as goal
 
 pub returns-clause-types : goal.returns-clause-types
@@ -42,6 +42,3 @@ returns-clause-elements c id count w s (e, b) = gives (AtItsOffset (ReadsAs (λ 
 
 pub returns-clause-segments : goal.returns-clause-segments
 returns-clause-segments c id count w s (e, b) = gives (AtItsOffset (ReadsAs data_parts data_at)) data_id id count w s e b
-
-pub returns-clause-others : goal.returns-clause-others
-returns-clause-others c = no_others_are_counted

@@ -11,36 +11,28 @@ returns-then-self-eq0 c =
 pub returns-in_err-size : goal.returns-in_err-size
 returns-in_err-size c =
     let e = err_from_is_err_and c.from_residual.result c.from_residual.ensures.1 in
-    rw (e.1, e.2) (body_no_size c.args.self.now.bodies c.args.self.now.code_bytes (place c.args.reader.now) _ _
-    (omega (arith, c.if-self-eq0.false)) c.in_err-size.ensures.gives c.in_err-size.ensures.hints)
+    rw (e.1, e.2) (body_no_size _ _ _ _ _ (omega (arith, c.if-self-eq0.false)) c.in_err-size.ensures.gives c.in_err-size.ensures.hints)
 
 pub returns-then-passes : goal.returns-then-passes
 returns-then-passes c =
     let at = c.original_position-start.ensures.offset in
     let after = c.original_position.ensures.offset in
-    body_past c.args.self.now.bodies c.args.self.now.code_bytes (place c.args.reader.now) (place c.read_var_u32.new.self) c.in_ok-size.size
-    c.new-then-passes.result _
-    (omega (arith, c.if-self-eq0.false)) c.in_ok-size.ensures.gives
-    (past_same c.in_ok-size.size refl after at c.passes.ensures c.if-passes.true)
-    (c.new-then-passes.ensures.report ∙ ap (at_offset UnexpectedEof) at) c.new-then-passes.ensures.hint
+    body_past _ _ _ _ _ _ _ (omega (arith, c.if-self-eq0.false)) c.in_ok-size.ensures.gives
+    (past_same _ refl after at c.passes.ensures c.if-passes.true) (c.new-then-passes.ensures.report ∙ ap (at_offset UnexpectedEof) at)
+    c.new-then-passes.ensures.hint
 
 pub returns-in_err-window : goal.returns-in_err-window
 returns-in_err-window c =
     let e = err_from_is_err_and c.from_residual-in_err-window.result c.from_residual-in_err-window.ensures.1 in
     let at = c.original_position-start.ensures.offset in
     let after = c.original_position.ensures.offset in
-    rw (e.1, e.2) (body_missing c.args.self.now.bodies c.args.self.now.code_bytes (place c.args.reader.now) (place c.read_var_u32.new.self)
-    c.in_ok-size.size _ _
-    (omega (arith, c.if-self-eq0.false)) c.in_ok-size.ensures.gives
-    (past_same c.in_ok-size.size refl after at c.passes.ensures c.if-passes.false)
-    c.in_err-window.ensures.gives c.in_err-window.ensures.hints)
+    rw (e.1, e.2)
+    (body_missing _ _ _ _ _ _ _ (omega (arith, c.if-self-eq0.false)) c.in_ok-size.ensures.gives
+    (past_same _ refl after at c.passes.ensures c.if-passes.false) c.in_err-window.ensures.gives c.in_err-window.ensures.hints)
 
 pub returns : goal.returns
 returns c =
     let at = c.original_position-start.ensures.offset in
     let after = c.original_position.ensures.offset in
-    body_read c.args.self.now.bodies c.args.self.now.code_bytes (place c.args.reader.now) (place c.read_var_u32.new.self) c.in_ok-size.size
-    c.in_ok-window.window (place c.window.new.reader) _
-    (omega (arith, c.if-self-eq0.false)) c.in_ok-size.ensures.gives
-    (past_same c.in_ok-size.size refl after at c.passes.ensures c.if-passes.false)
-    c.in_ok-window.ensures.gives (rw c.new-2.ensures refl, tt)
+    body_read _ _ _ _ _ _ _ _ (omega (arith, c.if-self-eq0.false)) c.in_ok-size.ensures.gives
+    (past_same _ refl after at c.passes.ensures c.if-passes.false) c.in_ok-window.ensures.gives (rw c.new-2.ensures refl, tt)

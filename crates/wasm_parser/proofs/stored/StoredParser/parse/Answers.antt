@@ -1,4 +1,4 @@
-use Rattle.wasm_parser.proofs.Common.{◌≡◌, ℕ, Bool, List, Result, sym, subst, Error, ParseAnswer, ParserState, parser_of, Chunk}
+use Rattle.wasm_parser.proofs.Common.{◌≡◌, ℕ, Bool, List, Result, sym, subst, Error, ParseAnswer, ParserState, Chunk}
 use Rattle.wasm_parser.proofs.AnswerBounds.{asks_for_some, consumes, faults_within}
 use Rattle.wasm_parser.proofs.AsksWhereOpen.{asks_where_open}
 use Rattle.wasm_parser.proofs.Following.{gives_next}
@@ -12,21 +12,16 @@ of_same {p} {q} {r} {s} {eof} {bytes} {answer} old new is = subst (λ (x : Parse
     (subst (λ (x : ParserState). ParseAnswer q eof bytes answer x) (sym new) is)
 
 pub returns-clause-gives : goal.returns-clause-gives
-returns-clause-gives c = gives_next (parser_of c.args.self.now) (parser_of c.answer.new.self) c.args.eof c.args.bytes.now
-    c.answer.result (of_same c.settle.ensures.is (settled c.answer.new.self c.answer.ensures.room) c.answer.ensures.answers)
+returns-clause-gives c = gives_next _ _ _ _ _ (of_same c.settle.ensures.is (settled _ c.answer.ensures.room) c.answer.ensures.answers)
 
 pub returns-clause-consumes : goal.returns-clause-consumes
-returns-clause-consumes c = consumes (parser_of c.args.self.now) (parser_of c.answer.new.self) c.args.eof c.args.bytes.now
-    c.answer.result (of_same c.settle.ensures.is (settled c.answer.new.self c.answer.ensures.room) c.answer.ensures.answers)
+returns-clause-consumes c = consumes _ _ _ _ _ (of_same c.settle.ensures.is (settled _ c.answer.ensures.room) c.answer.ensures.answers)
 
 pub returns-clause-asks : goal.returns-clause-asks
-returns-clause-asks c = asks_for_some (parser_of c.args.self.now) (parser_of c.answer.new.self) c.args.eof c.args.bytes.now
-    c.answer.result (of_same c.settle.ensures.is (settled c.answer.new.self c.answer.ensures.room) c.answer.ensures.answers)
+returns-clause-asks c = asks_for_some _ _ _ _ _ (of_same c.settle.ensures.is (settled _ c.answer.ensures.room) c.answer.ensures.answers)
 
 pub returns-clause-waits : goal.returns-clause-waits
-returns-clause-waits c = asks_where_open (parser_of c.args.self.now) (parser_of c.answer.new.self) c.args.eof c.args.bytes.now
-    c.answer.result (of_same c.settle.ensures.is (settled c.answer.new.self c.answer.ensures.room) c.answer.ensures.answers)
+returns-clause-waits c = asks_where_open _ _ _ _ _ (of_same c.settle.ensures.is (settled _ c.answer.ensures.room) c.answer.ensures.answers)
 
 pub returns-clause-faults : goal.returns-clause-faults
-returns-clause-faults c = faults_within (parser_of c.args.self.now) (parser_of c.answer.new.self) c.args.eof c.args.bytes.now
-    c.answer.result (of_same c.settle.ensures.is (settled c.answer.new.self c.answer.ensures.room) c.answer.ensures.answers)
+returns-clause-faults c = faults_within _ _ _ _ _ (of_same c.settle.ensures.is (settled _ c.answer.ensures.room) c.answer.ensures.answers)

@@ -1,11 +1,6 @@
 use Rattle.wasm_parser.proofs.Common.{sym, place, numbers_of}
-use Rattle.wasm_parser.proofs.NextParts.{next_header, next_body, not_true}
+use Rattle.wasm_parser.proofs.NextParts.{next_body, not_true}
 use Rattle.wasm_parser.proofs.stored.StoredParser.read.Goals as goal
-
-pub returns-then-expects_header : goal.returns-then-expects_header
-returns-then-expects_header c =
-    next_header (numbers_of c.args.self.now) (place c.args.reader.now) _ _ (sym c.if-expects_header.ensures)
-    c.requires.starts c.read_header.ensures
 
 pub returns-then-is_code_open : goal.returns-then-is_code_open
 returns-then-is_code_open c =

@@ -1,9 +1,6 @@
-use Rattle.wasm_parser.proofs.Common.{refl, arith, place, numbers_of}
-use Rattle.wasm_parser.proofs.NextParts.{window_fits, window_section, window_answered, window_refused}
+use Rattle.wasm_parser.proofs.Common.{refl, place, numbers_of}
+use Rattle.wasm_parser.proofs.NextParts.{window_section, window_answered, window_refused}
 use Rattle.wasm_parser.proofs.stored.StoredParser.read_on.Goals as goal
-
-pub advance-requires-clause-fits : goal.advance-requires-clause-fits
-advance-requires-clause-fits c = grind (arith, window_fits)
 
 pub advance-requires-clause-section : goal.advance-requires-clause-section
 advance-requires-clause-section c =
@@ -12,11 +9,9 @@ advance-requires-clause-section c =
 
 pub returns-in-Ok-clause-answers : goal.returns-in-Ok-clause-answers
 returns-in-Ok-clause-answers c =
-    window_answered (numbers_of c.args.self.now) _ c.args.eof c.reader-reader.result c.args.bytes.now (place c.read.new.reader)
-    c.in-Ok.payload _ c.original_position-end.result c.reader-reader.ensures refl c.in-Ok.ensures c.requires.fits
-    c.original_position-end.ensures.offset c.advance.ensures.advances
+    window_answered _ _ _ _ _ _ _ _ _ c.reader-reader.ensures refl c.in-Ok.ensures c.requires.fits c.original_position-end.ensures.offset
+    c.advance.ensures.advances
 
 pub returns-in-Err-clause-answers : goal.returns-in-Err-clause-answers
 returns-in-Err-clause-answers c =
-    window_refused (numbers_of c.args.self.now) c.args.eof c.reader-reader.result c.args.bytes.now (place c.read.new.reader)
-    c.in-Err.error _ c.reader-reader.ensures c.in-Err.ensures c.requires.fits c.requires.begun c.refused.ensures
+    window_refused _ _ _ _ _ _ _ c.reader-reader.ensures c.in-Err.ensures c.requires.fits c.requires.begun c.refused.ensures
