@@ -46,8 +46,8 @@ unfoldable pub use Rattle.wasm_grammar.specs.Grammar.{verdict, header_grammar, b
 pub use Rattle.wasm_grammar.specs.Ids.{data_id, function_id}
 pub use Rattle.wasm_grammar.specs.Reading.{stream_end, Event, tile_report, event_of, events_of, last_event, Reading, Stream, code_start}
 pub use Rattle.wasm_grammar.specs.Reading.{Report, counted, start_section, data_count_section, section_report}
-pub use Rattle.wasm_grammar.specs.Tiling.{bytes_of, grammar, inside, context_of, bodies_left, bytes_left, is_start, counts}
-pub use Rattle.wasm_grammar.specs.Waiting.{Waiting, enough, wants}
+pub use Rattle.wasm_grammar.specs.Tiling.{bytes_of, grammar, inside, context_of, bodies_left, bytes_left, counts}
+pub use Rattle.wasm_grammar.specs.Waiting.{Waiting, enough, wants, asked_at_section}
 unfoldable pub use Rattle.wasm_grammar.specs.Waiting.{waiting}
 pub use Rattle.wasm_parser.specs.Along.{Along}
 pub use Rattle.wasm_parser.specs.GivesNextEvent.{MayBe}

@@ -2,24 +2,26 @@
 use Rattle.wasm_parser.proofs.Common.{◌≡◌, ℕ, ◌+◌, ◌^◌, ◌<◌, ◌≤◌, Bool, true, false, nat_eq, List, [], ◌∷◌, ◌++◌, length, Ok, Err, refl}
 use Rattle.wasm_parser.proofs.Common.{sym, ap, subst, ◌∙◌, arith, length-append, append-nil, cond, nat_lt, ltb-true, zero, suc, ◌-◌, not}
 use Rattle.wasm_parser.proofs.Common.{◌&&◌, take, drop, option_to_list, Some, None, le-ltb, nat_le, leb-true, le-leb, Option, is_some}
-use Rattle.wasm_parser.proofs.Common.{and_parts, length-take-le, number-used, FaultAt, at_offset, magic, agree, name_limit, text_at, Number}
-use Rattle.wasm_parser.proofs.Common.{read, number, in_window, unsigned_at, Outcome, ◌>>=◌, Place, advanced, window_over, place}
-use Rattle.wasm_parser.proofs.Common.{UnexpectedEof, VarU32, fault, when, items, index, data_count, Form, Kind, custom, unknown, kind_of}
-use Rattle.wasm_parser.proofs.Common.{wrong_content, Tile, tile, final, Grammar, Shape, SectionContext, accept, check, u32_field, bytes}
-use Rattle.wasm_parser.proofs.Common.{section_start, whole_grammar, wrong_data, after_length, section, code_entry, verdict, body_grammar}
-use Rattle.wasm_parser.proofs.Common.{section_grammar, data_id, tile_report, Report, section_report, ParserState, grammar_of, known_context}
-use Rattle.wasm_parser.proofs.Common.{Skip, SkipsPart, skip_in, state_after}
+use Rattle.wasm_parser.proofs.Common.{and_parts, length-take-le, number-used, FaultAt, at_offset, magic, agree, name_limit, text_at, read}
+use Rattle.wasm_parser.proofs.Common.{number, unsigned_at, Outcome, ◌>>=◌, Place, advanced, window_over, place, UnexpectedEof, VarU32}
+use Rattle.wasm_parser.proofs.Common.{fault, items, index, data_count, Form, Kind, custom, unknown, kind_of, wrong_content, Tile, tile}
+use Rattle.wasm_parser.proofs.Common.{final, Grammar, Shape, SectionContext, accept, check, u32_field, bytes, section_start, whole_grammar}
+use Rattle.wasm_parser.proofs.Common.{wrong_data, after_length, section, code_entry, verdict, body_grammar, section_grammar, data_id}
+use Rattle.wasm_parser.proofs.Common.{tile_report, Report, section_report, asked_at_section, ParserState, grammar_of, known_context, Skip}
+use Rattle.wasm_parser.proofs.Common.{SkipsPart, skip_in, state_after}
 use Rattle.std.proofs.Common.{◌||◌, ◌==◌}
 use Rattle.std.proofs.Math.Seq.{take-append-add}
 use Rattle.std.proofs.lemmas.List.{take-append-le, drop-append-le, length-drop}
+use Rattle.wasm_base.proofs.Announced.{in_steps}
 use Rattle.wasm_base.proofs.NumberLaws.{number-more}
 use Rattle.wasm_base.specs.Name.{Name, named, refused, name, name_in_window}
 use Rattle.wasm_grammar.specs.Content.{whole, code}
 use Rattle.wasm_grammar.specs.Reading.{code_entry as body_report}
 use Rattle.wasm_parser.specs.ReadsPart.{is_other}
-use Rattle.wasm_parser.specs.SkipNext.{Head, report_with, skip_at, fields_at, stays, is_cut, is_in_order, skip_of_head, sized_skip_at}
-use Rattle.wasm_parser.specs.SkipNext.{content_skip_at, body_skip_at, section_skip_at}
+use Rattle.wasm_parser.specs.SkipNext.{Head, report_with, skip_at, fields_at, is_cut, is_in_order, content_skip_at, body_skip_at}
+use Rattle.wasm_parser.specs.SkipNext.{section_skip_at}
 use Rattle.wasm_grammar.proofs.parts.Verdicts.{agree-more}
+use Rattle.wasm_parser.proofs.ReadingFields.{ReadNumber, read_number}
 use Rattle.wasm_parser.specs.SkipNext as skip
 
 -- Whatever bytes come after these, the grammar has a tile of this many bytes if there are enough, and otherwise a fault
@@ -45,51 +47,40 @@ pub skips_number : (offset : ℕ) (next : ℕ → ℕ → Grammar) (xs : List �
     → number VarU32 xs ≡ read value used → Skips (next value used) (drop used xs) size content Says
     → Skips (u32_field offset next) xs (used + size) content Says
 unfolding verdict
-skips_number offset next xs value used size content Says n s = record {
-  whole = λ ys l.
-      let k = number_fits xs value used n in
-      let m = same_number xs ys value used n in
-      let d : drop used (xs ++ ys) ≡ drop used xs ++ ys = drop-append-le used xs ys k in
-      let a = length-append xs ys in
-      let b = length-append (drop used xs) ys in
-      let c = length-drop used xs in
-      let w : length (take used (xs ++ ys)) ≡ used = length-take-le used (xs ++ ys) (omega (arith, a, k)) in
-      let (t, v, size_is, says) = s.whole ys (omega (arith, l, a, b, c, k)) in (
-        record t { bytes = take used (xs ++ ys) ++ t.bytes },
-        rw (m, d, v) refl,
-        length-append (take used (xs ++ ys)) t.bytes ∙ (λ i. w i + size_is i),
-        says,
-      );
-  short = λ ys l.
-      let k = number_fits xs value used n in
-      let m = same_number xs ys value used n in
-      let d : drop used (xs ++ ys) ≡ drop used xs ++ ys = drop-append-le used xs ys k in
-      grind (arith, length-append, length-drop);
-}
+skips_number offset next xs value used size content Says n s =
+    let k = number_fits xs value used n in
+    let m : (ys : List ℕ) → number VarU32 (xs ++ ys) ≡ read value used = λ ys. same_number xs ys value used n in
+    let d : (ys : List ℕ) → drop used (xs ++ ys) ≡ drop used xs ++ ys = λ ys. drop-append-le used xs ys k in
+    record {
+      whole = λ ys l.
+          let w : length (take used (xs ++ ys)) ≡ used = length-take-le used (xs ++ ys) (omega (arith, length-append xs ys, k)) in
+          let (t, v, size_is, says) = s.whole ys (omega (arith, l, length-append xs ys, length-append (drop used xs) ys,
+          length-drop used xs, k)) in (
+            record t { bytes = take used (xs ++ ys) ++ t.bytes },
+            rw (m ys, d ys, v) refl,
+            length-append (take used (xs ++ ys)) t.bytes ∙ (λ i. w i + size_is i),
+            says,
+          );
+      short = λ ys l. grind (arith, m ys, d ys, length-append, length-drop);
+    }
 
 pub skips_id : (offset id : ℕ) (e : _) (next : ℕ → Grammar) (xs : List ℕ) (size content : ℕ) (Says : Shape → Type 0)
     → agree (id ∷ xs) magic ≡ false → Skips (next id) xs size content Says
     → Skips (section_start offset e next) (id ∷ xs) (suc size) content Says
 unfolding verdict
-skips_id offset id e next xs size content Says a s = record {
-  whole = λ ys l.
-      let b : agree (id ∷ (xs ++ ys)) magic ≡ false = agree-more (id ∷ xs) ys magic a in
-      let (t, v, size_is, says) = s.whole ys (omega (arith, l)) in (
-        record t { bytes = id ∷ t.bytes },
-        rw (b, v) refl,
-        ap suc size_is,
-        says,
-      );
-  short = λ ys l.
-      let b : agree (id ∷ (xs ++ ys)) magic ≡ false = agree-more (id ∷ xs) ys magic a in
-      grind (arith, length-append);
-}
+skips_id offset id e next xs size content Says a s =
+    let b : (ys : List ℕ) → agree (id ∷ (xs ++ ys)) magic ≡ false = λ ys. agree-more (id ∷ xs) ys magic a in
+    record {
+      whole = λ ys l.
+          let (t, v, size_is, says) = s.whole ys (omega (arith, l)) in
+          (record t { bytes = id ∷ t.bytes }, rw (b ys, v) refl, ap suc size_is, says);
+      short = λ ys l. grind (arith, b ys, length-append);
+    }
 
 -- the rest of content of which these are the first bytes
 cut_take : (size : ℕ) (xs ys : List ℕ) → length xs < size → take size (xs ++ ys) ≡ xs ++ take (size - length xs) ys
 cut_take size xs ys l =
-    let n : length xs + (size - length xs) ≡ size = omega (arith, l) in
-    subst (λ (k : ℕ). take k (xs ++ ys) ≡ xs ++ take (size - length xs) ys) n (take-append-add xs ys (size - length xs))
+    let n : length xs + (size - length xs) ≡ size = omega (arith, l) in rw n at (take-append-add xs ys (size - length xs))
 
 pub skips_content : (size offset : ℕ) (next : List ℕ → Grammar) (xs : List ℕ) (Says : Shape → Type 0) → length xs < size
     → ((zs : List ℕ) → length (xs ++ zs) ≡ size → (shape : Shape) × ((rest : List ℕ) → verdict (next (xs ++ zs)) rest
@@ -99,14 +90,10 @@ unfolding verdict
 skips_content size offset next xs Says l f = record {
   whole = λ ys m.
       let t = cut_take size xs ys l in
-      let n : length (xs ++ take (size - length xs) ys) ≡ size = rw (sym t) (length-take-le size (xs ++ ys) m) in
-      let (shape, is, says) = f (take (size - length xs) ys) n in
-      let b : nat_le size (length (xs ++ ys)) ≡ true = le-leb size (length (xs ++ ys)) m in
-      let v : verdict (next (take size (xs ++ ys))) (drop size (xs ++ ys)) ≡ tile (record { shape = shape; bytes = [] }) =
-      subst (λ (x : List ℕ). verdict (next x) (drop size (xs ++ ys)) ≡ tile (record { shape = shape; bytes = [] })) (sym t)
-      (is (drop size (xs ++ ys))) in (
+      let (shape, is, says) = f (take (size - length xs) ys) (rw (← t) (length-take-le size (xs ++ ys) m)) in
+      let v = rw (← t) at (is (drop size (xs ++ ys))) in (
         record { shape = shape; bytes = take size (xs ++ ys) ++ [] },
-        rw (b, v) refl,
+        rw (le-leb size (length (xs ++ ys)) m, v) refl,
         ap (λ (x : List ℕ). length x) (append-nil (take size (xs ++ ys))) ∙ length-take-le size (xs ++ ys) m,
         says,
       );
@@ -120,6 +107,14 @@ same_name : (xs ys text : List ℕ) (used : ℕ) → name (Some name_limit) xs �
     → name (Some name_limit) (xs ++ ys) ≡ named text used
 unfolding name
 same_name xs ys text used n = grind (arith, number_fits, same_number, drop-append-le, length-append, take-append-le)
+
+-- what is read where the part does not stay
+unless_stays : {A : Type 0} (b : Bool) (e : FaultAt) (o : Outcome A) (x : A × Place) → cond b o (Err e) ≡ Ok x → (b ≡ true) × (o ≡ Ok x)
+unless_stays b e o x f = grind arith
+
+unless_stayed : {A : Type 0} (b : Bool) (e : FaultAt) (o : Outcome A) (x : A × Place) → cond b (Err e) o ≡ Ok x
+    → (b ≡ false) × (o ≡ Ok x)
+unless_stayed b e o x f = grind arith
 
 abbrev head_or : Head → Outcome Head → Head
 head_or h (Ok x) = x.0
@@ -161,28 +156,16 @@ fields_say context announced features (whole custom) id p q head c f = λ zs. by
         let m = same_name p.rest zs text used e in
         record { right = rw m refl; counts = refl; says = grind arith }
     by_name (refused g i) e f zs = cc
-fields_say context announced features (whole items) id p q head c f = λ zs. by_count (number VarU32 p.rest) refl f zs
-  where
-    by_count : (n : Number) → number VarU32 p.rest ≡ n
-        → (in_window p n >>= (λ count. cond (id == data_id && is_other announced count.0) (stays count.1)
-        (Ok (skip.items id count.0, count.1)))) ≡ Ok (head, q)
-        → (zs : List ℕ) → Fields context features items id p head zs
-    by_count (read count used) e f zs =
-        by_other (id == data_id && is_other announced count) refl f
-      where
-        m : number VarU32 (p.rest ++ zs) ≡ read count used
-        m = same_number p.rest zs count used e
-
-        by_other : (b : Bool) → (id == data_id && is_other announced count) ≡ b
-            → (let x : Outcome Head = cond b (stays (advanced used p)) (Ok (skip.items id count, advanced used p)) in x) ≡ Ok (head, q)
-            → Fields context features items id p head zs
-        by_other true o f = cc
-        by_other false o f = record {
-          right = rw m refl;
-          counts = rw (m, c, o) refl;
-          says = rw m (ap (λ (x : Outcome Head). Some (sized p.offset (length (p.rest ++ zs)) (head_or head x))) f);
-        }
-    by_count _ e f zs = cc
+fields_say context announced features (whole items) id p q head c f = λ zs.
+    let n = in_steps (unsigned_at VarU32 p) _ (head, q) f in
+    let m : ReadNumber p n.between.0 n.between.1 = read_number p n.between.0 n.between.1 n.one in
+    let e = same_number p.rest zs n.between.0 m.used m.reads in
+    let (o, same) = unless_stayed (id == data_id && is_other announced n.between.0) _ _ _ n.other in
+    record {
+      right = rw e refl;
+      counts = rw (e, c, o) refl;
+      says = rw e (ap (λ (x : Outcome Head). Some (sized p.offset (length (p.rest ++ zs)) (head_or head x))) same);
+    }
 fields_say context announced features (whole unknown) id p q head c f = λ zs. record {
   right = refl;
   counts = refl;
@@ -224,53 +207,35 @@ body_skips : (bodies code_bytes features : ℕ) (p : Place) (size used : ℕ) �
 unfolding body_grammar verdict
 body_skips zero code_bytes features p size used n l b c = cc
 body_skips (suc bodies) code_bytes features p size used n l b c =
-    let Says : Shape → Type 0 = SaysSkip features (sized (p.offset + used) size skip.body) in
-    skips_number p.offset
-    (λ value width. check (when (nat_lt code_bytes (width + value)) (at_offset UnexpectedEof p.offset))
-    (bytes value (p.offset + width) (λ content. accept (code_entry content))))
-    p.rest size used size (p.offset + used) Says n
-    (skips_check (when (nat_lt code_bytes (used + size)) (at_offset UnexpectedEof p.offset)) _ (drop used p.rest) size (p.offset + used)
-    Says (rw c refl)
-    (skips_content size (p.offset + used) (λ content. accept (code_entry content)) (drop used p.rest) Says l
+    skips_number p.offset _ p.rest size used size (p.offset + used) _ n
+    (skips_check _ _ (drop used p.rest) size (p.offset + used) _ (rw c refl)
+    (skips_content size (p.offset + used) (λ content. accept (code_entry content)) (drop used p.rest) _ l
     (λ zs m. (
       code_entry (drop used p.rest ++ zs),
       λ rest. refl,
-      λ from. body_is (p.offset + used) size features
-          (drop used p.rest ++ zs) m,
+      λ from. body_is (p.offset + used) size features (drop used p.rest ++ zs) m,
     ))))
 
 pub body_skips_as : (q : ParserState) (features : ℕ) (p after : Place) (s : Skip) → body_skip_at q p ≡ Ok (s, after)
     → SkipsAs (body_grammar q.bodies q.code_bytes p.offset) features p s
 unfolding body_skip_at unsigned_at
-body_skips_as q features p after s f = by_size (number VarU32 p.rest) refl f
-  where
-    by_size : (n : Number) → number VarU32 p.rest ≡ n
-        → (in_window p n >>= (λ size. cond (is_cut size.0 size.1 && not (nat_eq q.bodies 0)
-        && not (nat_lt q.code_bytes (size.1.offset - p.offset + size.0)))
-        (skip_of_head size.0 size.1 (Ok (skip.body, size.1))) (stays size.1))) ≡ Ok (s, after)
-        → SkipsAs (body_grammar q.bodies q.code_bytes p.offset) features p s
-    by_size (read size used) e f = by_test _ refl f
-      where
-        by_test : (b : Bool) → (is_cut size (advanced used p) && not (nat_eq q.bodies 0)
-            && not (nat_lt q.code_bytes (p.offset + used - p.offset + size))) ≡ b
-            → cond b (skip_of_head size (advanced used p) (Ok (skip.body, advanced used p))) (stays (advanced used p)) ≡ Ok (s, after)
-            → SkipsAs (body_grammar q.bodies q.code_bytes p.offset) features p s
-        by_test true t f =
-            let (ab, c) = and_parts _ _ t in
-            let (a, b) = and_parts _ _ ab in
-            let cut = cut_short size (advanced used p) a in
-            let w : p.offset + used - p.offset ≡ used = omega arith in
-            let is : record { from = p.offset + used; to = p.offset + used + size; head = skip.body } ≡ s =
-            ap (λ (x : Outcome Skip). skip_or s x) f in
-            subst (λ (x : Skip). SkipsAs (body_grammar q.bodies q.code_bytes p.offset) features p x) is (record {
-              size = used + size;
-              ends = omega arith;
-              missing = let d = length-drop used p.rest in omega (arith, d, cut.0);
-              fits = cut.1;
-              skips = body_skips q.bodies q.code_bytes features p size used e cut.0 (not_is _ b) (rw w at (not_is _ c));
-            })
-        by_test false t f = cc
-    by_size _ e f = cc
+body_skips_as q features p after s f =
+    let n = in_steps (unsigned_at VarU32 p) _ (s, after) f in
+    let size = n.between.0 in
+    let m : ReadNumber p size n.between.1 = read_number p size n.between.1 n.one in
+    let (t, f) = unless_stays _ _ _ _ (rw m.after at n.other) in
+    let (ab, c) = and_parts _ _ t in
+    let (a, b) = and_parts _ _ ab in
+    let cut = cut_short size (advanced m.used p) a in
+    let w : p.offset + m.used - p.offset ≡ m.used = omega arith in
+    let is : sized (p.offset + m.used) size skip.body ≡ s = ap (skip_or s) f in
+    rw (← is) (record {
+      size = m.used + size;
+      ends = omega arith;
+      missing = omega (arith, length-drop m.used p.rest, cut.0);
+      fits = cut.1;
+      skips = body_skips q.bodies q.code_bytes features p size m.used m.reads cut.0 (not_is _ b) (rw w at (not_is _ c));
+    })
 
 -- ---- a section
 
@@ -298,80 +263,51 @@ sized_skips : (q : ParserState) (features : ℕ) (kind : Kind) (id field size : 
     → Skips (after_length (known_context q) kind id field p.offset size) p.rest size p.offset (SaysSkip features (sized p.offset size head))
 sized_skips q features kind id field size p head b o l f = grind (arith, le-ltb, skips_check, not_is, content_skips)
 
+-- one with this id and size
+content_skips_as : (q : ParserState) (features id size used : ℕ) (r : List ℕ) (p after : Place) (s : Skip) → p.rest ≡ id ∷ r
+    → agree (id ∷ r) magic ≡ false → nat_le 128 id ≡ false → number VarU32 r ≡ read size used
+    → content_skip_at q id size (advanced used (advanced 1 (record p { rest = id ∷ r }))) ≡ Ok (s, after)
+    → SkipsAs (section_grammar (known_context q) p.offset) features p s
+unfolding section_grammar
+content_skips_as q features id size used r p after s w a t n f =
+    let content = advanced used (advanced 1 (record p { rest = id ∷ r })) in
+    let (c, f) = unless_stays _ _ _ _ f in
+    let (cuts, order) = and_parts _ _ c in
+    let cut = cut_short size content cuts in
+    let h = in_steps (fields_at q.data_counts (kind_of q.encoding id) id content) _ (s, after) f in
+    let says = fields_say (known_context q) q.data_counts features (kind_of q.encoding id) id content h.between.1 h.between.0 refl h.one in
+    let is : sized (p.offset + 1 + used) size h.between.0 ≡ s = ap (skip_or s) h.other in
+    rw (← is) (record {
+      size = suc (used + size);
+      ends = omega arith;
+      missing = rw w (omega (arith, length-drop used r, cut.0));
+      fits = cut.1;
+      skips = rw w (skips_id p.offset id _ _ r (used + size) (p.offset + 1 + used) _ a
+          (skips_check _ _ r (used + size) (p.offset + 1 + used) _ (rw t refl)
+          (skips_number (p.offset + 1) _ r size used size (p.offset + 1 + used) _ n
+          (sized_skips q features (kind_of q.encoding id) id (p.offset + 1) size content h.between.0 cut.1 order cut.0 says))));
+    })
+
+-- bytes that begin no header, nor may
+no_header : (id : ℕ) (r : List ℕ) → (is_some (asked_at_section (id ∷ r)) || agree (id ∷ r) magic && nat_le 4 (length (id ∷ r))) ≡ false
+    → agree (id ∷ r) magic ≡ false
+no_header id r e = grind arith
+
+section_at : (q : ParserState) (features : ℕ) (r : List ℕ) (p after : Place) (s : Skip) → p.rest ≡ r
+    → section_skip_at q (record p { rest = r }) ≡ Ok (s, after) → SkipsAs (section_grammar (known_context q) p.offset) features p s
+unfolding section_skip_at
+section_at q features [] p after s w f = cc
+section_at q features (id ∷ r) p after s w f =
+    let here = advanced 1 (record p { rest = id ∷ r }) in
+    let (none, f) = unless_stayed _ _ _ _ f in
+    let (t, f) = unless_stayed _ _ _ _ f in
+    let n = in_steps (unsigned_at VarU32 here) _ (s, after) f in
+    let m : ReadNumber here n.between.0 n.between.1 = read_number here n.between.0 n.between.1 n.one in
+    content_skips_as q features id n.between.0 m.used r p after s w (no_header id r none) t m.reads (rw m.after at n.other)
+
 pub section_skips_as : (q : ParserState) (features : ℕ) (p after : Place) (s : Skip) → section_skip_at q p ≡ Ok (s, after)
     → SkipsAs (section_grammar (known_context q) p.offset) features p s
-unfolding section_skip_at section_grammar unsigned_at
-section_skips_as q features p after s f = by_rest p.rest refl f
-  where
-    at : (r : List ℕ) → Place
-    at r = record { features = p.features; offset = p.offset; rest = r }
-
-    of_content : (id : ℕ) (r : List ℕ) (size used : ℕ) → agree (id ∷ r) magic ≡ false → nat_le 128 id ≡ false
-        → number VarU32 r ≡ read size used → (b : Bool)
-        → (is_cut size (advanced used (advanced 1 (at (id ∷ r)))) && is_in_order q (kind_of q.encoding id) id) ≡ b
-        → cond b (skip_of_head size (advanced used (advanced 1 (at (id ∷ r))))
-        (fields_at q.data_counts (kind_of q.encoding id) id (advanced used (advanced 1 (at (id ∷ r))))))
-        (stays (advanced used (advanced 1 (at (id ∷ r))))) ≡ Ok (s, after)
-        → SkipsAs (section_grammar (known_context q) p.offset) features (at (id ∷ r)) s
-    of_content id r size used a t n true c f =
-        let content = advanced used (advanced 1 (at (id ∷ r))) in
-        let (cuts, order) = and_parts _ _ c in
-        let cut = cut_short size content cuts in
-        by_fields (fields_at q.data_counts (kind_of q.encoding id) id content) refl f
-      where
-        by_fields : (o : Outcome Head) → fields_at q.data_counts (kind_of q.encoding id) id (advanced used (advanced 1 (at (id ∷ r)))) ≡ o
-            → skip_of_head size (advanced used (advanced 1 (at (id ∷ r)))) o ≡ Ok (s, after)
-            → SkipsAs (section_grammar (known_context q) p.offset) features (at (id ∷ r)) s
-        by_fields (Ok (head, end)) e f =
-            let content = advanced used (advanced 1 (at (id ∷ r))) in
-            let (cuts, order) = and_parts _ _ c in
-            let cut = cut_short size content cuts in
-            let says = fields_say (known_context q) q.data_counts features (kind_of q.encoding id) id content end head refl e in
-            let is : record { from = p.offset + 1 + used; to = p.offset + 1 + used + size; head = head } ≡ s =
-            ap (λ (x : Outcome Skip). skip_or s x) f in
-            let d = length-drop used r in
-            let Says : Shape → Type 0 = SaysSkip features (sized (p.offset + 1 + used) size head) in
-            subst (λ (x : Skip). SkipsAs (section_grammar (known_context q) p.offset) features (at (id ∷ r)) x) is (record {
-              size = suc (used + size);
-              ends = omega arith;
-              missing = omega (arith, d, cut.0);
-              fits = cut.1;
-              skips = skips_id p.offset id _ _ r (used + size) (p.offset + 1 + used) Says a
-                  (skips_check _ _ r (used + size) (p.offset + 1 + used) Says (rw t refl)
-                  (skips_number (p.offset + 1)
-                  (λ value width. after_length (known_context q) (kind_of q.encoding id) id (p.offset + 1) (p.offset + 1 + width) value)
-                  r size used size (p.offset + 1 + used) Says n
-                  (sized_skips q features (kind_of q.encoding id) id (p.offset + 1) size content head cut.1 order cut.0 says)));
-            })
-        by_fields (Err e) o f = cc
-    of_content id r size used a t n false c f = cc
-
-    of_size : (id : ℕ) (r : List ℕ) → agree (id ∷ r) magic ≡ false → nat_le 128 id ≡ false → (n : Number) → number VarU32 r ≡ n
-        → (in_window (advanced 1 (at (id ∷ r))) n >>= (λ size. content_skip_at q id size.0 size.1)) ≡ Ok (s, after)
-        → SkipsAs (section_grammar (known_context q) p.offset) features (at (id ∷ r)) s
-    of_size id r a t (read size used) e f = of_content id r size used a t e _ refl f
-    of_size id r a t _ e f = cc
-
-    of_id : (id : ℕ) (r : List ℕ) → agree (id ∷ r) magic ≡ false → (t : Bool) → nat_le 128 id ≡ t
-        → cond t (stays (advanced 1 (at (id ∷ r)))) (sized_skip_at q id (advanced 1 (at (id ∷ r)))) ≡ Ok (s, after)
-        → SkipsAs (section_grammar (known_context q) p.offset) features (at (id ∷ r)) s
-    of_id id r a true t f = cc
-    of_id id r a false t f = of_size id r a t (number VarU32 r) refl f
-
-    by_magic : (id : ℕ) (r : List ℕ) (a l m : Bool) → agree (id ∷ r) magic ≡ a → nat_lt (length (id ∷ r)) 4 ≡ l
-        → nat_le 4 (length (id ∷ r)) ≡ m → cond (is_some (cond (a && l) (Some (4 - length (id ∷ r))) None) || a && m) (stays (at (id ∷ r)))
-        (cond (nat_le 128 id) (stays (advanced 1 (at (id ∷ r)))) (sized_skip_at q id (advanced 1 (at (id ∷ r))))) ≡ Ok (s, after)
-        → SkipsAs (section_grammar (known_context q) p.offset) features (at (id ∷ r)) s
-    by_magic id r false l m e el em f = of_id id r e (nat_le 128 id) refl f
-    by_magic id r true true m e el em f = cc
-    by_magic id r true false true e el em f = cc
-    by_magic id r true false false e el em f = absurd (grind arith)
-
-    by_rest : (r : List ℕ) → p.rest ≡ r → section_skip_at q (at r) ≡ Ok (s, after)
-        → SkipsAs (section_grammar (known_context q) p.offset) features p s
-    by_rest [] e f = cc
-    by_rest (id ∷ r) e f =
-        rw e (by_magic id r (agree (id ∷ r) magic) (nat_lt (length (id ∷ r)) 4) (nat_le 4 (length (id ∷ r))) refl refl refl f)
+section_skips_as q features p after s f = section_at q features p.rest p after s refl f
 
 -- ---- the parser
 

@@ -3,11 +3,11 @@ use Rattle.wasm_parser.proofs.Common.{◌≡◌, ℕ, ◌+◌, ◌<◌, ◌≤�
 use Rattle.wasm_parser.proofs.Common.{◌∙◌, arith, length-append, append_assoc, append-nil, cond, Some, None, is_some, flat_map-append}
 use Rattle.wasm_parser.proofs.Common.{All-nil, All-cons, All, Window, bodied, tiles_consume, consumed_by, Tile, tile, Shape, SectionContext}
 use Rattle.wasm_parser.proofs.Common.{code_entry, verdict, body_grammar, section_grammar, Event, tile_report, event_of, events_of, bytes_of}
-use Rattle.wasm_parser.proofs.Common.{grammar, bytes_left, is_start, counts, Along, ParserState, IsStateAfter, greatest, skipped_state}
+use Rattle.wasm_parser.proofs.Common.{grammar, bytes_left, counts, Along, ParserState, IsStateAfter, greatest, skipped_state}
 use Rattle.std.proofs.lemmas.List.{append_cancel_left}
 use Rattle.std.proofs.lemmas.List.Elements.{All-append}
 use Rattle.wasm_grammar.specs.Sections.{ReportsBody}
-use Rattle.wasm_grammar.specs.Tiling.{encoding_of, Faultless}
+use Rattle.wasm_grammar.specs.Tiling.{is_start, encoding_of, Faultless}
 use Rattle.wasm_parser.specs.ParserState.{ends_in_code}
 use Rattle.wasm_parser.specs.Skipped.{CompletesCode, SkipsSection, LeavesOut, SkippingLeavesOutBodies}
 use Rattle.wasm_grammar.proofs.parts.Guarded.{tile_least}

@@ -3,8 +3,8 @@ use Rattle.wasm_parser.proofs.Common.{◌≡◌, ℕ, ◌+◌, ◌<◌, Bool, tr
 use Rattle.wasm_parser.proofs.Common.{length-append, cond, nat_lt, ltb-true, ◌&&◌, option_to_list, Some, Option, eqb-true, and_parts}
 use Rattle.wasm_parser.proofs.Common.{list_all, headed, bodied, Grown, grows, items, index, data_count, count_of, Kind, kind_of, Tile, tile}
 use Rattle.wasm_parser.proofs.Common.{Shape, SectionContext, content_grammar, section, verdict, header_grammar, section_grammar, data_id}
-use Rattle.wasm_parser.proofs.Common.{function_id, bytes_of, grammar, inside, context_of, bodies_left, bytes_left, is_start, counts}
-use Rattle.wasm_parser.proofs.Common.{ParserState, initial_state, grammar_of, known_context, IsStateAfter, greatest, state_after_tile}
+use Rattle.wasm_parser.proofs.Common.{function_id, grammar, inside, context_of, bodies_left, bytes_left, counts, ParserState, initial_state}
+use Rattle.wasm_parser.proofs.Common.{grammar_of, known_context, IsStateAfter, greatest, state_after_tile}
 use Rattle.std.proofs.Common.{max}
 use Rattle.wasm_grammar.specs.Grammar.{code_start}
 use Rattle.wasm_grammar.specs.Ids.{place_of, code_id, data_count_id, start_id}
@@ -28,14 +28,7 @@ module _ (p : ParserState) (start : ℕ) (prefix : List ℕ) (s : IsStateAfter p
   context_same t ts z = grind (arith, may_same)
 
   grammar_at : (ts : List Tile) → s.tiles ≡ ts → grammar_of p ≡ grammar start ts
-  grammar_at [] z = grind arith
-  grammar_at (t ∷ ts) z =
-      let h : p.expects_header ≡ false = s.expects_header ∙ ap is_start z in
-      let o : p.offset ≡ start + length (bytes_of (t ∷ ts)) = cc in
-      let m : p.bodies ≡ bodies_left (t ∷ ts) = s.bodies ∙ ap bodies_left z in
-      let l : p.code_bytes ≡ bytes_left (t ∷ ts) = s.code_bytes ∙ ap bytes_left z in
-      let q : known_context p ≡ context_of (t ∷ ts) = context_same t ts z in
-      rw h (λ i. inside (q i) (m i) (l i) (o i))
+  grammar_at ts z = search (arith, context_same)
 
 -- what may come after a prefix is what the parser that is there expects
 pub grammar_same : (p : ParserState) (start : ℕ) (prefix : List ℕ) (s : IsStateAfter p start prefix) → grammar_of p ≡ grammar start s.tiles
