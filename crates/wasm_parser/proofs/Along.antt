@@ -1,6 +1,6 @@
 -- Where a caller is in a stream: at its start, after more bytes arrived, and after a call.
-use Rattle.wasm_parser.proofs.Common.{◌≡◌, ℕ, ◌+◌, ◌^◌, ◌<◌, ◌≤◌, Bool, true, false, nat_eq, List, [], ◌∷◌, ◌++◌, length, Result, Ok, Err}
-use Rattle.wasm_parser.proofs.Common.{refl, sym, ap, subst, subst₂, ◌∙◌, arith, length-append, append_assoc, append-nil, inl, inr, take_at}
+use Rattle.wasm_parser.proofs.Common.{◌≡◌, ℕ, ◌+◌, ◌^◌, ◌<◌, ◌≤◌, Bool, true, false, List, [], ◌∷◌, ◌++◌, length, Result, Ok, Err, refl}
+use Rattle.wasm_parser.proofs.Common.{sym, ap, subst, subst₂, ◌∙◌, arith, length-append, append_assoc, append-nil, inl, inr, take_at}
 use Rattle.wasm_parser.proofs.Common.{drop_at, ◌⊎◌, FaultAt, fault_at, at_offset, Error, OffsetRange, waiting-asks, verdict-more}
 use Rattle.wasm_parser.proofs.Common.{tiles_consume, Grown, grows, Ending, fault, ended, consumed_by, Tile, Verdict, tile, final, Grammar}
 use Rattle.wasm_parser.proofs.Common.{verdict, stream_end, Event, tile_report, event_of, events_of, last_event, Reading, bytes_of, grammar}
@@ -144,8 +144,8 @@ module _ (start features : ℕ) (given : List ℕ) (p : ParserState) (held : Lis
         consumed = z.1;
         begins = events_begin start features given new rest (events ++ event_here t ∷ []) z.0 eof;
         goes_on = λ e. (z.0, z.2);
-        ends = λ e. let no : true ≡ false = sym e ∙ more in cc;
-        last = λ e. let no : true ≡ false = sym e ∙ more in cc;
+        ends = λ e. cc;
+        last = λ e. cc;
       }
 
   end_came : (eof : Bool) (offset : ℕ) (bytes rest : List ℕ) (payload : Payload) (new : ParserState) → (eof ≡ true)
@@ -158,7 +158,7 @@ module _ (start features : ℕ) (given : List ℕ) (p : ParserState) (held : Lis
         is_payload = i;
         consumed = sym (nil_from_length bytes n);
         begins = whole_begins start features eof given (events ++ last_event (ended offset) ∷ []) r;
-        goes_on = λ e. let no : true ≡ false = sym (ap is_end i.0) ∙ e in cc;
+        goes_on = λ e. let over = ap is_end i.0 in cc;
         ends = λ e. r;
         last = λ e. (offset, refl);
       }
@@ -174,31 +174,19 @@ module _ (start features : ℕ) (given : List ℕ) (p : ParserState) (held : Lis
   answered eof (Ok (Parsed consumed payload)) bytes new rest (tile t) d e r w n = grind (arith, tile_came)
   answered eof (Ok (Parsed consumed payload)) bytes new rest (final (ended offset)) d e r w n =
       end_came eof offset bytes rest payload new d e (n ∙ r.0) r.1
-  answered eof (Ok (Parsed consumed payload)) bytes new rest (final (fault f)) d e r w n = absurd r
-  answered eof (Err error) bytes new rest (tile t) d e r w n = absurd r
-  answered eof (Err error) bytes new rest (final (ended offset)) d e r w n = absurd r
   answered eof (Err error) bytes new rest (final (fault f)) d e r w n = (
     reads_each start features given p held events a eof (fault (fault_at error)) d (e ∙ ap (λ (y : FaultAt). final (fault y)) (sym r.0)),
     along_same new rest r.1 (w ∙ ap (λ (y : List ℕ). y ++ rest) (nil_from_length bytes n)),
   )
+  answered eof _ bytes new rest _ d e r w n = absurd r
 
   asked : (need hint : ℕ) (x : Result Chunk Error) (bytes : List ℕ) (new : ParserState) (rest : List ℕ) → waiting (grammar_of p) held
       ≡ wants need hint → AsksFor hint p x new → held ≡ bytes ++ rest → length bytes ≡ taken_by x
       → GoesAlong start features false given events x bytes new rest
   asked need hint (Ok (NeedMoreData some)) bytes new rest e r w n =
-      let same : held ≡ rest = w ∙ ap (λ (y : List ℕ). y ++ rest) (nil_from_length bytes n) in (
-        (
-          refl,
-          (
-            need,
-            subst₂ (λ (q : ParserState) (y : List ℕ). waiting (grammar_of q) y ≡ wants need some) (sym r.1) same
-                (e ∙ ap (wants need) (sym r.0)),
-          ),
-        ),
-        along_same new rest r.1 same,
-      )
-  asked need hint (Ok (Parsed consumed payload)) bytes new rest e r w n = absurd r
-  asked need hint (Err error) bytes new rest e r w n = absurd r
+      let same : held ≡ rest = w ∙ ap (λ (y : List ℕ). y ++ rest) (nil_from_length bytes n) in
+      ((refl, (need, rw (r.1, ← same, r.0) e)), along_same new rest r.1 same)
+  asked need hint _ bytes new rest e r w n = absurd r
 
   answered_on : (eof : Bool) (x : Result Chunk Error) (bytes : List ℕ) (new : ParserState) (rest : List ℕ) (u : Waiting)
       → waiting (grammar_of p) held ≡ u → AnswersOn eof u p (verdict (grammar_of p) held) x new → held ≡ bytes ++ rest
@@ -229,9 +217,6 @@ consumed : (start features : ℕ) (given : List ℕ) (p : ParserState) (held : L
     → Along start features given p held events → given ≡ consumed_by events ++ held
 consumed start features given p held events a = grind (arith, tiles_consume)
 
-positive : (k : ℕ) → nat_eq k 0 ≡ false → 0 < k
-positive k e = grind arith
-
 module _ (p new : ParserState) (eof : Bool) (held : List ℕ) where
   below : (chunk : Chunk) → ParseAnswer p eof held (Ok chunk) new → p.offset + length held < 2 ^ 64
   below chunk a = grind arith
@@ -256,8 +241,8 @@ answers_go_along = record {
   cut_short = λ start features given p held events eof hint a u. undecided_ends start features given p held events a eof hint u;
   consumed = consumed;
   consumes = consumes;
-  takes_some = λ p new eof held consumed payload r goes. positive consumed
-      ((consumes p new eof held (Ok (Parsed consumed payload)) r).1 ∙ goes);
+  takes_some = λ p new eof held consumed payload r goes.
+      grind (arith, consumes p new eof held (Ok (Parsed consumed payload)) r);
   below = below;
   asks = asks;
   bounded = bounded;

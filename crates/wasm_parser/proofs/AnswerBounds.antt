@@ -1,15 +1,15 @@
 -- How far a call of the parser, and a walk over a whole stream, go.
-use Rattle.wasm_parser.proofs.Common.{◌≡◌, ℕ, ◌+◌, ◌^◌, ◌<◌, ◌≤◌, Bool, true, false, nat_eq, List, ◌++◌, length, Result, Ok, Err, refl}
-use Rattle.wasm_parser.proofs.Common.{arith, length-append, inl, inr, cond, nat_lt, ltb-false, ◌⊎◌, Error, waiting-asks, Guarded-header}
-use Rattle.wasm_parser.proofs.Common.{Guarded-inside_at, verdict-more, fault, ended, Tile, Verdict, tile, final, verdict, header_grammar}
-use Rattle.wasm_parser.proofs.Common.{inside, Waiting, wants, waiting, report_of, is_end, ParseAnswer, IsRequest, ParserState, grammar_of}
-use Rattle.wasm_parser.proofs.Common.{known_context, Chunk, NeedMoreData, Parsed, Payload}
-use Rattle.wasm_parser.specs.ParseAnswer.{Consumes, AsksForSome, FaultsWithin, IsUnchanged}
+use Rattle.wasm_parser.proofs.Common.{◌≡◌, ℕ, ◌+◌, ◌^◌, ◌<◌, ◌≤◌, Bool, true, false, List, ◌++◌, length, Result, Ok, Err, refl, arith}
+use Rattle.wasm_parser.proofs.Common.{length-append, inl, inr, ltb-true, nat_eq, cond, nat_lt, ltb-false, ◌⊎◌, at_offset, Error}
+use Rattle.wasm_parser.proofs.Common.{OffsetRange, waiting-asks, Guarded-header, Guarded-inside_at, verdict-more, fault, ended, Tile}
+use Rattle.wasm_parser.proofs.Common.{Verdict, tile, final, verdict, header_grammar, inside, Waiting, wants, waiting, report_of, is_end}
+use Rattle.wasm_parser.proofs.Common.{ParseAnswer, IsRequest, ParserState, grammar_of, known_context, Chunk, NeedMoreData, Parsed, Payload}
+use Rattle.wasm_parser.specs.ParseAnswer.{Consumes, AsksForSome, FaultsWithin}
 use Rattle.wasm_parser.specs.ParserLaws.{AnswersLast}
 use Rattle.wasm_grammar.proofs.endings.Waiting.{waiting-more}
 use Rattle.wasm_grammar.proofs.parts.Guarded.{least_header, least_inside}
 use Rattle.wasm_grammar.proofs.parts.Verdicts.{Cut, verdict-cut}
-use Rattle.wasm_parser.proofs.AnswerTables.{Answers, AsksFor, AnswersOn, as_table, goes_on}
+use Rattle.wasm_parser.proofs.AnswerTables.{IsFaultAlone, Answers, AsksFor, AnswersOn, as_table, goes_on}
 use Rattle.wasm_parser.proofs.Bounds.{parser_fault_lies}
 use Rattle.wasm_parser.proofs.Parsing.{answered}
 
@@ -44,9 +44,18 @@ IsOn p eof rest r new =
     Answers p (verdict (grammar_of p) rest) r new ⊎ ((need : ℕ) × (hint : ℕ) × (waiting (grammar_of p) rest ≡ wants need hint)
     × AsksFor hint p r new)
 
-pub is_on : (p new : ParserState) (eof : Bool) (rest : List ℕ) (r : Result Chunk Error)
-    → AnswersOn eof (waiting (grammar_of p) rest) p (verdict (grammar_of p) rest) r new → IsOn p eof rest r new
-is_on p new eof rest r a = grind arith
+module _ (p new : ParserState) (eof : Bool) (rest : List ℕ) (r : Result Chunk Error) where
+  pub is_on : AnswersOn eof (waiting (grammar_of p) rest) p (verdict (grammar_of p) rest) r new → IsOn p eof rest r new
+  is_on a = grind arith
+
+  -- the cases of a call: a result or a request, or bytes that pass the largest offset
+  in_cases : ParseAnswer p eof rest r new → IsOn p eof rest r new ⊎ IsFaultAlone (at_offset OffsetRange p.offset) p r new
+  in_cases h = by_top (nat_lt (p.offset + length rest) (2 ^ 64)) refl
+    where
+      by_top : (b : Bool) → nat_lt (p.offset + length rest) (2 ^ 64) ≡ b
+          → IsOn p eof rest r new ⊎ IsFaultAlone (at_offset OffsetRange p.offset) p r new
+      by_top true t = inl (is_on ((as_table p new eof rest r h).within (ltb-true _ _ t)))
+      by_top false t = inr ((as_table p new eof rest r h).past_the_top (ltb-false _ _ t))
 
 -- ---- what a call consumes
 
@@ -58,17 +67,8 @@ consumes_at p new rest consumed payload (tile t) e a =
 consumes_at p new rest consumed payload (final (fault f)) e a = absurd a
 consumes_at p new rest consumed payload (final (ended o)) e a = grind arith
 
-consumes_on : (p new : ParserState) (eof : Bool) (rest : List ℕ) (r : Result Chunk Error) → IsOn p eof rest r new → Consumes rest r
-consumes_on p new eof rest r h = grind (arith, consumes_at)
-
-consumes_by : (b : Bool) (p new : ParserState) (eof : Bool) (rest : List ℕ) (r : Result Chunk Error)
-    → nat_lt (p.offset + length rest) (2 ^ 64) ≡ b → ParseAnswer p eof rest r new → Consumes rest r
-consumes_by true p new eof rest r t h = consumes_on p new eof rest r
-    (is_on p new eof rest r (grind (arith, as_table)))
-consumes_by false p new eof rest r t h = grind arith
-
 pub consumes : (p new : ParserState) (eof : Bool) (rest : List ℕ) (r : Result Chunk Error) → ParseAnswer p eof rest r new → Consumes rest r
-consumes p new eof rest r h = consumes_by (nat_lt (p.offset + length rest) (2 ^ 64)) p new eof rest r refl h
+consumes p new eof rest r h = grind (arith, in_cases p new eof rest r h, consumes_at)
 
 -- ---- where its faults are
 
@@ -76,44 +76,19 @@ faults_at : (p new : ParserState) (rest : List ℕ) (e : Error) (v : Verdict) �
     → FaultsWithin p rest (Err e)
 faults_at p new rest e v q a = grind (arith, parser_fault_lies)
 
-faults_on : (p new : ParserState) (eof : Bool) (rest : List ℕ) (e : Error) → IsOn p eof rest (Err e) new → FaultsWithin p rest (Err e)
-faults_on p new eof rest e (inl a) = faults_at p new rest e (verdict (grammar_of p) rest) refl a
-faults_on p new eof rest e (inr a) = absurd a.3
-
-faults_by : (b : Bool) (p new : ParserState) (eof : Bool) (rest : List ℕ) (r : Result Chunk Error)
-    → nat_lt (p.offset + length rest) (2 ^ 64) ≡ b → ParseAnswer p eof rest r new → FaultsWithin p rest r
-faults_by b p new eof rest (Ok chunk) t h = tt
-faults_by true p new eof rest (Err e) t h = faults_on p new eof rest e
-    (grind (arith, is_on, as_table))
-faults_by false p new eof rest (Err e) t h = grind arith
-
 module _ (p new : ParserState) where
   pub faults_within : (eof : Bool) (rest : List ℕ) (r : Result Chunk Error) → ParseAnswer p eof rest r new → FaultsWithin p rest r
-  faults_within eof rest r h = faults_by (nat_lt (p.offset + length rest) (2 ^ 64)) p new eof rest r refl h
+  faults_within eof rest r h = grind (arith, in_cases p new eof rest r h, faults_at)
 
-  -- ---- what a fault or a request leaves
+  -- ---- a request is no final result
 
   pub asks_never : (hint : ℕ) (v : Verdict) → Answers p v (Ok (NeedMoreData hint)) new → ⊥
   asks_never hint v a = grind arith
 
-  pub unchanged : (eof : Bool) (rest : List ℕ) (r : Result Chunk Error) → ParseAnswer p eof rest r new → IsUnchanged p r new
-  unchanged eof rest r h = grind arith
+  -- ---- what a request asks for
 
--- ---- what a request asks for
-
-asks_on : (p new : ParserState) (eof : Bool) (rest : List ℕ) (r : Result Chunk Error) → IsOn p eof rest r new → AsksForSome r
-asks_on p new eof rest r a = grind (arith, waiting-asks)
-
-asks_by : (b : Bool) (p new : ParserState) (eof : Bool) (rest : List ℕ) (r : Result Chunk Error) → nat_lt (p.offset + length rest) (2 ^ 64)
-    ≡ b → ParseAnswer p eof rest r new → AsksForSome r
-asks_by true p new eof rest r t h = asks_on p new eof rest r (is_on p new eof rest r
-    (grind (arith, as_table)))
-asks_by false p new eof rest (Ok chunk) t h = absurd ((as_table p new eof rest (Ok chunk) h).past_the_top (ltb-false _ _ t))
-asks_by false p new eof rest (Err e) t h = tt
-
-pub asks_for_some : (p new : ParserState) (eof : Bool) (rest : List ℕ) (r : Result Chunk Error) → ParseAnswer p eof rest r new
-    → AsksForSome r
-asks_for_some p new eof rest r h = asks_by (nat_lt (p.offset + length rest) (2 ^ 64)) p new eof rest r refl h
+  pub asks_for_some : (eof : Bool) (rest : List ℕ) (r : Result Chunk Error) → ParseAnswer p eof rest r new → AsksForSome r
+  asks_for_some eof rest r h = grind (arith, in_cases p new eof rest r h, asks_never, waiting-asks)
 
 -- ---- what more bytes change
 

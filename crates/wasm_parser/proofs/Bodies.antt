@@ -1,6 +1,6 @@
 -- What is in a code section: its head and its bodies.
-use Rattle.wasm_parser.proofs.Common.{◌≡◌, ℕ, ◌+◌, ◌<◌, ◌≤◌, Bool, true, false, nat_eq, length, Result, Ok, Err, refl, sym, ap, subst, ◌∙◌}
-use Rattle.wasm_parser.proofs.Common.{arith, nat_lt, zero, suc, ◌-◌, not, ◌&&◌, take, drop, option_to_list, Some, None, le-ltb}
+use Rattle.wasm_parser.proofs.Common.{◌≡◌, ℕ, ◌+◌, ◌<◌, ◌≤◌, Bool, true, false, length, Result, Ok, Err, refl, sym, ap, subst, ◌∙◌, arith}
+use Rattle.wasm_parser.proofs.Common.{nat_eq, nat_lt, zero, suc, ◌-◌, not, ◌&&◌, take, drop, option_to_list, Some, None, le-ltb}
 use Rattle.wasm_parser.proofs.Common.{length-take-le, list_all, list_any, FaultAt, fault_at, at_offset, hint_of, hint_at, missing_at}
 use Rattle.wasm_parser.proofs.Common.{unsigned_at, Window, Place, advanced, window_over, Error, UnexpectedEof, FunctionCodeDiffer}
 use Rattle.wasm_parser.proofs.Common.{CodeWithoutFunction, TrailingCode, VarU32, when, Grammar, SectionContext, accept, check, u32_field}

@@ -1,7 +1,7 @@
 -- The names of std, of the crates below and of the specs that several of these proofs use.
-pub use Rattle.std.proofs.Common.{◌≡◌, ℕ, ◌+◌, ◌^◌, ◌<◌, ◌≤◌, Bool, true, false, nat_eq, List, [], ◌∷◌, ◌++◌, length, Result, Ok, Err, refl}
-pub use Rattle.std.proofs.Common.{sym, ap, subst, subst₂, ◌∙◌, arith, length-append, append_assoc, append-nil, inl, inr, cond, nat_lt}
-pub use Rattle.std.proofs.Common.{ltb-false, ltb-true, zero, suc, ◌-◌, not, ◌&&◌, take, drop, option_to_list, Some, None, le-ltb, nat_le}
+pub use Rattle.std.proofs.Common.{◌≡◌, ℕ, ◌+◌, ◌^◌, ◌<◌, ◌≤◌, Bool, true, false, List, [], ◌∷◌, ◌++◌, length, Result, Ok, Err, refl, sym}
+pub use Rattle.std.proofs.Common.{ap, subst, subst₂, ◌∙◌, arith, length-append, append_assoc, append-nil, inl, inr, ltb-true, nat_eq, cond}
+pub use Rattle.std.proofs.Common.{nat_lt, ltb-false, zero, suc, ◌-◌, not, ◌&&◌, take, drop, option_to_list, Some, None, le-ltb, nat_le}
 pub use Rattle.std.proofs.Common.{leb-true, lt-ltb, le-leb, Option, is_some, eqb-true}
 pub use Rattle.std.proofs.lemmas.Bool.{and_parts}
 pub use Rattle.std.proofs.lemmas.Grind.{flat_map-append}
@@ -63,4 +63,3 @@ pub use Rattle.wasm_parser.specs.Stored.{numbers_of}
 pub use Rattle.wasm_parser.specs.declared.payload.Chunk.{Chunk}
 pub use Rattle.wasm_parser.specs.declared.payload.Chunk.TheVariants.{NeedMoreData, Parsed}
 pub use Rattle.wasm_parser.specs.declared.payload.Payload.{Payload}
-pub use Rattle.wasm_parser.specs.declared.payload.Payload.TheVariants.{CustomSection, End}

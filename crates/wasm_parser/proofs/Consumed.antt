@@ -1,5 +1,5 @@
 -- What the events of a reading consumed that ends at the stream's end.
-use Rattle.wasm_parser.proofs.Common.{◌≡◌, ℕ, ◌+◌, nat_eq, List, [], ◌∷◌, ◌++◌, length, refl, sym, ap, ◌∙◌, append-nil, flat_map-append}
+use Rattle.wasm_parser.proofs.Common.{◌≡◌, ℕ, ◌+◌, List, [], ◌∷◌, ◌++◌, length, refl, sym, ap, ◌∙◌, append-nil, nat_eq, flat_map-append}
 use Rattle.wasm_parser.proofs.Common.{tiles_consume, header_end, inside_end, Ending, ended, consumed_by, Tile, final, verdict, stream_end}
 use Rattle.wasm_parser.proofs.Common.{Event, events_of, last_event, bytes_of, grammar, context_of, bodies_left, bytes_left}
 use Rattle.wasm_parser.specs.ParserLaws.{EndConsumesAll}

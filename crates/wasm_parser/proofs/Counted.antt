@@ -1,5 +1,5 @@
 -- Contents that are one number, or begin with a count.
-use Rattle.wasm_parser.proofs.Common.{◌≡◌, ℕ, ◌+◌, ◌<◌, Bool, true, false, nat_eq, List, length, Ok, Err, subst, ◌∙◌, arith, take, Some}
+use Rattle.wasm_parser.proofs.Common.{◌≡◌, ℕ, ◌+◌, ◌<◌, Bool, true, false, List, length, Ok, Err, subst, ◌∙◌, arith, nat_eq, take, Some}
 use Rattle.wasm_parser.proofs.Common.{None, le-ltb, lt-ltb, length-take-le, FaultAt, fault_at, at_offset, hint_of, Number, number}
 use Rattle.wasm_parser.proofs.Common.{in_window, unsigned_at, Section, Window, Place, window_over, place, Error, StartContent}
 use Rattle.wasm_parser.proofs.Common.{DataCountContent, DataCountDiffer, VarU32, when, items, index, data_count, count_of, Form}
@@ -30,13 +30,10 @@ pub single_refused : (trailing : Fault) (p : Place) (f : FaultAt) → unsigned_a
 unfolding unsigned_at
 single_refused trailing p f h = grind arith
 
-not_zero : (n : ℕ) → false ≡ nat_eq n 0 → 0 < n
-not_zero n e = grind arith
-
 pub single_trailing : (trailing : Fault) (p : Place) (v : ℕ) (q : Place) (e : Error) → unsigned_at VarU32 p ≡ Ok (v, q) → false
     ≡ nat_eq (length q.rest) 0 → fault_at e ≡ at_offset trailing q.offset → ReadsSingleNumber trailing p (Err e)
 unfolding unsigned_at
-single_trailing trailing p v q e h l f = single_more trailing p v q (fault_at e) (number VarU32 p.rest) h (not_zero (length q.rest) l) f
+single_trailing trailing p v q e h l f = single_more trailing p v q (fault_at e) (number VarU32 p.rest) h (grind arith) f
 
 pub single_read : (trailing : Fault) (p : Place) (v : ℕ) (q : Place) → unsigned_at VarU32 p ≡ Ok (v, q) → length q.rest ≡ 0
     → ReadsSingleNumber trailing p (Ok v)

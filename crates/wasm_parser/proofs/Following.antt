@@ -1,8 +1,8 @@
 -- What a call of a parser says of the reading of a stream.
-use Rattle.wasm_parser.proofs.Common.{◌≡◌, ℕ, ◌+◌, ◌≤◌, Bool, true, false, nat_eq, List, [], ◌∷◌, ◌++◌, length, Result, Ok, Err, refl, sym}
-use Rattle.wasm_parser.proofs.Common.{ap, subst, subst₂, ◌∙◌, arith, length-append, append-nil, inl, inr, cond, take, take_at, ◌⊎◌, FaultAt}
-use Rattle.wasm_parser.proofs.Common.{Error, verdict-more, header_end, inside_end, Grown, grows, Ending, fault, ended, consumed_by, Tile}
-use Rattle.wasm_parser.proofs.Common.{Verdict, tile, final, verdict, header_grammar, body_grammar, section_grammar, stream_end, Event}
+use Rattle.wasm_parser.proofs.Common.{◌≡◌, ℕ, ◌+◌, ◌≤◌, Bool, true, false, List, [], ◌∷◌, ◌++◌, length, Result, Ok, Err, refl, sym, ap}
+use Rattle.wasm_parser.proofs.Common.{subst, subst₂, ◌∙◌, arith, length-append, append-nil, inl, inr, nat_eq, cond, take, take_at, ◌⊎◌}
+use Rattle.wasm_parser.proofs.Common.{FaultAt, Error, verdict-more, header_end, inside_end, Grown, grows, Ending, fault, ended, consumed_by}
+use Rattle.wasm_parser.proofs.Common.{Tile, Verdict, tile, final, verdict, header_grammar, body_grammar, section_grammar, stream_end, Event}
 use Rattle.wasm_parser.proofs.Common.{event_of, last_event, Reading, bytes_of, grammar, Waiting, enough, wants, waiting, MayBe, ParseAnswer}
 use Rattle.wasm_parser.proofs.Common.{ParserState, grammar_of, known_context, ended_state, IsStateAfter, Chunk, Parsed}
 use Rattle.wasm_grammar.specs.NextEvent.{NextEvent}

@@ -1,12 +1,12 @@
 -- What is at the start of a section, and what is read there.
-use Rattle.wasm_parser.proofs.Common.{◌≡◌, ℕ, ◌+◌, ◌^◌, ◌<◌, ◌≤◌, Bool, true, false, nat_eq, List, [], ◌∷◌, length, Result, Ok, Err, refl}
-use Rattle.wasm_parser.proofs.Common.{sym, ap, subst, subst₂, arith, nat_lt, ◌-◌, not, ◌&&◌, take, drop, Some, None, le-ltb, nat_le, lt-ltb}
+use Rattle.wasm_parser.proofs.Common.{◌≡◌, ℕ, ◌+◌, ◌^◌, ◌<◌, ◌≤◌, Bool, true, false, List, [], ◌∷◌, length, Result, Ok, Err, refl, sym, ap}
+use Rattle.wasm_parser.proofs.Common.{subst, subst₂, arith, nat_eq, nat_lt, ◌-◌, not, ◌&&◌, take, drop, Some, None, le-ltb, nat_le, lt-ltb}
 use Rattle.wasm_parser.proofs.Common.{le-leb, length-take-le, FaultAt, fault_at, at_offset, hint_of, magic, agree, hint_at, missing_at}
 use Rattle.wasm_parser.proofs.Common.{name_limit, text_at, unsigned_at, Window, Place, advanced, window_over, place, Error, UnexpectedEof}
 use Rattle.wasm_parser.proofs.Common.{MagicAtSection, OutOfOrder, VarU32, when, Form, Kind, custom, unknown, kind_of, wrong_content}
 use Rattle.wasm_parser.proofs.Common.{Grammar, SectionContext, u32_field, whole_grammar, wrong_data, content_grammar, after_length, verdict}
 use Rattle.wasm_parser.proofs.Common.{section_grammar, section_report, enough, waiting, IsPayload, MatchesGrammar, ReadsByGrammar}
-use Rattle.wasm_parser.proofs.Common.{MatchesVerdict, HintsAs, ParserState, known_context, content_at, Payload, CustomSection}
+use Rattle.wasm_parser.proofs.Common.{MatchesVerdict, HintsAs, ParserState, known_context, content_at, Payload}
 use Rattle.std.proofs.lemmas.Bool.{lt-leb}
 use Rattle.std.specs.List.{starts_with}
 use Rattle.wasm_base.specs.Name.{first_of, byte_at}
@@ -16,6 +16,7 @@ use Rattle.wasm_grammar.specs.Content.{rank_of}
 use Rattle.wasm_grammar.specs.Grammar.{after_id}
 use Rattle.wasm_grammar.specs.Reading.{custom_section, unknown_section}
 use Rattle.wasm_parser.specs.ReadsPart.{ReadsNextSection}
+use Rattle.wasm_parser.specs.declared.payload.Payload.TheVariants.{CustomSection}
 use Rattle.wasm_parser.proofs.ReadingFields.{report_at, report_bytes, report_missing, report_number, report_no_number, report_wrong}
 use Rattle.wasm_parser.proofs.ReadingFields.{report_right, report_whole, ReadNumber, read_number}
 
@@ -54,28 +55,27 @@ module _ (context : SectionContext) (start id : ℕ) (p : Place) where
       (rw o (report_number s p p.offset
       (λ size width. after_length context (kind_of context.encoding id) id p.offset (p.offset + width) size) r a v m.used m.reads (at_q s)))
 
--- a content that would end past the top of the offsets
-pub sized_large : (context : SectionContext) (kind : Kind) (id field size : ℕ) (p : Place) (e : Error) (a : Place)
-    → 2 ^ 64 - 1 < p.offset + size → fault_at e ≡ record { fault = SectionTooLarge; offset = field; number = Some size }
-    → hint_of e ≡ None → ReadsByGrammar (after_length context kind id field p.offset size) p (Err e) a
-sized_large context kind id field size p e a h f hint =
-    let t : nat_lt (2 ^ 64 - 1) (p.offset + size) ≡ true = lt-ltb (2 ^ 64 - 1) (p.offset + size) h in
-    let x : FaultAt = record { fault = SectionTooLarge; offset = field; number = Some size } in
-    let w : when (nat_lt (2 ^ 64 - 1) (p.offset + size)) x ≡ Some (fault_at e) = rw t (ap Some (sym f)) in
-    λ s. report_wrong s p (when (nat_lt (2 ^ 64 - 1) (p.offset + size)) x) _ e a w hint
-
 -- whether a section of this kind and id may not come after others, for its rank
 abbrev pub is_disordered : SectionContext → Kind → ℕ → Bool
 is_disordered context kind id = nat_lt 0 (rank_of kind id) && not (context.may_follow (rank_of kind id))
 
--- one that ranks no higher than one before it
-pub sized_disordered : (context : SectionContext) (kind : Kind) (id field size : ℕ) (p : Place) (e : Error) (a : Place)
-    → p.offset + size ≤ 2 ^ 64 - 1 → is_disordered context kind id ≡ true → fault_at e ≡ at_offset OutOfOrder p.offset
-    → hint_of e ≡ None → ReadsByGrammar (after_length context kind id field p.offset size) p (Err e) a
-sized_disordered context kind id field size p e a h k f hint =
-    let y : FaultAt = at_offset OutOfOrder p.offset in
-    let ranks : when (is_disordered context kind id) y ≡ Some (fault_at e) = rw k (ap Some (sym f)) in
-    search (report_wrong, le-ltb, report_right)
+module _ (context : SectionContext) (kind : Kind) (id field size : ℕ) (p : Place) (e : Error) (a : Place) where
+  -- a content that would end past the top of the offsets
+  pub sized_large : 2 ^ 64 - 1 < p.offset + size → fault_at e ≡ record { fault = SectionTooLarge; offset = field; number = Some size }
+      → hint_of e ≡ None → ReadsByGrammar (after_length context kind id field p.offset size) p (Err e) a
+  sized_large h f hint =
+      let t : nat_lt (2 ^ 64 - 1) (p.offset + size) ≡ true = lt-ltb (2 ^ 64 - 1) (p.offset + size) h in
+      let x : FaultAt = record { fault = SectionTooLarge; offset = field; number = Some size } in
+      let w : when (nat_lt (2 ^ 64 - 1) (p.offset + size)) x ≡ Some (fault_at e) = rw t (ap Some (sym f)) in
+      λ s. report_wrong s p (when (nat_lt (2 ^ 64 - 1) (p.offset + size)) x) _ e a w hint
+
+  -- one that ranks no higher than one before it
+  pub sized_disordered : p.offset + size ≤ 2 ^ 64 - 1 → is_disordered context kind id ≡ true → fault_at e ≡ at_offset OutOfOrder p.offset
+      → hint_of e ≡ None → ReadsByGrammar (after_length context kind id field p.offset size) p (Err e) a
+  sized_disordered h k f hint =
+      let y : FaultAt = at_offset OutOfOrder p.offset in
+      let ranks : when (is_disordered context kind id) y ≡ Some (fault_at e) = rw k (ap Some (sym f)) in
+      search (report_wrong, le-ltb, report_right)
 
 -- one that is in its place
 pub sized_ordered : (context : SectionContext) (kind : Kind) (id field size : ℕ) (p : Place) (r : Result Payload Error) (a : Place)
@@ -99,14 +99,6 @@ pub too_few : (size : ℕ) (p : Place) (f : FaultAt) → content_at size p ≡ E
 unfolding content_at
 too_few size p f h = grind arith
 
--- truncated content
-pub whole_missing : (context : SectionContext) (kind : Form) (id size : ℕ) (p : Place) (e : Error) (a : Place) → content_at size p
-    ≡ Err (fault_at e) → hint_of e ≡ hint_at (missing_at size p) (fault_at e).fault
-    → ReadsByGrammar (whole_grammar context kind id p.offset size) p (Err e) a
-whole_missing context kind id size p e a h hint =
-    let t = too_few size p (fault_at e) h in
-    λ s. report_missing s p size p.offset _ e a t.0 t.1 hint
-
 -- content that is
 pub record HasContent (size : ℕ) (p : Place) (w : Window) (q : Place) : Type 0 where
   pub there : size ≤ length p.rest
@@ -116,6 +108,14 @@ pub record HasContent (size : ℕ) (p : Place) (w : Window) (q : Place) : Type 0
 pub has_content : (size : ℕ) (p : Place) (w : Window) (q : Place) → content_at size p ≡ Ok (w, q) → HasContent size p w q
 unfolding content_at
 has_content size p w q h = grind arith
+
+-- truncated content
+pub whole_missing : (context : SectionContext) (kind : Form) (id size : ℕ) (p : Place) (e : Error) (a : Place) → content_at size p
+    ≡ Err (fault_at e) → hint_of e ≡ hint_at (missing_at size p) (fault_at e).fault
+    → ReadsByGrammar (whole_grammar context kind id p.offset size) p (Err e) a
+whole_missing context kind id size p e a h hint =
+    let t = too_few size p (fault_at e) h in
+    λ s. report_missing s p size p.offset _ e a t.0 t.1 hint
 
 -- good content, reported by a payload
 pub whole_good : (context : SectionContext) (kind : Form) (id size : ℕ) (p : Place) (w : Window) (q : Place) (payload : Payload)

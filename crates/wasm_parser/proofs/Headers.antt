@@ -1,8 +1,8 @@
 -- What is read of a header.
-use Rattle.wasm_parser.proofs.Common.{◌≡◌, ℕ, ◌+◌, ◌≤◌, Bool, true, false, List, length, Result, Ok, Err, refl, sym, ap, ◌∙◌, arith, cond}
-use Rattle.wasm_parser.proofs.Common.{nat_lt, ltb-false, ltb-true, not, take, drop, Some, None, fault_at, at_offset, hint_of, magic, agree}
-use Rattle.wasm_parser.proofs.Common.{hint_at, missing_at, Outcome, ◌>>=◌, Place, advanced, Error, UnexpectedEof, UnknownVersion, when}
-use Rattle.wasm_parser.proofs.Common.{header_grammar, tile_report, IsPayload, MatchesGrammar, Payload}
+use Rattle.wasm_parser.proofs.Common.{◌≡◌, ℕ, ◌+◌, ◌≤◌, Bool, true, false, List, length, Result, Ok, Err, refl, sym, ap, ◌∙◌, arith}
+use Rattle.wasm_parser.proofs.Common.{ltb-true, cond, nat_lt, ltb-false, not, take, drop, Some, None, fault_at, at_offset, hint_of, magic}
+use Rattle.wasm_parser.proofs.Common.{agree, hint_at, missing_at, Outcome, ◌>>=◌, Place, advanced, Error, UnexpectedEof, UnknownVersion}
+use Rattle.wasm_parser.proofs.Common.{when, header_grammar, tile_report, IsPayload, MatchesGrammar, Payload}
 use Rattle.std.proofs.Common.{◌/◌, ◌%◌}
 use Rattle.wasm_base.specs.Header.{header_version_at}
 use Rattle.wasm_base.specs.Hints.{missing_of_header}

@@ -1,5 +1,5 @@
 -- What a parser reads at its offset, and what it then returns.
-use Rattle.wasm_parser.proofs.Common.{◌≡◌, ℕ, ◌+◌, ◌^◌, ◌<◌, Bool, true, false, nat_eq, List, length, Result, Ok, Err, refl, subst, arith}
+use Rattle.wasm_parser.proofs.Common.{◌≡◌, ℕ, ◌+◌, ◌^◌, ◌<◌, Bool, true, false, List, length, Result, Ok, Err, refl, subst, arith, nat_eq}
 use Rattle.wasm_parser.proofs.Common.{◌-◌, not, Window, Place, window_over, place, Error, headed, bodied, fault, ended, Tile, Verdict, tile}
 use Rattle.wasm_parser.proofs.Common.{final, Grammar, verdict, body_grammar, tile_report, IsPayload, report_of, ParseAnswer, MatchesGrammar}
 use Rattle.wasm_parser.proofs.Common.{MatchesVerdict, Advances, ParserState, grammar_of, is_at_section, state_after_tile, Chunk, Parsed}

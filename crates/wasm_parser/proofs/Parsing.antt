@@ -1,13 +1,14 @@
 -- What a call of `parse` returns.
-use Rattle.wasm_parser.proofs.Common.{◌≡◌, ℕ, ◌+◌, ◌^◌, ◌<◌, ◌≤◌, Bool, true, false, nat_eq, List, [], length, Result, Ok, Err, refl, arith}
+use Rattle.wasm_parser.proofs.Common.{◌≡◌, ℕ, ◌+◌, ◌^◌, ◌<◌, ◌≤◌, Bool, true, false, List, [], length, Result, Ok, Err, refl, arith, nat_eq}
 use Rattle.wasm_parser.proofs.Common.{cond, Some, fault_at, at_offset, Error, OffsetRange, Guarded-header, Guarded-inside_at, Ending, fault}
 use Rattle.wasm_parser.proofs.Common.{ended, Tile, Verdict, tile, final, SectionContext, verdict, header_grammar, section_grammar, inside}
 use Rattle.wasm_parser.proofs.Common.{Waiting, enough, asked_at_section, waiting, report_of, ParseAnswer, Advances, ParserState, grammar_of}
 use Rattle.wasm_parser.proofs.Common.{known_context, ended_state, is_at_section, is_lacking, state_after, Chunk, NeedMoreData, Parsed}
-use Rattle.wasm_parser.proofs.Common.{Payload, End}
+use Rattle.wasm_parser.proofs.Common.{Payload}
 use Rattle.wasm_base.specs.declared.fault.Fault.TheVariants.{FunctionWithoutCode, DataCountWithoutData}
 use Rattle.wasm_grammar.specs.Grammar.{end_at_section}
 use Rattle.wasm_grammar.specs.Waiting.{asked}
+use Rattle.wasm_parser.specs.declared.payload.Payload.TheVariants.{End}
 use Rattle.wasm_grammar.proofs.endings.Waiting.{tile_decided}
 use Rattle.wasm_grammar.proofs.parts.Verdicts.{Guarded}
 use Rattle.wasm_parser.proofs.AnswerTables.{Answers, AnswersOn, from_table}

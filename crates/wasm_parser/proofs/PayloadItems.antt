@@ -1,13 +1,11 @@
 -- The items of payloads are those of their windows.
 use Rattle.wasm_parser.proofs.Common.{◌≡◌, ℕ, refl, ap, subst, ReadsAs, Outcome, Section, Window, Place, place, Report, counted, counted_by}
-use Rattle.wasm_parser.proofs.Common.{BeginsAfterCount, CustomSection, End}
+use Rattle.wasm_parser.proofs.Common.{BeginsAfterCount}
 use Rattle.wasm_base.proofs.Runs.{runs_give_items, runs_give_owned_items}
 use Rattle.wasm_base.specs.Section.{all_items, GivesItems, NextItem, NextItemIn}
 use Rattle.wasm_items.specs.RecGroups.{rec_group_parts, rec_group_at}
 use Rattle.wasm_parser.specs.ParseAnswer.{unread}
-use Rattle.wasm_parser.specs.PayloadItems.{NextOf, GivesWindow, GivesTypes, NoOthersAreCounted}
-use Rattle.wasm_parser.specs.declared.payload.Payload.TheVariants.{Version, StartSection, DataCountSection, CodeSectionStart}
-use Rattle.wasm_parser.specs.declared.payload.Payload.TheVariants.{CodeSectionEntry, UnknownSection}
+use Rattle.wasm_parser.specs.PayloadItems.{NextOf, GivesWindow, GivesTypes}
 
 abbrev window_in : Report → Window → Window
 window_in (counted id count w) other = w
@@ -34,14 +32,3 @@ module _ {T : Type 0} (meaning : Place → Outcome T → Type 0) (own id count :
 
 pub gives_types : GivesTypes (NextItemIn (ReadsAs rec_group_parts rec_group_at))
 gives_types id count w s (e, b) = search (gives_window, runs_give_owned_items)
-
-pub no_others_are_counted : NoOthersAreCounted
-no_others_are_counted id count w (Version encoding num range) (e, b) = cc
-no_others_are_counted id count w (StartSection func range) (e, b) = cc
-no_others_are_counted id count w (DataCountSection c range) (e, b) = cc
-no_others_are_counted id count w (CodeSectionStart c size range) (e, b) = cc
-no_others_are_counted id count w (CodeSectionEntry body) (e, b) = cc
-no_others_are_counted id count w (CustomSection s) (e, b) = cc
-no_others_are_counted id count w (UnknownSection i contents range) (e, b) = cc
-no_others_are_counted id count w (End at) (e, b) = cc
-no_others_are_counted id count w _ (e, b) = refl

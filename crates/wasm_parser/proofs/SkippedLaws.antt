@@ -1,6 +1,6 @@
 -- What is after the rest of a code section that a parser passes.
-use Rattle.wasm_parser.proofs.Common.{◌≡◌, ℕ, ◌+◌, ◌<◌, ◌≤◌, Bool, true, false, nat_eq, List, [], ◌∷◌, ◌++◌, length, refl, sym, ap, subst}
-use Rattle.wasm_parser.proofs.Common.{◌∙◌, arith, length-append, append_assoc, append-nil, cond, Some, None, is_some, flat_map-append}
+use Rattle.wasm_parser.proofs.Common.{◌≡◌, ℕ, ◌+◌, ◌<◌, ◌≤◌, Bool, true, false, List, [], ◌∷◌, ◌++◌, length, refl, sym, ap, subst, ◌∙◌}
+use Rattle.wasm_parser.proofs.Common.{arith, length-append, append_assoc, append-nil, nat_eq, cond, Some, None, is_some, flat_map-append}
 use Rattle.wasm_parser.proofs.Common.{All-nil, All-cons, All, Window, bodied, tiles_consume, consumed_by, Tile, tile, Shape, SectionContext}
 use Rattle.wasm_parser.proofs.Common.{code_entry, verdict, body_grammar, section_grammar, Event, tile_report, event_of, events_of, bytes_of}
 use Rattle.wasm_parser.proofs.Common.{grammar, bytes_left, counts, Along, ParserState, IsStateAfter, greatest, skipped_state}

@@ -1,11 +1,12 @@
 -- What a parser knows is what the tiles before it say.
-use Rattle.wasm_parser.proofs.Common.{◌≡◌, ℕ, ◌+◌, ◌<◌, Bool, true, false, nat_eq, List, [], ◌∷◌, ◌++◌, length, refl, sym, ap, ◌∙◌, arith}
-use Rattle.wasm_parser.proofs.Common.{length-append, cond, nat_lt, ltb-true, ◌&&◌, option_to_list, Some, Option, eqb-true, and_parts}
-use Rattle.wasm_parser.proofs.Common.{list_all, headed, bodied, Grown, grows, items, index, data_count, count_of, Kind, kind_of, Tile, tile}
-use Rattle.wasm_parser.proofs.Common.{Shape, SectionContext, content_grammar, section, verdict, header_grammar, section_grammar, data_id}
-use Rattle.wasm_parser.proofs.Common.{function_id, grammar, inside, context_of, bodies_left, bytes_left, counts, ParserState, initial_state}
-use Rattle.wasm_parser.proofs.Common.{grammar_of, known_context, IsStateAfter, greatest, state_after_tile}
+use Rattle.wasm_parser.proofs.Common.{◌≡◌, ℕ, ◌+◌, ◌<◌, Bool, true, false, List, [], ◌∷◌, ◌++◌, length, refl, sym, ap, ◌∙◌, arith}
+use Rattle.wasm_parser.proofs.Common.{length-append, ltb-true, nat_eq, cond, nat_lt, ◌&&◌, option_to_list, Some, Option, eqb-true}
+use Rattle.wasm_parser.proofs.Common.{and_parts, list_all, headed, bodied, Grown, grows, items, index, data_count, count_of, Kind, kind_of}
+use Rattle.wasm_parser.proofs.Common.{Tile, tile, Shape, SectionContext, content_grammar, section, verdict, header_grammar, section_grammar}
+use Rattle.wasm_parser.proofs.Common.{data_id, function_id, grammar, inside, context_of, bodies_left, bytes_left, counts, ParserState}
+use Rattle.wasm_parser.proofs.Common.{initial_state, grammar_of, known_context, IsStateAfter, greatest, state_after_tile}
 use Rattle.std.proofs.Common.{max}
+use Rattle.std.proofs.lemmas.Bool.{false_from_ne_true}
 use Rattle.wasm_grammar.specs.Grammar.{code_start}
 use Rattle.wasm_grammar.specs.Ids.{place_of, code_id, data_count_id, start_id}
 use Rattle.wasm_grammar.specs.Tiling.{encoding_in, tile_rank, count_in, bodies_after, bytes_after}
@@ -34,12 +35,9 @@ module _ (p : ParserState) (start : ℕ) (prefix : List ℕ) (s : IsStateAfter p
 pub grammar_same : (p : ParserState) (start : ℕ) (prefix : List ℕ) (s : IsStateAfter p start prefix) → grammar_of p ≡ grammar start s.tiles
 grammar_same p start prefix s = grammar_at p start prefix s s.tiles refl
 
-not_true : (b : Bool) → (b ≡ true → ⊥) → b ≡ false
-not_true b h = grind arith
-
 -- below the rank of a section there is none of them
 none_in : (n : ℕ) (s : Shape) (xs : List ℕ) → nat_lt (tile_rank s) (place_of n) ≡ true → xs ≡ [] → count_in n s xs ≡ []
-none_in n s xs e f = grind (arith, not_true, eqb-true)
+none_in n s xs e f = grind (arith, false_from_ne_true, eqb-true)
 
 pub counts_none : (n : ℕ) (ts : List Tile) → list_all (λ (u : Tile). nat_lt (tile_rank u.shape) (place_of n)) ts ≡ true → counts n ts ≡ []
 counts_none n [] e = refl

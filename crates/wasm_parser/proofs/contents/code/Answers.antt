@@ -1,4 +1,4 @@
-use Rattle.wasm_parser.proofs.Common.{ℕ, ◌+◌, nat_eq, List, [], ◌∷◌, length, sym, ap, ◌∙◌, arith, nat_lt, ◌-◌, not, ◌&&◌}
+use Rattle.wasm_parser.proofs.Common.{ℕ, ◌+◌, List, [], ◌∷◌, length, sym, ap, ◌∙◌, arith, nat_eq, nat_lt, ◌-◌, not, ◌&&◌}
 use Rattle.wasm_parser.proofs.Common.{err_from_is_err_and, list_all, list_any, at_offset, place, UnexpectedEof, FunctionCodeDiffer}
 use Rattle.wasm_parser.proofs.Common.{CodeWithoutFunction, code_start}
 use Rattle.wasm_parser.proofs.Bodies.{code_no_count, code_short, code_wrong, code_read, counts_differ, no_function, right_count}
