@@ -1,8 +1,7 @@
 -- The table of the bytes that are escaped.
-use Rattle.std.proofs.Common.{◌≡◌, ℕ, zero, suc, ◌-◌, ◌<◌, Bool, true, false, ◌&&◌, T, eqb, eqb→eq, get_or, nat_eq, refl}
-use Rattle.std.proofs.Common.{inl, inr, arith, eq-zero-or-pos}
-use Rattle.std.specs.Prelude.{if◌then◌else◌}
-use Rattle.wasm_tree.specs.Fields.{is_escaped}
+use Rattle.wasm_tree.proofs.Common.{◌≡◌, ℕ, zero, suc, ◌-◌, ◌<◌, Bool, true, false, ◌&&◌, get_or, nat_eq, refl, arith, if◌then◌else◌}
+use Rattle.wasm_tree.proofs.Common.{is_escaped}
+use Rattle.std.proofs.Common.{T, eqb, eqb→eq, inl, inr, eq-zero-or-pos}
 use Rattle.wasm_tree.specs.declared.escapes.TheConstants.{ESCAPED}
 use lib.Ieee.Fits.{and_l, and_r}
 

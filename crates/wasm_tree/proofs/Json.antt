@@ -1,17 +1,12 @@
 -- Lines of JSON that are put together.
-use Rattle.std.proofs.Common.{◌≡◌, ℕ, zero, suc, ◌+◌, ◌<◌, ◌≤◌, ◌%◌, ◌/◌, Bool, true, false, List, [], ◌∷◌, ◌++◌, codes, refl, sym, ap}
-use Rattle.std.proofs.Common.{◌∙◌, ◌^◌, subst, nat_lt, nat_eq, decimal, arith, length, ◌&&◌, ◌||◌}
-use Rattle.std.specs.Prelude.{slice_index, if◌then◌else◌}
-use Rattle.std.specs.List.{list_all, list_any}
-use Rattle.std.proofs.lemmas.Bool.Decides.{nat_tests}
-use Rattle.std.proofs.lemmas.Fmt.{decimal_by_steps}
-use Rattle.wasm_tree.specs.Json.{Place, State, Bracket, object, array, here, start, after_all, after_byte, has_value, is_digit}
-use Rattle.wasm_tree.specs.Json.{first_value, value, string}
-use Rattle.wasm_tree.specs.Json.{after_minus, after_zero, digits, ended, IsAt, Leads, StaysInString, after_value}
-use Rattle.wasm_tree.specs.Json.{begins_value, escaped_byte, is_hexadecimal, object_end}
-use Rattle.wasm_tree.specs.Fields.{is_escaped}
-use Rattle.wasm_tree.specs.declared.objects.Spot.{Spot}
-use Rattle.wasm_tree.specs.declared.objects.Spot.TheVariants.{Ended, InName, AtValue, InText}
+use Rattle.wasm_tree.proofs.Common.{◌≡◌, ℕ, zero, suc, ◌<◌, Bool, true, false, ◌&&◌, nat_eq, refl, arith, ◌+◌, ◌≤◌, ◌%◌, List, [], ◌∷◌}
+use Rattle.wasm_tree.proofs.Common.{◌++◌, codes, sym, ap, ◌∙◌, ◌^◌, subst, nat_lt, decimal, length, ◌||◌, nat_tests, decimal_by_steps}
+use Rattle.wasm_tree.proofs.Common.{list_all, list_any, if◌then◌else◌, slice_index, is_escaped, start, after_all, IsAt, Leads, object_end}
+use Rattle.wasm_tree.proofs.Common.{Spot, Ended, AtValue}
+use Rattle.std.proofs.Common.{◌/◌}
+use Rattle.wasm_tree.specs.Json.{Place, State, Bracket, object, array, here, after_byte, has_value, is_digit, first_value, value, string}
+use Rattle.wasm_tree.specs.Json.{after_minus, after_zero, digits, ended, StaysInString, after_value, begins_value, escaped_byte}
+use Rattle.wasm_tree.specs.Json.{is_hexadecimal}
 
 -- bytes after bytes
 pub after_all-append : (s : State) (xs ys : List ℕ) → after_all s (xs ++ ys) ≡ after_all (after_all s xs) ys
@@ -74,15 +69,11 @@ module _ (k : Bool) (inside : List Bracket) where
 
 -- the escape of a byte is part of its string
 pub escaped_stays : (b : ℕ) → b < 256 → StaysInString (escaped_byte b)
-escaped_stays b h InName i s e = rw e (escaped_by true (object ∷ []) b h (nat_lt b 32) (nat_eq b 34 || nat_eq b 92) refl refl)
-escaped_stays b h InText i s e = rw e (escaped_by false (object ∷ []) b h (nat_lt b 32) (nat_eq b 34 || nat_eq b 92) refl refl)
-escaped_stays b h other i s e = cc
+escaped_stays b h other i s e = grind (arith, escaped_by)
 
 -- nor do plain bytes end it
 pub plain_run_stays : (xs : List ℕ) → list_any is_escaped xs ≡ false → StaysInString xs
-plain_run_stays xs p InName i s e = rw e (run_stays true (object ∷ []) xs p)
-plain_run_stays xs p InText i s e = rw e (run_stays false (object ∷ []) xs p)
-plain_run_stays xs p other i s e = cc
+plain_run_stays xs p other i s e = grind (arith, run_stays)
 
 -- ---- numbers
 

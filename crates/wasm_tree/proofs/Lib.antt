@@ -1,3 +1,4 @@
+pub mod Common
 pub mod EscapedBytes
 pub mod ForCallers
 pub mod Json

@@ -1,14 +1,10 @@
 -- Parts of JSON objects that are put at once.
-use Rattle.std.proofs.Common.{◌≡◌, ℕ, ◌<◌, ◌^◌, false, List, ◌++◌, codes, decimal, arith, refl}
-use Rattle.std.specs.List.{list_any}
-use Rattle.wasm_tree.proofs.Json.{after_all-append, completes, leads_from, number_leads, plain_run_stays}
-use Rattle.wasm_tree.specs.Fields.{is_escaped}
-use Rattle.wasm_tree.specs.Json.{Leads, after_all, item_start, member_start, name_start, number_members, object_end}
+use Rattle.wasm_tree.proofs.Common.{◌≡◌, ℕ, ◌<◌, false, refl, arith, List, ◌++◌, codes, ◌^◌, decimal, list_any, is_escaped, after_all}
+use Rattle.wasm_tree.proofs.Common.{Leads, object_end, Space, Spot, Ended, AtValue, InText}
+use Rattle.wasm_tree.specs.Json.{item_start, member_start, name_start, number_members}
 use Rattle.wasm_tree.specs.Numbers.{word_of}
-use Rattle.wasm_tree.specs.declared.numbers.Space.{Space}
-use Rattle.wasm_tree.specs.declared.numbers.Space.TheVariants.{Types, Functions, Tables, Memories, Tags, Globals, Elements, DataSegments}
-use Rattle.wasm_tree.specs.declared.objects.Spot.{Spot}
-use Rattle.wasm_tree.specs.declared.objects.Spot.TheVariants.{Outside, Ended, InName, AtValue, InText}
+use Rattle.wasm_tree.specs.declared.objects.Spot.TheVariants.{Outside, InName}
+use Rattle.wasm_tree.proofs.Json.{after_all-append, completes, leads_from, number_leads, plain_run_stays}
 
 -- what leads to a spot, and what leads on from there
 leads_on : (old mid new : Spot) (xs ys : List ℕ) → Leads old xs mid → Leads mid ys new → Leads old (xs ++ ys) new
@@ -53,14 +49,7 @@ space_leads : Leads InName (codes "space\":\"") InText
 space_leads s i = rw i refl
 
 word_leads : (space : Space) → Leads InText (word_of space) InText
-word_leads Types s i = rw i refl
-word_leads Functions s i = rw i refl
-word_leads Tables s i = rw i refl
-word_leads Memories s i = rw i refl
-word_leads Tags s i = rw i refl
-word_leads Globals s i = rw i refl
-word_leads Elements s i = rw i refl
-word_leads DataSegments s i = rw i refl
+word_leads space s i = grind arith
 
 index_leads : Leads InText (codes "\",\"number\":") AtValue
 index_leads s i = rw i refl

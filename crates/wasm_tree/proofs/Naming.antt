@@ -1,22 +1,18 @@
 -- What names are after one was added, by the keys of a map.
-use Rattle.std.proofs.Common.{◌≡◌, ◌≢◌, ℕ, ◌^◌, ◌<◌, ◌≤◌, ◌⊎◌, inl, inr, Bool, true, false, cond, List, map, Option, Some, None}
-use Rattle.std.proofs.Common.{nat_eq, nat_lt, if◌then◌else◌, refl, sym, ap, ap₂, ◌∙◌}
+use Rattle.wasm_tree.proofs.Common.{◌≡◌, ℕ, ◌<◌, Bool, true, false, nat_eq, refl, arith, ◌≤◌, List, sym, ap, ◌∙◌, ◌^◌, nat_lt, ◌≢◌, Option}
+use Rattle.wasm_tree.proofs.Common.{Some, None, UpdatesBy, get_by, is_some, unwrap_or, if◌then◌else◌, key_cmp, names_in, AddsName, named}
+use Rattle.wasm_tree.proofs.Common.{Number, Space}
+use Rattle.std.proofs.Common.{◌⊎◌, cond, map}
 use Rattle.std.proofs.lemmas.Bool.{cases_Bool, false_from_ne_true, le-ltb, lt-ltb, true≢false}
 use Rattle.std.proofs.lemmas.Map.Lookups.{exact_pairs, exact_unsigned}
 use Rattle.std.proofs.lemmas.Map.Made.{lookup-map_values}
 use Rattle.std.proofs.lemmas.Map.Views.{tells_apart}
-use Rattle.std.specs.BTreeMap.{BTreeMap, UpdatesBy, get_by, is_at}
-use Rattle.std.specs.Cmp.{nat_cmp_is}
-use Rattle.std.specs.Option.{is_some, option_map, unwrap_or}
-use Rattle.std.specs.Ordering.{is_eq, nat_cmp, ordering_then}
+use Rattle.std.specs.BTreeMap.{BTreeMap, is_at}
+use Rattle.std.specs.Option.{option_map}
 use Rattle.std.specs.String.{string_bytes}
-use Rattle.std.specs.declared.cmp.Ordering.TheVariants.{Equal}
 use Rattle.std.specs.declared.string.String.{String}
-use Rattle.wasm_tree.specs.ItemNames.{Names, rank_of, key_of, key_cmp, names_in, named, AddsName, KeepsNames}
-use Rattle.wasm_tree.specs.Numbers.{Number}
-use Rattle.wasm_tree.specs.declared.numbers.Space.{Space}
-use Rattle.wasm_tree.specs.declared.numbers.Space.TheVariants.{Types, Functions, Tables, Memories, Tags}
-use Rattle.wasm_tree.specs.declared.numbers.Space.TheVariants.{Globals, Elements, DataSegments}
+use Rattle.wasm_tree.specs.ItemNames.{Names, rank_of, key_of, KeepsNames}
+use Rattle.wasm_tree.specs.declared.numbers.Space.TheVariants.{Types, Functions, Tables, Memories, Tags, Globals, Elements, DataSegments}
 
 -- ---- each item has a key of its own
 
@@ -32,14 +28,7 @@ space_at rank =
     else DataSegments
 
 space_of_rank : (space : Space) → space_at (rank_of space) ≡ space
-space_of_rank Types = refl
-space_of_rank Functions = refl
-space_of_rank Tables = refl
-space_of_rank Memories = refl
-space_of_rank Tags = refl
-space_of_rank Globals = refl
-space_of_rank Elements = refl
-space_of_rank DataSegments = refl
+space_of_rank space = grind arith
 
 same_space : (a b : Space) → rank_of a ≡ rank_of b → a ≡ b
 same_space a b same = sym (space_of_rank a) ∙ (ap space_at same ∙ space_of_rank b)
@@ -48,21 +37,13 @@ abbrev finds : Number → Number → Bool
 finds x y = is_at (key_cmp (key_of x)) (key_of y)
 
 finds_itself : (x : Number) → finds x x ≡ true
-finds_itself x =
-    let ranks = nat_cmp_is (rank_of x.space) (rank_of x.space) Equal refl in
-    let indices = nat_cmp_is x.index x.index Equal refl in
-    sym (ap₂ (λ a b. is_eq (ordering_then a b)) ranks indices)
+finds_itself x = grind arith
 
 finds_no_other : (x y : Number) → finds x y ≡ true → x ≡ y
-finds_no_other x y found =
-    let keys = tells_apart {R = key_cmp} (exact_pairs nat_cmp nat_cmp exact_unsigned exact_unsigned) (key_of x) (key_of y) found in
-    ap₂ (λ s i. record { space = s; index = i }) (same_space x.space y.space (ap (λ k. k.0) keys)) (ap (λ k. k.1) keys)
+finds_no_other x y found = grind (arith, tells_apart, exact_pairs, exact_unsigned, same_space)
 
 same_or_other : (x y : Number) → (x ≡ y) ⊎ (x ≢ y)
-same_or_other x y = elim (cases_Bool (finds x y)) [
-  | inl found ↦ inl (finds_no_other x y found)
-  | inr not_found ↦ inr (λ same. true≢false (sym (finds_itself x) ∙ (ap (finds x) same ∙ not_found)))
-]
+same_or_other x y = grind (arith, cases_Bool, finds_no_other, true≢false, finds_itself)
 
 -- ---- names in a map
 
@@ -98,24 +79,17 @@ pub same_kept : (old new : Names) → new ≡ old → KeepsNames old new
 same_kept old new same = λ number name has. ap (λ names. named names number) same ∙ has
 
 pub added_kept : (old new : Names) (number : Number) (text : List ℕ) → AddsName old number text new → KeepsNames old new
-added_kept old new number text adds = λ other name has. elim (same_or_other other number) [
-  | inl same ↦
-      let had = sym (ap (named old) same) ∙ has in
-      ap (named new) same ∙ (adds.first ∙ ap (λ o. Some (unwrap_or o text)) had)
-  | inr apart ↦ adds.others other apart ∙ has
-]
+added_kept old new number text adds = grind (arith, same_or_other)
 
 has_first : (o : Option (List ℕ)) (name : List ℕ) → is_some o ≡ true → o ≡ Some (unwrap_or o name)
 has_first None name some = absurd (true≢false (sym some))
 has_first (Some old) name some = refl
 
 mapped_some : {A : Type 0} (o : Option (String A)) → is_some o ≡ true → is_some (option_map string_bytes o) ≡ true
-mapped_some None some = some
-mapped_some (Some x) some = refl
+mapped_some o some = grind arith
 
 mapped_none : {A : Type 0} (o : Option (String A)) → is_some o ≡ false → option_map string_bytes o ≡ None
-mapped_none None none = refl
-mapped_none (Some x) none = absurd (true≢false none)
+mapped_none o none = grind (arith, true≢false)
 
 module _ {A : Type 0} where
   -- the item has a name

@@ -1,28 +1,16 @@
 -- What was put on the line that is begun, after each call that puts more.
-use Rattle.std.proofs.Common.{◌≡◌, ℕ, ◌+◌, ◌<◌, ◌^◌, zero, suc, Bool, true, false, List, [], ◌∷◌, ◌++◌, codes}
-use Rattle.std.proofs.Common.{Option, Some, None, refl, sym}
-use Rattle.std.proofs.Common.{◌%◌}
-use Rattle.std.specs.Prelude.{slice_index, if◌then◌else◌}
-use Rattle.wasm_tree.specs.Fields.{Field, field_start, field_text, named, word, with_fields, is_escaped, quoted_byte}
-use Rattle.std.proofs.Common.{ap, subst, ◌∙◌, append_assoc, append-nil, ◌||◌, nat_eq, decimal, length, take, get_or, arith}
-use Rattle.std.specs.List.{flat_map, list_any}
-use Rattle.std.proofs.KnownBytes.{Appends-nil, Appends-trans}
-use Rattle.std.proofs.lemmas.Bool.Decides.{nat_tests}
-use Rattle.std.proofs.lemmas.Fmt.{decimal_by_steps}
-use Rattle.std.proofs.lemmas.Grind.{flat_map-append}
+use Rattle.wasm_tree.proofs.Common.{◌≡◌, ℕ, zero, suc, ◌<◌, Bool, true, false, get_or, nat_eq, refl, arith, ◌+◌, ◌%◌, List, [], ◌∷◌, ◌++◌}
+use Rattle.wasm_tree.proofs.Common.{codes, sym, ap, ◌∙◌, ◌^◌, subst, decimal, length, ◌||◌, Option, Some, None, append_assoc, append-nil}
+use Rattle.wasm_tree.proofs.Common.{take, Appends-nil, Appends-trans, nat_tests, decimal_by_steps, flat_map-append, list_any-append}
+use Rattle.wasm_tree.proofs.Common.{list_any, flat_map, if◌then◌else◌, slice_index, offset_text, IsCut, ListError, Base, is_escaped}
+use Rattle.wasm_tree.proofs.Common.{field_start, quoted_byte, PutsText, Says, SaysSome, Writing, PutsAs, Puts, has_line_feed, Style}
+use Rattle.wasm_tree.proofs.Common.{Objects}
 use Rattle.std.proofs.Math.Seq.{take-length}
 use Rattle.std.proofs.lemmas.List.{take_more}
-use Rattle.std.proofs.lemmas.List.Folds.{list_any-append}
-use Rattle.wasm_text.specs.Page.{IsCut}
-use Rattle.wasm_text.specs.declared.devices.ListError.{ListError}
-use Rattle.wasm_text.specs.Offsets.{offset_text}
-use Rattle.wasm_text.specs.declared.digits.Base.{Base}
-use Rattle.wasm_text.specs.declared.digits.Base.TheVariants.{Decimal, Hexadecimal}
+use Rattle.wasm_tree.specs.Fields.{Field, field_text, named, word, with_fields}
+use Rattle.wasm_tree.specs.Said.{HasLine, SaysInBase, SaysWith}
+use Rattle.wasm_tree.specs.Tree.{are_lines, base_of}
 use Rattle.wasm_text.proofs.ForCallers.{no_line_feed}
-use Rattle.wasm_tree.specs.Said.{PutsText, HasLine, Says, SaysInBase, SaysSome, SaysWith}
-use Rattle.wasm_tree.specs.Tree.{Writing, PutsAs, Puts, are_lines, base_of, has_line_feed}
-use Rattle.wasm_tree.specs.declared.tree.Style.{Style}
-use Rattle.wasm_tree.specs.declared.tree.Style.TheVariants.{Objects}
 
 -- ---- bytes after bytes
 
@@ -136,9 +124,7 @@ says_value name value x y z p q since before h = grind (arith, append_assoc)
 -- and one whose value is a number
 pub says_number : (name : List ℕ) (n : ℕ) (x y : Writing) → Says (field_start name ++ decimal n) x y
     → Says (codes " " ++ (name ++ (codes "=" ++ decimal n))) x y
-says_number name n x y p = says_same (field_start name ++ decimal n) (codes " " ++ (name ++ (codes "=" ++ decimal n))) x y
-    (append_assoc (codes " ") (name ++ codes "=") (decimal n) ∙ ap (λ (t : List ℕ). codes " " ++ t)
-    (append_assoc name (codes "=") (decimal n))) p
+says_number name n x y p = grind (arith, says_same, append_assoc)
 
 -- ---- some text
 
@@ -206,8 +192,7 @@ none_in_signed negative n h = grind (arith, none_in_decimal)
 
 -- nor are those of an offset
 pub none_in_offset : (base : Base) (n : ℕ) → n < 2 ^ 64 → has_line_feed (offset_text base n) ≡ false
-none_in_offset Decimal n h = none_in_decimal n h
-none_in_offset Hexadecimal n h = no_line_feed n
+none_in_offset base n h = grind (arith, none_in_decimal, no_line_feed)
 
 -- nor is one escaped in quotes
 plain_digit : (n : ℕ) → n < 10 → list_any is_escaped ((48 + n) ∷ []) ≡ false

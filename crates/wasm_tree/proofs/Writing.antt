@@ -1,40 +1,31 @@
 -- What a writer has written, after each call that writes.
-use Rattle.std.proofs.Common.{◌≡◌, ℕ, Bool, true, false, List, [], ◌∷◌, ◌++◌, codes, Option, Some, None, Err, if◌then◌else◌, refl, sym}
-use Rattle.std.proofs.Common.{ap}
-use Rattle.std.proofs.Common.{subst, subst₂, ◌∙◌, ◌≢◌, append_assoc, append-nil}
+use Rattle.wasm_tree.proofs.Common.{◌≡◌, ℕ, Bool, true, false, refl, arith, List, [], ◌∷◌, ◌++◌, codes, sym, ap, ◌∙◌, subst, ◌≢◌, Option}
+use Rattle.wasm_tree.proofs.Common.{Some, None, append_assoc, append-nil, subst₂, Appends-nil, Appends-trans, flat_map-append, list_all}
+use Rattle.wasm_tree.proofs.Common.{flat_map, is_some, unwrap_or, if◌then◌else◌, IsCut, ListError, Base, start, after_all, IsAt, Leads}
+use Rattle.wasm_tree.proofs.Common.{object_end, Number, PutsText, Writing, PutsAs, Puts, has_line_feed, name_text, Adds, Put, Spot, Style}
+use Rattle.wasm_tree.proofs.Common.{Objects}
+use Rattle.std.proofs.Common.{Err}
 use Rattle.std.proofs.Math.Path.{subst₃}
 use Rattle.std.proofs.lemmas.List.{append_cancel_right}
-use Rattle.std.specs.List.{list_all}
-use Rattle.std.specs.List.{flat_map}
-use Rattle.std.proofs.KnownBytes.{Appends-nil, Appends-trans}
-use Rattle.std.proofs.lemmas.Grind.{flat_map-append}
-use Rattle.std.specs.Option.{is_some, unwrap_or}
 use Rattle.std.proofs.lemmas.List.Folds.{list_all-append}
 use Rattle.wasm_text.specs.Calls.{output_failed}
-use Rattle.wasm_text.specs.declared.devices.ListError.{ListError}
-use Rattle.wasm_text.specs.Page.{WritesHead, IsCut}
-use Rattle.wasm_text.specs.declared.digits.Base.{Base}
-use Rattle.wasm_text.specs.declared.devices.ListError.TheVariants.{Input, Output, Memory}
-use Rattle.wasm_tree.specs.Numbers.{Number, blank_numbers, number_text}
-use Rattle.wasm_tree.specs.Said.{PutsText, StopsIn}
-use Rattle.wasm_tree.specs.Tree.{Part, words, number, Line, first, under, row, has_line_feed, is_part, is_line, part_text, text_of}
-use Rattle.wasm_tree.specs.Tree.{begun, begun_numbers, bytes_of, first_of, name_text, row_text, with_bytes}
-use Rattle.wasm_tree.specs.Tree.{part_numbers, numbers_of, IsFirst, IsOutlined, Writing, Origin, with_numbers}
-use Rattle.wasm_tree.specs.Tree.{IsGoing, IsGoingInObjects, IsGoingIn, IsCutShort, IsWrittenAs, IsWritten, IsShaped, with_line}
-use Rattle.wasm_tree.specs.Tree.{IsPushed, IsStuck, PutsAs, Puts, Adds, AddsFirst}
-use Rattle.wasm_tree.specs.Tree.{Put, Rest, stopped_without_memory, with_rest}
-use Rattle.wasm_tree.specs.Json.{AreObjects, IsAt, Leads, after_all, object_end, start}
-use Rattle.wasm_tree.specs.declared.objects.Spot.{Spot}
-use Rattle.wasm_tree.specs.declared.tree.Style.{Style}
-use Rattle.wasm_tree.specs.declared.tree.Style.TheVariants.{Lines, Objects}
+use Rattle.wasm_text.specs.Page.{WritesHead}
+use Rattle.wasm_text.specs.declared.devices.ListError.TheVariants.{Input, Memory}
+use Rattle.wasm_tree.specs.Json.{AreObjects}
+use Rattle.wasm_tree.specs.Numbers.{blank_numbers, number_text}
+use Rattle.wasm_tree.specs.Said.{StopsIn}
+use Rattle.wasm_tree.specs.Tree.{Part, words, number, Line, first, under, row, is_part, is_line, part_text, text_of, begun, begun_numbers}
+use Rattle.wasm_tree.specs.Tree.{bytes_of, first_of, row_text, with_bytes, part_numbers, numbers_of, IsFirst, IsOutlined, Origin}
+use Rattle.wasm_tree.specs.Tree.{with_numbers, IsGoing, IsGoingInObjects, IsGoingIn, IsCutShort, IsWrittenAs, IsWritten, IsShaped}
+use Rattle.wasm_tree.specs.Tree.{with_line, IsPushed, IsStuck, AddsFirst, Rest, stopped_without_memory, with_rest}
+use Rattle.wasm_tree.specs.declared.tree.Style.TheVariants.{Lines}
 use Rattle.wasm_tree.proofs.Json.{after_all-append, completes}
 
 -- ---- lines after lines
 
 more_lines : {A : Type 0} (f : Line → List A) (lines : List Line) (l : Line) (all : List A) → all ≡ flat_map f lines
     → all ++ f l ≡ flat_map f (lines ++ l ∷ [])
-more_lines f lines l all e = ap (λ x. x ++ f l) e ∙ (ap (λ x. flat_map f lines ++ x) (sym (append-nil (f l)))
-    ∙ sym (flat_map-append f lines (l ∷ [])))
+more_lines f lines l all e = grind (arith, append-nil, flat_map-append)
 
 -- numbers before the rest of a line
 number_before : (n : Number) (rest : List ℕ) → number_text n rest ≡ number_text n [] ++ rest
@@ -117,20 +108,15 @@ module _ (base : Base) where
 -- all that was written or waits
 grown : (written waiting bytes moved waiting' : List ℕ) → waiting ++ bytes ≡ moved ++ waiting' → (written ++ moved) ++ waiting'
     ≡ (written ++ waiting) ++ bytes
-grown written waiting bytes moved waiting' e = append_assoc written moved waiting'
-    ∙ (ap (λ (x : List ℕ). written ++ x) (sym e) ∙ sym (append_assoc written waiting bytes))
+grown written waiting bytes moved waiting' e = grind (arith, append_assoc)
 
 -- what was written of a page that was abandoned
 beginning : (taken written : Option (List ℕ)) (waiting : List ℕ) (why : ListError) → IsCut taken written waiting why
     → WritesHead taken written waiting
-beginning taken written waiting Output w = w
-beginning taken written waiting Memory w = w
-beginning taken written waiting Input w = absurd w
+beginning taken written waiting why w = grind arith
 
 no_input : (taken written : Option (List ℕ)) (waiting : List ℕ) (why : ListError) → IsCut taken written waiting why → why ≢ Input
-no_input taken written waiting Output w = λ e. cc
-no_input taken written waiting Memory w = λ e. cc
-no_input taken written waiting Input w = absurd w
+no_input taken written waiting why w = grind arith
 
 -- a part more of a line
 more_parts : {A : Type 0} (f : Part → List A) (line : List Part) (p : Part) → flat_map f (line ++ p ∷ []) ≡ flat_map f line ++ f p
@@ -141,8 +127,7 @@ more_parts f line p = flat_map-append f line (p ∷ []) ∙ ap (λ x. flat_map f
 -- objects have no outline
 shaped_objects : (style : Style) (text outline outline' : List ℕ) (numbers numbers' : List Number) (bytes bytes' : List ℕ)
     → style ≡ Objects → IsShaped style text outline numbers bytes → IsShaped style text outline' numbers' bytes'
-shaped_objects style text outline outline' numbers numbers' bytes bytes' e i =
-    rw e (rw e at i)
+shaped_objects style text outline outline' numbers numbers' bytes bytes' e i = grind arith
 
 -- ---- what was written before
 
@@ -170,14 +155,7 @@ as_short o w why e i = subst (λ (y : Option ListError). IsWrittenAs y o w) e i.
 -- a line that is begun or ended, or another spot, changes nothing of what was cut short
 short_still : (o : Origin) (w : Writing) (why : ListError) (b : Bool) (spot : Spot) (unshown : List ℕ) → IsCutShort o why w
     → IsCutShort o why (record w { is_begun = b; spot = spot; unshown = unshown })
-short_still o w why b spot unshown c = record {
-  written = c.written;
-  unwritten = c.unwritten;
-  shaped = c.shaped;
-  took = c.took;
-  failed = c.failed;
-  no_input = c.no_input;
-}
+short_still o w why b spot unshown c = grind (arith, no_input)
 
 -- nor does it matter what is unwritten, if the whole is such a text
 short_more : {base : Base} (o to : Origin) (w : Writing) (why : ListError) (c : IsCutShort o why w) (more : List ℕ)
@@ -328,9 +306,7 @@ module _ (base : Base) (o : Origin) (old new : Writing) (i : IsGoing base o old)
 -- of all that was written or waited, a prefix is written
 cut_at : (written waiting moved unwritten more : List ℕ) → waiting ≡ moved ++ unwritten → (written ++ moved) ++ (unwritten ++ more)
     ≡ (written ++ waiting) ++ more
-cut_at written waiting moved unwritten more e = append_assoc written moved (unwritten ++ more)
-    ∙ (ap (λ (x : List ℕ). written ++ x) (sym (append_assoc moved unwritten more) ∙ ap (λ (x : List ℕ). x ++ more) (sym e))
-    ∙ sym (append_assoc written waiting more))
+cut_at written waiting moved unwritten more e = grind (arith, append_assoc)
 
 module _ (o : Origin) (old new : Writing) (why : ListError) (s : IsStuck why old new) where
   stuck_in : (style : Style) → o.style ≡ style → IsGoingIn style o old → IsCutShort o why new
@@ -393,9 +369,7 @@ module _ (o : Origin) (rest : Rest) (put : Put) where
 -- the style doesn't change
 same_style : (before after : Option ListError) (bytes : List ℕ) (old new : Writing) → PutsAs before after bytes old new
     → new.style ≡ old.style
-same_style (Some why) after bytes old new p = ap (λ (w : Writing). w.style) p
-same_style None None bytes old new p = p.style
-same_style None (Some why) bytes old new p = p.style
+same_style before after bytes old new p = grind arith
 
 module _ (o : Origin) (old new : Writing) (b : Bool) (spot : Spot) (unshown : List ℕ) where
   -- a writer that is then in a line or not, or at another spot, or has other bytes to show
@@ -408,13 +382,7 @@ module _ (o : Origin) (old new : Writing) (b : Bool) (spot : Spot) (unshown : Li
       → (IsGoingIn o.style o old → IsPushed bytes old new → IsGoingIn to.style to (moved_on new))
       → ((why : ListError) (w : Writing) → IsCutShort o why w → IsCutShort to why w)
       → IsWrittenAs new.why to (moved_on new)
-  by_why to bytes (Some why) after e a p i going short = subst (λ (w : Writing). IsWrittenAs w.why to (moved_on w)) (sym p)
-      (subst (λ (y : Option ListError). IsWrittenAs y to (moved_on old)) (sym e)
-      (short_still to old why b spot unshown (short why old (as_short o old why e i))))
-  by_why to bytes None None e a p i going short = subst (λ (y : Option ListError). IsWrittenAs y to (moved_on new)) (sym a)
-      (going (as_going o old e i) p)
-  by_why to bytes None (Some why) e a p i going short = subst (λ (y : Option ListError). IsWrittenAs y to (moved_on new)) (sym a)
-      (short_still to new why b spot unshown (short why new (is_stuck o old new why p (as_going o old e i))))
+  by_why to bytes before after e a p i going short = grind (arith, short_still, as_short, as_going, is_stuck)
 
   changes : (to : Origin) (bytes : List ℕ) → to.style ≡ o.style → Puts bytes old new → IsWritten o old
       → (IsGoingIn o.style o old → IsPushed bytes old new → IsGoingIn to.style to (moved_on new))
@@ -524,9 +492,7 @@ module _ (base : Base) (o : Origin) (old new : Writing) (line outline : List ℕ
 
   pub puts_line : old.style ≡ Lines base → old.is_begun ≡ false → new.style ≡ Lines base
       → PutsText old.why new.why line in_line new → IsWritten o old → IsWritten with_this after_line
-  puts_line lines b after p i =
-      let s : o.style ≡ Lines base = sym i.0 ∙ lines in
-      (after ∙ sym s, by_text old.why new.why refl refl s b p i)
+  puts_line lines b after p i = grind (arith, by_text)
 
 module _ (base : Base) (o : Origin) (w : Writing) (bytes : List ℕ) (lines : w.style ≡ Lines base) where
   short_by : (why : Option ListError) → is_some why ≡ true → o.style ≡ Lines base → IsWrittenAs why o w
@@ -554,9 +520,7 @@ object_grows o old new bytes spot i leads p = record {
 module _ (o : Origin) (old new : Writing) where
   pub puts_in_object : (bytes : List ℕ) (spot : Spot) → old.style ≡ Objects → Leads old.spot bytes spot → Puts bytes old new
       → IsWritten o old → IsWritten o (record new { spot = spot })
-  puts_in_object bytes spot objects leads p i =
-      let e : o.style ≡ Objects = sym i.0 ∙ objects in
-      search (changes, from_objects, object_grows, in_objects)
+  puts_in_object bytes spot objects leads p i = grind (arith, changes, from_objects, object_grows, in_objects)
 
   all_in : (style : Style) → o.style ≡ style → IsGoingIn style o old → IsPushed [] old new → IsGoingIn style o new
   all_in (Lines base) e i p = all_moves base o old new i p
@@ -579,17 +543,7 @@ module _ (o : Origin) (w : Writing) (outline : List ℕ) (numbers : List Number)
   with_others = record o { outline = outline; numbers = numbers; bytes = bytes }
 
   other_by : (why : Option ListError) → o.style ≡ Objects → IsWrittenAs why o w → IsWrittenAs why with_others w
-  other_by None e i =
-      let g = in_objects o w e i in
-      from_objects with_others w e (record { written = g.written; is_at = g.is_at; took = g.took; failed = g.failed })
-  other_by (Some why) e c = record {
-    written = c.written;
-    unwritten = c.unwritten;
-    shaped = shaped_objects o.style (c.written ++ c.unwritten) o.outline outline o.numbers numbers o.bytes bytes e c.shaped;
-    took = c.took;
-    failed = c.failed;
-    no_input = c.no_input;
-  }
+  other_by why e i = grind (arith, in_objects, from_objects, shaped_objects, no_input)
 
   pub other_lines : o.style ≡ Objects → IsWritten o w → IsWritten with_others w
   other_lines e i = (i.0, other_by w.why e i.1)

@@ -1,7 +1,4 @@
-use Rattle.std.proofs.Common.{◌≡◌, ◌*◌, false, length, take}
-use Rattle.std.specs.List.{flat_map}
-use Rattle.wasm_tree.specs.Fields.{hexadecimal}
-use Rattle.wasm_tree.specs.Tree.{has_line_feed}
+use Rattle.wasm_tree.proofs.Common.{◌≡◌, false, length, take, ◌*◌, flat_map, hexadecimal, has_line_feed}
 use Rattle.wasm_tree.proofs.escapes.digits_of.Given as goal
 
 abbrev pub invariant-loop-byte : goal.invariant-loop-byte

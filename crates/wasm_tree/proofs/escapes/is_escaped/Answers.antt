@@ -1,4 +1,4 @@
-use Rattle.std.proofs.Common.{arith}
+use Rattle.wasm_tree.proofs.Common.{arith}
 use Rattle.wasm_tree.proofs.EscapedBytes.{is_marked}
 use Rattle.wasm_tree.proofs.escapes.is_escaped.Goals as goal
 

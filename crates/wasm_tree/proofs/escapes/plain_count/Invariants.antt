@@ -1,6 +1,4 @@
-use Rattle.std.proofs.Common.{◌≡◌, ◌≤◌, ◌-◌, false, take}
-use Rattle.std.specs.List.{list_any}
-use Rattle.wasm_tree.specs.Fields.{is_escaped}
+use Rattle.wasm_tree.proofs.Common.{◌≡◌, ◌-◌, false, ◌≤◌, take, list_any, is_escaped}
 use Rattle.wasm_tree.proofs.escapes.plain_count.Given as goal
 
 abbrev pub invariant-plain : goal.invariant-plain

@@ -1,7 +1,5 @@
-use Rattle.std.proofs.Common.{◌≡◌, ◌∙◌, ℕ, ◌+◌, ◌-◌, ap, arith, drop, false, subst, sym, take, take-add}
-use Rattle.std.proofs.lemmas.List.Folds.{list_any-append}
-use Rattle.std.specs.List.{list_any}
-use Rattle.wasm_tree.specs.Fields.{is_escaped}
+use Rattle.wasm_tree.proofs.Common.{◌≡◌, ℕ, ◌-◌, false, arith, ◌+◌, sym, ap, ◌∙◌, subst, take, list_any-append, list_any, is_escaped}
+use Rattle.std.proofs.Common.{drop, take-add}
 use Rattle.wasm_tree.proofs.escapes.plain_fours.Goals as goal
 
 pub fours-preserved : goal.fours-preserved

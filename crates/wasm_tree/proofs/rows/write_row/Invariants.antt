@@ -1,5 +1,4 @@
-use Rattle.std.proofs.Common.{◌≡◌, ◌++◌, ◌+◌, ◌*◌, take}
-use Rattle.std.specs.List.{flat_map}
+use Rattle.wasm_tree.proofs.Common.{◌≡◌, ◌+◌, ◌++◌, take, ◌*◌, flat_map}
 use Rattle.wasm_tree.specs.Tree.{after_blank}
 use Rattle.wasm_tree.proofs.rows.write_row.Given as goal
 

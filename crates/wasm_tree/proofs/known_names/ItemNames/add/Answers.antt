@@ -1,17 +1,10 @@
-use Rattle.std.proofs.Common.{◌≡◌, ℕ, refl, true, false, sym, subst, subst₂, ◌∙◌, Some}
-use Rattle.std.specs.BTreeMap.{UpdatesBy, get_by}
-use Rattle.std.specs.Option.{is_some}
-use Rattle.wasm_tree.specs.ItemNames.{AddsName, item, key_cmp, names_in}
+use Rattle.wasm_tree.proofs.Common.{◌≡◌, ℕ, false, refl, arith, sym, ◌∙◌, Some, subst₂, UpdatesBy, get_by, is_some, key_cmp, names_in}
+use Rattle.wasm_tree.proofs.Common.{AddsName, item}
 use Rattle.wasm_tree.proofs.Naming.{same_kept, added_kept, had_name, has_name, names_stay}
 use Rattle.wasm_tree.proofs.known_names.ItemNames.add.Goals as goal
 
 pub returns-then-contains_key-clause-added : goal.returns-then-contains_key-clause-added
-returns-then-contains_key-clause-added g c =
-    let number = item c.args.space c.args.index in
-    let some : is_some (get_by (key_cmp (c.rank_of.result, c.args.index)) c.self.inside.names) ≡ true =
-    sym c.contains_key.ensures ∙ c.if-contains_key.true in
-    subst (λ names. AddsName names number c.args.name.now names) c.self.view_is
-    (had_name c.self.inside.names number c.args.name.now c.ranges.index.fits (rw c.rank_of.ensures at some))
+returns-then-contains_key-clause-added g c = grind (arith, had_name)
 
 pub returns-then-contains_key-clause-keeps : goal.returns-then-contains_key-clause-keeps
 returns-then-contains_key-clause-keeps g c = same_kept _ _ refl

@@ -1,6 +1,4 @@
-use Rattle.std.proofs.Common.{◌≡◌, ap, arith, sym, Some, None, ◌∙◌}
-use Rattle.std.specs.BTreeMap.{get_by}
-use Rattle.wasm_tree.specs.ItemNames.{item, key_cmp, named}
+use Rattle.wasm_tree.proofs.Common.{◌≡◌, arith, sym, ap, ◌∙◌, Some, None, get_by, key_cmp, item, named}
 use Rattle.wasm_tree.proofs.Naming.{got_name, named_far}
 use Rattle.wasm_tree.proofs.known_names.ItemNames.of.Goals as goal
 

@@ -1,6 +1,4 @@
-use Rattle.std.proofs.Common.{◌++◌, [], codes, option_map, true, refl}
-use Rattle.wasm_tree.specs.Tree.{name_text}
-use Rattle.wasm_tree.specs.Written.{lines}
+use Rattle.wasm_tree.proofs.Common.{true, refl, [], ◌++◌, codes, option_map, name_text, lines}
 use Rattle.wasm_tree.proofs.Saying.{has_nothing, still_same}
 use Rattle.wasm_tree.proofs.Writing.{named_more, puts_line}
 use Rattle.wasm_tree.proofs.lines.Lines.first_with_name.Goals as goal

@@ -1,5 +1,4 @@
-use Rattle.wasm_tree.specs.Tree.{Adds}
-use Rattle.wasm_tree.specs.Written.{lines}
+use Rattle.wasm_tree.proofs.Common.{Adds, lines}
 use Rattle.wasm_tree.proofs.lines.Lines.indent.Given as goal
 
 abbrev pub invariant-loop : goal.invariant-loop

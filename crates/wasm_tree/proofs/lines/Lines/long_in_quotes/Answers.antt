@@ -1,6 +1,4 @@
-use Rattle.std.proofs.Common.{◌++◌, ap, codes}
-use Rattle.std.specs.List.{flat_map}
-use Rattle.wasm_tree.specs.Fields.{quoted_byte}
+use Rattle.wasm_tree.proofs.Common.{◌++◌, codes, ap, flat_map, quoted_byte}
 use Rattle.wasm_tree.proofs.Saying.{says_same, says_then}
 use Rattle.wasm_tree.proofs.lines.Lines.long_in_quotes.Goals as goal
 

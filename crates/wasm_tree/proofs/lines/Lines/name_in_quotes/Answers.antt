@@ -1,6 +1,4 @@
-use Rattle.std.proofs.Common.{◌++◌, codes}
-use Rattle.std.specs.List.{flat_map}
-use Rattle.wasm_tree.specs.Fields.{quoted_byte}
+use Rattle.wasm_tree.proofs.Common.{◌++◌, codes, flat_map, quoted_byte}
 use Rattle.wasm_tree.proofs.Saying.{says_nothing, says_then}
 use Rattle.wasm_tree.proofs.lines.Lines.name_in_quotes.Goals as goal
 

@@ -1,6 +1,4 @@
-use Rattle.std.proofs.Common.{◌++◌, codes, option_map, refl}
-use Rattle.wasm_tree.specs.Tree.{name_text}
-use Rattle.wasm_tree.specs.Written.{lines_rest}
+use Rattle.wasm_tree.proofs.Common.{refl, ◌++◌, codes, option_map, name_text, lines_rest}
 use Rattle.wasm_tree.proofs.Saying.{says_piece, says_then}
 use Rattle.wasm_tree.proofs.lines.Lines.named_text.Goals as goal
 

@@ -1,5 +1,4 @@
-use Rattle.std.proofs.Common.{◌++◌, codes}
-use Rattle.wasm_text.specs.Offsets.{offset_text}
+use Rattle.wasm_tree.proofs.Common.{◌++◌, codes, offset_text}
 use Rattle.wasm_tree.proofs.Saying.{says_both}
 use Rattle.wasm_tree.proofs.lines.Lines.offsets.Goals as goal
 

@@ -1,5 +1,4 @@
-use Rattle.std.proofs.Common.{ap, refl}
-use Rattle.wasm_tree.specs.Written.{lines, lines_rest}
+use Rattle.wasm_tree.proofs.Common.{refl, ap, lines, lines_rest}
 use Rattle.wasm_tree.proofs.Saying.{says_piece, says_some}
 use Rattle.wasm_tree.proofs.Writing.{puts_part}
 use Rattle.wasm_tree.proofs.lines.Lines.piece.Goals as goal

@@ -1,6 +1,4 @@
-use Rattle.std.proofs.Common.{◌≡◌, List, ℕ, [], ◌∷◌, false, rules, sym, subst, append-nil}
-use Rattle.std.specs.List.{list_any}
-use Rattle.wasm_tree.specs.Fields.{is_escaped, quoted_byte}
+use Rattle.wasm_tree.proofs.Common.{◌≡◌, ℕ, false, arith, List, [], ◌∷◌, sym, subst, append-nil, rules, list_any, is_escaped, quoted_byte}
 use Rattle.wasm_tree.proofs.Saying.{maps_parts, plain_quoted, none_in_plain}
 use Rattle.wasm_tree.proofs.lines.Lines.quoted_bytes.Goals as goal
 
@@ -14,8 +12,7 @@ runs-preserved-then-count-eq0 g c =
     }
 
 pub piece-requires-clause-one_line : goal.piece-requires-clause-one_line
-piece-requires-clause-one_line g c = none_in_plain c.split_at.result.0.now
-    (subst (λ (x : List ℕ). list_any is_escaped x ≡ false) (sym c.split_at.ensures.front) c.plain_count-count.ensures.plain)
+piece-requires-clause-one_line g c = grind (arith, none_in_plain)
 
 pub runs-preserved : goal.runs-preserved
 runs-preserved g c =

@@ -1,9 +1,4 @@
-use Rattle.std.proofs.Common.{length}
-use Rattle.std.specs.List.{flat_map}
-use Rattle.wasm_tree.specs.Fields.{quoted_byte}
-use Rattle.wasm_tree.specs.Said.{Says}
-use Rattle.wasm_tree.specs.Tree.{Adds, Writing}
-use Rattle.wasm_tree.specs.Written.{lines}
+use Rattle.wasm_tree.proofs.Common.{length, flat_map, quoted_byte, Says, Writing, Adds, lines}
 use Rattle.wasm_tree.proofs.lines.Lines.quoted_bytes.Given as goal
 
 -- what says the rest in quotes says all

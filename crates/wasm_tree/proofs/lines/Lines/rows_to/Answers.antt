@@ -1,13 +1,11 @@
-use Rattle.std.proofs.Common.{◌++◌, List, ℕ, take, take-append-drop, sym, ap, refl, arith, length, ◌∙◌}
+use Rattle.wasm_tree.proofs.Common.{ℕ, refl, arith, List, ◌++◌, sym, ap, ◌∙◌, take, lines, lines_rest}
+use Rattle.std.proofs.Common.{take-append-drop}
 use Rattle.std.proofs.Math.ListN.{length-drop}
-use Rattle.wasm_tree.specs.Written.{lines, lines_rest}
 use Rattle.wasm_tree.proofs.Writing.{puts_row}
 use Rattle.wasm_tree.proofs.lines.Lines.rows_to.Goals as goal
 
 pub rows-smaller : goal.rows-smaller
-rows-smaller g c =
-    let left = ap (λ (x : List ℕ). length x) c.pass.ensures in
-    omega (arith, length-drop c.in-Some.count c.rows.self.rows, c.in-Some.ensures.some.some, c.in-Some.ensures.some.within)
+rows-smaller g c = grind (arith, length-drop)
 
 pub rows-preserved : goal.rows-preserved
 rows-preserved g c =

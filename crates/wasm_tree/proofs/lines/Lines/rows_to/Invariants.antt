@@ -1,6 +1,4 @@
-use Rattle.std.proofs.Common.{◌≡◌, false, length}
-use Rattle.wasm_tree.specs.Tree.{Adds}
-use Rattle.wasm_tree.specs.Written.{lines}
+use Rattle.wasm_tree.proofs.Common.{◌≡◌, false, length, Adds, lines}
 use Rattle.wasm_tree.proofs.lines.Lines.rows_to.Given as goal
 
 abbrev pub invariant-rows : goal.invariant-rows

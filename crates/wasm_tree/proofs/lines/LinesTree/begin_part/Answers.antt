@@ -1,14 +1,9 @@
-use Rattle.std.proofs.Common.{ap, refl, sym, ◌∙◌}
-use Rattle.std.specs.Option.{is_some}
-use Rattle.wasm_tree.specs.Tree.{Put}
-use Rattle.wasm_tree.specs.Written.{lines, lines_rest}
+use Rattle.wasm_tree.proofs.Common.{refl, arith, ap, is_some, Put, lines, lines_rest}
 use Rattle.wasm_tree.proofs.Writing.{never_shown, stops_here}
 use Rattle.wasm_tree.proofs.lines.LinesTree.begin_part.Goals as goal
 
 pub returns-then-is_some : goal.returns-then-is_some
-returns-then-is_some g c o i =
-    never_shown _ o (lines c.rows_to_end.new.self) c.args.bytes.now refl
-    (ap is_some (sym c.stopped.ensures) ∙ (sym c.is_some.ensures ∙ c.if-is_some.true)) (c.rows_to_end.ensures.adds o i)
+returns-then-is_some g c o i = grind (arith, never_shown)
 
 pub returns-in-Err : goal.returns-in-Err
 returns-in-Err g c o i =

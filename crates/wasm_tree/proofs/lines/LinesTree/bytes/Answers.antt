@@ -1,4 +1,4 @@
-use Rattle.std.proofs.Common.{rules}
+use Rattle.wasm_tree.proofs.Common.{rules}
 use Rattle.wasm_tree.proofs.Saying.{none_in_first, says_parts}
 use Rattle.wasm_tree.proofs.lines.LinesTree.bytes.Goals as goal
 

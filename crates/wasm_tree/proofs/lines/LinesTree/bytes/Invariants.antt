@@ -1,7 +1,4 @@
-use Rattle.std.proofs.Common.{◌≡◌, false, length}
-use Rattle.wasm_tree.specs.Said.{Says, SaysSome}
-use Rattle.wasm_tree.specs.Tree.{Adds, Writing, has_line_feed}
-use Rattle.wasm_tree.specs.Written.{lines}
+use Rattle.wasm_tree.proofs.Common.{◌≡◌, false, length, Says, SaysSome, Writing, has_line_feed, Adds, lines}
 use Rattle.wasm_tree.proofs.lines.LinesTree.bytes.Given as goal
 
 -- what says the rest says all

@@ -1,4 +1,4 @@
-use Rattle.std.proofs.Common.{arith}
+use Rattle.wasm_tree.proofs.Common.{arith}
 use Rattle.wasm_tree.proofs.Saying.{none_in_decimal}
 use Rattle.wasm_tree.proofs.lines.LinesTree.digits.Goals as goal
 

@@ -1,5 +1,4 @@
-use Rattle.std.proofs.Common.{refl}
-use Rattle.wasm_tree.specs.Written.{lines, lines_rest}
+use Rattle.wasm_tree.proofs.Common.{refl, lines, lines_rest}
 use Rattle.wasm_tree.proofs.Writing.{puts_number}
 use Rattle.wasm_tree.proofs.lines.LinesTree.item_number.Goals as goal
 

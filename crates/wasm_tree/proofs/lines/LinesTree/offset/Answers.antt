@@ -1,5 +1,4 @@
-use Rattle.std.proofs.Common.{arith, refl}
-use Rattle.wasm_text.specs.Offsets.{offset_text}
+use Rattle.wasm_tree.proofs.Common.{arith}
 use Rattle.wasm_tree.proofs.Saying.{none_in_offset, says_in_base}
 use Rattle.wasm_tree.proofs.lines.LinesTree.offset.Goals as goal
 
@@ -7,5 +6,4 @@ pub short-requires : goal.short-requires
 short-requires g c = record { one_line = none_in_offset c.args.self.now.base c.args.offset (omega arith) }
 
 pub returns-clause-says : goal.returns-clause-says
-returns-clause-says g c =
-    says_in_base (λ base. offset_text base c.args.offset) c.args.self.now.base _ _ refl c.short.ensures.says
+returns-clause-says g c = grind (arith, says_in_base)

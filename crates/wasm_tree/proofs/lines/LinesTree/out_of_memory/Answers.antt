@@ -1,4 +1,4 @@
-use Rattle.wasm_tree.specs.Written.{lines_rest}
+use Rattle.wasm_tree.proofs.Common.{lines_rest}
 use Rattle.wasm_tree.proofs.Writing.{stops_here}
 use Rattle.wasm_tree.proofs.lines.LinesTree.out_of_memory.Goals as goal
 

@@ -1,4 +1,4 @@
-use Rattle.wasm_tree.specs.Written.{lines, lines_rest}
+use Rattle.wasm_tree.proofs.Common.{lines, lines_rest}
 use Rattle.wasm_tree.proofs.Writing.{puts_all}
 use Rattle.wasm_tree.proofs.lines.LinesTree.write_out.Goals as goal
 

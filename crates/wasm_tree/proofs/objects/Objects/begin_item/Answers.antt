@@ -1,4 +1,4 @@
-use Rattle.std.proofs.Common.{arith}
+use Rattle.wasm_tree.proofs.Common.{arith}
 use Rattle.wasm_tree.proofs.MemberTexts.{item_leads}
 use Rattle.wasm_tree.proofs.objects.Objects.begin_item.Goals as goal
 

@@ -1,4 +1,4 @@
-use Rattle.std.proofs.Common.{arith}
+use Rattle.wasm_tree.proofs.Common.{arith}
 use Rattle.wasm_tree.proofs.MemberTexts.{number_member_leads}
 use Rattle.wasm_tree.proofs.objects.Objects.number_member.Goals as goal
 

@@ -1,4 +1,4 @@
-use Rattle.std.proofs.Common.{arith}
+use Rattle.wasm_tree.proofs.Common.{arith}
 use Rattle.wasm_tree.proofs.MemberTexts.{number_members_lead}
 use Rattle.wasm_tree.proofs.objects.Objects.number_members.Goals as goal
 

@@ -1,4 +1,4 @@
-use Rattle.std.proofs.Common.{arith}
+use Rattle.wasm_tree.proofs.Common.{arith}
 use Rattle.wasm_tree.proofs.Json.{range_leads}
 use Rattle.wasm_tree.proofs.objects.Objects.pair.Goals as goal
 

@@ -1,5 +1,4 @@
-use Rattle.std.proofs.Common.{refl}
-use Rattle.wasm_tree.specs.declared.objects.Spot.TheVariants.{InText}
+use Rattle.wasm_tree.proofs.Common.{refl, InText}
 use Rattle.wasm_tree.proofs.Json.{leads_from, plain_run_stays}
 use Rattle.wasm_tree.proofs.objects.Objects.plain_text.Goals as goal
 

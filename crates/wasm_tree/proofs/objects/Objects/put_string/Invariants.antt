@@ -1,6 +1,4 @@
-use Rattle.std.proofs.Common.{◌≡◌, length}
-use Rattle.wasm_tree.specs.Tree.{Adds}
-use Rattle.wasm_tree.specs.Written.{objects}
+use Rattle.wasm_tree.proofs.Common.{◌≡◌, length, Adds, objects}
 use Rattle.wasm_tree.proofs.objects.Objects.put_string.Given as goal
 
 abbrev pub invariant-runs : goal.invariant-runs

@@ -1,5 +1,4 @@
-use Rattle.std.proofs.Common.{refl}
-use Rattle.wasm_tree.specs.Written.{objects, objects_rest}
+use Rattle.wasm_tree.proofs.Common.{refl, objects, objects_rest}
 use Rattle.wasm_tree.proofs.Writing.{puts_in_object}
 use Rattle.wasm_tree.proofs.objects.Objects.short.Goals as goal
 

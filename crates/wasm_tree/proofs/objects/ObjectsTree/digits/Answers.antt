@@ -1,5 +1,4 @@
-use Rattle.std.proofs.Common.{arith, decimal, refl}
-use Rattle.wasm_tree.specs.declared.objects.Spot.TheVariants.{InText}
+use Rattle.wasm_tree.proofs.Common.{refl, arith, decimal, InText}
 use Rattle.wasm_tree.proofs.Json.{leads_from, plain_run_stays}
 use Rattle.wasm_tree.proofs.Saying.{plain_decimal}
 use Rattle.wasm_tree.proofs.objects.ObjectsTree.digits.Goals as goal

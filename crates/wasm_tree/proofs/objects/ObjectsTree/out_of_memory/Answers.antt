@@ -1,4 +1,4 @@
-use Rattle.wasm_tree.specs.Written.{objects_rest}
+use Rattle.wasm_tree.proofs.Common.{objects_rest}
 use Rattle.wasm_tree.proofs.Writing.{stops_here}
 use Rattle.wasm_tree.proofs.objects.ObjectsTree.out_of_memory.Goals as goal
 

@@ -1,4 +1,4 @@
-use Rattle.wasm_tree.specs.Written.{objects, objects_rest}
+use Rattle.wasm_tree.proofs.Common.{objects, objects_rest}
 use Rattle.wasm_tree.proofs.Writing.{puts_all}
 use Rattle.wasm_tree.proofs.objects.ObjectsTree.write_out.Goals as goal
 

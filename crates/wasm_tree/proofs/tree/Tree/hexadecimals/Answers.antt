@@ -1,5 +1,4 @@
-use Rattle.std.proofs.Common.{rules}
-use Rattle.wasm_tree.specs.Fields.{hexadecimal}
+use Rattle.wasm_tree.proofs.Common.{rules, hexadecimal}
 use Rattle.wasm_tree.proofs.Saying.{maps_parts}
 use Rattle.wasm_tree.proofs.tree.Tree.hexadecimals.Goals as goal
 

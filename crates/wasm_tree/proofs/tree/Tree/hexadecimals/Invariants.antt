@@ -1,8 +1,4 @@
-use Rattle.std.proofs.Common.{length}
-use Rattle.std.specs.List.{flat_map}
-use Rattle.wasm_tree.specs.Fields.{hexadecimal}
-use Rattle.wasm_tree.specs.Said.{Says, SaysSome}
-use Rattle.wasm_tree.specs.Tree.{Adds, Writing}
+use Rattle.wasm_tree.proofs.Common.{length, flat_map, hexadecimal, Says, SaysSome, Writing, Adds}
 use Rattle.wasm_tree.proofs.tree.Tree.hexadecimals.Given as goal
 
 -- what says the digits of the rest says all
