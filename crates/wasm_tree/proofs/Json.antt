@@ -130,9 +130,8 @@ after_over : (inside : List Bracket) (s : State) (b : ℕ) → IsOver inside s �
     ≡ after_value inside b
 after_over inside s b o d = value_over s.place s.inside b o.has d ∙ ap (λ (x : List Bracket). after_value x b) o.same
 
-range_over : (from to : ℕ) → from < 2 ^ 64 → to < 2 ^ 64
-    → after_all (here value (object ∷ [])) (codes "[" ++ (decimal from ++ (codes "," ++ (decimal to ++ codes "]"))))
-    ≡ here ended (object ∷ [])
+range_over : (from to : ℕ) → from < 2 ^ 64 → to < 2 ^ 64 → after_all (here value (object ∷ []))
+    (codes "[" ++ (decimal from ++ (codes "," ++ (decimal to ++ codes "]")))) ≡ here ended (object ∷ [])
 range_over from to h k =
     let inner = array ∷ object ∷ [] in
     let later = codes "," ++ (decimal to ++ codes "]") in

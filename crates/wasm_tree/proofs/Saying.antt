@@ -106,8 +106,7 @@ pub says_nothing : (w : Writing) → Says [] w w
 says_nothing w since before h = subst (λ (t : List ℕ). HasLine since t w) (sym (append-nil before)) h
 
 -- one text after the other
-pub says_both : (a b : Base → List ℕ) (x y z : Writing) → SaysInBase a x y → SaysInBase b y z
-    → SaysInBase (λ base. a base ++ b base) x z
+pub says_both : (a b : Base → List ℕ) (x y z : Writing) → SaysInBase a x y → SaysInBase b y z → SaysInBase (λ base. a base ++ b base) x z
 says_both a b x y z p q since before h = grind (arith, append_assoc)
 
 pub says_then : (a b : List ℕ) (x y z : Writing) → Says a x y → Says b y z → Says (a ++ b) x z
@@ -186,8 +185,7 @@ pub none_in_number_field : (name : List ℕ) (n : ℕ) → n < 2 ^ 64 → has_li
 none_in_number_field name n h none = list_any-append (λ b. nat_eq b 10) (field_start name) (decimal n)
     ∙ rw (list_any-append (λ b. nat_eq b 10) name (codes "="), none, none_in_decimal n h) refl
 
-pub none_in_signed : (negative : Bool) (n : ℕ) → n < 2 ^ 64
-    → has_line_feed ((if negative then codes "-" else []) ++ decimal n) ≡ false
+pub none_in_signed : (negative : Bool) (n : ℕ) → n < 2 ^ 64 → has_line_feed ((if negative then codes "-" else []) ++ decimal n) ≡ false
 none_in_signed negative n h = grind (arith, none_in_decimal)
 
 -- nor are those of an offset

@@ -219,8 +219,7 @@ module _ (base : Base) (o : Origin) (old new : Writing) (i : IsGoing base o old)
   same_unshown e = i.rowed ∙ ap (λ (x : List ℕ). i.rows ++ x) (sym e)
 
   -- where a line is begun, its parts and what comes after them, and their numbers
-  in_begun : (b : Bool) (put : List ℕ) → old.is_begun ≡ b
-      → (i.written ++ old.waiting) ++ put ≡ (i.text ++ begun b i.line) ++ put
+  in_begun : (b : Bool) (put : List ℕ) → old.is_begun ≡ b → (i.written ++ old.waiting) ++ put ≡ (i.text ++ begun b i.line) ++ put
   in_begun b put e = rw (← e) (ap (λ (x : List ℕ). x ++ put) i.parts)
 
   -- to a line that is begun
@@ -286,9 +285,8 @@ module _ (base : Base) (o : Origin) (old new : Writing) (i : IsGoing base o old)
   abbrev after_cut : Bool → List ℕ
   after_cut b = (if b then codes "\n" else []) ++ row_text base 0 old.unshown
 
-  rest_of_line : (b : Bool) → old.is_begun ≡ b → IsOutlined base ((i.written ++ old.waiting) ++
-      (if b then codes "\n" else [])) o.outline o.numbers
-      i.rows
+  rest_of_line : (b : Bool) → old.is_begun ≡ b
+      → IsOutlined base ((i.written ++ old.waiting) ++ (if b then codes "\n" else [])) o.outline o.numbers i.rows
   rest_of_line true b = subst₂ (λ (x : List ℕ) (y : List Number). IsOutlined base x o.outline y i.rows)
       (sym (ap (λ (x : List ℕ). x ++ codes "\n") (i.parts ∙ rw b refl)
       ∙ append_assoc i.text (codes "  " ++ flat_map part_text i.line) (codes "\n")))
@@ -380,8 +378,7 @@ module _ (o : Origin) (old new : Writing) (b : Bool) (spot : Spot) (unshown : Li
   by_why : (to : Origin) (bytes : List ℕ) (before after : Option ListError) → old.why ≡ before → new.why ≡ after
       → PutsAs before after bytes old new → IsWritten o old
       → (IsGoingIn o.style o old → IsPushed bytes old new → IsGoingIn to.style to (moved_on new))
-      → ((why : ListError) (w : Writing) → IsCutShort o why w → IsCutShort to why w)
-      → IsWrittenAs new.why to (moved_on new)
+      → ((why : ListError) (w : Writing) → IsCutShort o why w → IsCutShort to why w) → IsWrittenAs new.why to (moved_on new)
   by_why to bytes before after e a p i going short = grind (arith, short_still, as_short, as_going, is_stuck)
 
   changes : (to : Origin) (bytes : List ℕ) → to.style ≡ o.style → Puts bytes old new → IsWritten o old
