@@ -15,7 +15,7 @@ pub use Rattle.wasm_text.specs.Offsets.{offset_text}
 pub use Rattle.wasm_text.specs.Page.{IsCut}
 pub use Rattle.wasm_text.specs.declared.devices.ListError.{ListError}
 pub use Rattle.wasm_text.specs.declared.digits.Base.{Base}
-pub use Rattle.wasm_tree.specs.Fields.{is_escaped, field_start, quoted_byte, hexadecimal}
+pub use Rattle.wasm_tree.specs.Fields.{is_escaped, quoted_byte, hexadecimal}
 pub use Rattle.wasm_tree.specs.ItemNames.{key_cmp, names_in, AddsName, item}
 unfoldable pub use Rattle.wasm_tree.specs.ItemNames.{named}
 pub use Rattle.wasm_tree.specs.Json.{start, after_all, IsAt, Leads, object_end}
@@ -25,6 +25,6 @@ pub use Rattle.wasm_tree.specs.Tree.{Writing, PutsAs, Puts, has_line_feed, name_
 pub use Rattle.wasm_tree.specs.Written.{lines, lines_rest, objects, objects_rest}
 pub use Rattle.wasm_tree.specs.declared.numbers.Space.{Space}
 pub use Rattle.wasm_tree.specs.declared.objects.Spot.{Spot}
-pub use Rattle.wasm_tree.specs.declared.objects.Spot.TheVariants.{Ended, AtValue, InText}
+pub use Rattle.wasm_tree.specs.declared.objects.Spot.TheVariants.{Ended, AtValue}
 pub use Rattle.wasm_tree.specs.declared.tree.Style.{Style}
 pub use Rattle.wasm_tree.specs.declared.tree.Style.TheVariants.{Objects}

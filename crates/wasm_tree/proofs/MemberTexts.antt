@@ -1,9 +1,9 @@
 -- Parts of JSON objects that are put at once.
 use Rattle.wasm_tree.proofs.Common.{◌≡◌, ℕ, ◌<◌, false, refl, arith, List, ◌++◌, codes, ◌^◌, decimal, list_any, is_escaped, after_all}
-use Rattle.wasm_tree.proofs.Common.{Leads, object_end, Space, Spot, Ended, AtValue, InText}
+use Rattle.wasm_tree.proofs.Common.{Leads, object_end, Space, Spot, Ended, AtValue}
 use Rattle.wasm_tree.specs.Json.{item_start, member_start, name_start, number_members}
 use Rattle.wasm_tree.specs.Numbers.{word_of}
-use Rattle.wasm_tree.specs.declared.objects.Spot.TheVariants.{Outside, InName}
+use Rattle.wasm_tree.specs.declared.objects.Spot.TheVariants.{InText, Outside, InName}
 use Rattle.wasm_tree.proofs.Json.{after_all-append, completes, leads_from, number_leads, plain_run_stays}
 
 -- what leads to a spot, and what leads on from there

@@ -3,11 +3,10 @@ use Rattle.wasm_tree.proofs.Common.{◌≡◌, ℕ, zero, suc, ◌<◌, Bool, tr
 use Rattle.wasm_tree.proofs.Common.{codes, sym, ap, ◌∙◌, ◌^◌, subst, decimal, length, ◌||◌, Option, Some, None, append_assoc, append-nil}
 use Rattle.wasm_tree.proofs.Common.{take, Appends-nil, Appends-trans, nat_tests, decimal_by_steps, flat_map-append, list_any-append}
 use Rattle.wasm_tree.proofs.Common.{list_any, flat_map, if◌then◌else◌, slice_index, offset_text, IsCut, ListError, Base, is_escaped}
-use Rattle.wasm_tree.proofs.Common.{field_start, quoted_byte, PutsText, Says, SaysSome, Writing, PutsAs, Puts, has_line_feed, Style}
-use Rattle.wasm_tree.proofs.Common.{Objects}
+use Rattle.wasm_tree.proofs.Common.{quoted_byte, PutsText, Says, SaysSome, Writing, PutsAs, Puts, has_line_feed, Style, Objects}
 use Rattle.std.proofs.Math.Seq.{take-length}
 use Rattle.std.proofs.lemmas.List.{take_more}
-use Rattle.wasm_tree.specs.Fields.{Field, field_text, named, word, with_fields}
+use Rattle.wasm_tree.specs.Fields.{field_start, Field, field_text, named, word, with_fields}
 use Rattle.wasm_tree.specs.Said.{HasLine, SaysInBase, SaysWith}
 use Rattle.wasm_tree.specs.Tree.{are_lines, base_of}
 use Rattle.wasm_text.proofs.ForCallers.{no_line_feed}

@@ -5,9 +5,9 @@ use Rattle.wasm_tree.proofs.Common.{flat_map, is_some, unwrap_or, if◌then◌el
 use Rattle.wasm_tree.proofs.Common.{object_end, Number, PutsText, Writing, PutsAs, Puts, has_line_feed, name_text, Adds, Put, Spot, Style}
 use Rattle.wasm_tree.proofs.Common.{Objects}
 use Rattle.std.proofs.Common.{Err}
-use Rattle.std.proofs.Math.Path.{subst₃}
 use Rattle.std.proofs.lemmas.List.{append_cancel_right}
 use Rattle.std.proofs.lemmas.List.Folds.{list_all-append}
+use Rattle.std.specs.Io.KnownBytes.{Appends}
 use Rattle.wasm_text.specs.Calls.{output_failed}
 use Rattle.wasm_text.specs.Page.{WritesHead}
 use Rattle.wasm_text.specs.declared.devices.ListError.TheVariants.{Input, Memory}
@@ -33,18 +33,13 @@ number_before n rest = simp append_assoc
 
 pub blank_before : (numbers : List Number) (rest : List ℕ) → blank_numbers numbers rest ≡ blank_numbers numbers [] ++ rest
 blank_before [] rest = refl
-blank_before (n ∷ later) rest =
-    let all = ap (λ (x : List ℕ). codes " " ++ number_text n x) (blank_before later rest) in
-    let moved = ap (λ (x : List ℕ). codes " " ++ x) (number_before n (blank_numbers later [] ++ rest)
-    ∙ (sym (append_assoc (number_text n []) (blank_numbers later []) rest)
-    ∙ ap (λ (x : List ℕ). x ++ rest) (sym (number_before n (blank_numbers later []))))) in
-    all ∙ moved
+blank_before (n ∷ later) rest = grind (arith, number_before, append_assoc, blank_before later rest)
 
 module _ (base : Base) where
-  outlined_more : (text outline : List ℕ) (numbers : List Number) (bytes : List ℕ) (l : Line) → is_line l ≡ true
+  outlined_more : {text outline : List ℕ} {numbers : List Number} {bytes : List ℕ} (l : Line) → is_line l ≡ true
       → IsOutlined base text outline numbers bytes
       → IsOutlined base (text ++ text_of base l) (outline ++ first_of l) (numbers ++ numbers_of l) (bytes ++ bytes_of l)
-  outlined_more text outline numbers bytes l one i = record {
+  outlined_more {text} {outline} {numbers} {bytes} l one i = record {
     lines = i.lines ++ l ∷ [];
     whole = list_all-append is_line i.lines (l ∷ []) ∙ rw (i.whole, one) refl;
     parts = more_lines (text_of base) i.lines l text i.parts;
@@ -53,30 +48,19 @@ module _ (base : Base) where
     rowed = more_lines bytes_of i.lines l bytes i.rowed;
   }
 
-  -- the same line, by what it adds
-  outlined_with : (text outline : List ℕ) (numbers : List Number) (bytes : List ℕ) (l : Line) (text' outline' : List ℕ)
-      (numbers' : List Number) (bytes' : List ℕ) → is_line l ≡ true → text ++ text_of base l ≡ text' → outline ++ first_of l ≡ outline'
-      → numbers ++ numbers_of l ≡ numbers' → bytes ++ bytes_of l ≡ bytes' → IsOutlined base text outline numbers bytes
-      → IsOutlined base text' outline' numbers' bytes'
-  outlined_with text outline numbers bytes l text' outline' numbers' bytes' one e f g h i =
-      rw (← e, ← f, ← g, ← h) (outlined_more text outline numbers bytes l one i)
-
   -- a line under another
-  under_more : (text outline : List ℕ) (numbers : List Number) (bytes : List ℕ) (line : List Part) → list_all is_part line ≡ true
+  under_more : {text outline : List ℕ} {numbers : List Number} {bytes : List ℕ} (line : List Part) → list_all is_part line ≡ true
       → IsOutlined base text outline numbers bytes
       → IsOutlined base (text ++ (codes "  " ++ (flat_map part_text line ++ codes "\n"))) outline
       (numbers ++ flat_map part_numbers line) bytes
-  under_more text outline numbers bytes line one i =
-      outlined_with text outline numbers bytes (under line) (text ++ text_of base (under line)) outline
-      (numbers ++ flat_map part_numbers line) bytes one refl (append-nil outline) refl (append-nil bytes) i
+  under_more {text} {outline} {numbers} {bytes} line one i =
+      rw (append-nil outline, append-nil bytes) at (outlined_more (under line) one i)
 
   -- a row of bytes
-  row_more : (text outline : List ℕ) (numbers : List Number) (bytes : List ℕ) (offset : ℕ) (more : List ℕ)
+  row_more : {text outline : List ℕ} {numbers : List Number} {bytes : List ℕ} (offset : ℕ) (more : List ℕ)
       → IsOutlined base text outline numbers bytes → IsOutlined base (text ++ row_text base offset more) outline numbers (bytes ++ more)
-  row_more text outline numbers bytes offset more i =
-      outlined_with text outline numbers bytes (row offset more) (text ++ row_text base offset more) outline numbers (bytes ++ more)
-      refl refl
-      (append-nil outline) (append-nil numbers) refl i
+  row_more {text} {outline} {numbers} {bytes} offset more i =
+      rw (append-nil outline, append-nil numbers) at (outlined_more (row offset more) refl i)
 
   -- a line that adds this to the outline, and has these numbers
   abbrev pub Outlines : (line outline : List ℕ) → List Number → Type 0
@@ -86,8 +70,7 @@ module _ (base : Base) where
   -- one of the first level
   pub first_more : (line more : List ℕ) (after : List Number) → IsFirst line more after → Outlines line more after
   first_more line more after e text outline numbers bytes i =
-      outlined_with text outline numbers bytes (first e.front after None) (text ++ line) (outline ++ more) (numbers ++ after) bytes refl
-      (ap (λ (x : List ℕ). text ++ x) (sym e.parts)) (ap (λ (x : List ℕ). outline ++ x) (sym e.outlines)) refl (append-nil bytes) i
+      rw (append-nil bytes, ← e.parts, ← e.outlines) at (outlined_more (first e.front after None) refl i)
 
   -- one that has a name after its text, if there is one
   pub named_more : (text more : List ℕ) (after : List Number) (name : Option (List ℕ)) → IsFirst (text ++ codes "\n") more after
@@ -96,12 +79,9 @@ module _ (base : Base) where
       let numbered = blank_numbers after [] in
       let rest = name_text name ++ codes "\n" in
       let front : line ≡ e.front ++ numbered = append_cancel_right line (e.front ++ numbered) (codes "\n")
-      (e.parts ∙ (ap (λ (x : List ℕ). e.front ++ x) (blank_before after (codes "\n"))
-      ∙ sym (append_assoc e.front numbered (codes "\n")))) in
-      let parts : line ++ rest ≡ e.front ++ blank_numbers after rest = ap (λ (x : List ℕ). x ++ rest) front
-      ∙ (append_assoc e.front numbered rest ∙ ap (λ (x : List ℕ). e.front ++ x) (sym (blank_before after rest))) in
-      outlined_with text outline numbers bytes (first e.front after name) (text ++ (line ++ rest)) (outline ++ more) (numbers ++ after)
-      bytes refl (ap (λ (x : List ℕ). text ++ x) (sym parts)) (ap (λ (x : List ℕ). outline ++ x) (sym e.outlines)) refl (append-nil bytes) i
+      (grind (arith, e.parts, blank_before after (codes "\n"), append_assoc)) in
+      let parts : line ++ rest ≡ e.front ++ blank_numbers after rest = grind (arith, front, append_assoc, blank_before after rest) in
+      rw (append-nil bytes, ← parts, ← e.outlines) at (outlined_more (first e.front after name) refl i)
 
 -- ---- bytes put after those that wait
 
@@ -183,15 +163,12 @@ module _ (base : Base) (o : Origin) (w : Writing) (why : ListError) (lines : o.s
   -- bytes that are to be shown
   bytes_short : (bytes : List ℕ) → IsCutShort (with_bytes o bytes) why w
   bytes_short bytes = short_more o (with_bytes o bytes) w why c (row_text base 0 bytes) refl refl lines
-      (row_more base (c.written ++ c.unwritten) o.outline o.numbers o.bytes 0 bytes before)
+      (row_more base 0 bytes before)
 
   -- a part of a line under another
   part_short : (p : Part) → is_part p ≡ true → IsCutShort (with_numbers o (part_numbers p)) why w
   part_short p one = short_more o (with_numbers o (part_numbers p)) w why c (text_of base (under (p ∷ []))) refl refl lines
-      (subst (λ (y : List Number). IsOutlined base ((c.written ++ c.unwritten) ++ text_of base (under (p ∷ []))) o.outline
-      (o.numbers ++ y) o.bytes)
-      (append-nil (part_numbers p))
-      (under_more base (c.written ++ c.unwritten) o.outline o.numbers o.bytes (p ∷ []) (rw one refl) before))
+      (rw (append-nil (part_numbers p)) at (under_more base (p ∷ []) (rw one refl) before))
 
 module _ (base : Base) (o : Origin) (old new : Writing) (i : IsGoing base o old) where
   -- to whole lines with this outline, and a line that is begun, which has these parts
@@ -247,7 +224,7 @@ module _ (base : Base) (o : Origin) (old new : Writing) (i : IsGoing base o old)
       let text = i.text ++ text_of base (under i.line) in
       let lined = i.lined ++ flat_map part_numbers i.line in
       goes o.outline o.numbers o.bytes (codes "\n") text lined i.rows false [] new.unshown p
-      (under_more base i.text o.outline i.lined i.rows i.line i.one_line i.outlined) refl
+      (under_more base i.line i.one_line i.outlined) refl
       (in_begun true (codes "\n") b ∙ (append_assoc i.text (codes "  " ++ flat_map part_text i.line) (codes "\n") ∙ sym (append-nil text)))
       (i.numbered ∙ (rw b refl ∙ sym (append-nil lined))) (same_unshown p.unshown)
 
@@ -278,7 +255,7 @@ module _ (base : Base) (o : Origin) (old new : Writing) (i : IsGoing base o old)
   row_grows offset bytes left b p e =
       subst (λ (x : List Number). IsGoing base (record o { numbers = x }) (record new { unshown = left })) (append-nil o.numbers)
       (whole_grows (row_text base offset bytes) o.outline [] o.bytes (i.rows ++ bytes) left b
-      (rw (append-nil i.lined) (row_more base i.text o.outline i.lined i.rows offset bytes i.outlined))
+      (rw (append-nil i.lined) (row_more base offset bytes i.outlined))
       (i.rowed ∙ (ap (λ (x : List ℕ). i.rows ++ x) e ∙ sym (append_assoc i.rows bytes left))) p)
 
   -- the text that was cut, with what completes the line that was begun, and the bytes that weren't shown
@@ -290,48 +267,42 @@ module _ (base : Base) (o : Origin) (old new : Writing) (i : IsGoing base o old)
   rest_of_line true b = subst₂ (λ (x : List ℕ) (y : List Number). IsOutlined base x o.outline y i.rows)
       (sym (ap (λ (x : List ℕ). x ++ codes "\n") (i.parts ∙ rw b refl)
       ∙ append_assoc i.text (codes "  " ++ flat_map part_text i.line) (codes "\n")))
-      (sym (i.numbered ∙ rw b refl)) (under_more base i.text o.outline i.lined i.rows i.line i.one_line i.outlined)
-  rest_of_line false b = subst₂ (λ (x : List ℕ) (y : List Number). IsOutlined base x o.outline y i.rows)
-      (sym (append-nil (i.written ++ old.waiting) ∙ (i.parts ∙ rw b (append-nil i.text))))
-      (sym (i.numbered ∙ rw b (append-nil i.lined))) i.outlined
+      (sym (i.numbered ∙ rw b refl)) (under_more base i.line i.one_line i.outlined)
+  rest_of_line false b = grind (arith, append-nil)
 
   completed : (b : Bool) → old.is_begun ≡ b → IsOutlined base ((i.written ++ old.waiting) ++ after_cut b) o.outline o.numbers o.bytes
   completed b e = subst₂ (λ (x bytes : List ℕ). IsOutlined base x o.outline o.numbers bytes)
       (append_assoc (i.written ++ old.waiting) (if b then codes "\n" else []) (row_text base 0 old.unshown)) (sym i.rowed)
-      (row_more base ((i.written ++ old.waiting) ++ (if b then codes "\n" else [])) o.outline o.numbers i.rows 0 old.unshown
-      (rest_of_line b e))
+      (row_more base 0 old.unshown (rest_of_line b e))
 
 -- of all that was written or waited, a prefix is written
 cut_at : (written waiting moved unwritten more : List ℕ) → waiting ≡ moved ++ unwritten → (written ++ moved) ++ (unwritten ++ more)
     ≡ (written ++ waiting) ++ more
 cut_at written waiting moved unwritten more e = grind (arith, append_assoc)
 
+-- so the rest of that and what completes it are missing
+cut_short : (o : Origin) (old new : Writing) (why : ListError) (written waiting more : List ℕ) → IsCut old.taken new.taken waiting why
+    → Appends o.taken old.taken written → new.has_failed ≡ output_failed {A = Unit {0}} (Err why) old.has_failed
+    → old.has_failed ≡ o.has_failed → IsShaped o.style ((written ++ waiting) ++ more) o.outline o.numbers o.bytes → IsCutShort o why new
+cut_short o old new why written waiting more cut took failed same shaped =
+    let w = beginning old.taken new.taken waiting why cut in
+    record {
+      written = written ++ w.moved;
+      unwritten = w.unwritten ++ more;
+      shaped = rw (cut_at written waiting w.moved w.unwritten more w.parts) shaped;
+      took = Appends-trans o.taken old.taken new.taken written w.moved took w.wrote;
+      failed = rw same at failed;
+      no_input = no_input old.taken new.taken waiting why cut;
+    }
+
 module _ (o : Origin) (old new : Writing) (why : ListError) (s : IsStuck why old new) where
   stuck_in : (style : Style) → o.style ≡ style → IsGoingIn style o old → IsCutShort o why new
-  stuck_in (Lines base) e i =
-      let w = beginning old.taken new.taken old.waiting why s.cut in
-      let more = after_cut base o old new i old.is_begun in
-      record {
-        written = i.written ++ w.moved;
-        unwritten = w.unwritten ++ more;
-        shaped = rw (e, cut_at i.written old.waiting w.moved w.unwritten more w.parts) (completed base o old new i old.is_begun refl);
-        took = Appends-trans o.taken old.taken new.taken i.written w.moved i.took w.wrote;
-        failed = s.failed ∙ ap (λ (b : Bool). output_failed {A = Unit {0}} (Err why) b) i.failed;
-        no_input = no_input old.taken new.taken old.waiting why s.cut;
-      }
+  stuck_in (Lines base) e i = cut_short o old new why i.written old.waiting (after_cut base o old new i old.is_begun) s.cut i.took s.failed
+      i.failed (rw e (completed base o old new i old.is_begun refl))
   stuck_in Objects e i =
-      let w = beginning old.taken new.taken old.waiting why s.cut in
-      let more = object_end old.spot in
-      let objects : AreObjects ((i.written ++ old.waiting) ++ more) = after_all-append start (i.written ++ old.waiting) more
-      ∙ completes old.spot (after_all start (i.written ++ old.waiting)) i.is_at in
-      record {
-        written = i.written ++ w.moved;
-        unwritten = w.unwritten ++ more;
-        shaped = rw (e, cut_at i.written old.waiting w.moved w.unwritten more w.parts) objects;
-        took = Appends-trans o.taken old.taken new.taken i.written w.moved i.took w.wrote;
-        failed = s.failed ∙ ap (λ (b : Bool). output_failed {A = Unit {0}} (Err why) b) i.failed;
-        no_input = no_input old.taken new.taken old.waiting why s.cut;
-      }
+      let objects : AreObjects ((i.written ++ old.waiting) ++ object_end old.spot) =
+      rw after_all-append (completes old.spot (after_all start (i.written ++ old.waiting)) i.is_at) in
+      cut_short o old new why i.written old.waiting (object_end old.spot) s.cut i.took s.failed i.failed (rw e objects)
 
   is_stuck : IsGoingIn o.style o old → IsCutShort o why new
   is_stuck i = stuck_in o.style refl i
@@ -451,24 +422,10 @@ module _ (base : Base) (o : Origin) (old new : Writing) (line outline : List ℕ
   stops_in : (why : ListError) → o.style ≡ Lines base → old.is_begun ≡ false → IsGoing base o old → StopsIn line why in_line new
       → IsCutShort with_this why after_line
   stops_in why e b i p =
-      let w = beginning old.taken new.taken (old.waiting ++ line) why p.cut in
-      let rest = row_text base 0 old.unshown in
-      let all : i.written ++ (old.waiting ++ line) ≡ i.text ++ line = sym (append_assoc i.written old.waiting line)
-      ∙ ap (λ (x : List ℕ). x ++ line) (i.parts ∙ rw b (append-nil i.text)) in
-      let whole : (i.written ++ w.moved) ++ (w.unwritten ++ rest) ≡ (i.text ++ line) ++ rest =
-      cut_at i.written (old.waiting ++ line) w.moved w.unwritten rest w.parts ∙ ap (λ (x : List ℕ). x ++ rest) all in
-      let numbered : i.lined ≡ o.numbers = sym (i.numbered ∙ rw b (append-nil i.lined)) in
-      record {
-        written = i.written ++ w.moved;
-        unwritten = w.unwritten ++ rest;
-        shaped = rw e (subst₃ (λ (x : List ℕ) (y : List Number) (z : List ℕ). IsOutlined base x (o.outline ++ outline) (y ++ numbers) z)
-            (sym whole) numbered (sym i.rowed)
-            (row_more base (i.text ++ line) (o.outline ++ outline) (i.lined ++ numbers) i.rows 0 old.unshown
-            (more i.text o.outline i.lined i.rows i.outlined)));
-        took = Appends-trans o.taken old.taken new.taken i.written w.moved i.took w.wrote;
-        failed = p.failed ∙ ap (λ (b : Bool). output_failed {A = Unit {0}} (Err why) b) i.failed;
-        no_input = no_input old.taken new.taken (old.waiting ++ line) why p.cut;
-      }
+      let all : i.written ++ (old.waiting ++ line) ≡ i.text ++ line = rw (← append_assoc, i.parts, b, append-nil i.text) refl in
+      let numbered : o.numbers ≡ i.lined = i.numbered ∙ rw b (append-nil i.lined) in
+      cut_short with_this old after_line why i.written (old.waiting ++ line) (row_text base 0 old.unshown) p.cut i.took p.failed i.failed
+      (rw (e, all, numbered, i.rowed) (row_more base 0 old.unshown (more i.text o.outline i.lined i.rows i.outlined)))
 
   -- all of it was put
   line_pushed : old.is_begun ≡ false → IsPushed line in_line new → IsPushed line old after_line
@@ -484,8 +441,7 @@ module _ (base : Base) (o : Origin) (old new : Writing) (line outline : List ℕ
   by_text None None e a s b p i = subst (λ (y : Option ListError). IsWrittenAs y with_this after_line) (sym a)
       (from_lines o with_this after_line refl s
       (first_grows base o old after_line (in_lines o old s (as_going o old e i)) line outline numbers more b (line_pushed b p)))
-  by_text None (Some why) e a s b p i = subst (λ (y : Option ListError). IsWrittenAs y with_this after_line) (sym a)
-      (stops_in why s b (in_lines o old s (as_going o old e i)) p)
+  by_text None (Some why) e a s b p i = grind (arith, stops_in, in_lines, as_going)
 
   pub puts_line : old.style ≡ Lines base → old.is_begun ≡ false → new.style ≡ Lines base
       → PutsText old.why new.why line in_line new → IsWritten o old → IsWritten with_this after_line

@@ -3,5 +3,4 @@ use Rattle.wasm_tree.proofs.MemberTexts.{number_members_lead}
 use Rattle.wasm_tree.proofs.objects.Objects.number_members.Goals as goal
 
 pub short-requires : goal.short-requires
-short-requires g c =
-    record { leads = number_members_lead c.args.self.now.spot c.args.space c.args.index (omega arith) }
+short-requires g c = search (arith, number_members_lead)
