@@ -172,8 +172,7 @@ module _ (start features : ℕ) (given : List ℕ) (p : ParserState) (held : Lis
       → length bytes ≡ taken_by x → GoesAlong start features eof given events x bytes new rest
   answered eof (Ok (NeedMoreData hint)) bytes new rest v d e r w n = absurd (asks_never p new hint v r)
   answered eof (Ok (Parsed consumed payload)) bytes new rest (tile t) d e r w n = grind (arith, tile_came)
-  answered eof (Ok (Parsed consumed payload)) bytes new rest (final (ended offset)) d e r w n =
-      end_came eof offset bytes rest payload new d e (n ∙ r.0) r.1
+  answered eof (Ok (Parsed consumed payload)) bytes new rest (final (ended offset)) d e r w n = end_came _ _ _ _ _ _ d e (n ∙ r.0) r.1
   answered eof (Err error) bytes new rest (final (fault f)) d e r w n = (
     reads_each start features given p held events a eof (fault (fault_at error)) d (e ∙ ap (λ (y : FaultAt). final (fault y)) (sym r.0)),
     along_same new rest r.1 (w ∙ ap (λ (y : List ℕ). y ++ rest) (nil_from_length bytes n)),
@@ -200,8 +199,7 @@ module _ (start features : ℕ) (given : List ℕ) (p : ParserState) (held : Lis
       → GoesAlong start features eof given events x bytes new rest
   goes_along eof x bytes new rest l r w n =
       let o = ends_at start features given p held events a in
-      answered_on eof x bytes new rest (waiting (grammar_of p) held) refl
-      ((as_table p new eof held x r).within (omega (arith, o, l))) w n
+      answered_on eof x bytes new rest _ refl ((as_table p new eof held x r).within (omega (arith, o, l))) w n
 
 -- ---- the same result
 

@@ -29,7 +29,5 @@ pub asks_where_open : (p new : ParserState) (eof : Bool) (came : List ℕ) (r : 
     → AsksWhereOpen p eof came r
 asks_where_open p new eof came r h e start front s t l =
     let n : length (front ++ came) ≡ length front + length came = length-append front came in
-    let a : AnswersOn false (waiting (grammar_of p) came) p (verdict (grammar_of p) came) r new =
-    grind (arith, AnswersOn, as_table) in
-    asks_at p new start front came r s t l (waiting (grammar_of p) came)
-    (rw (sym (grammar_same p start front s))) a
+    let a : AnswersOn false (waiting (grammar_of p) came) p (verdict (grammar_of p) came) r new = grind (arith, AnswersOn, as_table) in
+    asks_at p new start front came r s t l _ (rw (sym (grammar_same p start front s))) a

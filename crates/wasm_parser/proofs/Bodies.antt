@@ -31,9 +31,8 @@ pub code_short : (context : SectionContext) (size : ℕ) (p q : Place) (count : 
     ≡ Ok (count, q) → p.offset + size < q.offset → fault_at e ≡ at_offset UnexpectedEof p.offset
     → hint_of e ≡ None → ReadsByGrammar (code_grammar context p.offset size) p (Err e) a
 code_short context size p q count e a h l f hint =
-    let m : ReadNumber p count q = read_number p count q h in
-    let w : when (nat_lt size m.used) (at_offset UnexpectedEof p.offset)
-    ≡ Some (fault_at e) = grind arith in
+    let m : ReadNumber p count q = read_number _ _ _ h in
+    let w : when (nat_lt size m.used) (at_offset UnexpectedEof p.offset) ≡ Some (fault_at e) = grind arith in
     search (report_number, report_wrong)
 
 -- a count that lies in the section, and that of the functions
@@ -51,8 +50,7 @@ pub code_wrong : (context : SectionContext) (size : ℕ) (p q : Place) (count : 
     → hint_of e ≡ None → ReadsByGrammar (code_grammar context p.offset size) p (Err e) a
 code_wrong context size p q count e a h l w hint =
     let m : ReadNumber p count q = read_number p count q h in
-    counted_right context size p q count (Err e) a m l (λ s. report_wrong s (advanced m.used p) (wrong_count context p.offset count) _ e a w
-    hint)
+    counted_right context size p q count _ a m l (λ s. report_wrong s _ _ _ e a w hint)
 
 -- a head
 pub code_read : (context : SectionContext) (size : ℕ) (p q : Place) (count : ℕ) (payload : Payload) → unsigned_at VarU32 p ≡ Ok (count, q)
@@ -63,9 +61,7 @@ code_read context size p q count payload h l w report =
     let m : ReadNumber p count q = read_number p count q h in
     let said : IsPayload (code_start count (p.offset + m.used - m.used) (p.offset + m.used + (size - m.used)) (size - m.used)) payload =
     grind arith in
-    counted_right context size p q count (Ok payload) q m l (λ s.
-    report_right s (advanced m.used p) (wrong_count context p.offset count) _ (Ok payload) q w
-    (search report_whole))
+    counted_right context size p q count _ q m l (λ s. report_right s _ _ _ _ q w (search report_whole))
 
 -- what is wrong with a count, by two tests
 pub counts_differ : (context : SectionContext) (offset count : ℕ) (f : FaultAt) → true ≡ not (list_all (nat_eq count) context.functions) → f
@@ -116,9 +112,7 @@ body_sized bodies code_bytes p q size past r a m l h next =
     let o : q.offset ≡ p.offset + m.used = rw m.after in
     let n : q.offset - p.offset + size ≡ m.used + size = omega arith in
     let w : nat_lt code_bytes (m.used + size) ≡ past = rw n at h in
-    body_there bodies code_bytes p r a l
-    (λ s. report_number s p p.offset (λ size width. body_of p.offset code_bytes size width) r a size m.used m.reads
-    (rw w (next s)))
+    body_there _ _ _ _ _ l (λ s. report_number _ _ _ _ _ _ _ _ m.reads (rw w (next s)))
 
 -- whether a body passes its section, by the same numbers
 pub past_same : {l code_bytes b q a p : ℕ} {found past : Bool} (size : ℕ) → l ≡ code_bytes → b ≡ q → a ≡ p → found ≡ nat_lt l (b - a + size)
@@ -131,8 +125,7 @@ pub body_past : (bodies code_bytes : ℕ) (p q : Place) (size : ℕ) (e : Error)
     → ReadsByGrammar (body_grammar bodies code_bytes p.offset) p (Err e) a
 body_past bodies code_bytes p q size e a l h past f hint =
     let m : ReadNumber p size q = read_number p size q h in
-    body_sized bodies code_bytes p q size true (Err e) a m l past (λ s.
-    report_wrong s (advanced m.used p) (Some (at_offset UnexpectedEof p.offset)) _ e a (ap Some (sym f)) hint)
+    body_sized bodies code_bytes p q size true _ a m l past (λ s. report_wrong s _ _ _ e a (ap Some (sym f)) hint)
 
 -- bytes that are missing of a body that lies in its section
 pub body_missing : (bodies code_bytes : ℕ) (p q : Place) (size : ℕ) (e : Error) (a : Place) → 0 < bodies
@@ -160,5 +153,4 @@ body_read bodies code_bytes p q size w b payload l h past k report =
     let n : length (take size (drop m.used p.rest)) ≡ size = length-take-le size (drop m.used p.rest) c.there in
     let said : IsPayload (code_entry (window_over p.features (p.offset + m.used + size - length (take size (drop m.used p.rest)))
     (take size (drop m.used p.rest)))) payload = grind arith in
-    body_sized bodies code_bytes p q size false (Ok payload) b m l past
-    (λ s. report_right s (advanced m.used p) None _ (Ok payload) b refl (search (report_bytes, report_whole)))
+    body_sized bodies code_bytes p q size false _ b m l past (λ s. report_right s _ None _ _ b refl (search (report_bytes, report_whole)))

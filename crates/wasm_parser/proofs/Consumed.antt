@@ -33,10 +33,9 @@ pub end_consumes_all : EndConsumesAll
 end_consumes_all stream start features events offset r =
     let last = last_event (ended offset) in
     let all = events_of start features r.tiles in
-    let same : last ≡ last_event r.end = sym (last_is last last events)
-    ∙ (ap (last_of last) r.listed ∙ last_is last (last_event r.end) all) in
-    let end : r.end ≡ ended offset = same_end r.end (ended offset) (ap (λ (e : Event). e.report) (sym same)) in
+    let same : last ≡ last_event r.end = sym (last_is last last events) ∙ (ap (last_of last) r.listed ∙ last_is last _ all) in
+    let end : r.end ≡ ended offset = same_end r.end _ (ap (λ (e : Event). e.report) (sym same)) in
     let none : r.reads.rest ≡ [] = rest_is_none start r.tiles r.reads.rest offset (r.reads.stops ∙ ap final end) in
-    let joined : consumed_by events ≡ bytes_of r.tiles = sym (last_consumes events (ended offset))
-    ∙ (ap consumed_by r.listed ∙ (search (last_consumes, tiles_consume))) in
+    let joined : consumed_by events ≡ bytes_of r.tiles =
+    sym (last_consumes events _) ∙ (ap consumed_by r.listed ∙ (search (last_consumes, tiles_consume))) in
     r.reads.whole ∙ (ap (λ (x : List ℕ). bytes_of r.tiles ++ x) none ∙ (append-nil (bytes_of r.tiles) ∙ sym joined))

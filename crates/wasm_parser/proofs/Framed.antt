@@ -1,12 +1,12 @@
 -- What is at the start of a section, and what is read there.
 use Rattle.wasm_parser.proofs.Common.{◌≡◌, ℕ, ◌+◌, ◌^◌, ◌<◌, ◌≤◌, Bool, true, false, List, [], ◌∷◌, length, Result, Ok, Err, refl, sym, ap}
-use Rattle.wasm_parser.proofs.Common.{subst, subst₂, arith, nat_eq, nat_lt, ◌-◌, not, ◌&&◌, take, drop, Some, None, le-ltb, nat_le, lt-ltb}
-use Rattle.wasm_parser.proofs.Common.{le-leb, length-take-le, FaultAt, fault_at, at_offset, hint_of, magic, agree, hint_at, missing_at}
-use Rattle.wasm_parser.proofs.Common.{name_limit, text_at, unsigned_at, Window, Place, advanced, window_over, place, Error, UnexpectedEof}
+use Rattle.wasm_parser.proofs.Common.{subst₂, arith, nat_eq, nat_lt, ◌-◌, not, ◌&&◌, take, drop, Some, None, le-ltb, nat_le, lt-ltb, le-leb}
+use Rattle.wasm_parser.proofs.Common.{length-take-le, FaultAt, fault_at, at_offset, hint_of, magic, agree, hint_at, missing_at, name_limit}
+use Rattle.wasm_parser.proofs.Common.{text_at, unsigned_at, Window, Place, advanced, window_over, place, Error, UnexpectedEof}
 use Rattle.wasm_parser.proofs.Common.{MagicAtSection, OutOfOrder, VarU32, when, Form, Kind, custom, unknown, kind_of, wrong_content}
-use Rattle.wasm_parser.proofs.Common.{Grammar, SectionContext, u32_field, whole_grammar, wrong_data, content_grammar, after_length, verdict}
-use Rattle.wasm_parser.proofs.Common.{section_grammar, section_report, enough, waiting, IsPayload, MatchesGrammar, ReadsByGrammar}
-use Rattle.wasm_parser.proofs.Common.{MatchesVerdict, HintsAs, ParserState, known_context, content_at, Payload}
+use Rattle.wasm_parser.proofs.Common.{SectionContext, whole_grammar, wrong_data, content_grammar, after_length, verdict, section_grammar}
+use Rattle.wasm_parser.proofs.Common.{section_report, enough, waiting, IsPayload, ReadsByGrammar, MatchesVerdict, HintsAs, ParserState}
+use Rattle.wasm_parser.proofs.Common.{known_context, content_at, Payload}
 use Rattle.std.proofs.lemmas.Bool.{lt-leb}
 use Rattle.std.specs.List.{starts_with}
 use Rattle.wasm_base.specs.Name.{first_of, byte_at}
@@ -23,10 +23,7 @@ use Rattle.wasm_parser.proofs.ReadingFields.{report_right, report_whole, ReadNum
 -- after an id of 128 or more
 pub framed_bad : (context : SectionContext) (start id : ℕ) (p : Place) (e : Error) (a : Place) → 128 ≤ id → fault_at e
     ≡ at_offset MalformedSectionId start → hint_of e ≡ None → ReadsByGrammar (after_id context start id) p (Err e) a
-framed_bad context start id p e a h f hint =
-    let t : nat_le 128 id ≡ true = le-leb 128 id h in
-    let w : when (nat_le 128 id) (at_offset MalformedSectionId start) ≡ Some (fault_at e) = rw t (ap Some (sym f)) in
-    λ s. report_wrong s p (when (nat_le 128 id) (at_offset MalformedSectionId start)) _ e a w hint
+framed_bad context start id p e a h f hint = λ s. report_wrong s p _ _ e a (rw (le-leb 128 id h) (ap Some (sym f))) hint
 
 good_id : (start id : ℕ) → id < 128 → when (nat_le 128 id) (at_offset MalformedSectionId start) ≡ None
 good_id start id h = rw (lt-leb 128 id h) refl
@@ -35,11 +32,7 @@ module _ (context : SectionContext) (start id : ℕ) (p : Place) where
   -- after a good id, where no length is read
   pub framed_no_size : (e : Error) (a : Place) → id < 128 → start + 1 ≡ p.offset → unsigned_at VarU32 p ≡ Err (fault_at e)
       → hint_of e ≡ hint_at 1 (fault_at e).fault → ReadsByGrammar (after_id context start id) p (Err e) a
-  framed_no_size e a h o n hint =
-      let next : ℕ → ℕ → ℕ → Grammar = λ x size width. after_length context (kind_of context.encoding id) id x (x + width) size in
-      let r : (s : ℕ) → MatchesGrammar s p (u32_field (start + 1) (next (start + 1))) (Err e) a = λ s.
-      subst (λ (x : ℕ). MatchesGrammar s p (u32_field x (next x)) (Err e) a) (sym o) (report_no_number s p (next p.offset) e a n hint) in
-      λ s. report_right s p (when (nat_le 128 id) (at_offset MalformedSectionId start)) _ (Err e) a (good_id start id h) (r s)
+  framed_no_size e a h o n hint = λ s. report_right s p _ _ (Err e) a (good_id start id h) (rw o (report_no_number s p _ e a n hint))
 
   -- after a good id and a length
   pub framed_sized : (q : Place) (v : ℕ) (r : Result Payload Error) (a : Place) → id < 128 → start + 1 ≡ p.offset
@@ -47,13 +40,8 @@ module _ (context : SectionContext) (start id : ℕ) (p : Place) where
       → ReadsByGrammar (after_id context start id) p r a
   framed_sized q v r a h o n next =
       let m : ReadNumber p v q = read_number p v q n in
-      let at_q : (s : ℕ) → MatchesGrammar s (advanced m.used p) (after_length context (kind_of context.encoding id) id p.offset
-      (p.offset + m.used) v) r a =
-      λ s. subst (λ (x : Place). MatchesGrammar s x (after_length context (kind_of context.encoding id) id p.offset x.offset v) r a) m.after
-      (next s) in
-      λ s. report_right s p (when (nat_le 128 id) (at_offset MalformedSectionId start)) _ r a (good_id start id h)
-      (rw o (report_number s p p.offset
-      (λ size width. after_length context (kind_of context.encoding id) id p.offset (p.offset + width) size) r a v m.used m.reads (at_q s)))
+      λ s. report_right s p _ _ r a (good_id start id h)
+      (rw o (report_number s p p.offset _ r a v m.used m.reads (rw m.after at (next s))))
 
 -- whether a section of this kind and id may not come after others, for its rank
 abbrev pub is_disordered : SectionContext → Kind → ℕ → Bool
@@ -63,19 +51,14 @@ module _ (context : SectionContext) (kind : Kind) (id field size : ℕ) (p : Pla
   -- a content that would end past the top of the offsets
   pub sized_large : 2 ^ 64 - 1 < p.offset + size → fault_at e ≡ record { fault = SectionTooLarge; offset = field; number = Some size }
       → hint_of e ≡ None → ReadsByGrammar (after_length context kind id field p.offset size) p (Err e) a
-  sized_large h f hint =
-      let t : nat_lt (2 ^ 64 - 1) (p.offset + size) ≡ true = lt-ltb (2 ^ 64 - 1) (p.offset + size) h in
-      let x : FaultAt = record { fault = SectionTooLarge; offset = field; number = Some size } in
-      let w : when (nat_lt (2 ^ 64 - 1) (p.offset + size)) x ≡ Some (fault_at e) = rw t (ap Some (sym f)) in
-      λ s. report_wrong s p (when (nat_lt (2 ^ 64 - 1) (p.offset + size)) x) _ e a w hint
+  sized_large h f hint = λ s. report_wrong s p _ _ e a (rw (lt-ltb (2 ^ 64 - 1) (p.offset + size) h) (ap Some (sym f))) hint
 
   -- one that ranks no higher than one before it
   pub sized_disordered : p.offset + size ≤ 2 ^ 64 - 1 → is_disordered context kind id ≡ true → fault_at e ≡ at_offset OutOfOrder p.offset
       → hint_of e ≡ None → ReadsByGrammar (after_length context kind id field p.offset size) p (Err e) a
   sized_disordered h k f hint =
-      let y : FaultAt = at_offset OutOfOrder p.offset in
-      let ranks : when (is_disordered context kind id) y ≡ Some (fault_at e) = rw k (ap Some (sym f)) in
-      search (report_wrong, le-ltb, report_right)
+      λ s. report_right s p _ _ (Err e) a (rw (le-ltb (2 ^ 64 - 1) (p.offset + size) h) refl)
+      (report_wrong s p _ _ e a (rw k (ap Some (sym f))) hint)
 
 -- one that is in its place
 pub sized_ordered : (context : SectionContext) (kind : Kind) (id field size : ℕ) (p : Place) (r : Result Payload Error) (a : Place)
@@ -83,16 +66,13 @@ pub sized_ordered : (context : SectionContext) (kind : Kind) (id field size : �
     → ReadsByGrammar (content_grammar context kind id p.offset size) p r a
     → ReadsByGrammar (after_length context kind id field p.offset size) p r a
 sized_ordered context kind id field size p r a h k next =
-    let y : FaultAt = at_offset OutOfOrder p.offset in
-    let ranks : when (is_disordered context kind id) y ≡ None = rw k refl in
-    search (report_right, le-ltb)
+    λ s. report_right s p _ _ r a (rw (le-ltb (2 ^ 64 - 1) (p.offset + size) h) refl) (report_right s p _ _ r a (rw k refl) (next s))
 
 -- the same for the kind that was found
 pub sized_as : (context : SectionContext) (found kind : Kind) (id field size : ℕ) (p : Place) (r : Result Payload Error) (a : Place)
     → found ≡ kind → ReadsByGrammar (after_length context found id field p.offset size) p r a
     → ReadsByGrammar (after_length context kind id field p.offset size) p r a
-sized_as context found kind id field size p r a same next = subst
-    (λ (k : Kind). ReadsByGrammar (after_length context k id field p.offset size) p r a) same next
+sized_as context found kind id field size p r a same next = rw same at next
 
 pub too_few : (size : ℕ) (p : Place) (f : FaultAt) → content_at size p ≡ Err f → (length p.rest < size)
     × (f ≡ at_offset UnexpectedEof p.offset)
@@ -113,9 +93,7 @@ has_content size p w q h = grind arith
 pub whole_missing : (context : SectionContext) (kind : Form) (id size : ℕ) (p : Place) (e : Error) (a : Place) → content_at size p
     ≡ Err (fault_at e) → hint_of e ≡ hint_at (missing_at size p) (fault_at e).fault
     → ReadsByGrammar (whole_grammar context kind id p.offset size) p (Err e) a
-whole_missing context kind id size p e a h hint =
-    let t = too_few size p (fault_at e) h in
-    λ s. report_missing s p size p.offset _ e a t.0 t.1 hint
+whole_missing context kind id size p e a h hint = let t = too_few _ _ _ h in λ s. report_missing _ _ _ _ _ _ _ t.0 t.1 hint
 
 -- good content, reported by a payload
 pub whole_good : (context : SectionContext) (kind : Form) (id size : ℕ) (p : Place) (w : Window) (q : Place) (payload : Payload)

@@ -50,8 +50,7 @@ read_at : (few other fewer : Bool) (p : Place) (bits : ℕ) (q : Place) → nat_
 read_at few other fewer p bits q a b c h = grind (arith, ltb-false)
 
 pub header_read : (p : Place) (bits : ℕ) (q : Place) → header_version_at p ≡ Ok (bits, q) → ReadHeader p bits q
-header_read p bits q h = read_at (nat_lt (length p.rest) 4) (agree (take 4 p.rest) magic) (nat_lt (length (drop 4 p.rest)) 4) p bits q refl
-    refl refl (sym (steps p) ∙ h)
+header_read p bits q h = read_at _ _ _ _ _ _ refl refl refl (sym (steps _) ∙ h)
 
 -- what is after the eight bytes
 report_eight : (s : ℕ) (p : Place) (bits : ℕ) (q : Place) (r : Result Payload Error) (a : Place) → ReadHeader p bits q
@@ -70,17 +69,13 @@ module _ (p : Place) (bits : ℕ) (q : Place) where
   pub header_report : (e : Encoding) (payload : Payload) → header_version_at p ≡ Ok (bits, q) → Some e ≡ encoding_named (bits % 65536)
       (bits / 65536) → IsPayload (tile_report q.features p.offset q.offset (version (bits % 65536) e)) payload
       → MatchesGrammar p.offset p (header_grammar p.offset) (Ok payload) q
-  header_report e payload h n t =
-      report_eight p.offset p bits q (Ok payload) q (header_read p bits q h)
-      (rw (← n) (search report_whole))
+  header_report e payload h n t = report_eight _ _ _ _ _ _ (header_read _ _ _ h) (rw (← n) (search report_whole))
 
   -- one of an unknown version
   pub header_unnamed : (e : Error) → header_version_at p ≡ Ok (bits, q) → None ≡ encoding_named (bits % 65536) (bits / 65536)
       → fault_at e ≡ record { fault = UnknownVersion; offset = p.offset + 4; number = Some bits } → hint_of e ≡ None
       → MatchesGrammar p.offset p (header_grammar p.offset) (Err e) q
-  header_unnamed e h n f hint =
-      report_eight p.offset p bits q (Err e) q (header_read p bits q h)
-      (rw (← n) (search report_stops))
+  header_unnamed e h n f hint = report_eight _ _ _ _ _ _ (header_read _ _ _ h) (rw (← n) (search report_stops))
 
 -- none
 
@@ -103,9 +98,7 @@ refused_at true other fewer p e a x y z h hint =
 refused_at false false fewer p e a x y z h hint =
     let f : at_offset BadMagic p.offset ≡ fault_at e = cc in
     let m : when (not (agree (take 4 p.rest) magic)) (at_offset BadMagic p.offset) ≡ Some (fault_at e) = rw y (ap Some f) in
-    report_bytes p.offset p 4 p.offset _ (Err e) a (ltb-false _ _ x)
-    (report_wrong p.offset (advanced 4 p) (when (not (agree (take 4 p.rest) magic)) (at_offset BadMagic p.offset)) _ e a m
-    (cc))
+    report_bytes _ _ _ _ _ _ _ (ltb-false _ _ x) (report_wrong _ _ _ _ _ _ m (cc))
 refused_at false true true p e a x y z h hint =
     let f : at_offset UnexpectedEof (p.offset + 4) ≡ fault_at e = cc in
     let m : when (not (agree (take 4 p.rest) magic)) (at_offset BadMagic p.offset) ≡ None = rw y refl in

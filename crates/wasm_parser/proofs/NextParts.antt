@@ -66,8 +66,7 @@ answers_at p q eof here after payload end (final (ended x)) e m l o f at a = abs
 pub answers_read : (p q : ParserState) (eof : Bool) (here after : Place) (payload : Payload) (end : ℕ) → ReadsNext p here (Ok payload) after
     → p.offset + length here.rest < 2 ^ 64 → here.offset ≡ p.offset → here.features ≡ p.features → end ≡ after.offset
     → Advances p payload end q → ParseAnswer p eof here.rest (Ok (Parsed (end - p.offset) payload)) q
-answers_read p q eof here after payload end m l o f at a = answers_at p q eof here after payload end (verdict (grammar_of p) here.rest) refl
-    m.0 l o f at a
+answers_read p q eof here after payload end m l o f at a = answers_at _ _ _ _ _ _ _ _ refl m.0 l o f at a
 
 -- ---- what is read of bytes that begin where the parser is
 
@@ -79,21 +78,17 @@ at_window p w bytes r after e m = subst (λ (x : Window). ReadsNext p (place x) 
 module _ (p : ParserState) (w : Window) (bytes : List ℕ) (after : Place) (payload : Payload) where
   pub window_fits : (end : ℕ) → w ≡ window_over p.features p.offset bytes → ReadsNext p (place w) (Ok payload) after → end ≡ after.offset
       → end < 2 ^ 64 → p.offset + p.code_bytes < 2 ^ 64 → end + missing_bytes (report_of payload) (end - p.offset) p.code_bytes < 2 ^ 64
-  window_fits end e m at l k =
-      advance_fits p (place (window_over p.features p.offset bytes)) after payload end (at_window p w bytes (Ok payload) after e m)
-      (add-zero p.offset) at l k
+  window_fits end e m at l k = advance_fits p _ after payload end (at_window p w bytes _ after e m) (add-zero p.offset) at l k
 
   pub window_section : w ≡ window_over p.features p.offset bytes → ReadsNext p (place w) (Ok payload) after
       → implies_nothing (report_of payload) ≡ true → is_at_section p ≡ true
-  window_section e m n =
-      section_of p (place (window_over p.features p.offset bytes)) after payload _ refl (at_window p w bytes (Ok payload) after e m).0 n
+  window_section e m n = section_of p _ after payload _ refl (at_window p w bytes _ after e m).0 n
 
 pub window_answered : (p q : ParserState) (eof : Bool) (w : Window) (bytes : List ℕ) (after : Place) (payload : Payload) (start end : ℕ) → w
     ≡ window_over p.features p.offset bytes → start ≡ p.offset → ReadsNext p (place w) (Ok payload) after → p.offset + length bytes < 2 ^ 64
     → end ≡ after.offset → Advances p payload end q → ParseAnswer p eof bytes (Ok (Parsed (end - start) payload)) q
 window_answered p q eof w bytes after payload start end e s m l at a =
-    rw s (answers_read p q eof (place (window_over p.features p.offset bytes)) after payload end
-    (at_window p w bytes (Ok payload) after e m) l (add-zero p.offset) refl at a)
+    rw s (answers_read p q eof _ after payload end (at_window p w bytes _ after e m) l (add-zero p.offset) refl at a)
 
 pub window_refused : (p : ParserState) (eof : Bool) (w : Window) (bytes : List ℕ) (after : Place) (e : Error) (r : Result Chunk Error)
     → w ≡ window_over p.features p.offset bytes → ReadsNext p (place w) (Err e) after → p.offset + length bytes < 2 ^ 64

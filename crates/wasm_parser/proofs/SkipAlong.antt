@@ -34,8 +34,7 @@ module _ (start features : ℕ) (given : List ℕ) (p : ParserState) (first othe
   short new more a s l =
       let e = append_assoc first others more in
       let v = s.short (others ++ more) (rw e at l) in
-      reading_here start features given p (first ++ others) events a (given ++ more) more (fault (at_offset UnexpectedEof skip.from)) refl
-      (rw e v)
+      reading_here start features given p _ events a _ more _ refl (rw e v)
 
 pub skipping_goes_along : SkippingGoesAlong
 skipping_goes_along = record { whole = whole; short = short }

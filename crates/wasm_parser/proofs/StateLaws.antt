@@ -1,8 +1,8 @@
 -- What a parser knows is what the tiles before it say.
 use Rattle.wasm_parser.proofs.Common.{◌≡◌, ℕ, ◌+◌, ◌<◌, Bool, true, false, List, [], ◌∷◌, ◌++◌, length, refl, sym, ap, ◌∙◌, arith}
 use Rattle.wasm_parser.proofs.Common.{length-append, ltb-true, nat_eq, cond, nat_lt, ◌&&◌, option_to_list, Some, Option, eqb-true}
-use Rattle.wasm_parser.proofs.Common.{and_parts, list_all, headed, bodied, Grown, grows, items, index, data_count, count_of, Kind, kind_of}
-use Rattle.wasm_parser.proofs.Common.{Tile, tile, Shape, SectionContext, content_grammar, section, verdict, header_grammar, section_grammar}
+use Rattle.wasm_parser.proofs.Common.{and_parts, list_all, headed, bodied, Grown, grows, items, index, data_count, count_of, Kind, Tile}
+use Rattle.wasm_parser.proofs.Common.{tile, Shape, SectionContext, content_grammar, section, verdict, header_grammar, section_grammar}
 use Rattle.wasm_parser.proofs.Common.{data_id, function_id, grammar, inside, context_of, bodies_left, bytes_left, counts, ParserState}
 use Rattle.wasm_parser.proofs.Common.{initial_state, grammar_of, known_context, IsStateAfter, greatest, state_after_tile}
 use Rattle.std.proofs.Common.{max}
@@ -108,8 +108,7 @@ content_id p kind id o n h = grind arith
 
 section_id : (p : SectionContext) (o : ℕ) (xs : List ℕ) (t : Tile) → verdict (section_grammar p o) xs ≡ tile t → HasItsId t.shape
 unfolding section_grammar
-section_id p o xs t e = each_tile HasItsId (section_grammar p o)
-    (λ id x n k y z. content_id p (kind_of p.encoding id) id (o + 1 + k) n (id_of_kind p.encoding id)) xs t e
+section_id p o xs t e = each_tile HasItsId (section_grammar p o) (λ id x n k y z. content_id p _ id _ n (id_of_kind p.encoding id)) xs t e
 
 tile_id : (h : Bool) (p : ParserState) (xs : List ℕ) (t : Tile)
     → verdict (cond h (header_grammar p.offset) (inside (known_context p) p.bodies p.code_bytes p.offset)) xs ≡ tile t → HasItsId t.shape
