@@ -1,10 +1,11 @@
 -- What is in a code section: its head and its bodies.
 use Rattle.wasm_parser.proofs.Common.{◌≡◌, ℕ, ◌+◌, ◌<◌, ◌≤◌, Bool, true, false, length, Result, Ok, Err, refl, sym, ap, subst, ◌∙◌, arith}
-use Rattle.wasm_parser.proofs.Common.{nat_eq, nat_lt, zero, suc, ◌-◌, not, ◌&&◌, take, drop, option_to_list, Some, None, le-ltb}
-use Rattle.wasm_parser.proofs.Common.{length-take-le, list_all, list_any, FaultAt, fault_at, at_offset, hint_of, hint_at, missing_at}
-use Rattle.wasm_parser.proofs.Common.{unsigned_at, Window, Place, advanced, window_over, Error, UnexpectedEof, FunctionCodeDiffer}
-use Rattle.wasm_parser.proofs.Common.{CodeWithoutFunction, TrailingCode, VarU32, when, Grammar, SectionContext, accept, check, u32_field}
-use Rattle.wasm_parser.proofs.Common.{bytes, body_grammar, code_start, IsPayload, MatchesGrammar, ReadsByGrammar, content_at, Payload}
+use Rattle.wasm_parser.proofs.Common.{nat_eq, nat_lt, zero, suc, ◌-◌, not, ◌&&◌, take, drop, option_to_list, Some, None, length-take-le}
+use Rattle.wasm_parser.proofs.Common.{list_all, FaultAt, fault_at, at_offset, hint_of, hint_at, missing_at, unsigned_at, Window, Place}
+use Rattle.wasm_parser.proofs.Common.{advanced, window_over, Error, UnexpectedEof, FunctionCodeDiffer, CodeWithoutFunction, TrailingCode}
+use Rattle.wasm_parser.proofs.Common.{VarU32, when, Grammar, SectionContext, accept, check, u32_field, bytes, body_grammar, code_start}
+use Rattle.wasm_parser.proofs.Common.{IsPayload, MatchesGrammar, ReadsByGrammar, content_at, Payload}
+use Rattle.std.specs.List.{list_any}
 use Rattle.wasm_grammar.specs.Grammar.{wrong_count, code_grammar, body_of}
 use Rattle.wasm_grammar.specs.Reading.{code_entry}
 use Rattle.wasm_parser.proofs.Framed.{HasContent, has_content, too_few}
@@ -26,42 +27,40 @@ pub code_no_count : (context : SectionContext) (size : ℕ) (p : Place) (e : Err
     → hint_of e ≡ hint_at 1 (fault_at e).fault → ReadsByGrammar (code_grammar context p.offset size) p (Err e) a
 code_no_count context size p e a h hint = λ s. report_no_number s p (counted_grammar context p.offset size) e a h hint
 
--- a count that passes the section's end
-pub code_short : (context : SectionContext) (size : ℕ) (p q : Place) (count : ℕ) (e : Error) (a : Place) → unsigned_at VarU32 p
-    ≡ Ok (count, q) → p.offset + size < q.offset → fault_at e ≡ at_offset UnexpectedEof p.offset
-    → hint_of e ≡ None → ReadsByGrammar (code_grammar context p.offset size) p (Err e) a
-code_short context size p q count e a h l f hint =
-    let m : ReadNumber p count q = read_number _ _ _ h in
-    let w : when (nat_lt size m.used) (at_offset UnexpectedEof p.offset) ≡ Some (fault_at e) = grind arith in
-    search (report_number, report_wrong)
+-- where a count is read
+module _ (context : SectionContext) (size : ℕ) (p q : Place) (count : ℕ) (h : unsigned_at VarU32 p ≡ Ok (count, q)) where
+  its_count : ReadNumber p count q
+  its_count = read_number p count q h
 
--- a count that lies in the section, and that of the functions
-counted_right : (context : SectionContext) (size : ℕ) (p q : Place) (count : ℕ) (r : Result Payload Error) (a : Place)
-    (m : ReadNumber p count q) → q.offset ≤ p.offset + size
-    → ((s : ℕ) → MatchesGrammar s (advanced m.used p) (check (wrong_count context p.offset count)
-    (accept (Grammar.code_start count m.used (size - m.used)))) r a) → ReadsByGrammar (code_grammar context p.offset size) p r a
-counted_right context size p q count r a m l next =
-    let o : q.offset ≡ p.offset + m.used = rw m.after in
-    let w : when (nat_lt size m.used) (at_offset UnexpectedEof p.offset) ≡ None = rw (le-ltb size m.used (omega arith)) refl in
-    search (report_number, report_right)
+  after_count : q.offset ≡ p.offset + its_count.used
+  after_count = ap (λ (x : Place). x.offset) its_count.after
 
-pub code_wrong : (context : SectionContext) (size : ℕ) (p q : Place) (count : ℕ) (e : Error) (a : Place) → unsigned_at VarU32 p
-    ≡ Ok (count, q) → q.offset ≤ p.offset + size → wrong_count context p.offset count ≡ Some (fault_at e)
-    → hint_of e ≡ None → ReadsByGrammar (code_grammar context p.offset size) p (Err e) a
-code_wrong context size p q count e a h l w hint =
-    let m : ReadNumber p count q = read_number p count q h in
-    counted_right context size p q count _ a m l (λ s. report_wrong s _ _ _ e a w hint)
+  -- a count that passes the section's end
+  pub code_short : (e : Error) (a : Place) → p.offset + size < q.offset → fault_at e ≡ at_offset UnexpectedEof p.offset → hint_of e ≡ None
+      → ReadsByGrammar (code_grammar context p.offset size) p (Err e) a
+  code_short e a l f hint =
+      let w : when (nat_lt size its_count.used) (at_offset UnexpectedEof p.offset) ≡ Some (fault_at e) = grind (arith, after_count) in
+      λ s. report_number s p _ _ (Err e) a count its_count.used its_count.reads (report_wrong s _ _ _ e a w hint)
 
--- a head
-pub code_read : (context : SectionContext) (size : ℕ) (p q : Place) (count : ℕ) (payload : Payload) → unsigned_at VarU32 p ≡ Ok (count, q)
-    → q.offset ≤ p.offset + size → wrong_count context p.offset count ≡ None
-    → IsPayload (code_start count p.offset (p.offset + size) (p.offset + size - q.offset)) payload
-    → ReadsByGrammar (code_grammar context p.offset size) p (Ok payload) q
-code_read context size p q count payload h l w report =
-    let m : ReadNumber p count q = read_number p count q h in
-    let said : IsPayload (code_start count (p.offset + m.used - m.used) (p.offset + m.used + (size - m.used)) (size - m.used)) payload =
-    grind arith in
-    counted_right context size p q count _ q m l (λ s. report_right s _ _ _ _ q w (search report_whole))
+  -- a count that lies in the section, and that of the functions
+  counted_right : (r : Result Payload Error) (a : Place) → q.offset ≤ p.offset + size
+      → ((s : ℕ) → MatchesGrammar s (advanced its_count.used p) (check (wrong_count context p.offset count)
+      (accept (Grammar.code_start count its_count.used (size - its_count.used)))) r a)
+      → ReadsByGrammar (code_grammar context p.offset size) p r a
+  counted_right r a l next =
+      let w : when (nat_lt size its_count.used) (at_offset UnexpectedEof p.offset) ≡ None = grind (arith, after_count) in
+      λ s. report_number s p _ _ r a count its_count.used its_count.reads (report_right s _ _ _ r a w (next s))
+
+  pub code_wrong : (e : Error) (a : Place) → q.offset ≤ p.offset + size → wrong_count context p.offset count ≡ Some (fault_at e)
+      → hint_of e ≡ None → ReadsByGrammar (code_grammar context p.offset size) p (Err e) a
+  code_wrong e a l w hint = counted_right (Err e) a l (λ s. report_wrong s _ _ _ e a w hint)
+
+  -- a head
+  pub code_read : (payload : Payload) → q.offset ≤ p.offset + size → wrong_count context p.offset count ≡ None
+      → IsPayload (code_start count p.offset (p.offset + size) (p.offset + size - q.offset)) payload
+      → ReadsByGrammar (code_grammar context p.offset size) p (Ok payload) q
+  code_read payload l w report = counted_right (Ok payload) q l (λ s. report_right s _ _ _ (Ok payload) q w
+      (report_whole s _ _ payload q its_count.after (grind (arith, after_count, report))))
 
 -- what is wrong with a count, by two tests
 pub counts_differ : (context : SectionContext) (offset count : ℕ) (f : FaultAt) → true ≡ not (list_all (nat_eq count) context.functions) → f
@@ -102,55 +101,47 @@ pub body_no_size : (bodies code_bytes : ℕ) (p : Place) (e : Error) (a : Place)
     → hint_of e ≡ hint_at 1 (fault_at e).fault → ReadsByGrammar (body_grammar bodies code_bytes p.offset) p (Err e) a
 body_no_size bodies code_bytes p e a l h hint = search (body_there, report_no_number)
 
--- after a size, by whether the body passes its section
-body_sized : (bodies code_bytes : ℕ) (p q : Place) (size : ℕ) (past : Bool) (r : Result Payload Error) (a : Place) (m : ReadNumber p size q)
-    → 0 < bodies → nat_lt code_bytes (q.offset - p.offset + size) ≡ past
-    → ((s : ℕ) → MatchesGrammar s (advanced m.used p) (check (when past (at_offset UnexpectedEof p.offset))
-    (bytes size (p.offset + m.used) (λ content. accept (Grammar.code_entry content)))) r a)
-    → ReadsByGrammar (body_grammar bodies code_bytes p.offset) p r a
-body_sized bodies code_bytes p q size past r a m l h next =
-    let o : q.offset ≡ p.offset + m.used = rw m.after in
-    let n : q.offset - p.offset + size ≡ m.used + size = omega arith in
-    let w : nat_lt code_bytes (m.used + size) ≡ past = rw n at h in
-    body_there _ _ _ _ _ l (λ s. report_number _ _ _ _ _ _ _ _ m.reads (rw w (next s)))
-
 -- whether a body passes its section, by the same numbers
 pub past_same : {l code_bytes b q a p : ℕ} {found past : Bool} (size : ℕ) → l ≡ code_bytes → b ≡ q → a ≡ p → found ≡ nat_lt l (b - a + size)
     → found ≡ past → nat_lt code_bytes (q - p + size) ≡ past
 past_same size x y z e f = (λ i. nat_lt (sym x i) (sym y i - sym z i + size)) ∙ (sym e ∙ f)
 
--- a body that passes its section
-pub body_past : (bodies code_bytes : ℕ) (p q : Place) (size : ℕ) (e : Error) (a : Place) → 0 < bodies → unsigned_at VarU32 p ≡ Ok (size, q)
-    → nat_lt code_bytes (q.offset - p.offset + size) ≡ true → fault_at e ≡ at_offset UnexpectedEof p.offset → hint_of e ≡ None
-    → ReadsByGrammar (body_grammar bodies code_bytes p.offset) p (Err e) a
-body_past bodies code_bytes p q size e a l h past f hint =
-    let m : ReadNumber p size q = read_number p size q h in
-    body_sized bodies code_bytes p q size true _ a m l past (λ s. report_wrong s _ _ _ e a (ap Some (sym f)) hint)
+-- where a size is read, and a body remains
+module _ (bodies code_bytes : ℕ) (p q : Place) (size : ℕ) (l : 0 < bodies) (h : unsigned_at VarU32 p ≡ Ok (size, q)) where
+  its_size : ReadNumber p size q
+  its_size = read_number p size q h
 
--- bytes that are missing of a body that lies in its section
-pub body_missing : (bodies code_bytes : ℕ) (p q : Place) (size : ℕ) (e : Error) (a : Place) → 0 < bodies
-    → unsigned_at VarU32 p ≡ Ok (size, q) → nat_lt code_bytes (q.offset - p.offset + size) ≡ false → content_at size q ≡ Err (fault_at e)
-    → hint_of e ≡ hint_at (missing_at size q) (fault_at e).fault → ReadsByGrammar (body_grammar bodies code_bytes p.offset) p (Err e) a
-body_missing bodies code_bytes p q size e a l h past c hint =
-    let m : ReadNumber p size q = read_number p size q h in
-    let t = too_few size (advanced m.used p) (fault_at e) (cc) in
-    body_sized bodies code_bytes p q size false (Err e) a m l past (λ s. report_right s (advanced m.used p) None _ (Err e) a refl (
-    report_missing s (advanced m.used p) size (p.offset + m.used) _ e a t.0 t.1
-    (cc)))
+  -- by whether the body passes its section
+  body_sized : (past : Bool) (r : Result Payload Error) (a : Place) → nat_lt code_bytes (q.offset - p.offset + size) ≡ past
+      → ((s : ℕ) → MatchesGrammar s (advanced its_size.used p) (check (when past (at_offset UnexpectedEof p.offset))
+      (bytes size (p.offset + its_size.used) (λ content. accept (Grammar.code_entry content)))) r a)
+      → ReadsByGrammar (body_grammar bodies code_bytes p.offset) p r a
+  body_sized past r a e next =
+      let n : q.offset - p.offset + size ≡ its_size.used + size = omega (arith, ap (λ (x : Place). x.offset) its_size.after) in
+      body_there bodies code_bytes p r a l
+      (λ s. report_number s p _ _ r a size its_size.used its_size.reads (rw (rw n at e) (next s)))
 
--- the bytes after its size, and where they end
-body_content : (p q : Place) (size : ℕ) (w : Window) (b : Place) (m : ReadNumber p size q) → content_at size q ≡ Ok (w, b)
-    → HasContent size (advanced m.used p) w b
-body_content p q size w b m h = has_content size (advanced m.used p) w b (subst (λ (x : Place). content_at size x ≡ Ok (w, b)) m.after h)
+  -- a body that passes its section
+  pub body_past : (e : Error) (a : Place) → nat_lt code_bytes (q.offset - p.offset + size) ≡ true
+      → fault_at e ≡ at_offset UnexpectedEof p.offset → hint_of e ≡ None → ReadsByGrammar (body_grammar bodies code_bytes p.offset) p (Err e) a
+  body_past e a past f hint = body_sized true (Err e) a past (λ s. report_wrong s _ _ _ e a (ap Some (sym f)) hint)
 
--- a body
-pub body_read : (bodies code_bytes : ℕ) (p q : Place) (size : ℕ) (w : Window) (b : Place) (payload : Payload) → 0 < bodies
-    → unsigned_at VarU32 p ≡ Ok (size, q) → nat_lt code_bytes (q.offset - p.offset + size) ≡ false → content_at size q ≡ Ok (w, b)
-    → IsPayload (code_entry w) payload → ReadsByGrammar (body_grammar bodies code_bytes p.offset) p (Ok payload) b
-body_read bodies code_bytes p q size w b payload l h past k report =
-    let m : ReadNumber p size q = read_number p size q h in
-    let c : HasContent size (advanced m.used p) w b = body_content p q size w b m k in
-    let n : length (take size (drop m.used p.rest)) ≡ size = length-take-le size (drop m.used p.rest) c.there in
-    let said : IsPayload (code_entry (window_over p.features (p.offset + m.used + size - length (take size (drop m.used p.rest)))
-    (take size (drop m.used p.rest)))) payload = grind arith in
-    body_sized bodies code_bytes p q size false _ b m l past (λ s. report_right s _ None _ _ b refl (search (report_bytes, report_whole)))
+  -- bytes that are missing of a body that lies in its section
+  pub body_missing : (e : Error) (a : Place) → nat_lt code_bytes (q.offset - p.offset + size) ≡ false → content_at size q ≡ Err (fault_at e)
+      → hint_of e ≡ hint_at (missing_at size q) (fault_at e).fault → ReadsByGrammar (body_grammar bodies code_bytes p.offset) p (Err e) a
+  body_missing e a past c hint =
+      let t = too_few size (advanced its_size.used p) (fault_at e) (rw its_size.after at c) in
+      body_sized false (Err e) a past (λ s. report_right s _ None _ (Err e) a refl
+      (report_missing s _ size _ _ e a t.0 t.1 (rw its_size.after at hint)))
+
+  -- a body
+  pub body_read : (w : Window) (b : Place) (payload : Payload) → nat_lt code_bytes (q.offset - p.offset + size) ≡ false
+      → content_at size q ≡ Ok (w, b) → IsPayload (code_entry w) payload
+      → ReadsByGrammar (body_grammar bodies code_bytes p.offset) p (Ok payload) b
+  body_read w b payload past k report =
+      let c : HasContent size (advanced its_size.used p) w b = has_content size (advanced its_size.used p) w b (rw its_size.after at k) in
+      let content = take size (drop its_size.used p.rest) in
+      let n : length content ≡ size = length-take-le size (drop its_size.used p.rest) c.there in
+      let said : IsPayload (code_entry (window_over p.features (p.offset + its_size.used + size - length content) content)) payload =
+      grind arith in
+      body_sized false (Ok payload) b past (λ s. report_right s _ None _ (Ok payload) b refl (search (report_bytes, report_whole)))

@@ -1,14 +1,14 @@
 -- The names of std, of the crates below and of the specs that several of these proofs use.
 pub use Rattle.std.proofs.Common.{◌≡◌, ℕ, ◌+◌, ◌^◌, ◌<◌, ◌≤◌, Bool, true, false, List, [], ◌∷◌, ◌++◌, length, Result, Ok, Err, refl, sym}
 pub use Rattle.std.proofs.Common.{ap, subst, subst₂, ◌∙◌, arith, length-append, append_assoc, append-nil, inl, inr, ltb-true, nat_eq, cond}
-pub use Rattle.std.proofs.Common.{nat_lt, ltb-false, zero, suc, ◌-◌, not, ◌&&◌, take, drop, option_to_list, Some, None, le-ltb, nat_le}
-pub use Rattle.std.proofs.Common.{leb-true, lt-ltb, le-leb, Option, is_some, eqb-true}
+pub use Rattle.std.proofs.Common.{nat_lt, ltb-false, zero, suc, ◌-◌, not, ◌&&◌, take, drop, option_to_list, Some, None, nat_le, leb-true}
+pub use Rattle.std.proofs.Common.{le-ltb, lt-ltb, le-leb, Option, is_some, eqb-true}
 pub use Rattle.std.proofs.lemmas.Bool.{and_parts}
 pub use Rattle.std.proofs.lemmas.Grind.{flat_map-append}
 pub use Rattle.std.proofs.lemmas.List.{take_at, drop_at, length-take-le}
 pub use Rattle.std.proofs.lemmas.List.Elements.{All-nil, All-cons}
 pub use Rattle.std.proofs.lemmas.Result.{err_from_is_err_and}
-pub use Rattle.std.specs.List.{list_all, list_any}
+pub use Rattle.std.specs.List.{list_all}
 pub use Rattle.std.specs.Prelude.{◌⊎◌, All}
 pub use Rattle.wasm_base.proofs.NumberLaws.{number-used}
 pub use Rattle.wasm_base.specs.FaultAt.{FaultAt, fault_at, at_offset, hint_of}

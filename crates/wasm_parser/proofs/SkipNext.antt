@@ -1,7 +1,7 @@
 -- What is skipped by its first fields is the next tile of every stream that goes on with them.
 use Rattle.wasm_parser.proofs.Common.{◌≡◌, ℕ, ◌+◌, ◌^◌, ◌<◌, ◌≤◌, Bool, true, false, List, [], ◌∷◌, ◌++◌, length, Ok, Err, refl, sym, ap}
 use Rattle.wasm_parser.proofs.Common.{subst, ◌∙◌, arith, length-append, append-nil, ltb-true, nat_eq, cond, nat_lt, zero, suc, ◌-◌, not}
-use Rattle.wasm_parser.proofs.Common.{◌&&◌, take, drop, option_to_list, Some, None, le-ltb, nat_le, leb-true, le-leb, Option, is_some}
+use Rattle.wasm_parser.proofs.Common.{◌&&◌, take, drop, option_to_list, Some, None, nat_le, leb-true, le-ltb, le-leb, Option, is_some}
 use Rattle.wasm_parser.proofs.Common.{and_parts, length-take-le, number-used, FaultAt, at_offset, magic, agree, name_limit, text_at, read}
 use Rattle.wasm_parser.proofs.Common.{number, unsigned_at, Outcome, ◌>>=◌, Place, advanced, window_over, place, UnexpectedEof, VarU32}
 use Rattle.wasm_parser.proofs.Common.{fault, items, index, data_count, Form, Kind, custom, unknown, kind_of, wrong_content, Tile, tile}

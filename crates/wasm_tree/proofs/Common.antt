@@ -22,7 +22,7 @@ pub use Rattle.wasm_tree.specs.Json.{start, after_all, IsAt, Leads, object_end}
 pub use Rattle.wasm_tree.specs.Numbers.{Number}
 pub use Rattle.wasm_tree.specs.Said.{PutsText, Says, SaysSome}
 pub use Rattle.wasm_tree.specs.Tree.{Writing, PutsAs, Puts, has_line_feed, name_text, Adds, Put}
-pub use Rattle.wasm_tree.specs.Written.{lines, lines_rest, objects, objects_rest}
+pub use Rattle.wasm_tree.specs.Written.{lines, lines_rest}
 pub use Rattle.wasm_tree.specs.declared.numbers.Space.{Space}
 pub use Rattle.wasm_tree.specs.declared.objects.Spot.{Spot}
 pub use Rattle.wasm_tree.specs.declared.objects.Spot.TheVariants.{Ended, AtValue}

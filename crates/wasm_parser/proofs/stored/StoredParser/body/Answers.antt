@@ -17,7 +17,7 @@ pub returns-then-passes : goal.returns-then-passes
 returns-then-passes c =
     let at = c.original_position-start.ensures.offset in
     let after = c.original_position.ensures.offset in
-    body_past _ _ _ _ _ _ _ (omega (arith, c.if-self-eq0.false)) c.in_ok-size.ensures.gives
+    body_past _ _ _ _ _ (omega (arith, c.if-self-eq0.false)) c.in_ok-size.ensures.gives _ _
     (past_same _ refl after at c.passes.ensures c.if-passes.true) (c.new-then-passes.ensures.report ∙ ap (at_offset UnexpectedEof) at)
     c.new-then-passes.ensures.hint
 
@@ -27,12 +27,12 @@ returns-in_err-window c =
     let at = c.original_position-start.ensures.offset in
     let after = c.original_position.ensures.offset in
     rw (e.1, e.2)
-    (body_missing _ _ _ _ _ _ _ (omega (arith, c.if-self-eq0.false)) c.in_ok-size.ensures.gives
+    (body_missing _ _ _ _ _ (omega (arith, c.if-self-eq0.false)) c.in_ok-size.ensures.gives _ _
     (past_same _ refl after at c.passes.ensures c.if-passes.false) c.in_err-window.ensures.gives c.in_err-window.ensures.hints)
 
 pub returns : goal.returns
 returns c =
     let at = c.original_position-start.ensures.offset in
     let after = c.original_position.ensures.offset in
-    body_read _ _ _ _ _ _ _ _ (omega (arith, c.if-self-eq0.false)) c.in_ok-size.ensures.gives
+    body_read _ _ _ _ _ (omega (arith, c.if-self-eq0.false)) c.in_ok-size.ensures.gives _ _ _
     (past_same _ refl after at c.passes.ensures c.if-passes.false) c.in_ok-window.ensures.gives (rw c.new-2.ensures refl, tt)

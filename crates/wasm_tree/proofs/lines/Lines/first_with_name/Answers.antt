@@ -9,8 +9,7 @@ returns g c outline numbers e o i =
     let text = g.T.ShortText.text c.args.text.now in
     let mid = c.rows_to_cut.new.self in
     let since = lines (record mid { is_begun = true }) in
-    let new = lines c.named_text.new.self in
     let line = text ++ (name_text name ++ codes "\n") in
     let has = c.named_text.ensures since [] (has_nothing since refl refl) in
-    puts_line _ o (lines mid) new line outline numbers (named_more _ text outline numbers name e) refl c.rows_to_cut.ensures.ended
-    (still_same since new line has) has.puts (c.rows_to_cut.ensures.adds o i)
+    puts_line _ o _ _ line outline numbers (named_more _ text outline numbers name e) refl c.rows_to_cut.ensures.ended
+    (still_same _ _ line has) has.puts (c.rows_to_cut.ensures.adds o i)

@@ -4,8 +4,7 @@ use Rattle.wasm_tree.proofs.lines.LinesTree.bytes.Goals as goal
 
 pub piece-requires-clause-one_line : goal.piece-requires-clause-one_line
 piece-requires-clause-one_line g c =
-    (none_in_first c.pieces.rest.now c.split_at.result.0.now c.split_at.result.1.now c.split_at.ensures.by_index.0
-    c.pieces.invariant.one_line).0
+    (none_in_first _ c.split_at.result.0.now c.split_at.result.1.now c.split_at.ensures.by_index.0 c.pieces.invariant.one_line).0
 
 pub pieces-preserved : goal.pieces-preserved
 pieces-preserved g c =

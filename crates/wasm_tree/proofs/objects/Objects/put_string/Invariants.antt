@@ -1,4 +1,5 @@
-use Rattle.wasm_tree.proofs.Common.{◌≡◌, length, Adds, objects}
+use Rattle.wasm_tree.proofs.Common.{◌≡◌, length, Adds}
+use Rattle.wasm_tree.specs.Written.{objects}
 use Rattle.wasm_tree.proofs.objects.Objects.put_string.Given as goal
 
 abbrev pub invariant-runs : goal.invariant-runs
