@@ -1,8 +1,8 @@
 -- What is read of a header.
 use Rattle.wasm_parser.proofs.Common.{◌≡◌, ℕ, ◌+◌, ◌≤◌, Bool, true, false, List, length, Result, Ok, Err, refl, sym, ap, ◌∙◌, arith}
-use Rattle.wasm_parser.proofs.Common.{ltb-true, cond, nat_lt, ltb-false, not, take, drop, Some, None, fault_at, at_offset, hint_of, magic}
-use Rattle.wasm_parser.proofs.Common.{agree, hint_at, missing_at, Outcome, ◌>>=◌, Place, advanced, Error, UnexpectedEof, UnknownVersion}
-use Rattle.wasm_parser.proofs.Common.{when, header_grammar, tile_report, IsPayload, MatchesGrammar, Payload}
+use Rattle.wasm_parser.proofs.Common.{ltb-true, cond, nat_lt, ltb-false, take, drop, Some, None, fault_at, at_offset, hint_of, magic, agree}
+use Rattle.wasm_parser.proofs.Common.{hint_at, missing_at, Outcome, ◌>>=◌, Place, advanced, Error, UnexpectedEof, UnknownVersion}
+use Rattle.wasm_parser.proofs.Common.{header_grammar, tile_report, IsPayload, MatchesGrammar, Payload}
 use Rattle.std.proofs.Common.{◌/◌, ◌%◌}
 use Rattle.wasm_base.specs.Header.{header_version_at}
 use Rattle.wasm_base.specs.Hints.{missing_of_header}
@@ -57,12 +57,8 @@ report_eight : (s : ℕ) (p : Place) (bits : ℕ) (q : Place) (r : Result Payloa
     → MatchesGrammar s q (version_of p.offset bits) r a → MatchesGrammar s p (header_grammar p.offset) r a
 unfolding header_grammar
 report_eight s p bits q r a h t =
-    let m : when (not (agree (take 4 p.rest) magic)) (at_offset BadMagic p.offset) ≡ None = rw h.begins refl in
-    let v : MatchesGrammar s (advanced 4 (advanced 4 p)) (version_of p.offset bits) r a =
-    rw h.place at t in
-    let w : MatchesGrammar s (advanced 4 (advanced 4 p)) (version_of p.offset (of_four (take 4 (drop 4 p.rest)))) r a =
-    rw h.four v in
-    search (report_bytes, report_right)
+    report_bytes s p 4 p.offset _ r a h.there (report_right s _ _ _ r a (rw h.begins refl)
+    (report_bytes s _ 4 (p.offset + 4) _ r a h.after (rw h.four (rw h.place at t))))
 
 module _ (p : Place) (bits : ℕ) (q : Place) where
   -- a header of a known version
@@ -92,22 +88,15 @@ refused_at : (few other fewer : Bool) (p : Place) (e : Error) (a : Place) → na
     → agree (take 4 p.rest) magic ≡ other → nat_lt (length (drop 4 p.rest)) 4 ≡ fewer → version_steps few other fewer p ≡ Err (fault_at e)
     → hint_of e ≡ hint_at (steps_missing few other p) (fault_at e).fault → MatchesGrammar p.offset p (header_grammar p.offset) (Err e) a
 unfolding header_grammar
-refused_at true other fewer p e a x y z h hint =
-    let f : at_offset UnexpectedEof p.offset ≡ fault_at e = cc in
-    report_missing p.offset p 4 p.offset _ e a (ltb-true _ _ x) (sym f) hint
+refused_at true other fewer p e a x y z h hint = report_missing p.offset p 4 p.offset _ e a (ltb-true _ _ x) (cc) hint
 refused_at false false fewer p e a x y z h hint =
-    let f : at_offset BadMagic p.offset ≡ fault_at e = cc in
-    let m : when (not (agree (take 4 p.rest) magic)) (at_offset BadMagic p.offset) ≡ Some (fault_at e) = rw y (ap Some f) in
-    report_bytes _ _ _ _ _ _ _ (ltb-false _ _ x) (report_wrong _ _ _ _ _ _ m (cc))
+    report_bytes p.offset p 4 p.offset _ (Err e) a (ltb-false _ _ x) (report_wrong p.offset _ _ _ e a (rw y (cc)) (cc))
 refused_at false true true p e a x y z h hint =
-    let f : at_offset UnexpectedEof (p.offset + 4) ≡ fault_at e = cc in
-    let m : when (not (agree (take 4 p.rest) magic)) (at_offset BadMagic p.offset) ≡ None = rw y refl in
-    report_bytes p.offset p 4 p.offset _ (Err e) a (ltb-false _ _ x) (
-    report_right p.offset (advanced 4 p) (when (not (agree (take 4 p.rest) magic)) (at_offset BadMagic p.offset)) _ (Err e) a m (
-    report_missing p.offset (advanced 4 p) 4 (p.offset + 4) _ e a (ltb-true _ _ z) (sym f) hint))
+    report_bytes p.offset p 4 p.offset _ (Err e) a (ltb-false _ _ x) (report_right p.offset _ _ _ (Err e) a (rw y refl)
+    (report_missing p.offset (advanced 4 p) 4 (p.offset + 4) _ e a (ltb-true _ _ z) (cc) hint))
 refused_at false true false p e a x y z h hint = cc
 
 pub header_refused : (p : Place) (e : Error) (a : Place) → header_version_at p ≡ Err (fault_at e) → hint_of e
     ≡ hint_at (missing_of_header p) (fault_at e).fault → MatchesGrammar p.offset p (header_grammar p.offset) (Err e) a
-header_refused p e a h hint = refused_at (nat_lt (length p.rest) 4) (agree (take 4 p.rest) magic) (nat_lt (length (drop 4 p.rest)) 4) p e a
+header_refused p e a h hint = refused_at _ _ (nat_lt (length (drop 4 p.rest)) 4) p e a
     refl refl refl (sym (steps p) ∙ h) (hint ∙ ap (λ n. hint_at n (fault_at e).fault) (search missing_by_steps))

@@ -54,8 +54,14 @@ skips_number offset next xs value used size content Says n s =
     record {
       whole = λ ys l.
           let w : length (take used (xs ++ ys)) ≡ used = length-take-le used (xs ++ ys) (omega (arith, length-append xs ys, k)) in
-          let (t, v, size_is, says) = s.whole ys (omega (arith, l, length-append xs ys, length-append (drop used xs) ys,
-          length-drop used xs, k)) in (
+          let (t, v, size_is, says) = s.whole ys (omega (
+            arith,
+            l,
+            length-append xs ys,
+            length-append (drop used xs) ys,
+            length-drop used xs,
+            k,
+          )) in (
             record t { bytes = take used (xs ++ ys) ++ t.bytes },
             rw (m ys, d ys, v) refl,
             length-append (take used (xs ++ ys)) t.bytes ∙ (λ i. w i + size_is i),

@@ -1,7 +1,7 @@
 -- What is after the rest of a code section that a parser passes.
-use Rattle.wasm_parser.proofs.Common.{◌≡◌, ℕ, ◌+◌, ◌<◌, ◌≤◌, Bool, true, false, List, [], ◌∷◌, ◌++◌, length, refl, sym, ap, subst, ◌∙◌}
-use Rattle.wasm_parser.proofs.Common.{arith, length-append, append_assoc, append-nil, nat_eq, cond, Some, None, is_some, flat_map-append}
-use Rattle.wasm_parser.proofs.Common.{All-nil, All-cons, All, Window, bodied, tiles_consume, consumed_by, Tile, tile, Shape, SectionContext}
+use Rattle.wasm_parser.proofs.Common.{◌≡◌, ℕ, ◌+◌, ◌<◌, ◌≤◌, Bool, true, false, List, [], ◌∷◌, ◌++◌, length, refl, sym, ap, ◌∙◌, arith}
+use Rattle.wasm_parser.proofs.Common.{length-append, append_assoc, append-nil, nat_eq, cond, Some, None, is_some, flat_map-append, All-nil}
+use Rattle.wasm_parser.proofs.Common.{All-cons, All, Window, bodied, tiles_consume, consumed_by, Tile, tile, Shape, SectionContext}
 use Rattle.wasm_parser.proofs.Common.{code_entry, verdict, body_grammar, section_grammar, Event, tile_report, event_of, events_of, bytes_of}
 use Rattle.wasm_parser.proofs.Common.{grammar, bytes_left, counts, Along, ParserState, IsStateAfter, greatest, skipped_state}
 use Rattle.std.proofs.lemmas.List.{append_cancel_left}
@@ -98,45 +98,38 @@ bodies_later start features us (t ∷ later) c s f l =
     record {
       events = r.events ++ x ∷ [];
       each = All-append ReportsBody r.events (x ∷ []) r.each (search (All-cons, reports_body, All-nil));
-      parts = ap (λ (y : List Event). y ++ x ∷ []) r.parts ∙ append_assoc (events_of start features us) r.events (x ∷ []);
+      parts = rw (r.parts, append_assoc) refl;
     }
 
 module _ (start features : ℕ) (prefix bodies : List ℕ) (p : ParserState) (events : List Event) (a : Along start features prefix p [] events)
     (c : p.in_code ≡ true) (l : length bodies ≡ p.code_bytes) (k : CompletesCode start a.prefix bodies) where
-  us : List Tile
+  abbrev us : List Tile
   us = a.is_after.tiles
 
-  w : bytes_of k.tiles ≡ bytes_of a.is_after.tiles ++ bodies
+  w : bytes_of k.tiles ≡ bytes_of us ++ bodies
   w = k.whole ∙ ap (λ (x : List ℕ). x ++ bodies) (sym a.is_after.is_prefix)
 
-  left_out_by : (later : List Tile) → k.tiles ≡ later ++ a.is_after.tiles → LeavesOut start features prefix bodies events (skipped_state p)
+  left_out_by : (later : List Tile) → k.tiles ≡ later ++ us → LeavesOut start features prefix bodies events (skipped_state p)
   left_out_by later z =
-      let n : length (bytes_of (later ++ a.is_after.tiles)) ≡ length (bytes_of a.is_after.tiles) + length bodies =
-      ap (λ (x : List Tile). length (bytes_of x)) (sym z) ∙ (ap (λ (x : List ℕ). length x) w
-      ∙ length-append (bytes_of a.is_after.tiles) bodies) in
-      let at = a.is_after.code_bytes in
-      let ends : ends_in_code a.is_after.tiles ≡ true = a.is_after.in_code c in
-      let begun = some_tile a.is_after.tiles ends in
-      let f : Faultless start (later ++ a.is_after.tiles) = subst (Faultless start) z k.faultless in
-      let fits : length (bytes_of (later ++ a.is_after.tiles)) ≤ length (bytes_of a.is_after.tiles) + bytes_left a.is_after.tiles =
-      omega (arith, n, at, l) in
-      let same : KnowsSame k.tiles a.is_after.tiles = subst (λ (x : List Tile). KnowsSame x a.is_after.tiles) (sym z)
-      (only_bodies start a.is_after.tiles later ends begun f fits) in
-      let r : Bodies start features a.is_after.tiles later = bodies_later start features a.is_after.tiles later ends begun f fits in
-      let is_after : IsStateAfter (skipped_state p) start (a.prefix ++ bodies) = skipped_at p start a.prefix bodies a.is_after k c l same in
-      let all : events_of start features k.tiles ≡ events_of start features a.is_after.tiles ++ r.events = ap (events_of start features) z
-      ∙ r.parts in
-      let consumed : bytes_of a.is_after.tiles ++ consumed_by r.events ≡ bytes_of a.is_after.tiles ++ bodies =
-      ap (λ (x : List ℕ). x ++ consumed_by r.events) (sym (tiles_consume start features a.is_after.tiles))
-      ∙ (sym (flat_map-append (λ (x : Event). x.consumed) (events_of start features a.is_after.tiles) r.events)
+      let n : length (bytes_of (later ++ us)) ≡ length (bytes_of us) + length bodies = rw (← z, w) (length-append (bytes_of us) bodies) in
+      let ends : ends_in_code us ≡ true = a.is_after.in_code c in
+      let begun = some_tile us ends in
+      let f : Faultless start (later ++ us) = rw z at k.faultless in
+      let fits : length (bytes_of (later ++ us)) ≤ length (bytes_of us) + bytes_left us = omega (arith, n, a.is_after.code_bytes, l) in
+      let same : KnowsSame k.tiles us = rw z (only_bodies start us later ends begun f fits) in
+      let r : Bodies start features us later = bodies_later start features us later ends begun f fits in
+      let all : events_of start features k.tiles ≡ events_of start features us ++ r.events = ap (events_of start features) z ∙ r.parts in
+      let consumed : bytes_of us ++ consumed_by r.events ≡ bytes_of us ++ bodies =
+      ap (λ (x : List ℕ). x ++ consumed_by r.events) (sym (tiles_consume start features us))
+      ∙ (sym (flat_map-append (λ (x : Event). x.consumed) (events_of start features us) r.events)
       ∙ (ap consumed_by (sym all) ∙ (tiles_consume start features k.tiles ∙ w))) in
       record {
         passed = r.events;
         each = r.each;
-        consumed = append_cancel_left (bytes_of a.is_after.tiles) (consumed_by r.events) bodies consumed;
+        consumed = append_cancel_left (bytes_of us) (consumed_by r.events) bodies consumed;
         is_along = record {
           prefix = a.prefix ++ bodies;
-          is_after = is_after;
+          is_after = skipped_at p start a.prefix bodies a.is_after k c l same;
           whole = ap (λ (x : List ℕ). x ++ bodies) (a.whole ∙ append-nil a.prefix) ∙ sym (append-nil (a.prefix ++ bodies));
           has_features = a.has_features;
           listed = ap (λ (x : List Event). x ++ r.events) a.listed

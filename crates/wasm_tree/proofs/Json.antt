@@ -47,9 +47,7 @@ module _ (k : Bool) (inside : List Bracket) where
 
   run_stays : (xs : List ℕ) → list_any is_escaped xs ≡ false → after_all (here (string k) inside) xs ≡ here (string k) inside
   run_stays [] e = refl
-  run_stays (x ∷ xs) e =
-      let (first, later) = neither (is_escaped x) (list_any is_escaped xs) e in
-      grind (arith, neither, plain_stays, run_stays xs later)
+  run_stays (x ∷ xs) e = let (first, later) = neither _ _ e in grind (arith, neither, plain_stays, run_stays xs later)
 
   digits_stay : (high low : ℕ) → is_hexadecimal high ≡ true → is_hexadecimal low ≡ true
       → after_all (here (string k) inside) (92 ∷ 117 ∷ 48 ∷ 48 ∷ high ∷ low ∷ []) ≡ here (string k) inside
@@ -116,14 +114,10 @@ module _ (p : Place) (m : MayBegin p) where
   number_over n h inside = number_by n (decimal n) (decimal_by_steps Reads one further n h) inside
 
 pub number_leads : (n : ℕ) → n < 2 ^ 64 → Leads AtValue (decimal n) Ended
-number_leads n h s e =
-    let over = number_over value begins_at_value n h (object ∷ []) in
-    rw e (over.has, over.same)
+number_leads n h s e = let over = number_over value begins_at_value n h _ in rw e (over.has, over.same)
 
 pub negative_leads : (n : ℕ) → n < 2 ^ 64 → Leads AtValue (45 ∷ decimal n) Ended
-negative_leads n h s e =
-    let over = number_over after_minus begins_after_minus n h (object ∷ []) in
-    rw e (over.has, over.same)
+negative_leads n h s e = let over = number_over after_minus begins_after_minus n h _ in rw e (over.has, over.same)
 
 -- a byte after a number
 after_over : (inside : List Bracket) (s : State) (b : ℕ) → IsOver inside s → is_digit b ≡ false → after_byte s.place s.inside b

@@ -162,8 +162,7 @@ module _ (base : Base) (o : Origin) (w : Writing) (why : ListError) (lines : o.s
 
   -- bytes that are to be shown
   bytes_short : (bytes : List ℕ) → IsCutShort (with_bytes o bytes) why w
-  bytes_short bytes = short_more o (with_bytes o bytes) w why c (row_text base 0 bytes) refl refl lines
-      (row_more base 0 bytes before)
+  bytes_short bytes = short_more o _ w why c _ refl refl lines (row_more base 0 bytes before)
 
   -- a part of a line under another
   part_short : (p : Part) → is_part p ≡ true → IsCutShort (with_numbers o (part_numbers p)) why w
@@ -223,9 +222,8 @@ module _ (base : Base) (o : Origin) (old new : Writing) (i : IsGoing base o old)
   part_ends b p =
       let text = i.text ++ text_of base (under i.line) in
       let lined = i.lined ++ flat_map part_numbers i.line in
-      goes o.outline o.numbers o.bytes (codes "\n") text lined i.rows false [] new.unshown p
-      (under_more base i.line i.one_line i.outlined) refl
-      (in_begun true (codes "\n") b ∙ (append_assoc i.text (codes "  " ++ flat_map part_text i.line) (codes "\n") ∙ sym (append-nil text)))
+      goes o.outline o.numbers o.bytes _ text lined i.rows false [] new.unshown p (under_more base i.line i.one_line i.outlined) refl
+      (in_begun true _ b ∙ (append_assoc i.text (codes "  " ++ flat_map part_text i.line) (codes "\n") ∙ sym (append-nil text)))
       (i.numbered ∙ (rw b refl ∙ sym (append-nil lined))) (same_unshown p.unshown)
 
   -- where none is begun, whole lines come after those that there were
@@ -254,8 +252,7 @@ module _ (base : Base) (o : Origin) (old new : Writing) (i : IsGoing base o old)
       → old.unshown ≡ bytes ++ left → IsGoing base o (record new { unshown = left })
   row_grows offset bytes left b p e =
       subst (λ (x : List Number). IsGoing base (record o { numbers = x }) (record new { unshown = left })) (append-nil o.numbers)
-      (whole_grows (row_text base offset bytes) o.outline [] o.bytes (i.rows ++ bytes) left b
-      (rw (append-nil i.lined) (row_more base offset bytes i.outlined))
+      (whole_grows _ _ _ _ _ _ b (rw (append-nil i.lined) (row_more _ _ _ i.outlined))
       (i.rowed ∙ (ap (λ (x : List ℕ). i.rows ++ x) e ∙ sym (append_assoc i.rows bytes left))) p)
 
   -- the text that was cut, with what completes the line that was begun, and the bytes that weren't shown
@@ -355,8 +352,7 @@ module _ (o : Origin) (old new : Writing) (b : Bool) (spot : Spot) (unshown : Li
   changes : (to : Origin) (bytes : List ℕ) → to.style ≡ o.style → Puts bytes old new → IsWritten o old
       → (IsGoingIn o.style o old → IsPushed bytes old new → IsGoingIn to.style to (moved_on new))
       → ((why : ListError) (w : Writing) → IsCutShort o why w → IsCutShort to why w) → IsWritten to (moved_on new)
-  changes to bytes same p i going short =
-      (same_style old.why new.why bytes old new p ∙ (i.0 ∙ sym same), by_why to bytes old.why new.why refl refl p i going short)
+  changes to bytes same p i going short = (same_style _ _ _ _ _ p ∙ (i.0 ∙ sym same), by_why _ _ _ _ refl refl p i going short)
 
 module _ (base : Base) (o : Origin) (old new : Writing) (lines : old.style ≡ Lines base) where
   puts_of : (p : Part) → old.is_begun ≡ true → is_part p ≡ true → Puts (part_text p) old new → IsWritten o old
@@ -503,5 +499,4 @@ module _ (o : Origin) (w : Writing) (outline : List ℕ) (numbers : List Number)
 
 module _ (old new : Writing) (objects : old.style ≡ Objects) (a : Adds old new) where
   pub first_in_objects : (line : List ℕ) → AddsFirst line old new
-  first_in_objects line outline numbers e o i =
-      other_lines o new (o.outline ++ outline) (o.numbers ++ numbers) o.bytes (sym i.0 ∙ objects) (a o i)
+  first_in_objects line outline numbers e o i = other_lines _ _ _ _ _ (sym i.0 ∙ objects) (a o i)
