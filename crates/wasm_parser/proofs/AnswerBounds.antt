@@ -1,5 +1,5 @@
 -- How far a call of the parser, and a walk over a whole stream, go.
-use Rattle.wasm_parser.proofs.Common.{◌≡◌, ℕ, ◌+◌, ◌^◌, ◌<◌, ◌≤◌, Bool, true, false, List, ◌++◌, length, Result, Ok, Err, refl, arith}
+use Rattle.wasm_parser.proofs.Common.{◌≡◌, ℕ, ◌+◌, ◌^◌, ◌<◌, ◌≤◌, Bool, true, false, List, ◌++◌, length, Result, Ok, refl, arith}
 use Rattle.wasm_parser.proofs.Common.{length-append, inl, inr, ltb-true, nat_eq, cond, nat_lt, ltb-false, ◌⊎◌, at_offset, Error}
 use Rattle.wasm_parser.proofs.Common.{OffsetRange, waiting-asks, Guarded-header, Guarded-inside_at, verdict-more, fault, ended, Tile}
 use Rattle.wasm_parser.proofs.Common.{Verdict, tile, final, verdict, header_grammar, inside, Waiting, wants, waiting, report_of, is_end}
@@ -72,13 +72,9 @@ consumes p new eof rest r h = grind (arith, in_cases p new eof rest r h, consume
 
 -- ---- where its faults are
 
-faults_at : (p new : ParserState) (rest : List ℕ) (e : Error) (v : Verdict) → verdict (grammar_of p) rest ≡ v → Answers p v (Err e) new
-    → FaultsWithin p rest (Err e)
-faults_at p new rest e v q a = grind (arith, parser_fault_lies)
-
 module _ (p new : ParserState) where
   pub faults_within : (eof : Bool) (rest : List ℕ) (r : Result Chunk Error) → ParseAnswer p eof rest r new → FaultsWithin p rest r
-  faults_within eof rest r h = grind (arith, in_cases p new eof rest r h, faults_at)
+  faults_within eof rest r h = grind (arith, in_cases p new eof rest r h, parser_fault_lies)
 
   -- ---- a request is no final result
 

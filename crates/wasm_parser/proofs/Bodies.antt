@@ -123,7 +123,8 @@ module _ (bodies code_bytes : ℕ) (p q : Place) (size : ℕ) (l : 0 < bodies) (
 
   -- a body that passes its section
   pub body_past : (e : Error) (a : Place) → nat_lt code_bytes (q.offset - p.offset + size) ≡ true
-      → fault_at e ≡ at_offset UnexpectedEof p.offset → hint_of e ≡ None → ReadsByGrammar (body_grammar bodies code_bytes p.offset) p (Err e) a
+      → fault_at e ≡ at_offset UnexpectedEof p.offset → hint_of e ≡ None
+      → ReadsByGrammar (body_grammar bodies code_bytes p.offset) p (Err e) a
   body_past e a past f hint = body_sized true (Err e) a past (λ s. report_wrong s _ _ _ e a (ap Some (sym f)) hint)
 
   -- bytes that are missing of a body that lies in its section

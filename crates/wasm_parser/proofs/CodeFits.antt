@@ -1,11 +1,12 @@
 -- A code section that is begun ends below the top of the offsets.
 use Rattle.wasm_parser.proofs.Common.{◌≡◌, ℕ, ◌+◌, ◌^◌, ◌<◌, Bool, true, false, List, [], ◌∷◌, length, refl, arith, length-append, cond}
-use Rattle.wasm_parser.proofs.Common.{take, drop, None, nat_le, leb-true, length-take-le, number-used, Number, read, number, VarU32, Ending}
-use Rattle.wasm_parser.proofs.Common.{Tile, Verdict, tile, final, Grammar, Shape, SectionContext, accept, check, u32_field, bytes, reject}
-use Rattle.wasm_parser.proofs.Common.{section_start, after, after_number, verdict, header_grammar, body_grammar, section_grammar, inside}
-use Rattle.wasm_parser.proofs.Common.{ParserState, grammar_of, known_context}
+use Rattle.wasm_parser.proofs.Common.{take, drop, None, nat_le, leb-true, length-take-le, number-used, read, number, VarU32, Ending, Tile}
+use Rattle.wasm_parser.proofs.Common.{Verdict, tile, final, Grammar, Shape, SectionContext, accept, check, u32_field, bytes, reject}
+use Rattle.wasm_parser.proofs.Common.{section_start, after, verdict, header_grammar, body_grammar, section_grammar, inside, ParserState}
+use Rattle.wasm_parser.proofs.Common.{grammar_of, known_context}
 use Rattle.wasm_base.proofs.NumberLaws.{Used}
-use Rattle.wasm_grammar.specs.Grammar.{code_start}
+use Rattle.wasm_base.specs.Number.{Number}
+use Rattle.wasm_grammar.specs.Grammar.{after_number, code_start}
 use Rattle.wasm_grammar.proofs.parts.Verdicts.{after-tile}
 
 -- The section that a tile begins and that goes on here ends below the top.

@@ -17,7 +17,7 @@ pub use Rattle.wasm_base.specs.Hints.{hint_at, missing_at}
 pub use Rattle.wasm_base.specs.Item.{ReadsAs}
 pub use Rattle.wasm_base.specs.Name.{name_limit}
 unfoldable pub use Rattle.wasm_base.specs.Name.{text_at}
-pub use Rattle.wasm_base.specs.Number.{Number, read, number, in_window}
+pub use Rattle.wasm_base.specs.Number.{read, number}
 unfoldable pub use Rattle.wasm_base.specs.Number.{unsigned_at}
 pub use Rattle.wasm_base.specs.Outcome.{Outcome, ◌>>=◌}
 pub use Rattle.wasm_base.specs.Section.{Section}
@@ -40,8 +40,8 @@ pub use Rattle.wasm_grammar.specs.Content.{kind_of}
 unfoldable pub use Rattle.wasm_grammar.specs.Content.{wrong_content}
 pub use Rattle.wasm_grammar.specs.EventRanges.{consumed_by}
 pub use Rattle.wasm_grammar.specs.Grammar.{Tile, Verdict, tile, final, Grammar, Shape, SectionContext, accept, check, u32_field, bytes}
-pub use Rattle.wasm_grammar.specs.Grammar.{reject, section_start, after, after_number, whole_grammar, wrong_data, content_grammar}
-pub use Rattle.wasm_grammar.specs.Grammar.{after_length, section, code_entry}
+pub use Rattle.wasm_grammar.specs.Grammar.{reject, section_start, after, whole_grammar, wrong_data, content_grammar, after_length, section}
+pub use Rattle.wasm_grammar.specs.Grammar.{code_entry}
 unfoldable pub use Rattle.wasm_grammar.specs.Grammar.{verdict, header_grammar, body_grammar, section_grammar}
 pub use Rattle.wasm_grammar.specs.Ids.{data_id, function_id}
 pub use Rattle.wasm_grammar.specs.Reading.{stream_end, Event, tile_report, event_of, events_of, last_event, Reading, Stream, code_start}
@@ -52,7 +52,7 @@ unfoldable pub use Rattle.wasm_grammar.specs.Waiting.{waiting}
 pub use Rattle.wasm_parser.specs.Along.{Along}
 pub use Rattle.wasm_parser.specs.GivesNextEvent.{MayBe}
 pub use Rattle.wasm_parser.specs.ParseAnswer.{IsPayload, report_of, is_end, said, refuses, ParseAnswer, IsRequest, MatchesGrammar}
-pub use Rattle.wasm_parser.specs.ParseAnswer.{ReadsByGrammar, counted_by, BeginsAfterCount, MatchesVerdict, HintsAs, Advances}
+pub use Rattle.wasm_parser.specs.ParseAnswer.{ReadsByGrammar, counted_by, BeginsAfterCount, MatchesVerdict, Advances}
 pub use Rattle.wasm_parser.specs.ParserState.{ParserState, initial_state, grammar_of, known_context, ended_state, IsStateAfter}
 pub use Rattle.wasm_parser.specs.ParserState.{is_at_section, greatest, skipped_state}
 pub use Rattle.wasm_parser.specs.ReadsPart.{is_miscounted_by, is_lacking}

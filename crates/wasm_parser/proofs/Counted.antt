@@ -1,27 +1,16 @@
 -- Contents that are one number, or begin with a count.
-use Rattle.wasm_parser.proofs.Common.{◌≡◌, ℕ, ◌+◌, ◌<◌, Bool, true, false, List, length, Ok, Err, subst, ◌∙◌, arith, nat_eq, take, Some}
-use Rattle.wasm_parser.proofs.Common.{None, le-ltb, lt-ltb, length-take-le, FaultAt, fault_at, at_offset, hint_of, Number, number}
-use Rattle.wasm_parser.proofs.Common.{in_window, unsigned_at, Section, Window, Place, window_over, place, Error, StartContent}
-use Rattle.wasm_parser.proofs.Common.{DataCountContent, DataCountDiffer, VarU32, when, items, index, data_count, count_of, Form}
-use Rattle.wasm_parser.proofs.Common.{wrong_content, SectionContext, whole_grammar, wrong_data, Report, counted, start_section}
-use Rattle.wasm_parser.proofs.Common.{data_count_section, section_report, IsPayload, report_of, ReadsByGrammar, counted_by}
-use Rattle.wasm_parser.proofs.Common.{BeginsAfterCount, is_miscounted_by, content_at, Payload}
+use Rattle.wasm_parser.proofs.Common.{◌≡◌, ℕ, ◌+◌, Bool, true, false, List, length, Ok, Err, subst, ◌∙◌, arith, nat_eq, take, Some, None}
+use Rattle.wasm_parser.proofs.Common.{le-ltb, lt-ltb, length-take-le, FaultAt, fault_at, at_offset, hint_of, number, unsigned_at, Section}
+use Rattle.wasm_parser.proofs.Common.{Window, Place, window_over, place, Error, StartContent, DataCountContent, DataCountDiffer, VarU32}
+use Rattle.wasm_parser.proofs.Common.{when, items, index, data_count, count_of, Form, wrong_content, SectionContext, whole_grammar}
+use Rattle.wasm_parser.proofs.Common.{wrong_data, Report, counted, start_section, data_count_section, section_report, IsPayload, report_of}
+use Rattle.wasm_parser.proofs.Common.{ReadsByGrammar, counted_by, BeginsAfterCount, is_miscounted_by, content_at, Payload}
 use Rattle.std.proofs.Common.{length-drop}
 use Rattle.wasm_base.specs.declared.fault.Fault.{Fault}
-use Rattle.wasm_grammar.specs.Content.{wrong_single, value_of}
+use Rattle.wasm_grammar.specs.Content.{wrong_single}
 use Rattle.wasm_parser.specs.ParseAnswer.{ItemsBegin}
 use Rattle.wasm_parser.specs.ReadsPart.{ReadsSingleNumber, IsCounted, ReadsCounted}
 use Rattle.wasm_parser.proofs.Framed.{HasContent, has_content, whole_good, whole_bad, whole_miscounted}
-
--- ---- numbers
-
-single_good : (trailing : Fault) (p : Place) (v : ℕ) (q : Place) (n : Number) → in_window p n ≡ Ok (v, q) → length q.rest ≡ 0
-    → (wrong_single trailing p.offset p.rest n ≡ None) × (value_of n ≡ v)
-single_good trailing p v q n h l = grind (arith, le-ltb, length-drop)
-
-single_more : (trailing : Fault) (p : Place) (v : ℕ) (q : Place) (f : FaultAt) (n : Number) → in_window p n ≡ Ok (v, q) → 0 < length q.rest
-    → f ≡ at_offset trailing q.offset → wrong_single trailing p.offset p.rest n ≡ Some f
-single_more trailing p v q f n h l e = grind (arith, lt-ltb, length-drop)
 
 -- ---- the result of a call that reads one number
 
@@ -33,12 +22,12 @@ single_refused trailing p f h = grind arith
 pub single_trailing : (trailing : Fault) (p : Place) (v : ℕ) (q : Place) (e : Error) → unsigned_at VarU32 p ≡ Ok (v, q) → false
     ≡ nat_eq (length q.rest) 0 → fault_at e ≡ at_offset trailing q.offset → ReadsSingleNumber trailing p (Err e)
 unfolding unsigned_at
-single_trailing trailing p v q e h l f = single_more trailing p v q (fault_at e) (number VarU32 p.rest) h (grind arith) f
+single_trailing trailing p v q e h l f = grind (arith, lt-ltb, length-drop)
 
 pub single_read : (trailing : Fault) (p : Place) (v : ℕ) (q : Place) → unsigned_at VarU32 p ≡ Ok (v, q) → length q.rest ≡ 0
     → ReadsSingleNumber trailing p (Ok v)
 unfolding unsigned_at
-single_read trailing p v q h l = single_good trailing p v q (number VarU32 p.rest) h l
+single_read trailing p v q h l = grind (arith, le-ltb, length-drop)
 
 -- ---- contents
 

@@ -21,15 +21,6 @@ next_is p start prefix rest s v q before later e r c =
     before later e
     (grind arith) (c ∙ sym s.is_prefix)
 
--- the returned tile
-gives_tile : (p new : ParserState) (eof : Bool) (start : ℕ) (prefix bytes : List ℕ) (s : IsStateAfter p start prefix) (t : Tile)
-    → verdict (grammar_of p) bytes ≡ tile t → (r : Result Chunk Error) → Answers p (tile t) r new
-    → GivesEvent (event_of p.features (start + length (bytes_of s.tiles)) t) p eof start prefix bytes r new
-gives_tile p new eof start prefix bytes s t v (Ok (Parsed consumed payload)) a =
-    let v' : verdict (grammar start s.tiles) bytes ≡ tile t = rw (grammar_same p start prefix s) at v in
-    let g : Grown start s.tiles bytes t = grows start s.tiles bytes t s.faultless v' in grind (arith, take_at, state_goes_on)
-gives_tile p new eof start prefix bytes s t v _ a = absurd a
-
 -- at the end of a stream no bytes of a code section remain
 ended_at : (h b : Bool) (p : ParserState) (bytes : List ℕ) (o : ℕ) → nat_eq (p.bodies + p.code_bytes) 0 ≡ b
     → verdict (cond h (header_grammar p.offset) (cond b (section_grammar (known_context p) p.offset)
@@ -40,30 +31,6 @@ ended_at h b p bytes o n v = grind (arith, header_end, inside_end)
 at_the_end : (p : ParserState) (start : ℕ) (prefix : List ℕ) → IsStateAfter p start prefix → p.bodies + p.code_bytes ≡ 0
     → IsStateAfter (ended_state p) start prefix
 at_the_end p start prefix s z = grind arith
-
-gives_last : (p new : ParserState) (eof : Bool) (start : ℕ) (prefix bytes : List ℕ) → IsStateAfter p start prefix → (end : Ending)
-    → verdict (grammar_of p) bytes ≡ final end → (r : Result Chunk Error) → Answers p (final end) r new
-    → GivesEvent (last_event end) p eof start prefix bytes r new
-gives_last p new eof start prefix bytes s (ended o) v (Ok (Parsed consumed payload)) a = (
-  a.1,
-  a.0,
-  subst (λ (n : ℕ). take n bytes ≡ []) (sym a.0) refl,
-  subst₂ (λ (q : ParserState) (x : List ℕ). IsStateAfter q start x) (sym a.2) (sym (append-nil prefix))
-      (search (at_the_end, ended_at)),
-  ap (λ (q : ParserState). q.features) a.2,
-)
-gives_last p new eof start prefix bytes s (fault f) v (Err e) a = (ap (λ (x : FaultAt). stream_end (fault x)) (sym a.0), refl, a.1)
-gives_last p new eof start prefix bytes s _ v _ a = absurd a
-
--- on all the rest of a stream
-gives_at : (p new : ParserState) (eof : Bool) (start : ℕ) (prefix bytes rest : List ℕ) (s : IsStateAfter p start prefix)
-    (r : Result Chunk Error) (v : Verdict) → verdict (grammar_of p) bytes ≡ v → verdict (grammar_of p) rest ≡ v → Answers p v r new
-    → (before later : List Event) (e : Event) → Reading (prefix ++ rest) start p.features (before ++ e ∷ later) → consumed_by before
-    ≡ prefix → GivesEvent e p eof start prefix bytes r new
-gives_at p new eof start prefix bytes rest s r (tile t) u q a before later e reading c =
-    rw (next_is p start prefix rest s (tile t) q before later e reading c) (gives_tile p new eof start prefix bytes s t u r a)
-gives_at p new eof start prefix bytes rest s r (final end) u q a before later e reading c =
-    rw (next_is p start prefix rest s (final end) q before later e reading c) (gives_last p new eof start prefix bytes s end u r a)
 
 -- the event that comes next in every stream that these bytes may be the first of
 record IsNext (p : ParserState) (eof : Bool) (start : ℕ) (prefix bytes rest : List ℕ) (e : Event) : Type 0 where
@@ -78,6 +45,38 @@ record IsNext (p : ParserState) (eof : Bool) (start : ℕ) (prefix bytes rest : 
 decides_rest : (p : ParserState) (eof : Bool) (bytes rest : List ℕ) → MayBe eof bytes rest → (eof ≡ true)
     ⊎ (waiting (grammar_of p) bytes ≡ enough) → verdict (grammar_of p) rest ≡ verdict (grammar_of p) bytes
 decides_rest p eof bytes rest m d = grind (arith, verdict-more)
+
+module _ (p new : ParserState) (eof : Bool) (start : ℕ) (prefix bytes : List ℕ) where
+  -- the returned tile
+  gives_tile : (s : IsStateAfter p start prefix) (t : Tile) → verdict (grammar_of p) bytes ≡ tile t → (r : Result Chunk Error)
+      → Answers p (tile t) r new → GivesEvent (event_of p.features (start + length (bytes_of s.tiles)) t) p eof start prefix bytes r new
+  gives_tile s t v (Ok (Parsed consumed payload)) a =
+      let v' : verdict (grammar start s.tiles) bytes ≡ tile t = rw (grammar_same p start prefix s) at v in
+      let g : Grown start s.tiles bytes t = grows start s.tiles bytes t s.faultless v' in grind (arith, take_at, state_goes_on)
+  gives_tile s t v _ a = absurd a
+
+  gives_last : IsStateAfter p start prefix → (end : Ending) → verdict (grammar_of p) bytes ≡ final end → (r : Result Chunk Error)
+      → Answers p (final end) r new → GivesEvent (last_event end) p eof start prefix bytes r new
+  gives_last s (ended o) v (Ok (Parsed consumed payload)) a = (
+    a.1,
+    a.0,
+    subst (λ (n : ℕ). take n bytes ≡ []) (sym a.0) refl,
+    subst₂ (λ (q : ParserState) (x : List ℕ). IsStateAfter q start x) (sym a.2) (sym (append-nil prefix))
+        (search (at_the_end, ended_at)),
+    ap (λ (q : ParserState). q.features) a.2,
+  )
+  gives_last s (fault f) v (Err e) a = (ap (λ (x : FaultAt). stream_end (fault x)) (sym a.0), refl, a.1)
+  gives_last s _ v _ a = absurd a
+
+-- on all the rest of a stream
+gives_at : (p new : ParserState) (eof : Bool) (start : ℕ) (prefix bytes rest : List ℕ) (s : IsStateAfter p start prefix)
+    (r : Result Chunk Error) (v : Verdict) → verdict (grammar_of p) bytes ≡ v → verdict (grammar_of p) rest ≡ v → Answers p v r new
+    → (before later : List Event) (e : Event) → Reading (prefix ++ rest) start p.features (before ++ e ∷ later) → consumed_by before
+    ≡ prefix → GivesEvent e p eof start prefix bytes r new
+gives_at p new eof start prefix bytes rest s r (tile t) u q a before later e reading c =
+    rw (next_is p start prefix rest s (tile t) q before later e reading c) (gives_tile p new eof start prefix bytes s t u r a)
+gives_at p new eof start prefix bytes rest s r (final end) u q a before later e reading c =
+    rw (next_is p start prefix rest s (final end) q before later e reading c) (gives_last p new eof start prefix bytes s end u r a)
 
 gives_decided : (p new : ParserState) (eof : Bool) (start : ℕ) (prefix bytes rest : List ℕ) (e : Event)
     (n : IsNext p eof start prefix bytes rest e) (r : Result Chunk Error) → (eof ≡ true) ⊎ (waiting (grammar_of p) bytes ≡ enough)

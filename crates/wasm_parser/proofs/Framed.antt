@@ -5,8 +5,8 @@ use Rattle.wasm_parser.proofs.Common.{length-take-le, FaultAt, fault_at, at_offs
 use Rattle.wasm_parser.proofs.Common.{text_at, unsigned_at, Window, Place, advanced, window_over, place, Error, UnexpectedEof}
 use Rattle.wasm_parser.proofs.Common.{MagicAtSection, OutOfOrder, VarU32, when, Form, Kind, custom, unknown, kind_of, wrong_content}
 use Rattle.wasm_parser.proofs.Common.{SectionContext, whole_grammar, wrong_data, content_grammar, after_length, verdict, section_grammar}
-use Rattle.wasm_parser.proofs.Common.{section_report, enough, waiting, IsPayload, ReadsByGrammar, MatchesVerdict, HintsAs, ParserState}
-use Rattle.wasm_parser.proofs.Common.{known_context, content_at, Payload}
+use Rattle.wasm_parser.proofs.Common.{section_report, waiting, IsPayload, ReadsByGrammar, MatchesVerdict, ParserState, known_context}
+use Rattle.wasm_parser.proofs.Common.{content_at, Payload}
 use Rattle.std.proofs.lemmas.Bool.{lt-leb}
 use Rattle.std.specs.List.{starts_with}
 use Rattle.wasm_base.specs.Name.{first_of, byte_at}
@@ -15,6 +15,7 @@ use Rattle.wasm_custom.specs.Custom.{Custom, IsCustom}
 use Rattle.wasm_grammar.specs.Content.{rank_of}
 use Rattle.wasm_grammar.specs.Grammar.{after_id}
 use Rattle.wasm_grammar.specs.Reading.{custom_section, unknown_section}
+use Rattle.wasm_parser.specs.ParseAnswer.{HintsAs}
 use Rattle.wasm_parser.specs.ReadsPart.{ReadsNextSection}
 use Rattle.wasm_parser.specs.declared.payload.Payload.TheVariants.{CustomSection}
 use Rattle.wasm_parser.proofs.ReadingFields.{report_at, report_bytes, report_missing, report_number, report_no_number, report_wrong}
@@ -159,20 +160,10 @@ pub unknown_read : (context : SectionContext) (id size : ℕ) (p : Place) (w : W
 unknown_read context id size p w q payload h report = grind (arith, has_content, length-take-le, whole_good, good_unknown)
 
 -- a magic where a section may start
-magic_at : (xs : List ℕ) (context : SectionContext) (p : Place) (e : Error) (a : Place) → true ≡ (agree xs magic && nat_le 4 (length xs))
-    → 0 < length xs → fault_at e ≡ at_offset MagicAtSection p.offset
-    → (s : ℕ) → MatchesVerdict s p (verdict (section_grammar context p.offset) xs) (Err e) a
-unfolding section_grammar verdict
-magic_at xs context p e a m l f s = grind arith
-
-magic_decides : (xs : List ℕ) (context : SectionContext) (o : ℕ) (b : Bool) → agree xs magic ≡ b → true ≡ (b && nat_le 4 (length xs))
-    → 0 < length xs → waiting (section_grammar context o) xs ≡ enough
-unfolding section_grammar waiting
-magic_decides xs context o b g m l = grind arith
-
 pub section_magic : (p : ParserState) (here : Place) (e : Error) (a : Place) → true ≡ (agree here.rest magic && nat_le 4 (length here.rest))
     → 0 < length here.rest → fault_at e ≡ at_offset MagicAtSection here.offset → hint_of e ≡ None → ReadsNextSection p here (Err e) a
-section_magic p here e a m l f hint = grind (arith, magic_at, magic_decides)
+unfolding section_grammar verdict waiting
+section_magic p here e a m l f hint = grind arith
 
 -- a section after its id
 framed_at : (xs : List ℕ) (context : SectionContext) (p q : Place) (id : ℕ) (r : Result Payload Error) (a : Place) → p.rest ≡ xs → false

@@ -45,12 +45,8 @@ pub record ReadHeader (p : Place) (bits : ℕ) (q : Place) : Type 0 where
   pub four : of_four (take 4 (drop 4 p.rest)) ≡ bits
   pub place : q ≡ advanced 4 (advanced 4 p)
 
-read_at : (few other fewer : Bool) (p : Place) (bits : ℕ) (q : Place) → nat_lt (length p.rest) 4 ≡ few → agree (take 4 p.rest) magic ≡ other
-    → nat_lt (length (drop 4 p.rest)) 4 ≡ fewer → version_steps few other fewer p ≡ Ok (bits, q) → ReadHeader p bits q
-read_at few other fewer p bits q a b c h = grind (arith, ltb-false)
-
 pub header_read : (p : Place) (bits : ℕ) (q : Place) → header_version_at p ≡ Ok (bits, q) → ReadHeader p bits q
-header_read p bits q h = read_at _ _ _ _ _ _ refl refl refl (sym (steps _) ∙ h)
+header_read p bits q h = grind (arith, steps, ltb-false)
 
 -- what is after the eight bytes
 report_eight : (s : ℕ) (p : Place) (bits : ℕ) (q : Place) (r : Result Payload Error) (a : Place) → ReadHeader p bits q
@@ -72,8 +68,6 @@ module _ (p : Place) (bits : ℕ) (q : Place) where
       → fault_at e ≡ record { fault = UnknownVersion; offset = p.offset + 4; number = Some bits } → hint_of e ≡ None
       → MatchesGrammar p.offset p (header_grammar p.offset) (Err e) q
   header_unnamed e h n f hint = report_eight _ _ _ _ _ _ (header_read _ _ _ h) (rw (← n) (search report_stops))
-
--- none
 
 -- how many bytes are missing, by the tests
 abbrev steps_missing : (few other : Bool) → Place → ℕ

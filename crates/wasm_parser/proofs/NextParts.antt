@@ -29,15 +29,10 @@ next_body p here after r h c o m = matches p here after r (body_grammar p.bodies
 
 -- ---- a tile
 
-fits_at : (p : ParserState) (here after : Place) (payload : Payload) (end : ℕ) (v : Verdict) → verdict (grammar_of p) here.rest ≡ v
-    → MatchesVerdict p.offset here v (Ok payload) after → here.offset ≡ p.offset → end ≡ after.offset → end < 2 ^ 64
-    → p.offset + p.code_bytes < 2 ^ 64 → end + missing_bytes (report_of payload) (end - p.offset) p.code_bytes < 2 ^ 64
-fits_at p here after payload end v e m o at l k = grind (arith, tile_fits)
-
 pub advance_fits : (p : ParserState) (here after : Place) (payload : Payload) (end : ℕ) → ReadsNext p here (Ok payload) after → here.offset
     ≡ p.offset → end ≡ after.offset → end < 2 ^ 64 → p.offset + p.code_bytes < 2 ^ 64
     → end + missing_bytes (report_of payload) (end - p.offset) p.code_bytes < 2 ^ 64
-advance_fits p here after payload end m o at l k = fits_at p here after payload end (verdict (grammar_of p) here.rest) refl m.0 o at l k
+advance_fits p here after payload end m o at l k = grind (arith, tile_fits)
 
 -- a header is at the start of the stream, and a body in an open code section
 section_at : (p : ParserState) (features from to : ℕ) (xs : List ℕ) (t : Tile) (h b : Bool) → p.expects_header ≡ h
@@ -47,9 +42,9 @@ section_at p features from to xs t true b e f v n = grind (arith, headed)
 section_at p features from to xs t false true e f v n = rw (e, f) refl
 section_at p features from to xs t false false e f v n = grind (arith, bodied)
 
-section_of : (p : ParserState) (here after : Place) (payload : Payload) (v : Verdict) → verdict (grammar_of p) here.rest ≡ v
-    → MatchesVerdict p.offset here v (Ok payload) after → implies_nothing (report_of payload) ≡ true → is_at_section p ≡ true
-section_of p here after payload v e m n = grind (arith, section_at)
+section_of : (p : ParserState) (here after : Place) (payload : Payload) → ReadsNext p here (Ok payload) after
+    → implies_nothing (report_of payload) ≡ true → is_at_section p ≡ true
+section_of p here after payload m n = grind (arith, section_at)
 
 answers_at : (p q : ParserState) (eof : Bool) (here after : Place) (payload : Payload) (end : ℕ) (v : Verdict)
     → verdict (grammar_of p) here.rest ≡ v → MatchesVerdict p.offset here v (Ok payload) after → p.offset + length here.rest < 2 ^ 64
@@ -82,7 +77,7 @@ module _ (p : ParserState) (w : Window) (bytes : List ℕ) (after : Place) (payl
 
   pub window_section : w ≡ window_over p.features p.offset bytes → ReadsNext p (place w) (Ok payload) after
       → implies_nothing (report_of payload) ≡ true → is_at_section p ≡ true
-  window_section e m n = section_of p _ after payload _ refl (at_window p w bytes _ after e m).0 n
+  window_section e m n = section_of p _ after payload (at_window p w bytes _ after e m) n
 
 pub window_answered : (p q : ParserState) (eof : Bool) (w : Window) (bytes : List ℕ) (after : Place) (payload : Payload) (start end : ℕ) → w
     ≡ window_over p.features p.offset bytes → start ≡ p.offset → ReadsNext p (place w) (Ok payload) after → p.offset + length bytes < 2 ^ 64

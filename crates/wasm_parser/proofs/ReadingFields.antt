@@ -1,11 +1,10 @@
 -- How what is at a place is reported, field by field.
-use Rattle.wasm_parser.proofs.Common.{◌≡◌, ℕ, ◌<◌, ◌≤◌, List, length, Result, Ok, Err, refl, sym, subst, arith, length-append, take, Some}
-use Rattle.wasm_parser.proofs.Common.{None, Option, length-take-le, number-used, FaultAt, fault_at, at_offset, hint_of, hint_at, missing_at}
-use Rattle.wasm_parser.proofs.Common.{Number, read, number, in_window, unsigned_at, Place, advanced, Error, UnexpectedEof, VarU32, Verdict}
-use Rattle.wasm_parser.proofs.Common.{Grammar, Shape, accept, check, u32_field, bytes, reject, after, after_number, verdict, tile_report}
-use Rattle.wasm_parser.proofs.Common.{Waiting, waiting, IsPayload, MatchesGrammar, MatchesVerdict, HintsAs, Payload}
+use Rattle.wasm_parser.proofs.Common.{◌≡◌, ℕ, ◌<◌, ◌≤◌, List, length, Result, Ok, Err, sym, subst, arith, length-append, take, Some, None}
+use Rattle.wasm_parser.proofs.Common.{Option, length-take-le, number-used, FaultAt, fault_at, at_offset, hint_of, hint_at, missing_at, read}
+use Rattle.wasm_parser.proofs.Common.{number, unsigned_at, Place, advanced, Error, UnexpectedEof, VarU32, Verdict, Grammar, Shape, accept}
+use Rattle.wasm_parser.proofs.Common.{check, u32_field, bytes, reject, after, verdict, tile_report, waiting, IsPayload, MatchesGrammar}
+use Rattle.wasm_parser.proofs.Common.{MatchesVerdict, Payload}
 use Rattle.wasm_base.proofs.Texts.{advanced_twice}
-use Rattle.wasm_grammar.specs.Waiting.{later, later_number}
 use Rattle.wasm_grammar.proofs.endings.BadNumbers.{bad_hint}
 
 -- a tile that begins with these bytes
@@ -38,16 +37,10 @@ pub report_number : (s : ℕ) (p : Place) (o : ℕ) (next : ℕ → ℕ → Gram
 unfolding verdict waiting
 report_number s p o next r a v k e h = grind (arith, number-used, report_at, length-take-le)
 
-no_number : (s : ℕ) (p : Place) (next : ℕ → ℕ → Verdict) (later : ℕ → ℕ → Waiting) (e : Error) (a : Place) (n : Number)
-    → number VarU32 p.rest ≡ n → in_window p n ≡ Err (fault_at e) → hint_of e ≡ hint_at 1 (fault_at e).fault
-    → MatchesVerdict s p (after_number p.offset p.rest n next) (Err e) a
-    × HintsAs (later_number n later) (let r : Result Payload Error = Err e in r)
-no_number s p next later e a n t f h = grind (arith, bad_hint)
-
 pub report_no_number : (s : ℕ) (p : Place) (next : ℕ → ℕ → Grammar) (e : Error) (a : Place) → unsigned_at VarU32 p ≡ Err (fault_at e)
     → hint_of e ≡ hint_at 1 (fault_at e).fault → MatchesGrammar s p (u32_field p.offset next) (Err e) a
 unfolding verdict waiting unsigned_at
-report_no_number s p next e a f h = search no_number
+report_no_number s p next e a f h = grind (arith, bad_hint)
 
 module _ (s : ℕ) (p : Place) (f : Option FaultAt) (next : Grammar) where
   -- something wrong, or nothing
@@ -77,9 +70,6 @@ pub record ReadNumber (p : Place) (v : ℕ) (q : Place) : Type 0 where
   pub after : q ≡ advanced used p
   pub there : used ≤ length p.rest
 
-read_number_at : (p : Place) (v : ℕ) (q : Place) (n : Number) → number VarU32 p.rest ≡ n → in_window p n ≡ Ok (v, q) → ReadNumber p v q
-read_number_at p v q n e h = grind (arith, number-used)
-
 pub read_number : (p : Place) (v : ℕ) (q : Place) → unsigned_at VarU32 p ≡ Ok (v, q) → ReadNumber p v q
 unfolding unsigned_at
-read_number p v q h = read_number_at p v q (number VarU32 p.rest) refl h
+read_number p v q h = grind (arith, number-used)
