@@ -4,7 +4,7 @@ use Rattle.wasm_parser.proofs.Common.{nat_lt, ltb-false, FaultAt, fault_at, at_o
 use Rattle.wasm_parser.proofs.Common.{final, Shape, verdict, stream_end, tile_report, Waiting, wants, waiting, IsPayload, is_end, said}
 use Rattle.wasm_parser.proofs.Common.{refuses, ParseAnswer, ParserState, grammar_of, ended_state, state_after_tile, Chunk, NeedMoreData}
 use Rattle.wasm_parser.proofs.Common.{Parsed}
-use Rattle.wasm_parser.specs.ParseAnswer.{Answer, asks, answer_by, answer_in_time, answer_to, state_after_answer, AnswerBegins}
+use Rattle.wasm_parser.specs.ParseAnswer.{Answer, answer_by, answer_in_time, answer_to, state_after_answer, AnswerBegins}
 
 -- ---- the tables
 
@@ -53,9 +53,6 @@ module _ (p new : ParserState) where
   by_verdict : (r : Result Chunk Error) (v : Verdict) → said r ≡ answer_by p v → AnswerBegins r → new ≡ state_after_answer p r
       → Answers p v r new
   by_verdict r v a i s = grind arith
-
-  by_asking : (hint : ℕ) (r : Result Chunk Error) → said r ≡ asks hint → new ≡ state_after_answer p r → AsksFor hint p r new
-  by_asking hint r a s = grind arith
 
   on_table : (eof : Bool) (w : Waiting) (v : Verdict) (r : Result Chunk Error) → said r ≡ answer_in_time eof w (answer_by p v)
       → AnswerBegins r → new ≡ state_after_answer p r → AnswersOn eof w p v r new

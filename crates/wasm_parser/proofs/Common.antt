@@ -1,8 +1,8 @@
 -- The names of std, of the crates below and of the specs that several of these proofs use.
 pub use Rattle.std.proofs.Common.{◌≡◌, ℕ, ◌+◌, ◌^◌, ◌<◌, ◌≤◌, Bool, true, false, List, [], ◌∷◌, ◌++◌, length, Result, Ok, Err, refl, sym}
 pub use Rattle.std.proofs.Common.{ap, subst, subst₂, ◌∙◌, arith, length-append, append_assoc, append-nil, inl, inr, ltb-true, nat_eq, cond}
-pub use Rattle.std.proofs.Common.{nat_lt, ltb-false, zero, suc, ◌-◌, not, ◌&&◌, take, drop, option_to_list, Some, None, nat_le, leb-true}
-pub use Rattle.std.proofs.Common.{le-ltb, lt-ltb, le-leb, Option, is_some, eqb-true}
+pub use Rattle.std.proofs.Common.{nat_lt, ltb-false, zero, suc, ◌-◌, not, ◌&&◌, take, drop, option_to_list, Some, None, le-ltb, lt-ltb}
+pub use Rattle.std.proofs.Common.{nat_le, le-leb, Option, is_some, eqb-true}
 pub use Rattle.std.proofs.lemmas.Bool.{and_parts}
 pub use Rattle.std.proofs.lemmas.Grind.{flat_map-append}
 pub use Rattle.std.proofs.lemmas.List.{take_at, drop_at, length-take-le}
@@ -17,7 +17,7 @@ pub use Rattle.wasm_base.specs.Hints.{hint_at, missing_at}
 pub use Rattle.wasm_base.specs.Item.{ReadsAs}
 pub use Rattle.wasm_base.specs.Name.{name_limit}
 unfoldable pub use Rattle.wasm_base.specs.Name.{text_at}
-pub use Rattle.wasm_base.specs.Number.{read, number}
+pub use Rattle.wasm_base.specs.Number.{number, read}
 unfoldable pub use Rattle.wasm_base.specs.Number.{unsigned_at}
 pub use Rattle.wasm_base.specs.Outcome.{Outcome, ◌>>=◌}
 pub use Rattle.wasm_base.specs.Section.{Section}
@@ -40,8 +40,7 @@ pub use Rattle.wasm_grammar.specs.Content.{kind_of}
 unfoldable pub use Rattle.wasm_grammar.specs.Content.{wrong_content}
 pub use Rattle.wasm_grammar.specs.EventRanges.{consumed_by}
 pub use Rattle.wasm_grammar.specs.Grammar.{Tile, Verdict, tile, final, Grammar, Shape, SectionContext, accept, check, u32_field, bytes}
-pub use Rattle.wasm_grammar.specs.Grammar.{reject, section_start, after, whole_grammar, wrong_data, content_grammar, after_length, section}
-pub use Rattle.wasm_grammar.specs.Grammar.{code_entry}
+pub use Rattle.wasm_grammar.specs.Grammar.{whole_grammar, wrong_data, content_grammar, after_length, section, code_entry}
 unfoldable pub use Rattle.wasm_grammar.specs.Grammar.{verdict, header_grammar, body_grammar, section_grammar}
 pub use Rattle.wasm_grammar.specs.Ids.{data_id, function_id}
 pub use Rattle.wasm_grammar.specs.Reading.{stream_end, Event, tile_report, event_of, events_of, last_event, Reading, Stream, code_start}
@@ -52,13 +51,13 @@ unfoldable pub use Rattle.wasm_grammar.specs.Waiting.{waiting}
 pub use Rattle.wasm_parser.specs.Along.{Along}
 pub use Rattle.wasm_parser.specs.GivesNextEvent.{MayBe}
 pub use Rattle.wasm_parser.specs.ParseAnswer.{IsPayload, report_of, is_end, said, refuses, ParseAnswer, IsRequest, MatchesGrammar}
-pub use Rattle.wasm_parser.specs.ParseAnswer.{ReadsByGrammar, counted_by, BeginsAfterCount, MatchesVerdict, Advances}
+pub use Rattle.wasm_parser.specs.ParseAnswer.{ReadsByGrammar, counted_by, BeginsAfterCount, MatchesVerdict}
 pub use Rattle.wasm_parser.specs.ParserState.{ParserState, initial_state, grammar_of, known_context, ended_state, IsStateAfter}
 pub use Rattle.wasm_parser.specs.ParserState.{is_at_section, greatest, skipped_state}
 pub use Rattle.wasm_parser.specs.ReadsPart.{is_miscounted_by, is_lacking}
 unfoldable pub use Rattle.wasm_parser.specs.ReadsPart.{content_at}
 pub use Rattle.wasm_parser.specs.SkipNext.{Skip, SkipsPart, skip_in}
-pub use Rattle.wasm_parser.specs.StateAfter.{state_after_tile, state_after}
+pub use Rattle.wasm_parser.specs.StateAfter.{state_after_tile}
 pub use Rattle.wasm_parser.specs.Stored.{numbers_of}
 pub use Rattle.wasm_parser.specs.declared.payload.Chunk.{Chunk}
 pub use Rattle.wasm_parser.specs.declared.payload.Chunk.TheVariants.{NeedMoreData, Parsed}

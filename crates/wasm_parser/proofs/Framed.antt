@@ -1,6 +1,6 @@
 -- What is at the start of a section, and what is read there.
 use Rattle.wasm_parser.proofs.Common.{◌≡◌, ℕ, ◌+◌, ◌^◌, ◌<◌, ◌≤◌, Bool, true, false, List, [], ◌∷◌, length, Result, Ok, Err, refl, sym, ap}
-use Rattle.wasm_parser.proofs.Common.{subst₂, arith, nat_eq, nat_lt, ◌-◌, not, ◌&&◌, take, drop, Some, None, nat_le, le-ltb, lt-ltb, le-leb}
+use Rattle.wasm_parser.proofs.Common.{subst₂, arith, nat_eq, nat_lt, ◌-◌, not, ◌&&◌, take, drop, Some, None, le-ltb, lt-ltb, nat_le, le-leb}
 use Rattle.wasm_parser.proofs.Common.{length-take-le, FaultAt, fault_at, at_offset, hint_of, magic, agree, hint_at, missing_at, name_limit}
 use Rattle.wasm_parser.proofs.Common.{text_at, unsigned_at, Window, Place, advanced, window_over, place, Error, UnexpectedEof}
 use Rattle.wasm_parser.proofs.Common.{MagicAtSection, OutOfOrder, VarU32, when, Form, Kind, custom, unknown, kind_of, wrong_content}

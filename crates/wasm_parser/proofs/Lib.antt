@@ -4,7 +4,6 @@ pub mod AnswerTables
 pub mod AsksWhereOpen
 pub mod Bodies
 pub mod Bounds
-pub mod CodeFits
 pub mod Common
 pub mod Consumed
 pub mod Counted

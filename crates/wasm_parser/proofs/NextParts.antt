@@ -2,12 +2,11 @@
 use Rattle.wasm_parser.proofs.Common.{◌≡◌, ℕ, ◌+◌, ◌^◌, ◌<◌, Bool, true, false, List, length, Result, Ok, Err, refl, subst, arith, nat_eq}
 use Rattle.wasm_parser.proofs.Common.{◌-◌, not, Window, Place, window_over, place, Error, headed, bodied, fault, ended, Tile, Verdict, tile}
 use Rattle.wasm_parser.proofs.Common.{final, Grammar, verdict, body_grammar, tile_report, IsPayload, report_of, ParseAnswer, MatchesGrammar}
-use Rattle.wasm_parser.proofs.Common.{MatchesVerdict, Advances, ParserState, grammar_of, is_at_section, state_after_tile, Chunk, Parsed}
-use Rattle.wasm_parser.proofs.Common.{Payload}
+use Rattle.wasm_parser.proofs.Common.{MatchesVerdict, ParserState, grammar_of, is_at_section, state_after_tile, Chunk, Parsed, Payload}
 use Rattle.std.proofs.Common.{add-zero}
-use Rattle.wasm_parser.specs.ReadsPart.{IsBegun, Refuses, ReadsHeader, ReadsBody, ReadsNext}
-use Rattle.wasm_parser.specs.StateAfter.{missing_bytes, implies_nothing}
-use Rattle.wasm_parser.proofs.CodeFits.{tile_fits}
+use Rattle.wasm_parser.specs.ParseAnswer.{Advances}
+use Rattle.wasm_parser.specs.ReadsPart.{IsBegun, Refuses, ReadsBody, ReadsNext}
+use Rattle.wasm_parser.specs.StateAfter.{implies_nothing}
 use Rattle.wasm_parser.proofs.Parsing.{answers_tile}
 
 -- ---- by what the parser expects
@@ -19,20 +18,12 @@ module _ (p : ParserState) (here after : Place) (r : Result Payload Error) where
   matches : (g : Grammar) → grammar_of p ≡ g → MatchesGrammar p.offset here g r after → ReadsNext p here r after
   matches g e m = grind arith
 
-  pub next_header : p.expects_header ≡ true → here.offset ≡ p.offset → ReadsHeader here r after → ReadsNext p here r after
-  next_header h o m = grind arith
-
 pub next_body : (p : ParserState) (here after : Place) (r : Result Payload Error) → p.expects_header ≡ false
     → nat_eq (p.bodies + p.code_bytes) 0 ≡ false → here.offset ≡ p.offset → ReadsBody p here r after → ReadsNext p here r after
 next_body p here after r h c o m = matches p here after r (body_grammar p.bodies p.code_bytes p.offset) (rw (h, c) refl)
     (subst (λ (x : ℕ). MatchesGrammar p.offset here (body_grammar p.bodies p.code_bytes x) r after) o (m p.offset))
 
 -- ---- a tile
-
-pub advance_fits : (p : ParserState) (here after : Place) (payload : Payload) (end : ℕ) → ReadsNext p here (Ok payload) after → here.offset
-    ≡ p.offset → end ≡ after.offset → end < 2 ^ 64 → p.offset + p.code_bytes < 2 ^ 64
-    → end + missing_bytes (report_of payload) (end - p.offset) p.code_bytes < 2 ^ 64
-advance_fits p here after payload end m o at l k = grind (arith, tile_fits)
 
 -- a header is at the start of the stream, and a body in an open code section
 section_at : (p : ParserState) (features from to : ℕ) (xs : List ℕ) (t : Tile) (h b : Bool) → p.expects_header ≡ h
@@ -71,10 +62,6 @@ at_window : (p : ParserState) (w : Window) (bytes : List ℕ) (r : Result Payloa
 at_window p w bytes r after e m = subst (λ (x : Window). ReadsNext p (place x) r after) e m
 
 module _ (p : ParserState) (w : Window) (bytes : List ℕ) (after : Place) (payload : Payload) where
-  pub window_fits : (end : ℕ) → w ≡ window_over p.features p.offset bytes → ReadsNext p (place w) (Ok payload) after → end ≡ after.offset
-      → end < 2 ^ 64 → p.offset + p.code_bytes < 2 ^ 64 → end + missing_bytes (report_of payload) (end - p.offset) p.code_bytes < 2 ^ 64
-  window_fits end e m at l k = advance_fits p _ after payload end (at_window p w bytes _ after e m) (add-zero p.offset) at l k
-
   pub window_section : w ≡ window_over p.features p.offset bytes → ReadsNext p (place w) (Ok payload) after
       → implies_nothing (report_of payload) ≡ true → is_at_section p ≡ true
   window_section e m n = section_of p _ after payload (at_window p w bytes _ after e m) n

@@ -2,9 +2,8 @@
 use Rattle.wasm_parser.proofs.Common.{◌≡◌, ℕ, ◌+◌, ◌^◌, ◌<◌, ◌≤◌, Bool, true, false, List, [], length, Result, Ok, Err, refl, arith, nat_eq}
 use Rattle.wasm_parser.proofs.Common.{cond, Some, fault_at, at_offset, Error, OffsetRange, Guarded-header, Guarded-inside_at, Ending, fault}
 use Rattle.wasm_parser.proofs.Common.{ended, Tile, Verdict, tile, final, SectionContext, verdict, header_grammar, section_grammar, inside}
-use Rattle.wasm_parser.proofs.Common.{Waiting, enough, asked_at_section, waiting, report_of, ParseAnswer, Advances, ParserState, grammar_of}
-use Rattle.wasm_parser.proofs.Common.{known_context, ended_state, is_at_section, is_lacking, state_after, Chunk, NeedMoreData, Parsed}
-use Rattle.wasm_parser.proofs.Common.{Payload}
+use Rattle.wasm_parser.proofs.Common.{Waiting, enough, asked_at_section, waiting, ParseAnswer, ParserState, grammar_of, known_context}
+use Rattle.wasm_parser.proofs.Common.{ended_state, is_at_section, is_lacking, Chunk, NeedMoreData, Parsed}
 use Rattle.wasm_base.specs.declared.fault.Fault.TheVariants.{FunctionWithoutCode, DataCountWithoutData}
 use Rattle.wasm_grammar.specs.Grammar.{end_at_section}
 use Rattle.wasm_grammar.specs.Waiting.{asked}
@@ -95,9 +94,3 @@ answered p eof rest r q l w a = from_table p q eof rest r (record {
 pub answers_tile : (p q : ParserState) (eof : Bool) (rest : List ℕ) (r : Result Chunk Error) (t : Tile) → p.offset + length rest < 2 ^ 64
     → verdict (grammar_of p) rest ≡ tile t → Answers p (tile t) r q → ParseAnswer p eof rest r q
 answers_tile p q eof rest r t l v a = grind (arith, decided_tile)
-
--- ---- the state after a payload
-
--- a payload that was read is passed
-pub advances : (p new : ParserState) (payload : Payload) (to : ℕ) → new ≡ state_after p to (report_of payload) → Advances p payload to new
-advances p new payload to e rest t v l h = cc

@@ -1,10 +1,11 @@
 -- How what is at a place is reported, field by field.
 use Rattle.wasm_parser.proofs.Common.{◌≡◌, ℕ, ◌<◌, ◌≤◌, List, length, Result, Ok, Err, sym, subst, arith, length-append, take, Some, None}
-use Rattle.wasm_parser.proofs.Common.{Option, length-take-le, number-used, FaultAt, fault_at, at_offset, hint_of, hint_at, missing_at, read}
-use Rattle.wasm_parser.proofs.Common.{number, unsigned_at, Place, advanced, Error, UnexpectedEof, VarU32, Verdict, Grammar, Shape, accept}
-use Rattle.wasm_parser.proofs.Common.{check, u32_field, bytes, reject, after, verdict, tile_report, waiting, IsPayload, MatchesGrammar}
+use Rattle.wasm_parser.proofs.Common.{Option, length-take-le, number-used, FaultAt, fault_at, at_offset, hint_of, hint_at, missing_at}
+use Rattle.wasm_parser.proofs.Common.{number, read, unsigned_at, Place, advanced, Error, UnexpectedEof, VarU32, Verdict, Grammar, Shape}
+use Rattle.wasm_parser.proofs.Common.{accept, check, u32_field, bytes, verdict, tile_report, waiting, IsPayload, MatchesGrammar}
 use Rattle.wasm_parser.proofs.Common.{MatchesVerdict, Payload}
 use Rattle.wasm_base.proofs.Texts.{advanced_twice}
+use Rattle.wasm_grammar.specs.Grammar.{reject, after}
 use Rattle.wasm_grammar.proofs.endings.BadNumbers.{bad_hint}
 
 -- a tile that begins with these bytes

@@ -1,25 +1,26 @@
 -- What is skipped by its first fields is the next tile of every stream that goes on with them.
 use Rattle.wasm_parser.proofs.Common.{◌≡◌, ℕ, ◌+◌, ◌^◌, ◌<◌, ◌≤◌, Bool, true, false, List, [], ◌∷◌, ◌++◌, length, Ok, Err, refl, sym, ap}
 use Rattle.wasm_parser.proofs.Common.{subst, ◌∙◌, arith, length-append, append-nil, ltb-true, nat_eq, cond, nat_lt, zero, suc, ◌-◌, not}
-use Rattle.wasm_parser.proofs.Common.{◌&&◌, take, drop, option_to_list, Some, None, nat_le, leb-true, le-ltb, le-leb, Option, is_some}
-use Rattle.wasm_parser.proofs.Common.{and_parts, length-take-le, number-used, FaultAt, at_offset, magic, agree, name_limit, text_at, read}
-use Rattle.wasm_parser.proofs.Common.{number, unsigned_at, Outcome, ◌>>=◌, Place, advanced, window_over, place, UnexpectedEof, VarU32}
-use Rattle.wasm_parser.proofs.Common.{fault, items, index, data_count, Form, Kind, custom, unknown, kind_of, wrong_content, Tile, tile}
-use Rattle.wasm_parser.proofs.Common.{final, Grammar, Shape, SectionContext, accept, check, u32_field, bytes, section_start, whole_grammar}
-use Rattle.wasm_parser.proofs.Common.{wrong_data, after_length, section, code_entry, verdict, body_grammar, section_grammar, data_id}
-use Rattle.wasm_parser.proofs.Common.{tile_report, Report, section_report, asked_at_section, ParserState, grammar_of, known_context, Skip}
-use Rattle.wasm_parser.proofs.Common.{SkipsPart, skip_in, state_after}
-use Rattle.std.proofs.Common.{◌||◌, ◌==◌}
+use Rattle.wasm_parser.proofs.Common.{◌&&◌, take, drop, option_to_list, Some, None, le-ltb, nat_le, le-leb, Option, is_some, and_parts}
+use Rattle.wasm_parser.proofs.Common.{length-take-le, number-used, FaultAt, at_offset, magic, agree, name_limit, text_at, number, read}
+use Rattle.wasm_parser.proofs.Common.{unsigned_at, Outcome, ◌>>=◌, Place, advanced, window_over, place, UnexpectedEof, VarU32, fault, items}
+use Rattle.wasm_parser.proofs.Common.{index, data_count, Form, Kind, custom, unknown, kind_of, wrong_content, Tile, tile, final, Grammar}
+use Rattle.wasm_parser.proofs.Common.{Shape, SectionContext, accept, check, u32_field, bytes, whole_grammar, wrong_data, after_length}
+use Rattle.wasm_parser.proofs.Common.{section, code_entry, verdict, body_grammar, section_grammar, data_id, tile_report, Report}
+use Rattle.wasm_parser.proofs.Common.{section_report, asked_at_section, ParserState, grammar_of, known_context, Skip, SkipsPart, skip_in}
+use Rattle.std.proofs.Common.{leb-true, ◌||◌, ◌==◌}
 use Rattle.std.proofs.Math.Seq.{take-append-add}
 use Rattle.std.proofs.lemmas.List.{take-append-le, drop-append-le, length-drop}
 use Rattle.wasm_base.proofs.Announced.{in_steps}
 use Rattle.wasm_base.proofs.NumberLaws.{number-more}
 use Rattle.wasm_base.specs.Name.{Name, named, refused, name, name_in_window}
 use Rattle.wasm_grammar.specs.Content.{whole, code}
+use Rattle.wasm_grammar.specs.Grammar.{section_start}
 use Rattle.wasm_grammar.specs.Reading.{code_entry as body_report}
 use Rattle.wasm_parser.specs.ReadsPart.{is_other}
 use Rattle.wasm_parser.specs.SkipNext.{Head, report_with, skip_at, fields_at, is_cut, is_in_order, content_skip_at, body_skip_at}
 use Rattle.wasm_parser.specs.SkipNext.{section_skip_at}
+use Rattle.wasm_parser.specs.StateAfter.{state_after}
 use Rattle.wasm_grammar.proofs.parts.Verdicts.{agree-more}
 use Rattle.wasm_parser.proofs.ReadingFields.{ReadNumber, read_number}
 use Rattle.wasm_parser.specs.SkipNext as skip
@@ -125,10 +126,6 @@ unless_stayed b e o x f = grind arith
 abbrev head_or : Head → Outcome Head → Head
 head_or h (Ok x) = x.0
 head_or h (Err e) = h
-
-abbrev place_or : Place → Outcome Head → Place
-place_or p (Ok x) = x.1
-place_or p (Err e) = p
 
 -- a part with content of this size at an offset
 abbrev sized : (offset size : ℕ) → Head → Skip
