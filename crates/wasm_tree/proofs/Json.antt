@@ -20,9 +20,6 @@ value_over : (p : Place) (inside : List Bracket) (b : ℕ) → has_value p ≡ t
     ≡ after_value inside b
 value_over p inside b h d = grind arith
 
-closes : (s : State) → has_value s.place ≡ true → s.inside ≡ object ∷ [] → after_all s (codes "}\n") ≡ start
-closes s h e = grind arith
-
 pub completes : (spot : Spot) (s : State) → IsAt spot s → after_all s (object_end spot) ≡ start
 completes spot s e = grind arith
 

@@ -1,9 +1,6 @@
 use Rattle.wasm_tree.proofs.Common.{arith}
-use Rattle.wasm_tree.proofs.Saying.{none_in_number_field, says_then}
+use Rattle.wasm_tree.proofs.Saying.{none_in_number_field}
 use Rattle.wasm_tree.proofs.lines.Lines.number_field.Goals as goal
 
 pub short-requires : goal.short-requires
 short-requires g c = grind (arith, none_in_number_field)
-
-pub returns-in-None-clause-says : goal.returns-in-None-clause-says
-returns-in-None-clause-says g c = search (arith, says_then)

@@ -1,15 +1,6 @@
-use Rattle.wasm_tree.proofs.Common.{◌≡◌, ℕ, false, arith, List, [], ◌∷◌, sym, subst, append-nil, rules, list_any, is_escaped, quoted_byte}
+use Rattle.wasm_tree.proofs.Common.{◌≡◌, ℕ, false, arith, List, sym, subst, rules, list_any, is_escaped, quoted_byte}
 use Rattle.wasm_tree.proofs.Saying.{maps_parts, plain_quoted, none_in_plain}
 use Rattle.wasm_tree.proofs.lines.Lines.quoted_bytes.Goals as goal
-
-pub runs-preserved-then-count-eq0 : goal.runs-preserved-then-count-eq0
-runs-preserved-then-count-eq0 g c =
-    let byte = c.in-Some.byte.now in
-    record {
-      adds = search rules;
-      says = λ w p. c.runs.invariant.says w (maps_parts quoted_byte c.runs.rest.now (byte ∷ []) c.in-Some.later.now (quoted_byte byte) _ _ w
-          c.in-Some.ensures.cases.0 (append-nil (quoted_byte byte)) c.quoted_byte.ensures.says p);
-    }
 
 pub piece-requires-clause-one_line : goal.piece-requires-clause-one_line
 piece-requires-clause-one_line g c = grind (arith, none_in_plain)

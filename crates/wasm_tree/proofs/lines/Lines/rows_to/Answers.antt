@@ -1,11 +1,7 @@
-use Rattle.wasm_tree.proofs.Common.{ℕ, refl, arith, List, ◌++◌, sym, ap, ◌∙◌, take, lines, lines_rest}
+use Rattle.wasm_tree.proofs.Common.{ℕ, refl, List, ◌++◌, sym, ap, ◌∙◌, take, lines, lines_rest}
 use Rattle.std.proofs.Common.{take-append-drop}
-use Rattle.std.proofs.Math.ListN.{length-drop}
 use Rattle.wasm_tree.proofs.Writing.{puts_row}
 use Rattle.wasm_tree.proofs.lines.Lines.rows_to.Goals as goal
-
-pub rows-smaller : goal.rows-smaller
-rows-smaller g c = grind (arith, length-drop)
 
 pub rows-preserved : goal.rows-preserved
 rows-preserved g c =
