@@ -2,7 +2,7 @@
 use Rattle.wasm_tree.proofs.Common.{◌≡◌, ℕ, ◌<◌, Bool, true, false, nat_eq, refl, arith, ◌≤◌, List, sym, ap, ◌∙◌, ◌^◌, nat_lt, ◌≢◌, Option}
 use Rattle.wasm_tree.proofs.Common.{Some, None, UpdatesBy, get_by, is_some, unwrap_or, if◌then◌else◌, key_cmp, names_in, AddsName, named}
 use Rattle.wasm_tree.proofs.Common.{Number, Space}
-use Rattle.std.proofs.Common.{◌⊎◌, cond, map}
+use Rattle.std.proofs.Common.{◌⊎◌, cond}
 use Rattle.std.proofs.lemmas.Bool.{cases_Bool, false_from_ne_true, le-ltb, lt-ltb, true≢false}
 use Rattle.std.proofs.lemmas.Map.Lookups.{exact_pairs, exact_unsigned}
 use Rattle.std.proofs.lemmas.Map.Made.{lookup-map_values}
@@ -62,9 +62,6 @@ module _ {A : Type 0} where
       → o ≡ get_by (key_cmp (key_of number)) m → option_map string_bytes o ≡ named (names_in m) number
   got_name m number o small got = ap (option_map string_bytes) got ∙ sym (named_in m number small)
 
-  pub names_stay : (m n : BTreeMap (ℕ × ℕ) (String A)) → n.entries ≡ m.entries → names_in n ≡ names_in m
-  names_stay m n same = ap (map (λ e. (e.0, string_bytes e.1))) same
-
   named_same : (m n : BTreeMap (ℕ × ℕ) (String A)) (number : Number)
       → get_by (key_cmp (key_of number)) n ≡ get_by (key_cmp (key_of number)) m → named (names_in n) number ≡ named (names_in m) number
   unfolding named
@@ -74,9 +71,6 @@ module _ {A : Type 0} where
       ∙ (ap (option_map string_bytes) same ∙ sym (lookup-map_values string_bytes (is_at (key_cmp (key_of number))) m.entries)))
 
 -- ---- names that stay, and one that is added
-
-pub same_kept : (old new : Names) → new ≡ old → KeepsNames old new
-same_kept old new same = λ number name has. ap (λ names. named names number) same ∙ has
 
 pub added_kept : (old new : Names) (number : Number) (text : List ℕ) → AddsName old number text new → KeepsNames old new
 added_kept old new number text adds = grind (arith, same_or_other)

@@ -119,11 +119,6 @@ pub says_value : (name : List ℕ) (value : Base → List ℕ) (x y z : Writing)
     → SaysInBase value y z → SaysInBase (λ base. codes " " ++ (name ++ (codes "=" ++ value base))) x z
 says_value name value x y z p q since before h = grind (arith, append_assoc)
 
--- and one whose value is a number
-pub says_number : (name : List ℕ) (n : ℕ) (x y : Writing) → Says (field_start name ++ decimal n) x y
-    → Says (codes " " ++ (name ++ (codes "=" ++ decimal n))) x y
-says_number name n x y p = grind (arith, says_same, append_assoc)
-
 -- ---- some text
 
 -- a text is some
