@@ -1,7 +1,7 @@
 // Dumps with names.
 use std::alloc::Global;
 use std::test::Fail;
-use wasm_cli::dump::{Options, dump_as};
+use wasm_dumper::program::{Options, dump_as};
 use wasm_dumper::{Only, Shown, collect_names, dump};
 use wasm_feed::{BoundedSink, Ended, ListError, Sink, SliceSource, WriteSink};
 use wasm_text::Base;

@@ -4,7 +4,7 @@ use std::env::Args;
 use std::io::{self, Read, Write};
 use std::process::{Abort, ExitCode};
 use std::test::Fail;
-use wasm_cli::dump::run_program;
+use wasm_dumper::program::run_program;
 use wasm_feed::{BoundedSink, ReadSource, Sink, SliceSource, Source, WriteSink};
 use wasm_testing::Measuring;
 

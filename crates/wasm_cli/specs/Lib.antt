@@ -1,13 +1,8 @@
 pub mod Arguments
-pub mod Colors
 pub mod Devices
-pub mod DumpCommands
-pub mod DumpRuns
 pub mod Endings
 pub mod ListCommands
 pub mod ListRuns
-pub mod Options
 pub mod StripOptions
 pub mod Strips
 pub mod StripsTwice
-pub mod Words

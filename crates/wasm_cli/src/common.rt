@@ -1,8 +1,8 @@
 // Shared by both programs: the size of a read, errors of arguments and files, and flushing at the end.
 ghost use Rattle.std.specs.Prelude.{◌≡◌, IfOk, vec_len};
 ghost use Rattle.std.specs.IoError.{error_kind};
-ghost use Rattle.wasm_cli.specs.Arguments.{is_not_utf8 as is_not_utf8_of};
-ghost use Rattle.wasm_cli.specs.Endings.{Finishes};
+ghost use Rattle.wasm_cli.specs.Arguments.{is_not_utf8 as is_not_utf8_of, reason_of};
+ghost use Rattle.wasm_cli.specs.Endings.{Finishes, SaysInTurn};
 ghost use Rattle.wasm_text.specs.Calls.{device_of, writer_device};
 
 use std::alloc::{AllocError, Global};
@@ -35,7 +35,9 @@ pub fn is_not_utf8(error: &Error) -> bool
 }
 
 // Returns why a file can't be opened. Rare reasons have no text of their own: the texts of `Error` would be 5 % of `wasm_dump`.
-fn reason(kind: ErrorKind) -> &'static [u8] {
+fn reason(kind: ErrorKind) -> &'static [u8]
+    ensures { result.now ≡ reason_of kind }
+{
     match kind {
         ErrorKind::NotFound => b": no such file\n",
         ErrorKind::PermissionDenied => b": permission denied\n",
@@ -43,9 +45,11 @@ fn reason(kind: ErrorKind) -> &'static [u8] {
     }
 }
 
-// Prints why a file could not be opened, and returns the exit status 3.
-pub(crate) fn refuse_file<E: Sink>(name: &str, error: &Error, errors: &mut E) -> u8
-    ensures { result ≡ 3 }
+/// Writes the name of a file to `errors`, and then why it could not be opened. Returns the exit status 3.
+pub fn refuse_file<E: Sink>(name: &str, error: &Error, errors: &mut E) -> u8
+    ensures answers { result ≡ 3 }
+    ensures says { SaysInTurn (device_of E.taken E.has_failed errors.old errors.new)
+        name.now (reason_of (error_kind error.now)) }
 {
     complain(errors, name.as_bytes());
     complain(errors, reason(error.kind()));

@@ -1,10 +1,10 @@
-//! The programs `wasm_list` and `wasm_dump` as functions over any devices, with their arguments, messages and exit
-//! statuses.
+//! The program `wasm_list` as a function over any devices, and what it shares with `wasm_dump`: errors of arguments and
+//! files, the standard streams, messages and exit statuses.
 #![tactic(auto)]
 
 mod common;
-pub mod dump;
 pub mod list;
 mod streams;
 
-pub use common::{PIECE, finish, is_not_utf8, read_buffer};
+pub use common::{PIECE, finish, is_not_utf8, read_buffer, refuse_file};
+pub use streams::{Input, Messages, Piped};

@@ -1,4 +1,6 @@
 // The streams of the programs. If the reader of standard output has closed the pipe, a program ends without a message.
+ghost use Rattle.std.specs.Prelude.{◌≡◌};
+
 use std::cell::Cell;
 use std::fs::File;
 use std::io::{self, ErrorKind, Read, Stdin, Write};
@@ -31,12 +33,17 @@ pub struct Piped<'a, W> {
 
 impl<'a, W: Write> Piped<'a, W> {
     /// Creates a writer that forwards to this one, and sets the flag when the pipe is closed.
-    pub fn new(writer: W, is_closed: &'a Cell<bool>) -> Self {
+    pub fn new(writer: W, is_closed: &'a Cell<bool>) -> Self
+        ensures writer { result.writer ≡ writer }
+        ensures flag { result.is_closed ≡ is_closed }
+    {
         Piped { writer, is_closed }
     }
 }
 
 impl<W: Write> Write for Piped<'_, W> {
+    ghost contents = { λ piped. W.contents piped.writer };
+
     fn write(&mut self, buf: &[u8]) -> io::Result<usize> {
         let result = self.writer.write(buf);
         if let Err(error) = &result {
@@ -61,7 +68,10 @@ pub struct Messages<'a, E> {
 
 impl<'a, E: Sink> Messages<'a, E> {
     /// Creates a sink that forwards messages to this one until the flag is set.
-    pub fn new(sink: E, is_closed: &'a Cell<bool>) -> Self {
+    pub fn new(sink: E, is_closed: &'a Cell<bool>) -> Self
+        ensures sink { result.sink ≡ sink }
+        ensures flag { result.is_closed ≡ is_closed }
+    {
         Messages { sink, is_closed }
     }
 }

@@ -2,7 +2,7 @@
 #![tactic(auto)]
 
 use std::process::ExitCode;
-use wasm_cli::dump::run_host;
+use wasm_dumper::program::run_host;
 
 fn main(rt: HostRuntime) -> ExitCode {
     run_host(rt)

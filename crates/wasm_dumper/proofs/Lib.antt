@@ -1,6 +1,9 @@
+pub mod Coloring
 pub mod Common
 pub mod Counted
 pub mod DroppedParts
 pub mod Dumping
 pub mod Lines
 pub mod Numbering
+pub mod Running
+pub mod Splitting

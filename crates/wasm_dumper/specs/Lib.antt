@@ -1,4 +1,9 @@
 pub mod Chosen
+pub mod Colors
 pub mod Counting
 pub mod Dump
+pub mod DumpCommands
+pub mod DumpRuns
 pub mod Hiding
+pub mod Options
+pub mod Words
