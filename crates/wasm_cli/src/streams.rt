@@ -35,7 +35,7 @@ impl<'a, W: Write> Piped<'a, W> {
     /// Creates a writer that forwards to this one, and sets the flag when the pipe is closed.
     pub fn new(writer: W, is_closed: &'a Cell<bool>) -> Self
         ensures writer { result.writer ≡ writer }
-        ensures flag { result.is_closed ≡ is_closed }
+        ensures flag { result.is_closed ≡ is_closed.entry }
     {
         Piped { writer, is_closed }
     }
@@ -70,7 +70,7 @@ impl<'a, E: Sink> Messages<'a, E> {
     /// Creates a sink that forwards messages to this one until the flag is set.
     pub fn new(sink: E, is_closed: &'a Cell<bool>) -> Self
         ensures sink { result.sink ≡ sink }
-        ensures flag { result.is_closed ≡ is_closed }
+        ensures flag { result.is_closed ≡ is_closed.entry }
     {
         Messages { sink, is_closed }
     }

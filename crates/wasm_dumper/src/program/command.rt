@@ -5,11 +5,11 @@ ghost use Rattle.wasm_dumper.specs.DumpCommands.{WantsMemory, asked_after, asked
 ghost use Rattle.wasm_dumper.specs.Words.{Begins, ChooseInTurn, Chooses, IsSplit, rest_given, words_of};
 
 use super::options::{Mark, Options, mark_of};
-use wasm_cli::is_not_utf8;
+use crate::events::Only;
 use std::alloc::{AllocError, Global};
 use std::env::Args;
 use std::io;
-use crate::events::Only;
+use wasm_cli::is_not_utf8;
 use wasm_grammar::section_named;
 
 /// One or more arguments.
