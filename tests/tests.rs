@@ -11,6 +11,7 @@ mod feed;
 mod items;
 mod list;
 mod parser;
+mod shared;
 
 use std::alloc::Global;
 use std::fmt::Debug;

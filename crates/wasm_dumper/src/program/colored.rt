@@ -15,7 +15,7 @@ use wasm_feed::{Failed, Sink, write_all};
 /// they are.
 ///
 /// ```rattle
-/// let mut output = dump::Colored::new(BoundedSink::new(alloc, 1000)?, true);
+/// let mut output = program::Colored::new(BoundedSink::new(alloc, 1000)?, true);
 /// write_all(&mut output, b"end 8\n").ok().ok_or("no room")?;
 /// let colored = output.into_inner();
 /// assert!(rt; colored.written().len() > 6);

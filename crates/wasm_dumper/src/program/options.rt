@@ -8,7 +8,7 @@ use wasm_text::Base;
 /// The format of a dump, and what it shows besides the items.
 ///
 /// ```rattle
-/// let options = dump::Options { is_json: true, ..dump::Options::new() };
+/// let options = program::Options { is_json: true, ..program::Options::new() };
 /// assert!(rt; !options.is_colored);
 /// ```
 #[derive(Clone, Copy)]

@@ -353,7 +353,7 @@ fn dump_over<R: Source, W: Write>(
 /// let mut input = SliceSource::new(b"\0asm\x01\0\0\0");
 /// let mut text = Vec::new(alloc);
 /// let output = WriteSink::new(&mut text);
-/// let (ended, _) = dump::dump_as(alloc, &[Only::All], dump::Options::new(), None, &mut input, output);
+/// let (ended, _) = program::dump_as(alloc, &[Only::All], program::Options::new(), None, &mut input, output);
 /// assert_eq!(rt; ended, Ok(Ended::End));
 /// assert_eq!(rt; text.as_slice(), b"version 0 8 1 module\nend 8\n".as_slice());
 /// ```
