@@ -1,4 +1,5 @@
 // What both programs share: files that can't be opened, and streams whose reader has gone.
+use super::same;
 use std::alloc::Global;
 use std::cell::Cell;
 use std::io::{self, ErrorKind, Write};
@@ -6,8 +7,6 @@ use std::process::Abort;
 use std::test::Fail;
 use wasm_cli::{Messages, Piped, refuse_file};
 use wasm_feed::{BoundedSink, Sink, WriteSink, write_all};
-
-use super::same;
 
 // What is said of a file that could not be opened for this reason, by a device with this much room.
 fn says(
@@ -28,9 +27,21 @@ fn says(
 fn says_why_a_file_cannot_be_opened(rt: HostRuntime) -> Result<(), Fail> {
     let alloc = rt.alloc();
     let denied = ErrorKind::PermissionDenied;
-    says(&rt, alloc, ErrorKind::NotFound, 100, b"a.wasm: no such file\n")?;
+    says(
+        &rt,
+        alloc,
+        ErrorKind::NotFound,
+        100,
+        b"a.wasm: no such file\n",
+    )?;
     says(&rt, alloc, denied, 100, b"a.wasm: permission denied\n")?;
-    says(&rt, alloc, ErrorKind::InvalidInput, 100, b"a.wasm: can't be opened\n")?;
+    says(
+        &rt,
+        alloc,
+        ErrorKind::InvalidInput,
+        100,
+        b"a.wasm: can't be opened\n",
+    )?;
     says(&rt, alloc, ErrorKind::NotFound, 6, b"a.wasm")?;
     says(&rt, alloc, ErrorKind::NotFound, 3, b"a.w")?;
     says(&rt, alloc, ErrorKind::NotFound, 0, b"")
@@ -79,6 +90,11 @@ fn message_after(
 fn says_nothing_once_the_pipe_is_closed(rt: HostRuntime) -> Result<(), Fail> {
     let alloc = rt.alloc();
     message_after(&rt, alloc, None, (false, b"output failed\n"))?;
-    message_after(&rt, alloc, Some(ErrorKind::WriteZero), (true, b"output failed\n"))?;
+    message_after(
+        &rt,
+        alloc,
+        Some(ErrorKind::WriteZero),
+        (true, b"output failed\n"),
+    )?;
     message_after(&rt, alloc, Some(ErrorKind::BrokenPipe), (true, b""))
 }

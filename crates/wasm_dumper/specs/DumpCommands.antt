@@ -8,8 +8,8 @@ use Rattle.wasm_dumper.specs.Options.{contradict, say_how}
 use Rattle.wasm_dumper.specs.Words.{options_of, rest_items, rest_of, words_of}
 use Rattle.wasm_dumper.specs.declared.program.options.Options.{Options}
 use Rattle.wasm_dumper.specs.declared.program.command.Command.{Command}
-use Rattle.wasm_dumper.specs.declared.program.command.Command.TheVariants.{All, Sections, Files, NamesOfInput, Help, Version}
-use Rattle.wasm_dumper.specs.declared.program.command.Command.TheVariants.{Unknown}
+use Rattle.wasm_dumper.specs.declared.program.command.Command.TheVariants.{All, Sections, Files, NamesOfInput, Help}
+use Rattle.wasm_dumper.specs.declared.program.command.Command.TheVariants.{Unknown, Version}
 use Rattle.wasm_dumper.specs.declared.program.command.Named.{Named}
 
 -- files, the words that choose sections of them, and what else is asked for
