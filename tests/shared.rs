@@ -62,11 +62,14 @@ impl Write for Failing {
     }
 
     fn flush(&mut self) -> io::Result<()> {
-        Ok(())
+        match self.kind {
+            Some(kind) => Err(io::Error::from(kind)),
+            None => Ok(()),
+        }
     }
 }
 
-// Writes to a writer that fails for this reason, and then a message. Returns whether writing failed, and the message as far as it was taken.
+// A write to a writer that fails for this reason, if there is one, fails if this says so, and of a message after it this is written.
 fn message_after(
     rt: &impl Abort,
     alloc: Global,
@@ -77,6 +80,7 @@ fn message_after(
     let mut text = Vec::new(alloc);
     let mut output = Piped::new(Failing { kind }, &is_closed);
     let failed = output.write(b"abc").is_err();
+    same(rt, output.flush().is_err(), failed);
     let mut errors = Messages::new(WriteSink::new(&mut text), &is_closed);
     let written = write_all(&mut errors, b"output failed\n");
     same(rt, written.is_ok(), true);
