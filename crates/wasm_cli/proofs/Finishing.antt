@@ -4,7 +4,7 @@ use Rattle.std.proofs.Common.{inr}
 use Rattle.std.specs.Io.KnownBytes.{Appends, Keeps}
 use Rattle.wasm_feeder.specs.Lists.{Lists}
 use Rattle.wasm_text.specs.Calls.{Device, from_to}
-use Rattle.wasm_cli.proofs.ForCallers.{appends_kept}
+use Rattle.std.proofs.KnownBytes.{Appends-kept}
 use Rattle.wasm_cli.specs.Devices.{over, Follows, IsUntouched}
 use Rattle.wasm_text.specs.Messages.{Says}
 use Rattle.wasm_cli.specs.Endings.{RunsUsage, Flushes, FailsToFlush, LeavesAlone, Finishes, status_of}
@@ -22,7 +22,7 @@ lists_kept source rest taken written kept how h k = record {
   first = h.first;
   end = h.end;
   gave = h.gave;
-  listed = appends_kept taken written kept _ h.listed k;
+  listed = Appends-kept taken written kept _ h.listed k;
   ends = h.ends;
   within = h.within;
   past_the_top = h.past_the_top;

@@ -1,4 +1,4 @@
 pub mod Choosing
 pub mod Finishing
-pub mod ForCallers
 pub mod Reading
+pub mod Telling

@@ -1,5 +1,5 @@
 -- How a run of a program ends, and what it says.
-use Rattle.std.specs.Prelude.{◌≡◌, ◌⊎◌, ℕ, ◌<◌, ◌≤◌, Bool, true, List, Option, take, Result, Ok, Err}
+use Rattle.std.specs.Prelude.{◌≡◌, ◌⊎◌, ℕ, ◌<◌, ◌≤◌, Bool, true, List, take, Result, Ok, Err}
 use Rattle.std.specs.Io.KnownBytes.{Appends, Keeps}
 use Rattle.wasm_text.specs.Calls.{Device}
 use Rattle.wasm_feeder.specs.declared.turns.Ended.{Ended}
@@ -19,13 +19,6 @@ status_of (Err e) = 3
 abbrev pub Reports : Result Ended ListError → Device → Type 0
 Reports (Ok how) errors = IsUntouched errors
 Reports (Err e) errors = Says errors (complaint_of e)
-
--- One message was written after another, with the device as it was in between.
-pub record SaysInTurn (device : Device) (first second : List ℕ) : Type 0 where
-  pub between : Option (List ℕ)
-  pub failed : Bool
-  pub one : Says (record device { after = between; has_failed = failed }) first
-  pub other : Says (record device { before = between; had_failed = failed }) second
 
 -- a run that refused its arguments, saying how the program is used, and left its input and output alone
 pub record RunsUsage (usage : List ℕ) (input output errors : Device) (status : ℕ) : Type 0 where

@@ -1,14 +1,16 @@
 // Shared by both programs: the size of a read, errors of arguments and files, and flushing at the end.
-ghost use Rattle.std.specs.Prelude.{◌≡◌, IfOk, vec_len};
+ghost use Rattle.std.specs.Prelude.{◌≡◌, ◌++◌, IfOk, OnOk, OnErr, ℕ, take, true, is_ok, if◌then◌else◌, vec_len};
+ghost use Rattle.std.specs.Io.KnownBytes.{Appends};
 ghost use Rattle.std.specs.IoError.{error_kind};
 ghost use Rattle.wasm_cli.specs.Arguments.{is_not_utf8 as is_not_utf8_of, reason_of};
-ghost use Rattle.wasm_cli.specs.Endings.{Finishes, SaysInTurn};
+ghost use Rattle.wasm_cli.specs.Endings.{Finishes};
 ghost use Rattle.wasm_text.specs.Calls.{device_of, writer_device};
+ghost use Rattle.wasm_text.specs.Messages.{Says};
 
 use std::alloc::{AllocError, Global};
 use std::io::{Error, ErrorKind, Write};
-use wasm_feed::{ListError, Sink, WriteSink};
-use wasm_text::{complain, give_up};
+use wasm_feed::{Failed, ListError, Sink, WriteSink, write_all};
+use wasm_text::give_up;
 
 /// The number of bytes of the input that are read at once, at most.
 pub const PIECE: usize = 65_536;
@@ -45,14 +47,27 @@ fn reason(kind: ErrorKind) -> &'static [u8]
     }
 }
 
-/// Writes the name of a file to `errors`, and then why it could not be opened. Returns the exit status 3.
+// Writes one text and then another.
+fn write_both<E: Sink>(output: &mut E, first: &[u8], second: &[u8]) -> Result<(), Failed>
+    ensures ok { OnOk result
+        (Appends (E.taken output.old) (E.taken output.new) (first.now ++ second.now)) }
+    ensures err { OnErr result ((n : ℕ)
+        × Appends (E.taken output.old) (E.taken output.new) (take n (first.now ++ second.now))) }
+    ensures failed { E.has_failed output.new
+        ≡ (if is_ok result then E.has_failed output.old else true) }
+{
+    write_all(output, first)?;
+    write_all(output, second)
+}
+
+/// Writes the name of a file to `errors`, and then why it could not be opened, as far as the sink takes it. Returns the
+/// exit status 3.
 pub fn refuse_file<E: Sink>(name: &str, error: &Error, errors: &mut E) -> u8
     ensures answers { result ≡ 3 }
-    ensures says { SaysInTurn (device_of E.taken E.has_failed errors.old errors.new)
-        name.now (reason_of (error_kind error.now)) }
+    ensures says { Says (device_of E.taken E.has_failed errors.old errors.new)
+        (name.now ++ reason_of (error_kind error.now)) }
 {
-    complain(errors, name.as_bytes());
-    complain(errors, reason(error.kind()));
+    let _ = write_both(errors, name.as_bytes(), reason(error.kind()));
     3
 }
 

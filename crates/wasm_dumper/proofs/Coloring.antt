@@ -6,7 +6,7 @@ use Rattle.std.proofs.lemmas.Bool.{false_from_ne_true}
 use Rattle.std.proofs.lemmas.List.{take_at, take_more}
 use Rattle.std.specs.Io.KnownBytes.{Appends, Keeps, WriteAppends}
 use Rattle.wasm_text.specs.declared.devices.Failed.{Failed}
-use Rattle.wasm_cli.proofs.ForCallers.{appends_kept}
+use Rattle.std.proofs.KnownBytes.{Appends-kept}
 use Rattle.wasm_dumper.specs.Colors.{GainsByte, IsColored, IsSequence, given_by, plain, where_after, where_after_byte}
 use Rattle.wasm_dumper.specs.Colors.{without_colors, without_from}
 use Rattle.wasm_dumper.specs.declared.program.plain.Where.{Where}
@@ -115,7 +115,7 @@ pub stays_at_head : (r : Result ℕ Failed) (a b c : Option (List ℕ)) (head bo
 stays_at_head (Ok n) a b c head body p q = tt
 stays_at_head (Err e) a b c head body p q = (
   length head,
-  subst (Appends a c) (sym (take_all (length head) head (le_refl (length head)))) (appends_kept a b c head p q),
+  subst (Appends a c) (sym (take_all (length head) head (le_refl (length head)))) (Appends-kept a b c head p q),
 )
 
 one_byte : (n : ℕ) → n ≤ 1 → 0 < n → n ≡ 1

@@ -2,7 +2,7 @@
 use Rattle.std.proofs.Common.{◌≡◌, ◌∷◌, ◌++◌, List, ℕ, true, false, arith, length, take, take_all, le_refl, Bool, Option, Some, None}
 use Rattle.std.proofs.Common.{Result, Ok, Err, OnErr, ap, subst, subst₂, sym}
 use Rattle.std.specs.Io.KnownBytes.{Appends, Keeps}
-use Rattle.wasm_cli.proofs.ForCallers.{appends_kept}
+use Rattle.std.proofs.KnownBytes.{Appends-kept}
 use Rattle.wasm_text.specs.Calls.{from_to}
 use Rattle.wasm_feeder.specs.declared.turns.Ended.{Ended}
 use Rattle.wasm_text.specs.declared.devices.ListError.{ListError}
@@ -51,7 +51,7 @@ not_forwarded (Ok done) a b c text w k = tt
 not_forwarded (Err e) a b c text w k = (
   length text,
   subst (Appends a c) (sym (take_all (length text) text (le_refl (length text))))
-      (appends_kept a b c text w k),
+      (Appends-kept a b c text w k),
 )
 
 -- what is kept is seen as it was
@@ -67,7 +67,7 @@ pub dumps_kept : (style : Style) (only : List Only) (has_bytes colors : Bool) (s
     → Dumps style only has_bytes (from_to source rest) (from_to (seen colors a) (seen colors c)) how
 dumps_kept style only has_bytes colors source rest a b c how d k =
     dumps_seen style (seen colors a) (seen colors b) (seen colors a) (seen colors c)
-    (λ text p. appends_kept (seen colors a) (seen colors b) (seen colors c) text p (seen_kept colors b c k))
+    (λ text p. Appends-kept (seen colors a) (seen colors b) (seen colors c) text p (seen_kept colors b c k))
     only has_bytes source rest how d
 
 -- the number before known bytes stays, so colors that there were are still there
