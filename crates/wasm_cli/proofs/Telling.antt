@@ -33,7 +33,10 @@ pub says : (r : Result (Unit {0}) Failed) (device : Device) (message : List ℕ)
     → OnErr r ((n : ℕ) × Appends device.before device.after (take n message))
     → device.has_failed ≡ (if is_ok r then device.had_failed else true) → Says device message
 says (Ok done) device message ok err f = record {
-  some = (length message, subst (Appends device.before device.after) (sym (take_all (length message) message (le_refl (length message)))) ok);
+  some = (
+    length message,
+    subst (Appends device.before device.after) (sym (take_all (length message) message (le_refl (length message)))) ok,
+  );
   all = λ e. ok;
 }
 says (Err e) device message ok err f = record { some = err; all = λ e. cc }

@@ -2,7 +2,9 @@ use Rattle.wasm_cli.proofs.Telling.{first_cut, second_cut}
 use Rattle.wasm_cli.proofs.common.write_both.Goals as goal
 
 pub returns-in_err-write_all-clause-err : goal.returns-in_err-write_all-clause-err
-returns-in_err-write_all-clause-err g c = first_cut c.from_residual.result _ _ c.args.first.now c.args.second.now c.in_err-write_all.ensures.err
+returns-in_err-write_all-clause-err g c =
+    first_cut c.from_residual.result _ _ c.args.first.now c.args.second.now c.in_err-write_all.ensures.err
 
 pub returns-clause-err : goal.returns-clause-err
-returns-clause-err g c = second_cut c.write_all-2.result _ _ _ c.args.first.now c.args.second.now c.in_ok-write_all.ensures.ok c.write_all-2.ensures.err
+returns-clause-err g c = second_cut c.write_all-2.result _ _ _ c.args.first.now c.args.second.now
+    c.in_ok-write_all.ensures.ok c.write_all-2.ensures.err
