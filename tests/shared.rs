@@ -69,7 +69,7 @@ impl Write for Failing {
     }
 }
 
-// A write to a writer that fails for this reason, if there is one, fails if this says so, and of a message after it this is written.
+// Writes twice to a writer that fails for this reason, or takes all. Then `wanted` is whether writing failed, and what a message writes.
 fn message_after(
     rt: &impl Abort,
     alloc: Global,
@@ -80,6 +80,7 @@ fn message_after(
     let mut text = Vec::new(alloc);
     let mut output = Piped::new(Failing { kind }, &is_closed);
     let failed = output.write(b"abc").is_err();
+    same(rt, output.write(b"abc").is_err(), failed);
     same(rt, output.flush().is_err(), failed);
     let mut errors = Messages::new(WriteSink::new(&mut text), &is_closed);
     let written = write_all(&mut errors, b"output failed\n");
