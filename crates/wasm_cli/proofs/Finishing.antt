@@ -2,7 +2,7 @@
 use Rattle.std.proofs.Common.{◌≡◌, ◌⊎◌, ℕ, ◌<◌, Bool, List, Option, Result, Ok, Err, refl, sym, ◌∙◌, take, subst, arith, inl}
 use Rattle.std.proofs.Common.{inr}
 use Rattle.std.specs.Io.KnownBytes.{Appends, Keeps}
-use Rattle.wasm_feeder.specs.Lists.{Lists}
+use Rattle.wasm_feed.specs.ListStream.{Lists}
 use Rattle.wasm_text.specs.Calls.{Device, from_to}
 use Rattle.std.proofs.KnownBytes.{Appends-kept}
 use Rattle.wasm_cli.specs.Devices.{over, Follows, IsUntouched}

@@ -2,7 +2,7 @@
 use Rattle.std.specs.Prelude.{◌≡◌, ◌⊎◌, ℕ, Bool, List, ◌++◌, codes, map, string_bytes, Option, Some, None, Result, Ok}
 use Rattle.std.specs.Prelude.{Err}
 use Rattle.wasm_text.specs.Calls.{Device, bytes_of, input_failed, output_failed}
-use Rattle.wasm_feeder.specs.Lists.{Lists, ListsSource}
+use Rattle.wasm_feed.specs.ListStream.{Lists, ListsSource}
 use Rattle.wasm_feeder.specs.declared.turns.Ended.{Ended}
 use Rattle.wasm_text.specs.declared.devices.ListError.{ListError}
 use Rattle.wasm_cli.specs.Devices.{over, Follows, IsUntouched}

@@ -15,7 +15,7 @@ use Rattle.wasm_dumper.specs.Dump.{AreOfSource, bytes_of_answer, bytes_of_event,
 use Rattle.wasm_dumper.specs.Dump.{after_answer, DumpsFrom, DumpsByTree, Writes, stopped_by}
 use Rattle.wasm_feeder.specs.Beside.{FillsAlike, ReadsEnough}
 use Rattle.wasm_feeder.specs.Feed.{new_feed}
-use Rattle.wasm_feeder.specs.Lists.{IsHead, ListsBy, Refills}
+use Rattle.wasm_feeder.specs.Lists.{IsHead, ListsBy, Refills, listing_by}
 use Rattle.wasm_feeder.specs.Progress.{Reached, Asks, Progress}
 use Rattle.wasm_feeder.specs.Step.{answer_of, is_request, shown}
 use Rattle.wasm_feeder.specs.Turns.{text_after}
@@ -23,7 +23,6 @@ use Rattle.wasm_feeder.specs.declared.turns.Ended.{Ended}
 use Rattle.wasm_feeder.specs.declared.turns.Turn.{Turn}
 use Rattle.wasm_grammar.specs.EventRanges.{consumed_by}
 use Rattle.wasm_grammar.specs.Reading.{Reading}
-use Rattle.wasm_lines.specs.Listing.{listing_by}
 use Rattle.wasm_parser.specs.ParseAnswer.{ParseAnswer}
 use Rattle.wasm_text.specs.Calls.{Change, Device, bytes_of, from_to, output_failed}
 use Rattle.wasm_text.specs.Page.{WritesHead, PutsBytes}

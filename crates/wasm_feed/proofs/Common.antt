@@ -17,7 +17,8 @@ pub use Rattle.wasm_grammar.specs.Content.{fault, Ending}
 pub use Rattle.wasm_grammar.specs.EventRanges.{consumed_by}
 pub use Rattle.wasm_grammar.specs.Reading.{Event, last_event, Reading}
 pub use Rattle.wasm_grammar.specs.declared.encoding.Encoding.{Encoding}
-pub use Rattle.wasm_lines.specs.Listing.{line_of, listing_by}
+pub use Rattle.wasm_feeder.specs.Lists.{listing_by}
+pub use Rattle.wasm_lines.specs.Listing.{line_of}
 pub use Rattle.wasm_parser.proofs.ForCallers.{answers_go_along}
 pub use Rattle.wasm_parser.specs.SkipNext.{skip_is}
 pub use Rattle.wasm_text.proofs.ForCallers.{cut_of}

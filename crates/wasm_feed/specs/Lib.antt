@@ -1,4 +1,5 @@
 pub mod Dropping
+pub mod ListStream
 pub mod StripStream
 pub mod Stripped
 pub mod Strips

@@ -6,10 +6,9 @@ ghost use Rattle.wasm_text.specs.declared.digits.Base.TheVariants.{Decimal};
 ghost use Rattle.wasm_parser.specs.SkipNext.{skip_is};
 ghost use Rattle.wasm_feeder.specs.Beside.{beside, lending};
 ghost use Rattle.wasm_feeder.specs.Cursors.{feed_of};
-ghost use Rattle.wasm_feeder.specs.Lists.{ListsSource};
 ghost use Rattle.wasm_feeder.specs.Progress.{ReadsOn};
 ghost use Rattle.wasm_feed.specs.Dropping.{DropsIfAny};
-ghost use Rattle.wasm_feeder.specs.Turns.{TakesTurn};
+ghost use Rattle.wasm_feed.specs.ListStream.{ListsSource, TakesTurn};
 
 use std::alloc::{Allocator, Global};
 use wasm_feeder::{Ahead, Cursor, Ended, Passing, Step, Turn, parse_next, pass_part, seen};

@@ -5,11 +5,10 @@ use Rattle.wasm_feeder.proofs.Common.{Error, Ending, last_event, Event, answers_
 use Rattle.wasm_feeder.proofs.Common.{ListError, Input, FillsAlike, Feed, weight, Reached, Steps, turn_after, Step, NeedMoreData, Ended}
 use Rattle.std.proofs.KnownBytes.{Appends-nil}
 use Rattle.std.specs.Io.KnownBytes.{Keeps}
-use Rattle.wasm_feeder.specs.Lists.{IsListed, Begins, IsHead, Refills, ListsBy}
+use Rattle.wasm_feeder.specs.Lists.{IsListed, Begins, IsHead, Refills, ListsBy, listing_by}
 use Rattle.wasm_feeder.specs.Progress.{Progress, Wants}
 use Rattle.wasm_feeder.specs.Turns.{text_after}
 use Rattle.wasm_grammar.specs.Reading.{Report, stream_end}
-use Rattle.wasm_lines.specs.Listing.{listing_by}
 use Rattle.wasm_text.specs.Calls.{Change, from_to}
 use Rattle.wasm_text.specs.declared.devices.ListError.TheVariants.{Output, Memory}
 use Rattle.wasm_feeder.proofs.PassedParts.{head_after, head_of_cut, head_of_puts, puts_more, puts_out}

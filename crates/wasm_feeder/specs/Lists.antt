@@ -2,20 +2,24 @@
 use Rattle.std.specs.Prelude.{◌≡◌, ◌⊎◌, ℕ, ◌<◌, ◌≤◌, ◌^◌, List, [], ◌∷◌, ◌++◌, length, Option, IfSome}
 use Rattle.std.specs.Prelude.{Result, Ok, Err}
 use Rattle.std.specs.Io.KnownBytes.{Consumes, Appends, IsAtEnd, Keeps}
+use Rattle.std.specs.List.{flat_map}
 use Rattle.wasm_base.specs.FaultAt.{fault_at, at_offset}
 use Rattle.wasm_base.specs.declared.fault.Fault.TheVariants.{OffsetRange}
 use Rattle.wasm_grammar.specs.Content.{Ending, fault, ended}
 use Rattle.wasm_grammar.specs.EventRanges.{consumed_by}
 use Rattle.wasm_grammar.specs.Reading.{Report, Event, last_event, Reading}
 use Rattle.wasm_parser.specs.Along.{ReadingBegins}
-use Rattle.wasm_text.specs.Calls.{Change, Device, bytes_of, input_failed, output_failed}
+use Rattle.wasm_text.specs.Calls.{Change}
 use Rattle.wasm_feeder.specs.Feed.{Feed, pushed, finished}
-use Rattle.wasm_lines.specs.Listing.{line_of, listing_by}
 use Rattle.wasm_feeder.specs.declared.turns.Ended.{Ended}
 use Rattle.wasm_feeder.specs.declared.turns.Ended.TheVariants.{End, Fault}
 use Rattle.wasm_text.specs.declared.devices.ListError.{ListError}
 use Rattle.wasm_text.specs.declared.devices.ListError.TheVariants.{Input, Output, Memory}
 use Rattle.wasm_base.specs.Features.{all_features}
+
+-- events by such lines: the text of each, by what it reports
+abbrev pub listing_by : (Report → List ℕ) → List Event → List ℕ
+listing_by text_of events = flat_map (λ e. text_of e.report) events
 
 -- the run ended as the stream does
 abbrev pub IsEndedBy : Ended → Ending → Type 0
@@ -78,10 +82,6 @@ ListsBy text_of input output (Err Input) = IsAllButLast text_of input output
 ListsBy text_of input output (Err Output) = IsHead text_of input output
 ListsBy text_of input output (Err Memory) = IsHead text_of input output
 
--- what a listing of a source has written at each of its ends
-abbrev pub Lists : (input output : Change) → Result Ended ListError → Type 0
-Lists input output how = ListsBy line_of input output how
-
 -- The source was at its end, which the feeder records; or it returned some bytes, which were pushed.
 abbrev pub Fills : (source rest : Option (List ℕ)) → (old new : Feed) → Type 0
 Fills source rest old new =
@@ -94,9 +94,3 @@ Refills source rest old new (Ok done) = Fills source rest old new
 Refills source rest old new (Err Input) = Keeps source rest
 Refills source rest old new (Err Memory) = (piece : List ℕ) × Consumes source rest piece
 Refills source rest old new (Err Output) = ⊥
-
--- A whole listing: what it wrote of what the source gave, and whether each device has failed.
-pub record ListsSource (input output : Device) (how : Result Ended ListError) : Type 0 where
-  pub lists : Lists (bytes_of input) (bytes_of output) how
-  pub source : input.has_failed ≡ input_failed how input.had_failed
-  pub sink : output.has_failed ≡ output_failed how output.had_failed

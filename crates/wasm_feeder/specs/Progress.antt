@@ -10,9 +10,8 @@ use Rattle.wasm_text.specs.Calls.{Change, from_to}
 use Rattle.wasm_text.specs.Page.{PutsBytes}
 use Rattle.wasm_text.specs.declared.devices.ListError.{ListError}
 use Rattle.wasm_feeder.specs.Feed.{Feed}
-use Rattle.wasm_feeder.specs.Lists.{IsListed, ListsBy}
+use Rattle.wasm_feeder.specs.Lists.{IsListed, ListsBy, listing_by}
 use Rattle.wasm_feeder.specs.declared.turns.Ended.TheVariants.{Fault}
-use Rattle.wasm_lines.specs.Listing.{listing_by}
 use Rattle.wasm_base.specs.Features.{all_features}
 
 -- a bound on the remaining work: bytes to consume, bytes to read, and the end to report

@@ -1,11 +1,10 @@
 -- The listing of a reading: a line for each event.
 use Rattle.std.specs.Prelude.{ℕ, ◌+◌, List, [], ◌++◌, length, codes, decimal, Option, Some, None}
-use Rattle.std.specs.List.{flat_map}
 use Rattle.wasm_base.specs.Message.{message_of}
 use Rattle.wasm_base.specs.Window.{Window}
 use Rattle.wasm_grammar.specs.Content.{ended, fault}
 use Rattle.wasm_grammar.specs.Reading.{Report, version, counted, start_section, data_count_section, code_start}
-use Rattle.wasm_grammar.specs.Reading.{code_entry, custom_section, unknown_section, stream_end, Event}
+use Rattle.wasm_grammar.specs.Reading.{code_entry, custom_section, unknown_section, stream_end}
 use Rattle.wasm_grammar.specs.declared.encoding.Encoding.{Encoding}
 use Rattle.wasm_grammar.specs.declared.encoding.Encoding.TheVariants.{Module, Component}
 use Rattle.wasm_parser.specs.SkipNext.{Head, Skip, custom, items, unknown, body}
@@ -73,11 +72,3 @@ line_in base report = report_text base report ++ codes "\n"
 -- its line in a listing, with decimal offsets
 abbrev pub line_of : Report → List ℕ
 line_of report = line_in Decimal report
-
--- events by such lines: the text of each, by what it reports
-abbrev pub listing_by : (Report → List ℕ) → List Event → List ℕ
-listing_by text_of events = flat_map (λ e. text_of e.report) events
-
--- the listing of events: a line for each
-abbrev pub listing_of : List Event → List ℕ
-listing_of events = listing_by line_of events

@@ -1,0 +1,33 @@
+-- The listing of a stream while it is read.
+use Rattle.std.specs.Prelude.{◌≡◌, ℕ, List, Option, Result, Ok, Err}
+use Rattle.wasm_base.specs.declared.error.Error.{Error}
+use Rattle.wasm_feeder.specs.Lists.{ListsBy}
+use Rattle.wasm_feeder.specs.Turns.{text_after, turn_after}
+use Rattle.wasm_feeder.specs.declared.feeder.Step.{Step}
+use Rattle.wasm_feeder.specs.declared.turns.Ended.{Ended}
+use Rattle.wasm_feeder.specs.declared.turns.Turn.{Turn}
+use Rattle.wasm_lines.specs.Listing.{line_of}
+use Rattle.wasm_text.specs.Calls.{Change, Device, bytes_of, input_failed, output_failed}
+use Rattle.wasm_text.specs.Page.{IsCut, PutsBytes}
+use Rattle.wasm_text.specs.declared.devices.ListError.{ListError}
+
+-- the line that is written for a result
+abbrev pub line_after : Result Step Error → List ℕ
+line_after answer = text_after line_of answer
+
+-- The line of the result was appended to the pending ones.
+abbrev pub TakesTurn : (taken written : Option (List ℕ)) (waiting new : List ℕ) → Result Step Error
+    → Result Turn ListError → Type 0
+TakesTurn taken written waiting new answer (Ok next) =
+    PutsBytes taken written waiting (line_after answer) new × (next ≡ turn_after answer)
+TakesTurn taken written waiting new answer (Err e) = IsCut taken written waiting e
+
+-- what a listing of a source has written at each of its ends
+abbrev pub Lists : (input output : Change) → Result Ended ListError → Type 0
+Lists input output how = ListsBy line_of input output how
+
+-- A whole listing: what it wrote of what the source gave, and whether each device has failed.
+pub record ListsSource (input output : Device) (how : Result Ended ListError) : Type 0 where
+  pub lists : Lists (bytes_of input) (bytes_of output) how
+  pub source : input.has_failed ≡ input_failed how input.had_failed
+  pub sink : output.has_failed ≡ output_failed how output.had_failed
