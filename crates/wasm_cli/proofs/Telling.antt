@@ -1,12 +1,9 @@
--- Two texts that are written one after the other, and a message that is written as far as a device takes it.
-use Rattle.std.proofs.Common.{◌≡◌, ◌∙◌, ◌++◌, ◌+◌, ℕ, true, List, Option, length, take, drop, take_all, Result, Ok, Err, OnOk, OnErr, is_ok}
-use Rattle.std.proofs.Common.{if◌then◌else◌, ap, subst, sym, le_refl}
+-- Two texts that are written one after the other.
+use Rattle.std.proofs.Common.{◌≡◌, ◌∙◌, ◌++◌, ◌+◌, ℕ, List, Option, length, take, drop, Result, Ok, Err, OnErr, ap, subst, sym}
 use Rattle.std.proofs.lemmas.List.{append_assoc, take-append-drop}
 use Rattle.std.proofs.Math.Seq.{take-append_seam, take-append-add}
 use Rattle.std.proofs.KnownBytes.{Appends-trans}
 use Rattle.std.specs.Io.KnownBytes.{Appends}
-use Rattle.wasm_text.specs.Calls.{Device}
-use Rattle.wasm_text.specs.Messages.{Says}
 use Rattle.wasm_text.specs.declared.devices.Failed.{Failed}
 
 -- the start of a text is the start of it and another
@@ -27,16 +24,3 @@ second_cut (Err e) a b c first second w (n, p) = (
   length first + n,
   subst (Appends a c) (sym (take-append-add first second n)) (Appends-trans a b c first (take n second) w p),
 )
-
--- what was written was said
-pub says : (r : Result (Unit {0}) Failed) (device : Device) (message : List ℕ) → OnOk r (Appends device.before device.after message)
-    → OnErr r ((n : ℕ) × Appends device.before device.after (take n message))
-    → device.has_failed ≡ (if is_ok r then device.had_failed else true) → Says device message
-says (Ok done) device message ok err f = record {
-  some = (
-    length message,
-    subst (Appends device.before device.after) (sym (take_all (length message) message (le_refl (length message)))) ok,
-  );
-  all = λ e. ok;
-}
-says (Err e) device message ok err f = record { some = err; all = λ e. cc }

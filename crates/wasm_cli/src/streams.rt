@@ -24,7 +24,9 @@ impl Read for Input {
     }
 }
 
-/// A writer that sets a flag when its reader has closed the pipe.
+/// A writer that sets a flag when a write finds that the reader has closed the pipe.
+///
+/// A flush forwards to the writer, and never sets the flag.
 #[derive(Drop)]
 pub struct Piped<'a, W> {
     writer: W,
@@ -32,7 +34,7 @@ pub struct Piped<'a, W> {
 }
 
 impl<'a, W: Write> Piped<'a, W> {
-    /// Creates a writer that forwards to this one, and sets the flag when the pipe is closed.
+    /// Creates a writer that forwards to this one, and sets this flag once the pipe is closed.
     pub fn new(writer: W, is_closed: &'a Cell<bool>) -> Self
         ensures writer { result.writer ≡ writer }
         ensures flag { result.is_closed ≡ is_closed.entry }

@@ -1,4 +1,4 @@
-use Rattle.wasm_cli.proofs.Telling.{says}
+use Rattle.wasm_text.proofs.ForCallers.{says}
 use Rattle.wasm_cli.proofs.common.refuse_file.Goals as goal
 
 pub returns-clause-says : goal.returns-clause-says
