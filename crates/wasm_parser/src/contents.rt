@@ -158,6 +158,8 @@ pub(crate) fn code<'a>(
 }
 
 // Reads content that is a single number. `trailing` is the fault of bytes after it, at the first of them.
+// In place: next to a call of it, LLVM moves the fields of all kinds of sections, which costs each of them ten instructions.
+#[inline(always)]
 fn only_u32(mut window: BinaryReader, trailing: Fault) -> Result<u32>
     ensures reads { ReadsSingleNumber trailing (place window.entry) result }
     ensures hints { HintsNothing result }

@@ -22,7 +22,8 @@ fn encoding_named(version: u16, kind: u16) -> Option<Encoding>
     }
 }
 
-/// Reads a header.
+/// Reads a header. In place, like `only_u32`.
+#[inline(always)]
 pub(crate) fn read_header<'a>(reader: &mut BinaryReader<'a>) -> Result<Payload<'a>>
     ensures { ReadsHeader (place reader.old) result (place reader.new) }
 {

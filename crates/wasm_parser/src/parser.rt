@@ -445,7 +445,8 @@ impl StoredParser {
         self.after_id(start, id, reader)
     }
 
-    // Reads a section with this id, which is at this offset, just before the reader.
+    // Reads a section with this id, which is at this offset, just before the reader. In place, like `only_u32`.
+    #[inline(always)]
     fn after_id<'a>(&self, start: u64, id: u8, reader: &mut BinaryReader<'a>) -> Result<Payload<'a>>
         requires { start + 1 ≡ (place reader.old).offset }
         ensures { ReadsAfterId (numbers_of self.now) start id (place reader.old) result (place reader.new) }
