@@ -36,11 +36,11 @@ def rlib(crate, built=common.TOP):
     return os.path.join(built, "crates", crate, "out", "rlib", crate + ".rlib")
 
 
-def libraries(crate, built):
-    """The options that name the libraries of a crate: those of the checkout, and those of the toolchain."""
+def libraries(names, built):
+    """The options that name libraries of a crate: those of the checkout, and those of the toolchain."""
     of_kit = os.path.join(folder(), "rlibs")
     words = ["--extern", "std=%s/std.rlib" % of_kit, "-L", "dependency=" + of_kit]
-    for name in common.crates()[crate]:
+    for name in names:
         path = os.path.join(of_kit, name + ".rlib")
         if not os.path.isdir(path):
             path = rlib(name, built)
@@ -50,11 +50,21 @@ def libraries(crate, built):
     return words
 
 
-def build_command(crate, built=common.TOP):
-    """The command that proves and builds a crate, for its folder. What it is built for and where to is still missing."""
-    root = "src/main.rt" if common.is_program(crate) else "src/lib.rt"
-    words = [folder() + "/bin/rattle", "build", "--crate-name", crate, root, *libraries(crate, built), "--links", crate + "="]
+def command(crate, root, names, built=common.TOP):
+    """The command that proves and builds a crate over these libraries, for its folder. What it is built for and where to is still missing."""
+    words = [folder() + "/bin/rattle", "build", "--crate-name", crate, root, *libraries(names, built), "--links", crate + "="]
     return words + ["--antt-project", folder() + "/rattle/logic/antt-project.json", "--logic-built", folder() + "/logic_built"]
+
+
+def build_command(crate, built=common.TOP):
+    """The command for a crate of crates.txt."""
+    root = "src/main.rt" if common.is_program(crate) else "src/lib.rt"
+    return command(crate, root, common.crates()[crate], built)
+
+
+def link_program(path, made):
+    """The command that links the object file of a program, with what it needs of the toolchain."""
+    return link_command(LINUX, path, made, *(os.path.join(folder(), "c", name) for name in ("libos_c.a", "liblibc_c.a")))
 
 
 def link_command(triple, path, *objects, stack=None):

@@ -1,22 +1,43 @@
-"""Runs tests without proofs: a crate of tests in a copy of the repository, for `rt try --test`. Also where the tests of `tests/` are."""
+"""Runs Rattle without proofs: a crate in a copy of the repository, for `rt try`. Also where the tests and the benchmark are."""
 import os
+import re
 import shutil
 import subprocess
 
 import common
 
 TESTS = os.path.join(common.TOP, "tests")
+BENCHES = os.path.join(common.TOP, "benches")
 # The root of the tests, a module with the others below it.
 ROOT = "tests"
 
 
-def test_files():
-    """The files of tests, relative to their folder. They are Rattle, whatever their names end in."""
-    for folder, folders, names in os.walk(TESTS):
-        folders.sort()
+def sources(top):
+    """The files of the tests or the benchmark. They are Rattle, whatever their names end in."""
+    for folder, folders, names in os.walk(top):
+        folders[:] = sorted(name for name in folders if name != "out")
         for name in sorted(names):
             if name.endswith(".rs"):
-                yield os.path.relpath(os.path.join(folder, name), TESTS)
+                yield os.path.join(folder, name)
+
+
+def test_files():
+    """The files of tests, relative to their folder."""
+    return (os.path.relpath(path, TESTS) for path in sources(TESTS))
+
+
+def outside_crates():
+    """All files of Rattle that are in no crate."""
+    return [*sources(TESTS), *sources(BENCHES)]
+
+
+def used(paths):
+    """The crates that these files name."""
+    found = set()
+    for path in paths:
+        with open(path, encoding="utf-8") as file:
+            found.update(re.findall(r"\b(wasm_\w+)::", file.read()))
+    return found
 
 
 def as_source(name):
@@ -25,9 +46,19 @@ def as_source(name):
     return (stem if stem == ROOT else os.path.join(ROOT, stem)) + ".rt"
 
 
+def with_libraries(crates):
+    """These crates and their libraries, lowest first."""
+    return [name for name in common.crates() if any(name in common.crates_of(crate) for crate in crates)]
+
+
+def of_toolchain(crates):
+    """The libraries of the toolchain that these crates use."""
+    return sorted({name for crate in crates for name in common.crates()[crate] if name not in common.crates()})
+
+
 def copied(folder, crates):
     """Copies these crates and their libraries. Returns their names, lowest first."""
-    wanted = [name for name in common.crates() if any(name in common.crates_of(crate) for crate in crates)]
+    wanted = with_libraries(crates)
     for name in wanted:
         for path in common.files_of(name):
             to = os.path.join(folder, os.path.relpath(path, common.TOP))
@@ -38,13 +69,11 @@ def copied(folder, crates):
 
 
 def listed(folder, crate, wanted):
-    """Writes crates.txt: the copied crates, and the crate of tests, which uses all of them."""
-    libraries = {name: common.crates()[name] for name in wanted}
-    kit = sorted({name for of in libraries.values() for name in of if name not in libraries})
+    """Writes crates.txt: the copied crates, and the crate that is tried, which uses all of them."""
     with open(os.path.join(folder, "crates.txt"), "w", encoding="utf-8") as file:
         for name in wanted:
-            file.write("%s: %s\n" % (name, " ".join(libraries[name])))
-        file.write("%s: %s\n" % (crate, " ".join(wanted + kit)))
+            file.write("%s: %s\n" % (name, " ".join(common.crates()[name])))
+        file.write("%s: %s\n" % (crate, " ".join(wanted + of_toolchain(wanted))))
 
 
 def tried(place):

@@ -1,5 +1,6 @@
 // Reads the events of a stream in several ways.
-ghost use Rattle.std.specs.Prelude.{⊤};
+ghost use Rattle.std.specs.Prelude.{⊤, ◌≤◌, length};
+ghost use Rattle.wasm_feeder.specs.Beside.{MayCome};
 
 use crate::tally::Tally;
 use bitflags::Flags;
@@ -86,7 +87,7 @@ fn borrow_pieces(alloc: Global, bytes: &[u8], size: usize) -> Result<Tally> {
     let mut fault = None;
     'steps: for _ in 0..u64::MAX {
         let (taken, is_last) = feeder.step_over(
-            rest.split_at(left).0,
+            chunk(&feeder, rest, left),
             |step|
                 ensures { ⊤ }
             { tally_borrowed(step, &mut tally, &mut fault) },
@@ -95,18 +96,30 @@ fn borrow_pieces(alloc: Global, bytes: &[u8], size: usize) -> Result<Tally> {
             break;
         }
         rest = rest.split_at(taken).1;
-        left -= taken;
+        left = left.saturating_sub(taken);
         if feeder.wants_more() {
             if rest.is_empty() {
                 feeder.finish();
             } else {
-                left = size.min(rest.len());
+                left = size;
             }
         }
     }
     match fault {
         Some(error) => Err(error),
         None => Ok(tally),
+    }
+}
+
+// The first `left` of the remaining bytes, or fewer at their end; none after the end of input.
+fn chunk<'a>(feeder: &Feeder, rest: &'a [u8], left: usize) -> &'a [u8]
+    ensures may_come { MayCome feeder.now result.now }
+    ensures within { length result.now ≤ length rest.now }
+{
+    if feeder.is_finished() {
+        &[]
+    } else {
+        rest.split_at(left.min(rest.len())).0
     }
 }
 
