@@ -1,4 +1,5 @@
 // The statuses and messages of runs.
+use crate::tests::measuring::Measuring;
 use std::alloc::Global;
 use std::env::Args;
 use std::io::{self, Read, Write};
@@ -7,7 +8,6 @@ use std::test::Fail;
 use wasm_cli::finish;
 use wasm_cli::list::{run, run_program};
 use wasm_feed::{BoundedSink, ReadSource, Sink, SliceSource, Source, WriteSink};
-use wasm_testing::Measuring;
 
 const MODULE: &[u8] = b"\0asm\x01\0\0\0\0\x02\x01a";
 

@@ -8,8 +8,10 @@ mod custom;
 mod dump;
 mod examples;
 mod feed;
+mod heap;
 mod items;
 mod list;
+mod measuring;
 mod parser;
 mod shared;
 

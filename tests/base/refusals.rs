@@ -1,11 +1,11 @@
 // Lists whose memory runs out at a chosen growth.
 ghost use Rattle.std.specs.Prelude.{◌<◌, ◌^◌, length};
 
+use crate::tests::heap::Sparing;
 use crate::tests::{same, same_at, window};
 use std::alloc::Global;
 use std::process::Abort;
 use wasm_base::{BinaryReader, Error, Fault, FromReader, NumberKind, read_list};
-use wasm_testing::Sparing;
 
 // More blocks than the list takes.
 const AMPLE: u64 = 40;

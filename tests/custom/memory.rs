@@ -1,13 +1,13 @@
 // Custom sections and subsections whose allocations fail in turn.
 ghost use Rattle.std.specs.Prelude.{◌+◌, ◌<◌, ◌^◌, length};
 
+use crate::tests::heap::Sparing;
 use crate::tests::{same, same_at, window};
 use std::alloc::{Allocator, Global};
 use std::process::Abort;
 use std::test::Fail;
 use wasm_base::{Error, Fault, Subsection};
 use wasm_custom::{CustomSectionReader, Dylink0Subsection, KnownCustom};
-use wasm_testing::Sparing;
 
 /// More blocks than any of the sections takes.
 const AMPLE: u64 = 40;

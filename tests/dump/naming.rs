@@ -1,9 +1,9 @@
 // Names of items, and such whose memory runs out at a chosen growth.
+use crate::tests::heap::Sparing;
 use std::alloc::{Allocator, Global};
 use std::process::Abort;
 use std::test::Fail;
 use wasm_feed::ListError;
-use wasm_testing::Sparing;
 use wasm_tree::{ItemNames, Space};
 
 const SPACES: [Space; 8] = [

@@ -1,4 +1,5 @@
 // The statuses and messages of runs.
+use crate::tests::measuring::Measuring;
 use std::alloc::Global;
 use std::env::Args;
 use std::io::{self, Read, Write};
@@ -6,7 +7,6 @@ use std::process::{Abort, ExitCode};
 use std::test::Fail;
 use wasm_dumper::program::run_program;
 use wasm_feed::{BoundedSink, ReadSource, Sink, SliceSource, Source, WriteSink};
-use wasm_testing::Measuring;
 
 pub(super) const MODULE: &[u8] =
     b"\0asm\x01\0\0\0\x03\x02\x01\x05\x0a\x04\x01\x02\0\x0b\0\x06\x04type\xff";

@@ -2,6 +2,7 @@
 ghost use Rattle.std.specs.Prelude.{◌≡◌, false};
 
 use super::{PARTS, PARTS_LISTING, ends, lists};
+use crate::tests::measuring::Measuring;
 use crate::tests::{same, same_at};
 use std::alloc::Global;
 use std::io::{self, Write};
@@ -9,7 +10,6 @@ use std::process::Abort;
 use wasm_feed::{
     BoundedSink, Ended, Failed, ListError, ReadSource, Sink, SliceSource, Source, WriteSink,
 };
-use wasm_testing::Measuring;
 
 /// A source of the bytes of a slice, a few at a time, that fails at one call.
 #[derive(Drop)]

@@ -1,4 +1,5 @@
 // Feeders of streams that come in chunks.
+use crate::tests::heap::Sparing;
 use crate::tests::same;
 use bitflags::Flags;
 use std::alloc::{AllocError, Allocator, Global};
@@ -7,7 +8,6 @@ use std::process::Abort;
 use std::test::Fail;
 use wasm_feed::{Feeder, Step};
 use wasm_parser::{Error, Fault, Payload, Result, WasmFeatures};
-use wasm_testing::Sparing;
 
 // A header, a function section, and a code section with one body.
 pub(super) const MODULE: &[u8] = b"\0asm\x01\0\0\0\x03\x02\x01\0\x0a\x04\x01\x02\0\x0b";

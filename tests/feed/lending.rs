@@ -2,13 +2,13 @@
 ghost use Rattle.wasm_feed.specs.Beside.{MayCome};
 
 use super::feeding::{MODULE, Reported, push, say};
+use crate::tests::heap::Sparing;
 use crate::tests::same;
 use bitflags::Flags;
 use std::alloc::{AllocError, Allocator, Global};
 use std::process::Abort;
 use wasm_feed::Feeder;
 use wasm_parser::{Error, Fault, Result, WasmFeatures};
-use wasm_testing::Sparing;
 
 // The bytes that the feeder may borrow: none after the end of input.
 fn lendable<'a, A: Allocator>(feeder: &Feeder<A>, piece: &'a [u8]) -> &'a [u8]

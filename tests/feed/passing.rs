@@ -1,6 +1,7 @@
 // Bytes that go on a page or past it, and parts that are forwarded or dropped.
 use super::PARTS;
 use super::devices::Failing;
+use crate::tests::heap::Sparing;
 use crate::tests::{same, same_at};
 use std::alloc::{Allocator, Global};
 use std::test::Fail;
@@ -9,7 +10,6 @@ use wasm_feed::{
 };
 use wasm_feeder::{Passing, pass_part, put_all};
 use wasm_parser::{Error, Fault, Parser};
-use wasm_testing::Sparing;
 use wasm_text::Page;
 
 // A sink is full at this size after these bytes were put where 3 waited. Returns how many bytes then waited and were written.

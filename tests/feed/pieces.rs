@@ -1,6 +1,7 @@
 // Streams that are cut into chunks.
 use super::events;
 use super::feeding::push;
+use crate::tests::heap::Sparing;
 use crate::tests::same;
 use bitflags::Flags;
 use std::alloc::{AllocError, Global};
@@ -8,7 +9,6 @@ use std::ops::Range;
 use std::process::Abort;
 use wasm_feed::{Event, EventKind, Feeder, fits_pieces, read_pieces_in};
 use wasm_parser::{Encoding, Error, Fault, WasmFeatures};
-use wasm_testing::Sparing;
 
 // A header, a function section, and a code section with one body.
 const MODULE: &[u8] = b"\0asm\x01\0\0\0\x03\x02\x01\0\x0a\x04\x01\x02\0\x0b";

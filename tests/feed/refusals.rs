@@ -1,10 +1,10 @@
 // Listings and sinks whose memory runs out at a chosen growth.
 use super::{PARTS, PARTS_LISTING, lists};
+use crate::tests::heap::Sparing;
 use crate::tests::{same, same_at};
 use std::alloc::Global;
 use std::process::Abort;
 use wasm_feed::{BoundedSink, Ended, ListError, Sink, SliceSource, Source, list_in};
-use wasm_testing::Sparing;
 
 /// A stream, and its listing.
 const LISTINGS: [(&[u8], &[u8]); 6] = [

@@ -1,5 +1,6 @@
 // Streams without their custom sections.
 use super::devices::Failing;
+use crate::tests::heap::Sparing;
 use crate::tests::same_at;
 use std::alloc::Global;
 use std::process::Abort;
@@ -9,7 +10,6 @@ use wasm_feed::{
     strip_stream, strip_to_front,
 };
 use wasm_parser::{Error, Fault, Result};
-use wasm_testing::Sparing;
 
 /// A stream, the stripped stream with the names kept, and the one without.
 type Row = (&'static [u8], &'static [u8], &'static [u8]);

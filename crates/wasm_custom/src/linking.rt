@@ -492,7 +492,7 @@ impl<'a> FromReader<'a> for SymbolInfo<'a> {
 /// ```
 ///
 /// (Tool conventions, Linking, Linking Metadata Section.)
-#[derive(Clone, Debug, Drop)]
+#[derive(Debug, Drop)]
 pub enum Linking<'a> {
     /// Names, alignments and flags of the data segments (id 5).
     SegmentInfo(SegmentMap<'a>),
@@ -513,6 +513,32 @@ pub enum Linking<'a> {
         /// The offsets of the content, in bytes from the start of the stream.
         range: Range<u64>,
     },
+}
+
+// By hand, like that of `Name`.
+impl<'a> Clone for Linking<'a> {
+    ghost is_clone = { λ subsection copy. copy ≡ subsection };
+
+    ghost is_infallible = { λ _. ⊤ };
+
+    fn clone(&self) -> std::result::Result<Self, AllocError> {
+        Ok(match self {
+            Linking::SegmentInfo(segments) => Linking::SegmentInfo(segments.clone().unwrap()),
+            Linking::InitFuncs(functions) => Linking::InitFuncs(functions.clone().unwrap()),
+            Linking::ComdatInfo(comdats) => Linking::ComdatInfo(comdats.clone().unwrap()),
+            Linking::SymbolTable(symbols) => Linking::SymbolTable(symbols.clone().unwrap()),
+            Linking::TargetArch(name) => Linking::TargetArch(name),
+            Linking::Unknown {
+                ty,
+                contents,
+                range,
+            } => Linking::Unknown {
+                ty: *ty,
+                contents,
+                range: range.start..range.end,
+            },
+        })
+    }
 }
 
 /// Reads the count of a list, whose items are read lazily; or, for the architecture, a name of at most 100,000 bytes.

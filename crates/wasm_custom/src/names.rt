@@ -210,6 +210,15 @@ impl<'a, T: Clone> Clone for IndexedMap<'a, T> {
     }
 }
 
+impl<'a, T: Clone> IndexedMap<'a, T> {
+    // Like `clone`, which never fails.
+    fn copied(&self) -> Self
+        ensures { result ≡ self.now }
+    {
+        self.clone().unwrap()
+    }
+}
+
 impl<'a, T: FromReader<'a>> IndexedMap<'a, T> {
     /// Creates an iterator from a window that begins with the count of entries. Reads only the count, a u32.
     ///
@@ -326,7 +335,7 @@ impl<'a> MapEntry<'a> for IndirectNaming<'a> {
 /// ```
 ///
 /// (Core specification, Appendix, Custom Sections, Name Section, Subsections.)
-#[derive(Clone, Drop)]
+#[derive(Drop)]
 pub enum Name<'a> {
     /// The name of the module (id 0).
     Module {
@@ -370,6 +379,44 @@ pub enum Name<'a> {
         /// The offsets of the content, in bytes from the start of the stream.
         range: Range<u64>,
     },
+}
+
+// By hand: a derived one has a branch for each kind of name in which its map could not be cloned.
+impl<'a> Clone for Name<'a> {
+    ghost is_clone = { λ name copy. copy ≡ name };
+
+    ghost is_infallible = { λ _. ⊤ };
+
+    fn clone(&self) -> std::result::Result<Self, AllocError> {
+        Ok(match self {
+            Name::Module { name, name_range } => Name::Module {
+                name,
+                name_range: name_range.start..name_range.end,
+            },
+            Name::Function(names) => Name::Function(names.copied()),
+            Name::Local(names) => Name::Local(names.copied()),
+            Name::Label(names) => Name::Label(names.copied()),
+            Name::Types(names) => Name::Types(names.copied()),
+            Name::Table(names) => Name::Table(names.copied()),
+            Name::Memory(names) => Name::Memory(names.copied()),
+            Name::Global(names) => Name::Global(names.copied()),
+            Name::Element(names) => Name::Element(names.copied()),
+            Name::Data(names) => Name::Data(names.copied()),
+            Name::Field(names) => Name::Field(names.copied()),
+            Name::Tag(names) => Name::Tag(names.copied()),
+            Name::Parameter(names) => Name::Parameter(names.copied()),
+            Name::TagParameter(names) => Name::TagParameter(names.copied()),
+            Name::Unknown {
+                ty,
+                contents,
+                range,
+            } => Name::Unknown {
+                ty: *ty,
+                contents,
+                range: range.start..range.end,
+            },
+        })
+    }
 }
 
 // Reads the name of the module, without trailing bytes.
