@@ -1,4 +1,4 @@
-"""The program of the crate for Rust's examples that reads as wasm_bench does, built over a crate with the API of wasmparser."""
+"""The program of the crate for Rust's examples that reads as the benchmark does, built over a crate with the API of wasmparser."""
 import json
 import os
 import re

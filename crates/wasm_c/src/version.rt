@@ -11,7 +11,7 @@ ghost use Rattle.std.specs.Prelude.{◌≡◌};
 /// ```
 #[unsafe(no_mangle)]
 pub extern "C" fn pulleynavy_version() -> u32
-    ensures { result ≡ 2816 }
+    ensures { result ≡ 3072 }
 {
-    2816
+    3072
 }

@@ -1,4 +1,4 @@
-//! Reads the module on standard input as `wasm_bench` does. Each argument is a way: `parse`, `parse_all`, `items` or `indices`. Prints its
+//! Reads the module on standard input as the benchmark `benches/` does. Each argument is a way: `parse`, `parse_all`, `items` or `indices`. Prints its
 //! name, how many events or items there were, a checksum, and the nanoseconds of the fastest of the rounds of a second.
 //!
 //! `tools/bench --original FOLDER` builds it over the source of `wasmparser`, with link-time optimization, and counts its instructions.
