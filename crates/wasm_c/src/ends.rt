@@ -1,20 +1,10 @@
 // The ends of custom sections.
 ghost use Rattle.std.specs.Prelude.{◌≡◌};
 ghost use Rattle.wasm_base.specs.declared.fault.Fault.TheVariants.{CustomTrailing, NameTrailing};
-ghost use Rattle.wasm_c.specs.Faults.{end_fault};
+ghost use Rattle.wasm_plain.specs.Faults.{end_fault};
 
-use crate::faults::{NO_FAULT, PlainFault, plain_fault};
-use wasm_parser::{Error, Fault};
-
-// The fault of bytes that are left at this offset, or none.
-fn end_fault(fault: Fault, left: &[u8], offset: u64) -> PlainFault
-    ensures { result ≡ end_fault fault left.now offset }
-{
-    if left.is_empty() {
-        return NO_FAULT;
-    }
-    plain_fault(Error::new(fault, offset))
-}
+use wasm_parser::Fault;
+use wasm_plain::{PlainFault, end_fault};
 
 /// Checks that no bytes remain after the last part of a core dump's section.
 ///

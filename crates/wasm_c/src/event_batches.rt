@@ -1,11 +1,9 @@
 // Many events by one call.
-ghost use Rattle.wasm_c.specs.EventBatches.{StoresEvents};
+ghost use Rattle.wasm_plain.specs.EventBatches.{StoresEvents};
 ghost use Rattle.wasm_parser.specs.Stored.{parser_of};
 
-use crate::events::PlainEvent;
-use crate::parsing::put_next;
-use crate::spans::after;
 use wasm_parser::StoredParser;
+use wasm_plain::{PlainEvent, next_events};
 
 /// Stores the next events of a stream in `out`, as calls of `pulleynavy_parse` return them one by one, and returns
 /// their number.
@@ -35,18 +33,5 @@ pub extern "C" fn pulleynavy_next_events(
     ensures { StoresEvents is_all (parser_of parser.old) bytes.now out.old result
         (parser_of parser.new) out.new }
 {
-    let mut rest = bytes;
-    let mut at = 0;
-    let mut count = 0;
-    while count < out.len() {
-        put_next(parser, rest, is_all, at, &mut out[count]);
-        let consumed = out[count].consumed;
-        count += 1;
-        if consumed == 0 {
-            return count;
-        }
-        rest = after(rest, consumed);
-        at = usize::saturating_add(at, consumed);
-    }
-    count
+    next_events(parser, bytes, is_all, out)
 }

@@ -1,30 +1,8 @@
 // A feeder over memory of the caller.
-ghost use Rattle.std.specs.Prelude.{◌≡◌, ◌+◌, ◌++◌, ◌≤◌, ◌↔◌, IsTrue, drop, take, length};
 ghost use Rattle.wasm_parser.specs.ParserState.{initial_state};
-ghost use Rattle.wasm_c.specs.Feeds.{IsFinished, IsNewFeed, PushesPlain, StepsPlain};
+ghost use Rattle.wasm_plain.specs.Feeds.{IsFinished, IsNewFeed, PushesPlain, StepsPlain};
 
-use crate::events::{PlainEvent, SILENT};
-use crate::parsing::{pulleynavy_parser_init, put_next};
-use crate::spans::{after, front};
-use wasm_parser::StoredParser;
-
-/// A feeder: a parser for chunked input, which keeps the bytes that were pushed and not consumed in storage of the
-/// caller.
-///
-/// Any bytes are a valid feeder. Between calls leave the storage alone, or move it as a whole (`realloc`): the next
-/// call reads its bytes from `mark` to `end`.
-#[repr(C)]
-#[derive(Clone, Copy)]
-pub struct StoredFeed {
-    /// The parser of the stream.
-    pub parser: StoredParser,
-    /// The position of the first byte that is not consumed, in bytes from the start of the storage.
-    pub mark: usize,
-    /// The position after the last pushed byte, in bytes from the start of the storage.
-    pub end: usize,
-    /// 0 until the end of input is marked.
-    pub is_finished: u8,
-}
+use wasm_plain::{PlainEvent, StoredFeed, finish_feed, new_feed, push_to_feed, step_feed};
 
 /// Returns a feeder for a stream that begins at this offset and is read with these features. It holds no bytes, so any
 /// storage will do.
@@ -32,12 +10,7 @@ pub struct StoredFeed {
 pub extern "C" fn pulleynavy_feed_init(offset: u64, features: u32) -> StoredFeed
     ensures { IsNewFeed result (initial_state offset features) }
 {
-    StoredFeed {
-        parser: pulleynavy_parser_init(offset, features),
-        mark: 0,
-        end: 0,
-        is_finished: 0,
-    }
+    new_feed(offset, features)
 }
 
 /// Returns the next event of the stream, a fault, or a request for more input, from the bytes in the storage.
@@ -64,12 +37,7 @@ pub extern "C" fn pulleynavy_feed_init(offset: u64, features: u32) -> StoredFeed
 pub extern "C" fn pulleynavy_feed_step(feed: &mut StoredFeed, storage: &[u8]) -> PlainEvent
     ensures { StepsPlain feed.old storage.now result feed.new }
 {
-    let held = after(front(storage, feed.end), feed.mark);
-    let is_all = feed.is_finished != 0;
-    let mut event = SILENT;
-    put_next(&mut feed.parser, held, is_all, feed.mark, &mut event);
-    feed.mark = feed.mark.saturating_add(event.consumed);
-    event
+    step_feed(feed, storage)
 }
 
 /// Marks the end of input: no bytes follow those that were pushed. Truncated input is then a fault of the next step.
@@ -77,7 +45,7 @@ pub extern "C" fn pulleynavy_feed_step(feed: &mut StoredFeed, storage: &[u8]) ->
 pub extern "C" fn pulleynavy_feed_finish(feed: &mut StoredFeed)
     ensures { IsFinished feed.old feed.new }
 {
-    feed.is_finished = 1;
+    finish_feed(feed);
 }
 
 /// Appends the next chunk of the stream to the bytes in the storage, and returns true.
@@ -98,73 +66,5 @@ pub extern "C" fn pulleynavy_feed_push(
 ) -> bool
     ensures { PushesPlain feed.old storage.old piece.now result feed.new storage.new }
 {
-    if feed.mark <= feed.end && has_room(storage, feed.end, piece) {
-        put(storage, feed.end, piece);
-        feed.end += piece.len();
-        return true;
-    }
-    let held = after(front(storage, feed.end), feed.mark).len();
-    if piece.len() > storage.len() - held {
-        return false;
-    }
-    gather(storage, feed.mark, held, piece);
-    feed.mark = 0;
-    feed.end = held + piece.len();
-    true
-}
-
-// Whether the chunk fits there.
-fn has_room(storage: &[u8], end: usize, piece: &[u8]) -> bool
-    ensures { IsTrue result ↔ (end + length piece.now ≤ length storage.now) }
-{
-    end <= storage.len() && piece.len() <= storage.len() - end
-}
-
-// Copies a chunk there.
-fn put(storage: &mut [u8], end: usize, piece: &[u8])
-    requires { end + length piece.now ≤ length storage.old }
-    ensures len { length storage.new ≡ length storage.old }
-    ensures holds { take (end + length piece.now) storage.new ≡ take end storage.old ++ piece.now }
-{
-    storage[end..end + piece.len()].copy_from_slice(piece);
-}
-
-// Only if the chunk has no room after the held bytes: moving them at each push cost most of the time with small chunks.
-// Moves this many bytes from the mark to the front, and appends a chunk. It is seldom called, and stays out of line.
-#[inline(never)]
-fn gather(storage: &mut [u8], mark: usize, held: usize, piece: &[u8])
-    requires within { held ≤ length (drop mark storage.old) }
-    requires fits { held + length piece.now ≤ length storage.old }
-    ensures len { length storage.new ≡ length storage.old }
-    ensures holds { take (held + length piece.now) storage.new
-        ≡ take held (drop mark storage.old) ++ piece.now }
-{
-    move_front(storage, mark, held);
-    put(storage, held, piece);
-}
-
-// Moves this many bytes from the mark to the front. Where they don't overlap their new place, they are copied at once.
-fn move_front(storage: &mut [u8], mark: usize, held: usize)
-    requires within { held ≤ length (drop mark storage.old) }
-    ensures len { length storage.new ≡ length storage.old }
-    ensures holds { take held storage.new ≡ take held (drop mark storage.old) }
-{
-    if held == 0 {
-        return;
-    }
-    if held <= mark {
-        copy_front(storage, mark, held);
-    } else {
-        storage.copy_within(mark..mark + held, 0);
-    }
-}
-
-fn copy_front(storage: &mut [u8], mark: usize, held: usize)
-    requires within { mark + held ≤ length storage.old }
-    requires apart { held ≤ mark }
-    ensures len { length storage.new ≡ length storage.old }
-    ensures holds { take held storage.new ≡ take held (drop mark storage.old) }
-{
-    let (front, back) = storage.split_at_mut(mark);
-    front[..held].copy_from_slice(&back[..held]);
+    push_to_feed(feed, storage, piece)
 }

@@ -1,18 +1,7 @@
 // Streams without their custom sections.
-ghost use Rattle.wasm_c.specs.Strips.{StripsPlain};
+ghost use Rattle.wasm_plain.specs.Strips.{StripsPlain};
 
-use crate::faults::{NO_FAULT, PlainFault, plain_fault};
-use wasm_feed::{Keep, strip_to_front};
-
-/// The result of stripping a stream: its size, or a fault.
-#[repr(C)]
-#[derive(Clone, Copy)]
-pub struct PlainStripped {
-    /// The fault at which the stream stops, of kind 0 if there is none.
-    pub fault: PlainFault,
-    /// The size of the stripped stream in bytes, 0 after a fault.
-    pub size: usize,
-}
+use wasm_plain::{PlainStripped, strip_bytes};
 
 /// Removes the custom sections from a whole stream, in place. With `keep_names` the sections named `name` stay.
 ///
@@ -35,14 +24,5 @@ pub struct PlainStripped {
 pub extern "C" fn pulleynavy_strip(bytes: &mut [u8], keep_names: bool) -> PlainStripped
     ensures { StripsPlain keep_names bytes.old result bytes.new }
 {
-    match strip_to_front(bytes, Keep::names(keep_names)) {
-        Ok(size) => PlainStripped {
-            fault: NO_FAULT,
-            size,
-        },
-        Err(error) => PlainStripped {
-            fault: plain_fault(error),
-            size: 0,
-        },
-    }
+    strip_bytes(bytes, keep_names)
 }

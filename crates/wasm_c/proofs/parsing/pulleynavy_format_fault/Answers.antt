@@ -1,9 +1,0 @@
-use Rattle.wasm_c.proofs.parsing.pulleynavy_format_fault.Goals as goal
-
-pub returns : goal.returns
-returns c = record {
-  answer = c.parse.result;
-  after = _;
-  answers = c.parse.ensures.answers;
-  says = c.write_fault.ensures;
-}

@@ -1,7 +1,0 @@
-//! Laws of the definitions of this crate, each the contract of a function that does nothing.
-ghost use Rattle.wasm_c.specs.Faults.{EachHasItsNumber};
-
-/// No two faults have one number.
-pub fn each_fault_has_its_number()
-    ensures { EachHasItsNumber }
-{}

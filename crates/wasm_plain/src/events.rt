@@ -1,0 +1,277 @@
+// The results of a parser as plain numbers.
+ghost use Rattle.std.specs.Prelude.{◌≡◌};
+ghost use Rattle.wasm_base.specs.FaultAt.{fault_at};
+ghost use Rattle.wasm_parser.specs.ParseAnswer.{report_of};
+ghost use Rattle.wasm_plain.specs.Events.{answer_event, code_event, counted_event, encoding_code, event_between, fault_event, parsed_event, placed_at, report_event, request_event};
+ghost use Rattle.wasm_parser.specs.declared.payload.Payload.TheVariants.{CodeSectionEntry, CustomSection};
+
+use crate::faults::{NO_FAULT, PlainFault, plain_fault};
+use crate::spans::distance;
+use std::ops::Range;
+use wasm_grammar::{
+    CODE_SECTION, CUSTOM_SECTION, DATA_COUNT_SECTION, DATA_SECTION, ELEMENT_SECTION,
+    EXPORT_SECTION, FUNCTION_SECTION, GLOBAL_SECTION, IMPORT_SECTION, MEMORY_SECTION,
+    START_SECTION, TABLE_SECTION, TAG_SECTION, TYPE_SECTION,
+};
+use wasm_parser::{
+    Chunk, CustomSectionReader, Encoding, Error, FunctionBody, Payload, Result, SectionLimited,
+};
+
+/// An event of a stream, a fault or a request for more input. Fields that the kind does not use are 0.
+///
+/// Offsets are in bytes from the start of the stream.
+///
+/// (Core specification, Binary format, Modules.)
+#[repr(C)]
+#[derive(Clone, Copy)]
+pub struct PlainEvent {
+    /// The kind of the event, a `pulleynavy_event_kind`: 0 a request for more input, 1 a header, 2 a section that
+    /// begins with a count of items, 3 the start section, 4 the data count section, 5 the start of a code section, 6 a
+    /// body, 7 a custom section, 8 a section with an unknown id, 9 the end of the stream, 10 a fault.
+    pub kind: u32,
+    /// The id of the section, a `pulleynavy_section_id` if it is known; for a header 0 for a module and 1 for a
+    /// component.
+    pub id: u32,
+    /// The announced number of items, bodies or segments; the index of the start function; for a header the 16-bit
+    /// version.
+    pub count: u32,
+    /// The size of a code section's content after the count, in bytes.
+    pub size: u32,
+    /// The offset where it begins: the header, the section's content, the body, the end or the fault.
+    pub start: u64,
+    /// The offset where it ends. For a code section, it is the end of the content, including the bodies.
+    pub end: u64,
+    /// The offset of the first item after a count, of the first body of a code section, or of the data of a custom
+    /// section.
+    pub data_offset: u64,
+    /// The position in memory where it begins: that of the byte at offset `start`.
+    ///
+    /// It counts bytes from the first one passed to `pulleynavy_parse`, or from the start of a feeder's storage. For a
+    /// request, the end and a fault it is the position of the first byte that is not consumed.
+    pub at: usize,
+    /// The number of consumed bytes: 0 for a request, the end and a fault, otherwise at least 1.
+    pub consumed: usize,
+    /// For a request, the number of bytes that are known to be missing, at least 1; otherwise 0.
+    pub hint: usize,
+    /// The size of a custom section's name in bytes. The name ends where the data begins.
+    pub name_size: usize,
+    /// The fault of an event of kind 10, otherwise none.
+    pub fault: PlainFault,
+}
+
+pub(crate) const SILENT: PlainEvent = PlainEvent {
+    kind: 0,
+    id: 0,
+    count: 0,
+    size: 0,
+    start: 0,
+    end: 0,
+    data_offset: 0,
+    at: 0,
+    consumed: 0,
+    hint: 0,
+    name_size: 0,
+    fault: NO_FAULT,
+};
+
+/// Where an event was read: the offset of the first byte, where that is in memory, and how many bytes were consumed.
+#[derive(Clone, Copy)]
+pub(crate) struct Origin {
+    pub(crate) offset: u64,
+    pub(crate) base: usize,
+    pub(crate) consumed: usize,
+}
+
+// An event of this kind with these offsets.
+#[inline(always)]
+fn event_between(origin: Origin, kind: u32, id: u32, from: u64, to: u64) -> PlainEvent
+    ensures { result ≡ placed_at origin (event_between kind id from to) }
+{
+    PlainEvent {
+        kind,
+        id,
+        start: from,
+        end: to,
+        at: origin.base.saturating_add(distance(origin.offset, from)),
+        consumed: origin.consumed,
+        ..SILENT
+    }
+}
+
+fn encoding_code(encoding: Encoding) -> u32
+    ensures { result ≡ encoding_code encoding }
+{
+    match encoding {
+        Encoding::Module => 0,
+        Encoding::Component => 1,
+    }
+}
+
+// A section that begins with a count.
+#[inline(always)]
+fn counted_event<T>(origin: Origin, id: u8, section: &SectionLimited<'_, T>) -> PlainEvent
+    ensures { result ≡ placed_at origin (counted_event id section.now) }
+{
+    let range = section.range();
+    PlainEvent {
+        count: section.count(),
+        data_offset: section.original_position(),
+        ..event_between(origin, 2, u32::from(id), range.start, range.end)
+    }
+}
+
+// The start of a code section.
+#[inline(always)]
+fn code_event(origin: Origin, count: u32, from: u64, to: u64, size: u32) -> PlainEvent
+    ensures { result ≡ placed_at origin (code_event count from to size) }
+{
+    PlainEvent {
+        count,
+        size,
+        data_offset: to.saturating_sub(u64::from(size)),
+        ..event_between(origin, 5, u32::from(CODE_SECTION), from, to)
+    }
+}
+
+/// A custom section.
+#[inline(always)]
+pub(crate) fn custom_event(origin: Origin, section: &CustomSectionReader) -> PlainEvent
+    ensures { result ≡ placed_at origin
+        (report_event (report_of (CustomSection section.now))) }
+{
+    let range = section.range();
+    PlainEvent {
+        data_offset: section.data_offset(),
+        name_size: section.name().len(),
+        ..event_between(origin, 7, u32::from(CUSTOM_SECTION), range.start, range.end)
+    }
+}
+
+/// A body.
+#[inline(always)]
+pub(crate) fn body_event(origin: Origin, body: &FunctionBody) -> PlainEvent
+    ensures { result ≡ placed_at origin
+        (report_event (report_of (CodeSectionEntry body.now))) }
+{
+    let range = body.range();
+    event_between(origin, 6, u32::from(CODE_SECTION), range.start, range.end)
+}
+
+/// A section with an unknown id.
+#[inline(always)]
+pub(crate) fn unknown_event(origin: Origin, id: u8, range: &Range<u64>) -> PlainEvent
+    ensures { result ≡ placed_at origin (event_between 8 id range.now.start range.now.end) }
+{
+    event_between(origin, 8, u32::from(id), range.start, range.end)
+}
+
+/// Stores a payload that was read at this offset, whose byte is at `base` in memory. Each kind is stored on its own, so that its
+/// fields go straight to their places.
+#[inline(always)]
+pub(crate) fn put_parsed(
+    out: &mut PlainEvent,
+    offset: u64,
+    base: usize,
+    consumed: usize,
+    payload: &Payload,
+)
+    ensures { out.new ≡ parsed_event base offset consumed payload.now }
+{
+    let origin = Origin {
+        offset,
+        base,
+        consumed,
+    };
+    match payload {
+        Payload::Version {
+            num,
+            encoding,
+            range,
+        } => *out = PlainEvent {
+            count: u32::from(*num),
+            ..event_between(origin, 1, encoding_code(*encoding), range.start, range.end)
+        },
+        Payload::TypeSection(section) => *out = counted_event(origin, TYPE_SECTION, section),
+        Payload::ImportSection(section) => *out = counted_event(origin, IMPORT_SECTION, section),
+        Payload::FunctionSection(section) => *out = counted_event(
+            origin,
+            FUNCTION_SECTION,
+            section,
+        ),
+        Payload::TableSection(section) => *out = counted_event(origin, TABLE_SECTION, section),
+        Payload::MemorySection(section) => *out = counted_event(origin, MEMORY_SECTION, section),
+        Payload::TagSection(section) => *out = counted_event(origin, TAG_SECTION, section),
+        Payload::GlobalSection(section) => *out = counted_event(origin, GLOBAL_SECTION, section),
+        Payload::ExportSection(section) => *out = counted_event(origin, EXPORT_SECTION, section),
+        Payload::ElementSection(section) => *out = counted_event(origin, ELEMENT_SECTION, section),
+        Payload::DataSection(section) => *out = counted_event(origin, DATA_SECTION, section),
+        Payload::StartSection { func, range } => *out = PlainEvent {
+            count: *func,
+            ..event_between(origin, 3, u32::from(START_SECTION), range.start, range.end)
+        },
+        Payload::DataCountSection { count, range } => *out = PlainEvent {
+            count: *count,
+            ..event_between(
+                origin,
+                4,
+                u32::from(DATA_COUNT_SECTION),
+                range.start,
+                range.end,
+            )
+        },
+        Payload::CodeSectionStart {
+            count,
+            unchecked_range,
+            size,
+        } => *out = code_event(
+            origin,
+            *count,
+            unchecked_range.start,
+            unchecked_range.end,
+            *size,
+        ),
+        Payload::CodeSectionEntry(body) => *out = body_event(origin, body),
+        Payload::CustomSection(section) => *out = custom_event(origin, section),
+        Payload::UnknownSection { id, range, .. } => *out = unknown_event(origin, *id, range),
+        Payload::End(offset) => *out = event_between(origin, 9, 0, *offset, *offset),
+    }
+}
+
+/// A fault.
+pub(crate) fn fault_event(error: Error, base: usize) -> PlainEvent
+    ensures { result ≡ fault_event base (fault_at error) }
+{
+    PlainEvent {
+        kind: 10,
+        start: error.offset(),
+        end: error.offset(),
+        at: base,
+        fault: plain_fault(error),
+        ..SILENT
+    }
+}
+
+/// A request for more bytes.
+pub(crate) fn request_event(hint: usize, base: usize) -> PlainEvent
+    ensures { result ≡ request_event base hint }
+{
+    PlainEvent {
+        at: base,
+        hint,
+        ..SILENT
+    }
+}
+
+/// What a parser returned at this offset, whose byte is at `base` in memory.
+#[inline(always)]
+pub(crate) fn put_answer(out: &mut PlainEvent, offset: u64, base: usize, answer: &Result<Chunk<'_>>)
+    ensures { out.new ≡ answer_event base offset answer.now }
+{
+    match answer {
+        Ok(Chunk::Parsed { consumed, payload }) => {
+            put_parsed(out, offset, base, *consumed, payload);
+        }
+        Ok(Chunk::NeedMoreData(hint)) => *out = request_event(*hint, base),
+        Err(error) => *out = fault_event(*error, base),
+    }
+}

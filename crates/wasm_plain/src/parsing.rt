@@ -1,0 +1,94 @@
+// A parser for programs in C: each call takes plain numbers and bytes of the caller, and none has a condition.
+ghost use Rattle.std.specs.Prelude.{◌≡◌};
+ghost use Rattle.wasm_parser.specs.ParserState.{initial_state};
+ghost use Rattle.wasm_plain.specs.Events.{ParsesPlain};
+ghost use Rattle.wasm_parser.specs.Stored.{parser_of};
+ghost use Rattle.wasm_plain.specs.Texts.{Says, SaysFault};
+
+use crate::events::{
+    Origin, PlainEvent, SILENT, body_event, custom_event, fault_event, put_answer, put_parsed,
+    request_event, unknown_event,
+};
+use crate::text::write_text;
+use bitflags::Flags;
+use wasm_parser::{Chunk, Parser, Payload, Result, StoredParser, WasmFeatures};
+
+/// Returns a parser of a stream that begins at this offset, with these features.
+pub fn new_parser(offset: u64, features: u32) -> StoredParser
+    ensures { parser_of result ≡ initial_state offset features }
+{
+    let mut parser = Parser::new(offset);
+    parser.set_features(WasmFeatures::from_bits_retain(features));
+    parser.stored()
+}
+
+// Stores what `parse` returns, for bytes that begin at `base` of a storage.
+#[inline(always)]
+pub(crate) fn put_next(
+    parser: &mut StoredParser,
+    bytes: &[u8],
+    is_all: bool,
+    base: usize,
+    out: &mut PlainEvent,
+)
+    ensures { ParsesPlain base (parser_of parser.old) is_all bytes.now out.new
+        (parser_of parser.new) }
+{
+    let offset = parser.offset;
+    let answer = parser.parse(bytes, is_all);
+    put_answer(out, offset, base, &answer);
+}
+
+/// Returns the next event of a stream, a fault, or a request for more bytes.
+#[inline(always)]
+pub fn parse(parser: &mut StoredParser, bytes: &[u8], is_all: bool) -> PlainEvent
+    ensures { ParsesPlain 0 (parser_of parser.old) is_all bytes.now result (parser_of parser.new) }
+{
+    let offset = parser.offset;
+    match parser.parse(bytes, is_all) {
+        Ok(
+            Chunk::Parsed {
+                consumed,
+                ref payload,
+            },
+        ) => {
+            let origin = Origin {
+                offset,
+                base: 0,
+                consumed,
+            };
+            // Each of the frequent kinds returns on its own, so that its fields go straight to the caller's memory.
+            match payload {
+                Payload::CodeSectionEntry(body) => return body_event(origin, body),
+                Payload::CustomSection(section) => return custom_event(origin, section),
+                Payload::UnknownSection { id, range, .. } => {
+                    return unknown_event(origin, *id, range);
+                }
+                _ => {}
+            }
+            let mut event = SILENT;
+            put_parsed(&mut event, offset, 0, consumed, payload);
+            event
+        }
+        Ok(Chunk::NeedMoreData(hint)) => request_event(hint, 0),
+        Err(error) => fault_event(error, 0),
+    }
+}
+
+/// Writes the text of the fault that `parse` returns for the same arguments, and returns its length in bytes, or 0 without one.
+#[inline(always)]
+pub fn write_next_fault(parser: &StoredParser, bytes: &[u8], is_all: bool, out: &mut [u8]) -> usize
+    ensures { SaysFault (parser_of parser.now) is_all bytes.now out.old result out.new }
+{
+    let mut copy = *parser;
+    write_fault(copy.parse(bytes, is_all), out)
+}
+
+fn write_fault(answer: Result<Chunk<'_>>, out: &mut [u8]) -> usize
+    ensures { Says answer.entry out.old result out.new }
+{
+    match answer {
+        Ok(_) => 0,
+        Err(error) => write_text(error.message().as_bytes(), out),
+    }
+}
