@@ -687,9 +687,14 @@ impl<'a> IntoIterator for LinkingSectionReader<'a> {
 /// # Errors
 ///
 /// Those of `Subsections`: the error of a malformed subsection, after which the next one follows.
-#[derive(Drop)]
 pub struct LinkingIntoIter<'a> {
     subsections: Subsections<'a, Linking<'a>>,
+}
+
+impl<'a> Drop for LinkingIntoIter<'a> {
+    fn drop(self) {
+        let LinkingIntoIter { subsections: _ } = self;
+    }
 }
 
 impl<'a> Model for LinkingIntoIter<'a> {

@@ -37,11 +37,20 @@ use wasm_text::{Failed, ListError, Source};
 /// }
 /// assert_eq!(rt; parts, 1);
 /// ```
-#[derive(Drop)]
 pub struct Ahead<A: Allocator> {
     buffer: Vec<u8, A>,
     start: usize,
     end: usize,
+}
+
+impl<A: Allocator> Drop for Ahead<A> {
+    fn drop(self) {
+        let Ahead {
+            buffer: _,
+            start: _,
+            end: _,
+        } = self;
+    }
 }
 
 impl<A: Allocator> Model for Ahead<A> {

@@ -63,12 +63,22 @@ pub enum Step<'a> {
 ///     Step::NeedMoreData(_) => assert!(rt; false),
 /// }
 /// ```
-#[derive(Drop)]
 pub struct Cursor {
     parser: Parser,
     mark: usize,
     is_finished: bool,
     wants_more: bool,
+}
+
+impl Drop for Cursor {
+    fn drop(self) {
+        let Cursor {
+            parser: _,
+            mark: _,
+            is_finished: _,
+            wants_more: _,
+        } = self;
+    }
 }
 
 impl Clone for Cursor {
@@ -198,10 +208,18 @@ impl Cursor {
 /// ```
 ///
 /// (Core specification, Binary format, Modules.)
-#[derive(Drop)]
 pub struct Feeder<A: Allocator = Global> {
     cursor: Cursor,
     bytes: Vec<u8, A>,
+}
+
+impl<A: Allocator> Drop for Feeder<A> {
+    fn drop(self) {
+        let Feeder {
+            cursor: _,
+            bytes: _,
+        } = self;
+    }
 }
 
 impl<A: Allocator> Model for Feeder<A> {

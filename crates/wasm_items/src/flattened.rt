@@ -83,9 +83,16 @@ enum Left<'a> {
 ///     assert_eq!(rt; import.ty, TypeRef::Func(5));
 /// }
 /// ```
-#[derive(Drop)]
 pub struct ImportsIter<'a> {
     left: Left<'a>,
+}
+
+// By hand, like those of other iterators and readers here: a derived one is proved in every crate that drops the value, and makes the
+// proof of each function that does so twice as long.
+impl<'a> Drop for ImportsIter<'a> {
+    fn drop(self) {
+        let ImportsIter { left: _ } = self;
+    }
 }
 
 // The model of an iterator over imports is the list of its remaining results. One call of `next` takes the first of them,
@@ -195,10 +202,18 @@ fn next_import<'a>(
 ///     assert_eq!(rt; import.name, "f");
 /// }
 /// ```
-#[derive(Drop)]
 pub struct IntoImportsWithOffsets<'a> {
     bundle: ImportsIter<'a>,
     bundles: SectionLimitedIntoIter<'a, Imports<'a>>,
+}
+
+impl<'a> Drop for IntoImportsWithOffsets<'a> {
+    fn drop(self) {
+        let IntoImportsWithOffsets {
+            bundle: _,
+            bundles: _,
+        } = self;
+    }
 }
 
 impl<'a> Model for IntoImportsWithOffsets<'a> {
@@ -237,9 +252,14 @@ impl<'a> Iterator for IntoImportsWithOffsets<'a> {
 /// }
 /// assert!(rt; imports.next().is_none());
 /// ```
-#[derive(Drop)]
 pub struct IntoImports<'a> {
     imports: IntoImportsWithOffsets<'a>,
+}
+
+impl<'a> Drop for IntoImports<'a> {
+    fn drop(self) {
+        let IntoImports { imports: _ } = self;
+    }
 }
 
 impl<'a> Model for IntoImports<'a> {

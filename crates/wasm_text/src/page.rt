@@ -118,11 +118,16 @@ fn make_room<A: Allocator, W: Sink>(
 /// page.write_out(&mut output)?;
 /// assert_eq!(rt; output.written(), b"count 7\n".as_slice());
 /// ```
-#[derive(Drop)]
 pub struct Page<A: Allocator = Global> {
     // No bytes, or a whole page of them: first the buffered ones.
     bytes: Vec<u8, A>,
     len: usize,
+}
+
+impl<A: Allocator> Drop for Page<A> {
+    fn drop(self) {
+        let Page { bytes: _, len: _ } = self;
+    }
 }
 
 impl<A: Allocator> Model for Page<A> {
