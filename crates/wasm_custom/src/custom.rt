@@ -22,15 +22,10 @@ use wasm_base::{BinaryReader, Result};
 /// ```
 ///
 /// (Core specification, Binary format, Modules, Custom Section.)
+#[derive(Drop)]
 pub struct CustomSectionReader<'a> {
     name: &'a str,
     reader: BinaryReader<'a>,
-}
-
-impl<'a> Drop for CustomSectionReader<'a> {
-    fn drop(self) {
-        let CustomSectionReader { name: _, reader: _ } = self;
-    }
 }
 
 impl<'a> Model for CustomSectionReader<'a> {

@@ -87,8 +87,8 @@ pub struct ImportsIter<'a> {
     left: Left<'a>,
 }
 
-// By hand, like those of other iterators and readers here: a derived one is proved in every crate that drops the value, and makes the
-// proof of each function that does so twice as long.
+// By hand, like those of the iterators below: a derived one is proved in every crate that drops the value, and makes the proof of each
+// function that does so twice as long.
 impl<'a> Drop for ImportsIter<'a> {
     fn drop(self) {
         let ImportsIter { left: _ } = self;

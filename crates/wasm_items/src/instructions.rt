@@ -47,18 +47,10 @@ pub struct ConstInstruction {
 /// let wanted = [ConstOperator::I32Const { value: 5 }, ConstOperator::End];
 /// assert_eq!(rt; operators.as_slice(), wanted.as_slice());
 /// ```
+#[derive(Drop)]
 pub struct ConstInstructions<'a> {
     reader: BinaryReader<'a>,
     ended: bool,
-}
-
-impl<'a> Drop for ConstInstructions<'a> {
-    fn drop(self) {
-        let ConstInstructions {
-            reader: _,
-            ended: _,
-        } = self;
-    }
 }
 
 impl<'a> Model for ConstInstructions<'a> {

@@ -15,20 +15,11 @@ use wasm_base::Result;
 /// assert_eq!(rt; found, Some(Error::new(Fault::MalformedSectionId, 8)));
 /// assert!(rt; payloads.next().is_none());
 /// ```
+#[derive(Drop)]
 pub struct ParseAll<'a> {
     parser: Parser,
     bytes: &'a [u8],
     ended: bool,
-}
-
-impl<'a> Drop for ParseAll<'a> {
-    fn drop(self) {
-        let ParseAll {
-            parser: _,
-            bytes: _,
-            ended: _,
-        } = self;
-    }
 }
 
 impl<'a> Model for ParseAll<'a> {
