@@ -528,19 +528,11 @@ fn id_of(name: &Name<'_>) -> u8
 /// ```
 ///
 /// (Core specification, Appendix, Custom Sections, Name Section.)
+#[derive(Drop)]
 pub struct NameSectionReader<'a> {
     /// An iterator over the remaining subsections as encoded, in any order.
     pub sections: Subsections<'a, Name<'a>>,
     last: Option<u32>,
-}
-
-impl<'a> Drop for NameSectionReader<'a> {
-    fn drop(self) {
-        let NameSectionReader {
-            sections: _,
-            last: _,
-        } = self;
-    }
 }
 
 impl<'a> Model for NameSectionReader<'a> {

@@ -207,6 +207,8 @@ pub fn store_items<W: Walk>(
 }
 
 /// Returns a cursor at the first item of the section that this event reports, with these features.
+///
+/// `pulleynavy_items_init` of the C library is this call, and describes its errors.
 pub fn section_items(event: &PlainEvent, features: u32) -> StoredItems
     ensures { result ≡ starting event.now.data_offset
         (event.now.data_offset - event.now.start) event.now.count features }

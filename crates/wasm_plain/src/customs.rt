@@ -9,6 +9,8 @@ fn is_text(name: &[u8], text: &[u8]) -> bool
 }
 
 /// Returns the number of the kind of a custom section with this name, or 0.
+///
+/// `pulleynavy_classify_custom` of the C library is this call, and describes its errors.
 pub fn custom_kind(name: &[u8]) -> u32
     ensures { result ≡ custom_kind name.now }
 {

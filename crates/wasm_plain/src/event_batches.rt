@@ -8,6 +8,8 @@ use crate::spans::after;
 use wasm_parser::StoredParser;
 
 /// Stores the next events in `out`, as calls of `parse` return them, and returns their number.
+///
+/// `pulleynavy_next_events` of the C library is this call, and describes its errors.
 #[inline(always)]
 pub fn next_events(
     parser: &mut StoredParser,

@@ -27,6 +27,8 @@ pub struct StoredFeed {
 }
 
 /// Returns a feeder of a stream that begins at this offset, with these features. It holds no bytes.
+///
+/// `pulleynavy_feed_init` of the C library is this call, and describes its errors.
 pub fn new_feed(offset: u64, features: u32) -> StoredFeed
     ensures { IsNewFeed result (initial_state offset features) }
 {
@@ -39,6 +41,8 @@ pub fn new_feed(offset: u64, features: u32) -> StoredFeed
 }
 
 /// Returns the next event from the bytes that the feeder holds in the storage.
+///
+/// `pulleynavy_feed_step` of the C library is this call, and describes its errors.
 #[inline(always)]
 pub fn step_feed(feed: &mut StoredFeed, storage: &[u8]) -> PlainEvent
     ensures { StepsPlain feed.old storage.now result feed.new }
@@ -52,6 +56,8 @@ pub fn step_feed(feed: &mut StoredFeed, storage: &[u8]) -> PlainEvent
 }
 
 /// Marks the end of input.
+///
+/// `pulleynavy_feed_finish` of the C library is this call, and describes its errors.
 pub fn finish_feed(feed: &mut StoredFeed)
     ensures { IsFinished feed.old feed.new }
 {
@@ -59,6 +65,8 @@ pub fn finish_feed(feed: &mut StoredFeed)
 }
 
 /// Appends a chunk to the bytes in the storage. Returns whether there was room for both.
+///
+/// `pulleynavy_feed_push` of the C library is this call, and describes its errors.
 #[inline(always)]
 pub fn push_to_feed(feed: &mut StoredFeed, storage: &mut [u8], piece: &[u8]) -> bool
     ensures { PushesPlain feed.old storage.old piece.now result feed.new storage.new }

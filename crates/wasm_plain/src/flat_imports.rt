@@ -118,6 +118,8 @@ impl Walk for EveryImport {
 }
 
 /// Returns a cursor at the first import of the section that this event reports, with these features.
+///
+/// `pulleynavy_imports_init` of the C library is this call, and describes its errors.
 pub fn section_imports(event: &PlainEvent, features: u32) -> StoredImports
     ensures { result ≡ imports_from event.now features }
 {

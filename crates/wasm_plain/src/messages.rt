@@ -100,6 +100,8 @@ fn write_message(fault: Fault, out: &mut [u8]) -> usize
 }
 
 /// Writes the text of the fault with this number, and returns its length in bytes, or 0 if there is no such fault.
+///
+/// `pulleynavy_format_message` of the C library is this call, and describes its errors.
 #[inline(always)]
 pub fn write_message_of(kind: u32, out: &mut [u8]) -> usize
     // By the faults, not by the list: a fault missing from the list would have no message, and no clause would notice.

@@ -14,6 +14,8 @@ use bitflags::Flags;
 use wasm_parser::{Chunk, Parser, Payload, Result, StoredParser, WasmFeatures};
 
 /// Returns a parser of a stream that begins at this offset, with these features.
+///
+/// `pulleynavy_parser_init` of the C library is this call, and describes its errors.
 pub fn new_parser(offset: u64, features: u32) -> StoredParser
     ensures { parser_of result ≡ initial_state offset features }
 {
@@ -40,6 +42,8 @@ pub(crate) fn put_next(
 }
 
 /// Returns the next event of a stream, a fault, or a request for more bytes.
+///
+/// `pulleynavy_parse` of the C library is this call, and describes its errors.
 #[inline(always)]
 pub fn parse(parser: &mut StoredParser, bytes: &[u8], is_all: bool) -> PlainEvent
     ensures { ParsesPlain 0 (parser_of parser.old) is_all bytes.now result (parser_of parser.new) }
@@ -76,6 +80,8 @@ pub fn parse(parser: &mut StoredParser, bytes: &[u8], is_all: bool) -> PlainEven
 }
 
 /// Writes the text of the fault that `parse` returns for the same arguments, and returns its length in bytes, or 0 without one.
+///
+/// `pulleynavy_format_fault` of the C library is this call, and describes its errors.
 #[inline(always)]
 pub fn write_next_fault(parser: &StoredParser, bytes: &[u8], is_all: bool, out: &mut [u8]) -> usize
     ensures { SaysFault (parser_of parser.now) is_all bytes.now out.old result out.new }

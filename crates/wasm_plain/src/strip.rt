@@ -15,6 +15,8 @@ pub struct PlainStripped {
 }
 
 /// Removes the custom sections of a stream in place. With `keep_names` those named `name` stay.
+///
+/// `pulleynavy_strip` of the C library is this call, and describes its errors.
 #[inline(always)]
 pub fn strip_bytes(bytes: &mut [u8], keep_names: bool) -> PlainStripped
     ensures { StripsPlain keep_names bytes.old result bytes.new }
