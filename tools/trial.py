@@ -1,4 +1,4 @@
-"""Runs Rattle without proofs: a crate in a copy of the repository, for `rt try`. Also where the tests and the benchmark are."""
+"""Runs Rattle without proofs: a crate in a copy of the repository, for `rt try`. Also where the benchmark is."""
 import os
 import re
 import shutil
@@ -6,14 +6,11 @@ import subprocess
 
 import common
 
-TESTS = os.path.join(common.TOP, "tests")
 BENCHES = os.path.join(common.TOP, "benches")
-# The root of the tests, a module with the others below it.
-ROOT = "tests"
 
 
 def sources(top):
-    """The files of the tests or the benchmark. They are Rattle, whatever their names end in."""
+    """The files of the benchmark. They are Rattle, whatever their names end in."""
     for folder, folders, names in os.walk(top):
         folders[:] = sorted(name for name in folders if name != "out")
         for name in sorted(names):
@@ -21,14 +18,21 @@ def sources(top):
                 yield os.path.join(folder, name)
 
 
-def test_files():
-    """The files of tests, relative to their folder."""
-    return (os.path.relpath(path, TESTS) for path in sources(TESTS))
+def crates_of_tests():
+    """How many tests each crate has that has some."""
+    found = {}
+    for crate in common.crates():
+        for path in common.files_of(crate):
+            if path.endswith(".rt"):
+                with open(path, encoding="utf-8") as file:
+                    found[crate] = found.get(crate, 0) + len(re.findall(r"^\s*#\[test\]$", file.read(), re.M))
+    return {crate: count for crate, count in found.items() if count}
 
 
-def outside_crates():
-    """All files of Rattle that are in no crate."""
-    return [*sources(TESTS), *sources(BENCHES)]
+def number_of_tests():
+    """How many tests there are, as tools/tests.txt says, so that none is lost unseen."""
+    with open(os.path.join(common.TOP, "tools", "tests.txt"), encoding="ascii") as file:
+        return int(file.read())
 
 
 def used(paths):
@@ -38,12 +42,6 @@ def used(paths):
         with open(path, encoding="utf-8") as file:
             found.update(re.findall(r"\b(wasm_\w+)::", file.read()))
     return found
-
-
-def as_source(name):
-    """The path that a file of tests has in the source folder of a crate."""
-    stem = os.path.splitext(name)[0]
-    return (stem if stem == ROOT else os.path.join(ROOT, stem)) + ".rt"
 
 
 def with_libraries(crates):

@@ -1,0 +1,142 @@
+// Custom sections and subsections whose allocations fail in turn.
+ghost use Rattle.std.specs.Prelude.{◌+◌, ◌<◌, ◌^◌, length};
+
+use crate::tests::{same, same_at, window};
+use std::alloc::{Allocator, Global};
+use std::process::Abort;
+use std::test::Fail;
+use wasm_base::{Error, Fault, Subsection};
+use wasm_custom::{CustomSectionReader, Dylink0Subsection, KnownCustom};
+use wasm_testing::Sparing;
+
+/// More blocks than any of the sections takes.
+const AMPLE: u64 = 40;
+
+// Which section is known, and how many items it announces or has.
+fn kind_of<A: Allocator>(known: &KnownCustom<'_, A>) -> (&'static str, usize) {
+    match known {
+        KnownCustom::Name(_) => ("name", 0),
+        KnownCustom::BranchHints(functions) => ("branch hints", functions.count() as usize),
+        KnownCustom::Producers(fields) => ("producers", fields.count() as usize),
+        KnownCustom::Dylink0(subsections) => (
+            "dylink",
+            usize::from(subsections.range().is_empty()),
+        ),
+        KnownCustom::CoreDump(section) => ("core", section.name.len()),
+        KnownCustom::CoreDumpStack(section) => ("core stack", section.frames.len()),
+        KnownCustom::CoreDumpInstances(section) => ("core instances", section.instances.len()),
+        KnownCustom::CoreDumpModules(section) => ("core modules", section.modules.len()),
+        KnownCustom::Linking(section) => ("linking", section.version() as usize),
+        KnownCustom::Reloc(section) => ("relocations", section.entries().count() as usize),
+        KnownCustom::Unknown => ("unknown", 0),
+    }
+}
+
+// What a section is with this many blocks, or `None` if they don't suffice: the error is `OutOfMemory` then.
+fn kind_with(
+    rt: &impl Abort,
+    alloc: Global,
+    section: &CustomSectionReader<'_>,
+    blocks: u64,
+) -> Option<(&'static str, usize)> {
+    let heap = Sparing::new(alloc, blocks);
+    match section.as_known_in(alloc, &heap) {
+        Ok(known) => Some(kind_of(&known)),
+        Err(e) => {
+            same_at(rt, e, Error::new(Fault::OutOfMemory, 0), &blocks);
+            None
+        }
+    }
+}
+
+// What a section is with ample memory.
+fn ample_kind(
+    rt: &impl Abort,
+    alloc: Global,
+    section: &CustomSectionReader<'_>,
+) -> (&'static str, usize) {
+    kind_of(&section.as_known(alloc).expect(rt, "a fault"))
+}
+
+// Each allocation of a section of this kind fails in turn.
+fn runs_out(rt: &impl Abort, alloc: Global, bytes: &[u8], kind: (&'static str, usize), least: u64)
+    requires { 8 + length bytes.now < 2 ^ 64 }
+{
+    let section = CustomSectionReader::new(window(bytes, 8)).expect(rt, "a fault");
+    same(rt, ample_kind(rt, alloc, &section), kind);
+    let mut refused = 0;
+    for blocks in 0..AMPLE {
+        if let Some(found) = kind_with(rt, alloc, &section, blocks) {
+            same(rt, found, kind);
+            refused = blocks;
+            break;
+        }
+    }
+    assert!(rt; refused >= least, "{refused}");
+}
+
+// The names of the modules of a core dump, if the section is known as that.
+fn modules_of<'a>(known: KnownCustom<'a>) -> Option<Vec<&'a str>> {
+    match known {
+        KnownCustom::CoreDumpModules(section) => Some(section.modules),
+        _other => None,
+    }
+}
+
+const MODULES: &[u8] = b"\x0bcoremodules\x01\x00\x04test";
+
+#[test]
+fn modules_of_a_core_dump(rt: HostRuntime) -> Result<(), Fail> {
+    let section = CustomSectionReader::new(window(MODULES, 0))?;
+    let modules = modules_of(section.as_known(rt.alloc())?).ok_or("unknown")?;
+    same(&rt, modules.as_slice(), ["test"].as_slice());
+    Ok(())
+}
+
+#[test]
+fn sections_whose_memory_runs_out(rt: HostRuntime) {
+    runs_out(&rt, rt.alloc(), MODULES, ("core modules", 1), 1);
+    let bytes = b"\x0bcoremodules\x06\x00\x00\x00\x00\x00\x00\x00\x00\x00\x00\x00\x00";
+    runs_out(&rt, rt.alloc(), bytes, ("core modules", 6), 2);
+    let bytes = b"\x0dcoreinstances\x02\x00\x02\x01\x00\x01\x03\x00\x02\x01\x00\x01\x03";
+    runs_out(&rt, rt.alloc(), bytes, ("core instances", 2), 5);
+    let bytes = b"\x09corestack\x00\x00\x01\x00\x04\x2a\x33\x01\x01\x01\x01";
+    runs_out(&rt, rt.alloc(), bytes, ("core stack", 1), 3);
+}
+
+// Whether this many blocks suffice for the list of a subsection. If not, the error is `OutOfMemory`.
+fn suffices(rt: &impl Abort, alloc: Global, id: u8, bytes: &[u8; 13], blocks: u64) -> bool {
+    let heap = Sparing::new(alloc, blocks);
+    match Dylink0Subsection::from_reader_in(&heap, id, window(bytes, 8)) {
+        Ok(_) => true,
+        Err(e) => {
+            same_at(rt, e, Error::new(Fault::OutOfMemory, 0), &blocks);
+            false
+        }
+    }
+}
+
+// Each allocation of a list fails in turn.
+fn list_runs_out(rt: &impl Abort, alloc: Global, id: u8, bytes: &[u8; 13], least: u64) {
+    let mut refused = 0;
+    for blocks in 0..9 {
+        if suffices(rt, alloc, id, bytes, blocks) {
+            refused = blocks;
+            break;
+        }
+    }
+    assert!(rt; refused >= least, "{refused}");
+}
+
+// A list of this many items, each of zeros.
+fn zeros(count: u8) -> [u8; 13] {
+    [count, 0, 0, 0, 0, 0, 0, 0, 0, 0, 0, 0, 0]
+}
+
+#[test]
+fn lists_whose_memory_runs_out(rt: HostRuntime) {
+    list_runs_out(&rt, rt.alloc(), 2, &zeros(12), 2);
+    list_runs_out(&rt, rt.alloc(), 5, &zeros(12), 2);
+    list_runs_out(&rt, rt.alloc(), 3, &zeros(6), 2);
+    list_runs_out(&rt, rt.alloc(), 4, &zeros(4), 1);
+}
