@@ -205,7 +205,7 @@ impl<'a> FromReaderIn<'a> for RecGroup {
             reader.read_u8()?;
             return Ok(RecGroup {
                 explicit: true,
-                types: TypeList::allocated(read_subtypes(alloc, reader)?),
+                types: TypeList::from_vec(read_subtypes(alloc, reader)?),
             });
         }
         let one = SubType::from_reader(alloc, reader)?;

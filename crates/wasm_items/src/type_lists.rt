@@ -1,5 +1,5 @@
 // Lists of types, which keep their items in place while they are few.
-ghost use Rattle.std.specs.Prelude.{◌≡◌, ℕ, ◌^◌, ◌==◌, ◌<◌, ◌≤◌, List, [], ◌∷◌, ◌++◌, length};
+ghost use Rattle.std.specs.Prelude.{◌≡◌, ℕ, ◌^◌, ◌==◌, ◌<◌, ◌≤◌, List, [], ◌∷◌, ◌++◌, length, IfOk, IfErr};
 ghost use Rattle.std.specs.Cmp.Lexicographic.{pointwise, lists_per, lists_equiv};
 ghost use Rattle.std.specs.Iterator.Runs.{EveryRun, ItemsMapTo};
 ghost use Rattle.std.specs.Slice.Iter.{iter_rest, iter_steps};
@@ -61,13 +61,39 @@ impl<T, P: AsSlice<T>> TypeList<T, P> {
         }
     }
 
-    /// Returns a list of items that are allocated.
+    /// Returns a list of these items. Never allocates.
+    ///
+    /// ```rattle
+    /// let mut params = Vec::new(alloc);
+    /// params.push(ValType::I32)?;
+    /// let ty = FuncType {
+    ///     params: ValTypes::from_vec(params),
+    ///     results: ValTypes::from_vec(Vec::new(alloc)),
+    /// };
+    /// let mut reader = BinaryReader::new(&[1, 0x7f, 0], 0);
+    /// assert!(rt; FuncType::from_reader(alloc, &mut reader)? == ty);
+    /// ```
     #[inline(always)]
-    pub(crate) fn allocated(items: Vec<T>) -> Self
+    pub fn from_vec(items: Vec<T>) -> Self
         ensures { result ≡ items.items }
     {
         TypeList {
             items: Items::Allocated(items),
+        }
+    }
+
+    /// Returns the items as a `Vec` if they are allocated, as those of `from_vec` are. Never allocates.
+    ///
+    /// # Errors
+    ///
+    /// Returns the list itself if its items are in place.
+    pub fn into_vec(self) -> std::result::Result<Vec<T>, Self>
+        ensures items { IfOk result (λ items. items.items ≡ self) }
+        ensures unchanged { IfErr result (λ list. list ≡ self) }
+    {
+        match self.items {
+            Items::Allocated(items) => Ok(items),
+            Items::InPlace(items) => Err(TypeList::in_place(items)),
         }
     }
 
@@ -329,5 +355,5 @@ pub(crate) fn read_types<'a, T: FromReader<'a>, P: Places<T>>(
     if count <= P::MOST {
         return Ok(TypeList::in_place(read_in_place::<T, P>(reader, count)?));
     }
-    Ok(TypeList::allocated(read_items(alloc, reader, count)?))
+    Ok(TypeList::from_vec(read_items(alloc, reader, count)?))
 }
