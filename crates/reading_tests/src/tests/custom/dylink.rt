@@ -1,7 +1,5 @@
 // What dynamic linkers read, by the debug texts of what is read. Tables of rows are in `wasm_rows`.
-use crate::tests::{gives, is_printed, window};
-use std::test::Fail;
-use wasm_base::Subsection;
+use crate::tests::{gives, prints_begun, window};
 use wasm_custom::{Dylink0SectionReader, Dylink0Subsection};
 
 #[test]
@@ -20,11 +18,7 @@ fn what_a_library_needs(rt: HostRuntime) {
 }
 
 #[test]
-fn an_unknown_subsection_that_was_begun(rt: HostRuntime) -> Result<(), Fail> {
-    let mut reader = window(b"\x09\x08\x07\x06\x05", 500);
-    reader.read_bytes(2)?;
-    let unknown = Dylink0Subsection::from_reader(rt.alloc(), 0, reader)?;
+fn an_unknown_subsection_that_was_begun(rt: HostRuntime) {
     let text = "Unknown { ty: 0, contents: [7, 6, 5], range: 502..505 }";
-    is_printed(&rt, rt.alloc(), &unknown, text);
-    Ok(())
+    prints_begun::<Dylink0Subsection<'_>>(&rt, rt.alloc(), 0, b"\x09\x08\x07\x06\x05", text);
 }

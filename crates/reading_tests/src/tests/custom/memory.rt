@@ -5,31 +5,30 @@ use crate::tests::{same, same_at, window};
 use std::alloc::{Allocator, Global};
 use std::process::Abort;
 use std::test::Fail;
-use wasm_base::{Error, Fault, Subsection};
+use wasm_base::{Error, Fault, Result, Subsection};
 use wasm_custom::{CustomSectionReader, Dylink0Subsection, KnownCustom};
 use wasm_testing::Sparing;
 
 /// More blocks than any of the sections takes.
 const AMPLE: u64 = 40;
 
-// Which section is known, and how many items it announces or has.
+// Which section is known, and how many items it has.
 fn kind_of<A: Allocator>(known: &KnownCustom<'_, A>) -> (&'static str, usize) {
     match known {
-        KnownCustom::Name(_) => ("name", 0),
-        KnownCustom::BranchHints(functions) => ("branch hints", functions.count() as usize),
-        KnownCustom::Producers(fields) => ("producers", fields.count() as usize),
-        KnownCustom::Dylink0(subsections) => (
-            "dylink",
-            usize::from(subsections.range().is_empty()),
-        ),
-        KnownCustom::CoreDump(section) => ("core", section.name.len()),
         KnownCustom::CoreDumpStack(section) => ("core stack", section.frames.len()),
         KnownCustom::CoreDumpInstances(section) => ("core instances", section.instances.len()),
         KnownCustom::CoreDumpModules(section) => ("core modules", section.modules.len()),
-        KnownCustom::Linking(section) => ("linking", section.version() as usize),
-        KnownCustom::Reloc(section) => ("relocations", section.entries().count() as usize),
-        KnownCustom::Unknown => ("unknown", 0),
+        _other => ("another", 0),
     }
+}
+
+// What a section is whose lists are in this allocator.
+fn kind_in<A: Allocator + Copy>(
+    alloc: Global,
+    heap: A,
+    section: &CustomSectionReader<'_>,
+) -> Result<(&'static str, usize)> {
+    Ok(kind_of(&section.as_known_in(alloc, heap)?))
 }
 
 // What a section is with this many blocks, or `None` if they don't suffice: the error is `OutOfMemory` then.
@@ -40,8 +39,8 @@ fn kind_with(
     blocks: u64,
 ) -> Option<(&'static str, usize)> {
     let heap = Sparing::new(alloc, blocks);
-    match section.as_known_in(alloc, &heap) {
-        Ok(known) => Some(kind_of(&known)),
+    match kind_in(alloc, &heap, section) {
+        Ok(kind) => Some(kind),
         Err(e) => {
             same_at(rt, e, Error::new(Fault::OutOfMemory, 0), &blocks);
             None
@@ -49,21 +48,12 @@ fn kind_with(
     }
 }
 
-// What a section is with ample memory.
-fn ample_kind(
-    rt: &impl Abort,
-    alloc: Global,
-    section: &CustomSectionReader<'_>,
-) -> (&'static str, usize) {
-    kind_of(&section.as_known(alloc).expect(rt, "a fault"))
-}
-
 // Each allocation of a section of this kind fails in turn.
 fn runs_out(rt: &impl Abort, alloc: Global, bytes: &[u8], kind: (&'static str, usize), least: u64)
     requires { 8 + length bytes.now < 2 ^ 64 }
 {
     let section = CustomSectionReader::new(window(bytes, 8)).expect(rt, "a fault");
-    same(rt, ample_kind(rt, alloc, &section), kind);
+    same(rt, kind_in(alloc, alloc, &section), Ok(kind));
     let mut refused = 0;
     for blocks in 0..AMPLE {
         if let Some(found) = kind_with(rt, alloc, &section, blocks) {
@@ -86,7 +76,7 @@ fn modules_of<'a>(known: KnownCustom<'a>) -> Option<Vec<&'a str>> {
 const MODULES: &[u8] = b"\x0bcoremodules\x01\x00\x04test";
 
 #[test]
-fn modules_of_a_core_dump(rt: HostRuntime) -> Result<(), Fail> {
+fn modules_of_a_core_dump(rt: HostRuntime) -> std::result::Result<(), Fail> {
     let section = CustomSectionReader::new(window(MODULES, 0))?;
     let modules = modules_of(section.as_known(rt.alloc())?).ok_or("unknown")?;
     same(&rt, modules.as_slice(), ["test"].as_slice());

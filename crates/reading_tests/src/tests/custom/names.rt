@@ -2,53 +2,9 @@
 use crate::tests::{gives, same, window};
 use std::alloc::Global;
 use std::ops::Range;
-use std::process::Abort;
 use std::test::Fail;
-use wasm_base::{BinaryReader, Error, Fault, Result, Subsection};
+use wasm_base::{Error, Fault, Result, Subsection};
 use wasm_custom::{IndirectNameMap, Name, NameMap, NameSectionReader};
-
-// The next subsection.
-fn next<'a>(rt: &impl Abort, names: &mut NameSectionReader<'a>) -> Name<'a> {
-    names.next().expect(rt, "nothing").expect(rt, "a fault")
-}
-
-// The name of the module and its range.
-fn module_of<'a, 'b>(name: &'b Name<'a>) -> Option<(&'a str, &'b Range<u64>)> {
-    match name {
-        Name::Module { name, name_range } => Some((*name, name_range)),
-        _other => None,
-    }
-}
-
-// The names of functions.
-fn functions_of<'a>(name: &Name<'a>) -> Option<NameMap<'a>> {
-    match name {
-        Name::Function(functions) => functions.clone().ok(),
-        _other => None,
-    }
-}
-
-// The id, the bytes and the range of an unknown subsection.
-fn unknown_of<'a, 'b>(name: &'b Name<'a>) -> Option<(u8, &'a [u8], &'b Range<u64>)> {
-    match name {
-        Name::Unknown {
-            ty,
-            contents,
-            range,
-        } => Some((*ty, *contents, range)),
-        _other => None,
-    }
-}
-
-// The fault that comes next.
-fn refusal(names: &mut NameSectionReader<'_>) -> Option<Error> {
-    names.next()?.err()
-}
-
-// That nothing comes next.
-fn is_over(names: &mut NameSectionReader<'_>) -> bool {
-    names.next().is_none()
-}
 
 #[test]
 fn names_by_index(rt: HostRuntime) -> std::result::Result<(), Fail> {
@@ -82,49 +38,78 @@ fn names_of_what_an_index_has(rt: HostRuntime) -> std::result::Result<(), Fail> 
     Ok(())
 }
 
-#[test]
-fn sections_of_names(rt: HostRuntime) {
-    let bytes = &[0, 2, 1, 0x61, 1, 4, 1, 0, 1, 0x66, 0, 1, 0, 14, 0];
-    let mut names = NameSectionReader::new(rt.alloc(), window(bytes, 0));
-    let module = next(&rt, &mut names);
-    same(&rt, module_of(&module), Some(("a", &(2..4))));
-    let functions = functions_of(&next(&rt, &mut names)).expect(&rt, "no functions");
-    let texts = ["Ok(Naming { index: 0, name: \"f\" })"];
-    gives(&rt, rt.alloc(), functions, &texts);
-    let order = Error::new(Fault::NameSectionOrder, 10);
-    same(&rt, refusal(&mut names), Some(order));
-    let unknown = next(&rt, &mut names);
-    same(
-        &rt,
-        unknown_of(&unknown),
-        Some((14, b"".as_slice(), &(15..15))),
-    );
-    for _ in 0..4 {
-        assert!(rt; is_over(&mut names));
+/// The name of a module, that of a function, locals that come too late, and an unknown subsection.
+const NAMES: &[u8; 15] = &[0, 2, 1, 0x61, 1, 4, 1, 0, 1, 0x66, 0, 1, 0, 14, 0];
+
+// The id of a subsection, the bytes of the module's name or of an unknown subsection, and their range.
+fn parts_of<'a>(name: Name<'a>) -> (u8, &'a [u8], Range<u64>) {
+    match name {
+        Name::Module { name, name_range } => (0, name.as_bytes(), name_range),
+        Name::Function(_) => (1, b"", 0..0),
+        Name::Unknown {
+            ty,
+            contents,
+            range,
+        } => (ty, contents, range),
+        _other => (255, b"", 0..0),
     }
 }
 
-// The range of a module's name, or of an unknown subsection.
-fn range_of<'b>(name: &'b Name<'_>) -> Option<&'b Range<u64>> {
-    match name {
-        Name::Module { name_range, .. } => Some(name_range),
-        Name::Unknown { range, .. } => Some(range),
+// The next subsection by its parts.
+fn next<'a>(names: &mut NameSectionReader<'a>) -> Option<Result<(u8, &'a [u8], Range<u64>)>> {
+    Some(names.next()?.map(parts_of))
+}
+
+#[test]
+fn sections_of_names(rt: HostRuntime) {
+    let mut names = NameSectionReader::new(rt.alloc(), window(NAMES, 0));
+    same(&rt, next(&mut names), Some(Ok((0, b"a".as_slice(), 2..4))));
+    same(&rt, next(&mut names), Some(Ok((1, b"".as_slice(), 0..0))));
+    let order = Error::new(Fault::NameSectionOrder, 10);
+    same(&rt, next(&mut names), Some(Err(order)));
+    same(
+        &rt,
+        next(&mut names),
+        Some(Ok((14, b"".as_slice(), 15..15))),
+    );
+    for _ in 0..4 {
+        same(&rt, next(&mut names), None);
+    }
+}
+
+// The names of functions, which are the second subsection.
+fn functions_of<'a>(alloc: Global, bytes: &'a [u8; 15]) -> Option<NameMap<'a>> {
+    let mut names = NameSectionReader::new(alloc, window(bytes, 0));
+    drop(names.next()?);
+    match names.next()?.ok()? {
+        Name::Function(functions) => Some(functions),
         _other => None,
     }
 }
 
-// The subsection with this id that a reader is at.
-fn subsection(alloc: Global, id: u8, reader: BinaryReader<'_>) -> Result<Name<'_>> {
-    Name::from_reader(alloc, id, reader)
+#[test]
+fn names_of_functions(rt: HostRuntime) -> std::result::Result<(), Fail> {
+    let functions = functions_of(rt.alloc(), NAMES).ok_or("no functions")?;
+    let texts = ["Ok(Naming { index: 0, name: \"f\" })"];
+    gives(&rt, rt.alloc(), functions, &texts);
+    Ok(())
+}
+
+// The parts of the subsection with this id that a reader is at after two bytes.
+fn begun<'a>(alloc: Global, id: u8, bytes: &'a [u8; 5]) -> Result<(u8, &'a [u8], Range<u64>)> {
+    let mut reader = window(bytes, 500);
+    reader.read_bytes(2)?;
+    Ok(parts_of(Name::from_reader(alloc, id, reader)?))
 }
 
 #[test]
-fn subsections_that_were_begun(rt: HostRuntime) -> std::result::Result<(), Fail> {
-    let mut reader = window(b"\x09\x08\x81\0a", 500);
-    reader.read_bytes(2)?;
-    let module = subsection(rt.alloc(), 0, reader.clone()?)?;
-    same(&rt, range_of(&module), Some(&(502..505)));
-    let unknown = subsection(rt.alloc(), 14, reader)?;
-    same(&rt, range_of(&unknown), Some(&(502..505)));
-    Ok(())
+fn subsections_that_were_begun(rt: HostRuntime) {
+    let bytes = b"\x09\x08\x81\0a";
+    same(
+        &rt,
+        begun(rt.alloc(), 0, bytes),
+        Ok((0, b"a".as_slice(), 502..505)),
+    );
+    let unknown = (14, b"\x81\0a".as_slice(), 502..505);
+    same(&rt, begun(rt.alloc(), 14, bytes), Ok(unknown));
 }

@@ -1,56 +1,64 @@
 // Element and data segments by their fields. Tables of rows are in `wasm_rows`.
+ghost use Rattle.std.specs.Prelude.{◌+◌, ◌<◌, ◌^◌, length};
+
 use crate::tests::{gives, prints, same};
 use std::ops::Range;
 use std::test::Fail;
-use wasm_base::{BinaryReader, FromReader, SectionLimited};
-use wasm_items::{Data, Element, ElementItems, ElementKind, RefType};
+use wasm_base::{BinaryReader, Error, Fault, FromReader, Result, SectionLimited};
+use wasm_items::{ConstExpr, Data, Element, ElementItems, ElementKind, RefType};
 
-// The table of an active segment, and the range of its offset.
-fn active_of(kind: &ElementKind<'_>) -> Option<(Option<u32>, Range<u64>)> {
-    match kind {
+// The table of an active segment and the range of its offset; the range of the segment.
+type Places = (Option<(Option<u32>, Range<u64>)>, Range<u64>);
+
+// The places of a segment, and its functions or expressions.
+fn read<'a>(bytes: &'a [u8], offset: u64) -> Result<(Places, ElementItems<'a>)>
+    requires { offset + length bytes.now < 2 ^ 64 }
+{
+    let mut reader = BinaryReader::new(bytes, offset);
+    let Element { kind, items, range } = Element::from_reader(&mut reader)?;
+    let active = match kind {
         ElementKind::Active {
             table_index,
             offset_expr,
-        } => Some((*table_index, offset_expr.range())),
+        } => Some((table_index, offset_expr.range())),
         _other => None,
-    }
+    };
+    Ok(((active, range), items))
 }
 
-// The functions of a segment.
-fn functions_of<'a>(items: ElementItems<'a>) -> Option<SectionLimited<'a, u32>> {
-    match items {
-        ElementItems::Functions(section) => Some(section),
-        _other => None,
+// The places of a segment, and its functions.
+fn functions_of<'a>(bytes: &'a [u8; 12]) -> Result<(Places, SectionLimited<'a, u32>)> {
+    match read(bytes, 100)? {
+        (places, ElementItems::Functions(section)) => Ok((places, section)),
+        (_, ElementItems::Expressions(..)) => Err(Error::new(Fault::UnexpectedEof, 0)),
     }
 }
 
 #[test]
-fn an_active_element_segment_of_functions(rt: HostRuntime) -> Result<(), Fail> {
+fn an_active_element_segment_of_functions(rt: HostRuntime) -> std::result::Result<(), Fail> {
     let bytes = b"\x02\x81\x00\x42\x7f\x0b\x00\x02\x05\x80\x01\xff";
-    let mut reader = BinaryReader::new(bytes, 100);
-    let Element { kind, items, range } = Element::from_reader(&mut reader)?.clone()?;
-    same(&rt, (reader.original_position(), range), (111, 100..111));
-    same(&rt, active_of(&kind), Some((Some(1), 103..106)));
-    let section = functions_of(items).ok_or("no functions")?;
-    same(&rt, section.range(), 107..111);
+    let (places, section) = functions_of(bytes)?;
+    same(&rt, places, (Some((Some(1), 103..106)), 100..111));
     let texts = ["Ok((108, 5))", "Ok((109, 128))"];
     gives(&rt, rt.alloc(), section.into_iter_with_offsets(), &texts);
     Ok(())
 }
 
+// The places of a segment, and its type and expressions.
+fn expressions_of<'a>(
+    bytes: &'a [u8; 10],
+) -> Result<(Places, RefType, SectionLimited<'a, ConstExpr<'a>>)> {
+    match read(bytes, 0)? {
+        (places, ElementItems::Expressions(ty, section)) => Ok((places, ty, section)),
+        (_, ElementItems::Functions(_)) => Err(Error::new(Fault::UnexpectedEof, 0)),
+    }
+}
+
 #[test]
-fn a_declared_element_segment_of_expressions(rt: HostRuntime) -> Result<(), Fail> {
+fn a_declared_element_segment_of_expressions(rt: HostRuntime) -> std::result::Result<(), Fail> {
     let bytes = b"\x07\x70\x02\xd2\x07\x0b\x23\x80\x00\x0b";
-    let Element { kind, items, range } = Element::from_reader(&mut BinaryReader::new(bytes, 0))?;
-    same(&rt, range, 0..10);
-    let ElementKind::Declared = kind else {
-        return Err("not declared".into());
-    };
-    let ElementItems::Expressions(ty, section) = items else {
-        return Err("no expressions".into());
-    };
-    same(&rt, ty, RefType::FUNCREF);
-    same(&rt, section.range(), 2..10);
+    let (places, ty, section) = expressions_of(bytes)?;
+    same(&rt, (places, ty), ((None, 0..10), RefType::FUNCREF));
     let texts = [
         "Ok((3, ConstExpr { reader: BinaryReader { bytes: [210, 7, 11], start: 3, position: 0, features: WasmFeatures(3) } }))",
         "Ok((6, ConstExpr { reader: BinaryReader { bytes: [35, 128, 0, 11], start: 6, position: 0, features: WasmFeatures(3) } }))",
