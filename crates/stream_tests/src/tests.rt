@@ -7,6 +7,9 @@ use std::alloc::Global;
 use std::fmt::Debug;
 use std::process::Abort;
 
+/// A module with one function, whose body is empty.
+const SMALL: &[u8] = b"\0asm\x01\0\0\0\x03\x02\x01\0\x0a\x04\x01\x02\0\x0b";
+
 // Asserts that a value is the expected one.
 fn same<T: PartialEq + Debug + Drop>(rt: &impl Abort, found: T, wanted: T) {
     assert!(rt; found == wanted, "{found:?}, and not {wanted:?}");

@@ -5,6 +5,7 @@ mod imports;
 mod payloads;
 mod surface;
 mod walking;
+mod worked;
 
 use crate::tests::same;
 use std::process::Abort;

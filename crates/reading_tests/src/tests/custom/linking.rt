@@ -208,7 +208,19 @@ fn a_section_of_relocations(rt: HostRuntime) -> Result<(), Fail> {
     let texts = ["Ok(RelocationEntry { ty: MemoryAddrLeb, offset: 6, index: 0, addend: -1 })"];
     let entries = section.clone()?.entries().into_iter();
     gives(&rt, rt.alloc(), entries, &texts);
+    same(&rt, first_range(section), Some(Ok(6..11)));
     Ok(())
+}
+
+// The range of the bytes that the first relocation is of.
+fn first_range(section: RelocSectionReader<'_>) -> Option<wasm_base::Result<Range<usize>>> {
+    Some(
+        section
+            .entries()
+            .into_iter()
+            .next()?
+            .and_then(|entry| entry.relocation_range()),
+    )
 }
 
 #[test]

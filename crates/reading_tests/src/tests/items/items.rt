@@ -4,7 +4,7 @@ use std::test::Fail;
 use wasm_base::{BinaryReader, FromReaderIn};
 use wasm_items::{
     ConstExpr, Export, FuncType, Global, HeapType, MemoryType, RecGroup, RefType, Table, TableType,
-    TagType, ValType,
+    TagType, ValType, ValTypes,
 };
 
 /// Types of values, the offsets after them and their debug texts.
@@ -80,6 +80,26 @@ fn lists_of_types(rt: HostRuntime) -> Result<(), Fail> {
     Ok(())
 }
 
+// A list made of a `Vec` equals one that was read, and gives the `Vec` back; one whose items are in place gives itself back.
+#[test]
+fn lists_of_types_that_callers_build(rt: HostRuntime) -> Result<(), Fail> {
+    let made = ValTypes::from_vec([ValType::I32, ValType::I64].to_vec(rt.alloc())?);
+    let bytes = b"\x02\x7f\x7e\0";
+    let read = FuncType::from_reader(rt.alloc(), &mut BinaryReader::new(bytes, 0))?.params;
+    assert!(rt; made == read);
+    same(&rt, taken(made), Ok(2));
+    same(&rt, taken(read), Err(2));
+    Ok(())
+}
+
+// The length of the `Vec`, or else of the list.
+fn taken(list: ValTypes) -> std::result::Result<usize, usize> {
+    match list.into_vec() {
+        Ok(items) => Ok(items.len()),
+        Err(list) => Err(list.len()),
+    }
+}
+
 #[test]
 fn memories_tags_and_exports(rt: HostRuntime) {
     let text =
@@ -126,6 +146,14 @@ fn tables_and_globals(rt: HostRuntime) {
         18,
         text,
     );
+    let text = "Table { ty: TableType { element_type: RefType { nullable: true, heap: Func }, \
+        table64: false, initial: 1, maximum: None, shared: false }, init: Expr(ConstExpr { reader: \
+        BinaryReader { bytes: [208, 112, 11], start: 5, position: 0, features: WasmFeatures(3) } }) }";
+    let bytes = b"\x40\0\x70\0\x01\xd0\x70\x0b";
+    prints::<Table<'_>>(&rt, rt.alloc(), bytes, 0, 8, text);
+    let text = "Global { ty: GlobalType { content_type: I32, mutable: true, shared: false }, \
+        init_expr: ConstExpr { reader: BinaryReader { bytes: [65, 5, 11], start: 2, position: 0, features: WasmFeatures(3) } } }";
+    prints::<Global<'_>>(&rt, rt.alloc(), b"\x7f\x01\x41\x05\x0b", 0, 5, text);
     let bytes = b"\x41\x7f\x42\x7f\x7c\x0b\x0b";
     prints::<ConstExpr<'_>>(
         &rt,

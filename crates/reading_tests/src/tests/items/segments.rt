@@ -46,8 +46,10 @@ fn an_active_element_segment_of_functions(rt: HostRuntime) -> std::result::Resul
 
 // The places of a segment, and its type and expressions.
 fn expressions_of<'a>(
-    bytes: &'a [u8; 10],
-) -> Result<(Places, RefType, SectionLimited<'a, ConstExpr<'a>>)> {
+    bytes: &'a [u8],
+) -> Result<(Places, RefType, SectionLimited<'a, ConstExpr<'a>>)>
+    requires { length bytes.now < 2 ^ 64 }
+{
     match read(bytes, 0)? {
         (places, ElementItems::Expressions(ty, section)) => Ok((places, ty, section)),
         (_, ElementItems::Functions(_)) => Err(Error::new(Fault::UnexpectedEof, 0)),
@@ -67,6 +69,37 @@ fn a_declared_element_segment_of_expressions(rt: HostRuntime) -> std::result::Re
     Ok(())
 }
 
+// The place of an active segment's offset, and the range of the segment, from offset 0.
+#[test]
+fn offsets_of_active_segments(rt: HostRuntime) {
+    let rows: [(&[u8], Option<u32>, Range<u64>, u64); 3] = [
+        (b"\0\x41\0\x0b\x02\0\x01", None, 1..4, 7),
+        (b"\x04\x41\0\x0b\x01\xd0\x70\x0b", None, 1..4, 8),
+        (b"\x06\0\x41\0\x0b\x6f\0", Some(0), 2..5, 7),
+    ];
+    for (bytes, table, offset, end) in rows {
+        let wanted = (Some((table, offset)), 0..end);
+        same(&rt, places_of(bytes), Ok(wanted));
+    }
+}
+
+// The place of a segment from offset 0.
+fn places_of(bytes: &[u8]) -> Result<Places>
+    requires { length bytes.now < 2 ^ 64 }
+{
+    Ok(read(bytes, 0)?.0)
+}
+
+#[test]
+fn expressions_of_an_active_segment(rt: HostRuntime) -> std::result::Result<(), Fail> {
+    let (_, ty, section) = expressions_of(b"\x04\x41\0\x0b\x01\xd0\x70\x0b")?;
+    same(&rt, ty, RefType::FUNCREF);
+    let text =
+        "Ok(ConstExpr { reader: BinaryReader { bytes: [208, 112, 11], start: 5, position: 0, features: WasmFeatures(3) } })";
+    gives(&rt, rt.alloc(), section.into_iter(), &[text]);
+    Ok(())
+}
+
 #[test]
 fn data_segments(rt: HostRuntime) {
     let bytes = b"\x02\x83\x00\x41\x00\x0b\x82\x00\x01\x02\x03";
@@ -74,6 +107,10 @@ fn data_segments(rt: HostRuntime) {
         "Data { kind: Active { memory_index: 3, offset_expr: ConstExpr { reader: BinaryReader { bytes: [65, 0, 11], start: 73, position: 0, features: WasmFeatures(3) } } }, \
         bytes: [1, 2], range: 70..80 }";
     prints::<Data<'_>>(&rt, rt.alloc(), bytes, 70, 80, text);
+    let text = "Data { kind: Active { memory_index: 0, offset_expr: ConstExpr { reader: \
+        BinaryReader { bytes: [65, 0, 11], start: 2, position: 0, features: WasmFeatures(3) } } }, \
+        bytes: [255], range: 0..7 }";
+    prints::<Data<'_>>(&rt, rt.alloc(), b"\x80\0\x41\0\x0b\x01\xff", 0, 7, text);
     let text = "Data { kind: Passive, bytes: [170], range: 0..3 }";
     prints::<Data<'_>>(&rt, rt.alloc(), b"\x01\x01\xaa", 0, 3, text);
 }

@@ -2,7 +2,7 @@
 ghost use Rattle.std.specs.Prelude.{◌≡◌, false};
 
 use super::{PARTS, PARTS_LISTING, ends, lists};
-use crate::tests::{same, same_at};
+use crate::tests::{SMALL, same, same_at};
 use std::alloc::Global;
 use std::io::{self, Write};
 use std::process::Abort;
@@ -58,9 +58,9 @@ impl Source for Failing<'_> {
     }
 }
 
-const MODULE: &[u8] = b"\0asm\x01\0\0\0\0\x02\x01a";
-
-const LISTING: &[u8] = b"version 0 8 1 module\ncustom 10 12 12\nend 12\n";
+/// The listing of `SMALL`.
+const LISTING: &[u8] =
+    b"version 0 8 1 module\nsection 3 10 12 1\ncode 14 18 1 3\nbody 16 18\nend 18\n";
 
 /// A sink that takes one byte a call, and fails at one call.
 #[derive(Drop)]
@@ -165,9 +165,16 @@ fn a_source_that_fails_leaves_the_lines_of_what_it_gave(rt: HostRuntime) {
 }
 
 #[test]
+fn a_source_that_fails_at_its_second_read(rt: HostRuntime) {
+    let input = Failing::after(SMALL, 10, 1);
+    let lines = &LISTING[..21];
+    lists_from(&rt, rt.alloc(), input, 10, Err(ListError::Input), lines);
+}
+
+#[test]
 fn a_source_that_goes_short_changes_nothing(rt: HostRuntime) {
-    for step in 1..14 {
-        let input = Failing::after(MODULE, step, 20);
+    for step in 1..20 {
+        let input = Failing::after(SMALL, step, 20);
         lists_from(&rt, rt.alloc(), input, 5, Ok(Ended::End), LISTING);
     }
 }
@@ -223,16 +230,16 @@ fn a_sink_that_takes_one_byte_a_call(rt: HostRuntime) {
 fn a_sink_that_goes_short_or_fails(rt: HostRuntime) {
     for calls in 0..LISTING.len() {
         let (failed, lines) = (Err(ListError::Output), &LISTING[..calls]);
-        lists_slowly(&rt, rt.alloc(), MODULE, 5, calls, failed, lines);
+        lists_slowly(&rt, rt.alloc(), SMALL, 5, calls, failed, lines);
     }
     for calls in [LISTING.len(), LISTING.len() + 1] {
-        lists_slowly(&rt, rt.alloc(), MODULE, 5, calls, Ok(Ended::End), LISTING);
+        lists_slowly(&rt, rt.alloc(), SMALL, 5, calls, Ok(Ended::End), LISTING);
     }
 }
 
 #[test]
 fn a_reader_and_a_writer_of_the_standard_library(rt: HostRuntime) {
-    let mut input = ReadSource::new(MODULE);
+    let mut input = ReadSource::new(SMALL);
     let mut written = Vec::<u8>::new(rt.alloc());
     let mut output = WriteSink::new(&mut written);
     let ended = ends(rt.alloc(), &mut input, &mut output, 65_536);
@@ -269,7 +276,7 @@ impl Write for Stalling {
 #[test]
 fn a_writer_that_takes_nothing_at_first(rt: HostRuntime) {
     let mut writer = Stalling { calls: 0, taken: 0 };
-    let mut input = SliceSource::new(PARTS);
+    let mut input = SliceSource::new(SMALL);
     let mut output = WriteSink::new(&mut writer);
     let ended = ends(rt.alloc(), &mut input, &mut output, 65_536);
     same(
@@ -319,8 +326,8 @@ fn a_sink_flushes_its_writer(rt: HostRuntime) {
 
 // The size of the largest read of a listing by chunks of this size.
 fn largest_read(rt: &impl Abort, alloc: Global, piece: usize) -> usize {
-    let mut input = Measuring::new(MODULE);
-    let mut output = sink(rt, alloc, 64);
+    let mut input = Measuring::new(SMALL);
+    let mut output = sink(rt, alloc, 100);
     let ended = ends(alloc, &mut input, &mut output, piece);
     same_at(
         rt,
@@ -350,7 +357,7 @@ fn lists_within(
 ) {
     let fails = wanted.is_err();
     let mut output = sink(rt, alloc, size);
-    let ended = lists(alloc, MODULE, &mut output, 4);
+    let ended = lists(alloc, SMALL, &mut output, 4);
     same_at(
         rt,
         (ended, output.failed(), output.written()),
