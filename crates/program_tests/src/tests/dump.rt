@@ -3,6 +3,7 @@ mod colors;
 mod dumps;
 mod forms;
 mod golden;
+mod named;
 mod names;
 mod naming;
 mod runs;

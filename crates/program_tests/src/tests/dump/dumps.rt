@@ -1,4 +1,5 @@
 // Dumps of worked streams.
+mod objects;
 mod worked;
 
 use std::alloc::Global;

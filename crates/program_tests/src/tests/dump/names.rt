@@ -1,9 +1,9 @@
 // Dumps with names.
+use super::named::{self, Form};
 use std::alloc::Global;
 use std::test::Fail;
-use wasm_dumper::program::{Options, dump_as};
 use wasm_dumper::{Only, Shown, collect_names, dump};
-use wasm_feed::{BoundedSink, Ended, ListError, Sink, SliceSource, WriteSink};
+use wasm_feed::{BoundedSink, Ended, ListError, Sink, SliceSource};
 use wasm_text::Base;
 use wasm_tree::{ItemNames, Lines};
 
@@ -62,31 +62,16 @@ end 370
 ";
 
 // The names that a stream has.
-fn names_in(alloc: Global, stream: &[u8]) -> Result<ItemNames, Fail> {
+pub(super) fn names_in(alloc: Global, stream: &[u8]) -> Result<ItemNames, Fail> {
     match collect_names(alloc, &mut SliceSource::new(stream)) {
         Ok(names) => Ok(names),
         Err(_why) => Err(Fail::new("out of memory")),
     }
 }
 
-// Writes the dump of a stream with these names.
-fn write_dump(alloc: Global, stream: &[u8], names: ItemNames, written: &mut Vec<u8>) {
-    let (_how, _output) = dump_as(
-        alloc,
-        &[Only::All],
-        Options::new(),
-        Some(names),
-        &mut SliceSource::new(stream),
-        WriteSink::new(written),
-    );
-}
-
 // What a stream is dumped as, with the names that it has.
 fn dumped(alloc: Global, stream: &[u8]) -> Result<Vec<u8>, Fail> {
-    let names = names_in(alloc, stream)?;
-    let mut written = Vec::<u8>::new(alloc);
-    write_dump(alloc, stream, names, &mut written);
-    Ok(written)
+    named::dumped(alloc, stream, Form::Named)
 }
 
 #[test]

@@ -330,19 +330,19 @@ end 158
 ";
 
 // By functions, since a proof over them knows nothing of their bytes.
-fn sections() -> (&'static [u8], &'static [u8]) {
+pub(super) fn sections() -> (&'static [u8], &'static [u8]) {
     (SECTIONS, SECTIONS_DUMP)
 }
 
-fn names() -> (&'static [u8], &'static [u8]) {
+pub(super) fn names() -> (&'static [u8], &'static [u8]) {
     (NAMES, NAMES_DUMP)
 }
 
-fn linking() -> (&'static [u8], &'static [u8]) {
+pub(super) fn linking() -> (&'static [u8], &'static [u8]) {
     (LINKING, LINKING_DUMP)
 }
 
-fn core() -> (&'static [u8], &'static [u8]) {
+pub(super) fn core() -> (&'static [u8], &'static [u8]) {
     (CORE, CORE_DUMP)
 }
 
