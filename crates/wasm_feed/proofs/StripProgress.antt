@@ -256,7 +256,7 @@ module _ (keeps : List ℕ → Bool) (source rest taken written : Option (List �
     pub went_past : ReadsOrPasses keeps rest rest' written written' c stored chunk page how_cut new page' → how_cut ≡ None
         → Progress (kept_bytes keeps) (from_to source rest') (from_to taken written') new page'
         × (weight new < weight (lending stored chunk c))
-    went_past (inl (fills, same, waits, none)) n =
+    went_past (inl ((fills, same, waits, none), skips)) n =
         rw (same, waits) (progress.filled (kept_bytes keeps) source rest taken written (lending stored chunk c) page w rest' new fills)
     went_past (inr x) n = over written' how_cut new page' x (rw n at x.passes.ends)
 
@@ -264,13 +264,13 @@ module _ (keeps : List ℕ → Bool) (source rest taken written : Option (List �
       -- if one was
       pub was_cut : ReadsOrPasses keeps rest rest' written written' c stored chunk page how_cut new page' → Appends written' written'' page'
           → IsStreamed keeps (from_to source rest') (from_to taken written'') (Fault e)
-      was_cut (inl (fills, same, waits, none)) v = absurd (let no : None ≡ Some e = sym none ∙ is in cc)
+      was_cut (inl ((fills, same, waits, none), skips)) v = absurd (let no : None ≡ Some e = sym none ∙ is in cc)
       was_cut (inr x) v = cut_off written' how_cut new page' x e (rw is at x.passes.ends) written'' v
 
       -- the page could not be written after a part was cut off
       pub cut_after : ReadsOrPasses keeps rest rest' written written' c stored chunk page how_cut new page' → (why : ListError)
           → IsCut written' written'' page' why → StripsHead keeps (from_to source rest') (from_to taken written'')
-      cut_after (inl (fills, same, waits, none)) why v = absurd (let no : None ≡ Some e = sym none ∙ is in cc)
+      cut_after (inl ((fills, same, waits, none), skips)) why v = absurd (let no : None ≡ Some e = sym none ∙ is in cc)
       cut_after (inr x) why v = page_cut written' how_cut new page' x written'' why v
 
   few_before : (written' : Option (List ℕ)) (stays : Bool) (missing : ℕ) (passed left new : List ℕ) (e : ListError)
@@ -280,7 +280,7 @@ module _ (keeps : List ℕ → Bool) (source rest taken written : Option (List �
   -- a request could not be met
   pub stopped_here : (written' : Option (List ℕ)) (e : ListError) → StopsHere keeps rest rest' written written' c stored chunk page e
       → StripsHead keeps (from_to source rest') (from_to taken written')
-  stopped_here written' e (inl (given, gave, same)) = rw same (gave_up_at_once keeps source rest taken written (lending stored chunk c) page
+  stopped_here written' e (inl ((given, gave, same), skips)) = rw same (gave_up_at_once keeps source rest taken written (lending stored chunk c) page
       (progress.progress_of w) rest' given gave)
   stopped_here written' e (inr x) = gave_up_within x.passing x.skipped x.skips x.up.given x.up.gave x.up.passed x.left x.up.parts
       (few_before written' x.passing.stays x.passing.size x.up.passed x.left x.page e x.up.ends) written'

@@ -3,7 +3,7 @@ use Rattle.std.specs.Prelude.{◌≡◌, ℕ, false, List, Option, Some, None}
 use Rattle.wasm_lines.specs.Listing.{skip_text}
 use Rattle.wasm_text.specs.declared.digits.Base.TheVariants.{Decimal}
 use Rattle.wasm_parser.specs.SkipNext.{skip_is}
-use Rattle.wasm_feeder.specs.Passing.{SkipsHere}
+use Rattle.wasm_feeder.specs.Passing.{SkipsHere, SkipsNothing}
 use Rattle.wasm_feeder.specs.declared.feeder.Cursor.{Cursor}
 use Rattle.wasm_feed.specs.declared.listing.Dropped.{Dropped}
 
@@ -14,4 +14,4 @@ pub record DropsHere (old : Cursor) (bytes : List ℕ) (dropped : Dropped) (new 
 
 abbrev pub DropsIfAny : Cursor → (bytes : List ℕ) → Option Dropped → Cursor → Type 0
 DropsIfAny old bytes (Some dropped) new = DropsHere old bytes dropped new
-DropsIfAny old bytes None new = new ≡ old
+DropsIfAny old bytes None new = SkipsNothing old bytes × (new ≡ old)

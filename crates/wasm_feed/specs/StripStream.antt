@@ -19,7 +19,7 @@ use Rattle.wasm_feeder.specs.Beside.{seen, lending, FillsAlike}
 use Rattle.wasm_feeder.specs.Fates.{head_stays}
 use Rattle.wasm_feeder.specs.Feed.{Feed}
 use Rattle.wasm_feeder.specs.Lists.{IsEndedBy, IsWhole, PassesTop}
-use Rattle.wasm_feeder.specs.Passing.{GivesUp, PassesPart, SkipsHere, held_by, if_stays}
+use Rattle.wasm_feeder.specs.Passing.{GivesUp, PassesPart, SkipsHere, SkipsNothing, held_by, if_stays}
 use Rattle.wasm_feed.specs.Stripped.{IsStripped, kept_bytes}
 use Rattle.wasm_feeder.specs.Fates.{report_stays}
 use Rattle.wasm_feeder.specs.Turns.{turn_after}
@@ -51,7 +51,7 @@ TakesPiece keeps taken written waiting new answer (Err e) = IsCut taken written 
 
 abbrev pub SkipsIfAny : (keeps : List ℕ → Bool) → Cursor → (bytes : List ℕ) → Option Passing → Cursor → Type 0
 SkipsIfAny keeps old bytes (Some passing) new = SkipsHere (head_stays keeps) old bytes passing new
-SkipsIfAny keeps old bytes None new = new ≡ old
+SkipsIfAny keeps old bytes None new = SkipsNothing old bytes × (new ≡ old)
 
 -- ---- a whole stream
 
@@ -76,6 +76,7 @@ abbrev pub ReadsOrPasses : (keeps : List ℕ → Bool) (source rest taken writte
     (stored chunk waiting : List ℕ) (fault : Option Error) (new : Feed) (page : List ℕ) → Type 0
 ReadsOrPasses keeps source rest taken written old stored chunk waiting fault new page =
     ReadsMore source rest taken written (lending stored chunk old) waiting fault new page
+        × SkipsNothing old (seen stored chunk)
     ⊎ PassesHere keeps source rest taken written old stored chunk waiting fault new page
 
 -- A part that was skipped could not be passed.
@@ -97,7 +98,8 @@ ReadsNot source rest taken written = (given : List ℕ) × Consumes source rest 
 abbrev pub StopsHere : (keeps : List ℕ → Bool) (source rest taken written : Option (List ℕ)) (old : Cursor)
     (stored chunk waiting : List ℕ) → ListError → Type 0
 StopsHere keeps source rest taken written old stored chunk waiting e =
-    ReadsNot source rest taken written ⊎ PassesNot keeps source rest taken written old stored chunk waiting e
+    ReadsNot source rest taken written × SkipsNothing old (seen stored chunk)
+    ⊎ PassesNot keeps source rest taken written old stored chunk waiting e
 
 -- The part that comes after these events stays, by its first fields, and these are at most its bytes.
 pub record NextStays (keeps : List ℕ → Bool) (given : List ℕ) (first : List Event) (partial : List ℕ) : Type 0 where

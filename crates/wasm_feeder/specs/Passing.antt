@@ -8,7 +8,7 @@ use Rattle.wasm_base.specs.declared.fault.Fault.TheVariants.{UnexpectedEof}
 use Rattle.wasm_text.specs.Page.{IsCut, PutsBytes, WritesHead}
 use Rattle.wasm_text.specs.declared.devices.ListError.{ListError}
 use Rattle.wasm_text.specs.declared.devices.ListError.TheVariants.{Input}
-use Rattle.wasm_parser.specs.SkipNext.{Head, Skip, SkipsPart}
+use Rattle.wasm_parser.specs.SkipNext.{Head, Skip, SkipsPart, skip_of}
 use Rattle.wasm_feeder.specs.Beside.{seen, unseen}
 use Rattle.wasm_feeder.specs.declared.feeder.Cursor.{Cursor}
 use Rattle.wasm_feeder.specs.declared.passing.Passing.{Passing}
@@ -35,6 +35,10 @@ pub record SkipsHere (stays_if : Head → Bool) (old : Cursor) (bytes : List ℕ
   pub stays : passing.stays ≡ stays_if skip.head
   pub fewer : length (drop old.mark bytes) < passing.size
   pub same : new ≡ record old { parser = new.parser }
+
+-- No part can be skipped: these bytes have all of the next one, or not its first fields.
+abbrev pub SkipsNothing : Cursor → (bytes : List ℕ) → Type 0
+SkipsNothing cursor bytes = skip_of cursor.parser (drop cursor.mark bytes) ≡ None
 
 -- A chunk was read if there was none; there is none after that only at the end of the source. A read that failed gave
 -- nothing.

@@ -4,7 +4,7 @@ ghost use Rattle.wasm_base.specs.FaultAt.{fault_at};
 ghost use Rattle.wasm_base.specs.Features.{feature_bits};
 ghost use Rattle.wasm_base.specs.Owned.{out_of_memory};
 ghost use Rattle.wasm_parser.specs.ParseAnswer.{ParseAnswer};
-ghost use Rattle.wasm_parser.specs.SkipNext.{SkipsNext, skip_is};
+ghost use Rattle.wasm_parser.specs.SkipNext.{SkipsNext, skip_is, skip_of};
 ghost use Rattle.wasm_feeder.specs.Beside.{MayCome, StepsOver};
 ghost use Rattle.wasm_feeder.specs.Cursors.{feed_of, finished_cursor};
 ghost use Rattle.wasm_feeder.specs.Feed.{empty_feed, new_feed, pushed, finished, RefusesPush};
@@ -133,6 +133,8 @@ impl Cursor {
     /// Skips the next section or body if its first fields are in these bytes, but not all of it, like
     /// `Parser::skip_next`. The mark stays where it is.
     pub fn skip_next<'a>(&mut self, bytes: &'a [u8]) -> Option<SkippedPart<'a>>
+        ensures gives { option_map skip_is result
+            ≡ skip_of self.old.parser (drop self.old.mark bytes.now) }
         ensures skips { SkipsNext self.old.parser (drop self.old.mark bytes.now)
             (option_map skip_is result) self.new.parser }
         ensures same { self.new ≡ record self.old { parser = self.new.parser } }

@@ -17,7 +17,7 @@ returns-in_err-refill-clause-reads g c =
 
 pub returns-in_default-clause-reads : goal.returns-in_default-clause-reads
 returns-in_default-clause-reads g c = λ source taken w.
-    let same : c.skip_dropped.new.cursor ≡ c.args.cursor.now = c.in_default.ensures in
+    let same : c.skip_dropped.new.cursor ≡ c.args.cursor.now = c.in_default.ensures.1 in
     let (written, none) = c.in_ok-write_out.ensures.writes in
     rw none (filled (listing_by line_of) _ _ _ _ _ _ (to_be_written _ _ _ _ _ _ _ _ w written) _ _
     (rw same at c.in_ok-refill.ensures.refills))
