@@ -76,7 +76,7 @@ abbrev pub ReadsOrPasses : (keeps : List ℕ → Bool) (source rest taken writte
     (stored chunk waiting : List ℕ) (fault : Option Error) (new : Feed) (page : List ℕ) → Type 0
 ReadsOrPasses keeps source rest taken written old stored chunk waiting fault new page =
     ReadsMore source rest taken written (lending stored chunk old) waiting fault new page
-        × SkipsNothing old (seen stored chunk)
+    × SkipsNothing old (seen stored chunk)
     ⊎ PassesHere keeps source rest taken written old stored chunk waiting fault new page
 
 -- A part that was skipped could not be passed.

@@ -116,7 +116,7 @@ fn read_on<A: Allocator, R: Source, W: Sink>(
     ensures source { R.has_failed input.new ≡ input_failed result (R.has_failed input.old) }
     ensures sink { W.has_failed output.new ≡ output_failed result (W.has_failed output.old) }
 {
-    page.write_out(output)?;
+    page.write_out(output)?; // No line waits for a read.
     let Some(dropped) = skip_dropped(cursor, seen(stored, ahead.bytes())) else {
         ahead.refill(cursor, stored, input)?;
         return Ok(None);
