@@ -6,13 +6,14 @@ import base64
 import contextlib
 import json
 import os
-import shutil
 import signal
 import socket
 import subprocess
 import time
 import urllib.error
 import urllib.request
+
+import common
 
 # The keys of WebDriver.
 KEYS = {
@@ -79,7 +80,7 @@ class Browser:
 
 
 class Chromium(Browser):
-    name = "Chromium"
+    name, programs = "Chromium", ("chromium|google-chrome", "chromedriver")
 
     def __init__(self, program, driver, folder):
         self.process = subprocess.Popen([driver, "--port=0"], stdout=subprocess.PIPE, stderr=subprocess.DEVNULL, text=True)
@@ -143,7 +144,7 @@ MARIONETTE = {
 
 
 class Firefox(Browser):
-    name = "Firefox"
+    name, programs = "Firefox", ("firefox-esr|firefox",)
 
     def __init__(self, program, folder):
         profile = os.path.join(folder, "profile")
@@ -208,21 +209,12 @@ class Firefox(Browser):
             self.process.wait()
 
 
-def found(*names):
-    """The paths of programs, or none with a line that says which are missing."""
-    paths = [next((path for path in map(shutil.which, name.split("|")) if path), None) for name in names]
-    lacking = [name.replace("|", " or ") for name, path in zip(names, paths) if not path]
-    if lacking:
-        print("missing: %s" % ", ".join(lacking))
-    return None if lacking else paths
-
-
 @contextlib.contextmanager
 def started(kind, folder):
     """A browser that runs until the end of the block, or None where the machine has none. Downloads go to `folder`."""
     os.makedirs(folder)
-    paths = found("chromium|google-chrome", "chromedriver") if kind is Chromium else found("firefox-esr|firefox")
-    browser = paths and kind(*paths, folder)
+    paths = [common.found(name) for name in kind.programs]
+    browser = kind(*paths, folder) if all(paths) else None
     try:
         yield browser
     finally:

@@ -18,8 +18,8 @@ MODEL = os.path.join(TOP, "tools", "model", "model.py")
 MODEL_OF_ITEMS = os.path.join(TOP, "tools", "model", "model_items.py")
 GOLDEN = os.path.join(TOP, "tools", "golden.jsonl")
 
-# The status of a tool that found a difference, that was called wrongly, and that lacks its program.
-DIFFERS, WRONG_USE, NO_PROGRAM = 1, 2, 3
+# The status of a tool that found a difference, that was called wrongly, that lacks its program, and that may skip nothing.
+DIFFERS, WRONG_USE, NO_PROGRAM, SKIPPED = 1, 2, 3, 4
 
 
 def version():
@@ -31,6 +31,32 @@ def version():
 def stop(status, message):
     print("%s: %s" % (os.path.basename(sys.argv[0]), message), file=sys.stderr)
     sys.exit(status)
+
+
+# ---- what a machine lacks
+
+
+def skip(why):
+    """Prints why something is skipped. `.ci/run` collects these lines in a file that it names; with `--all` the tool ends here."""
+    print(why, flush=True)
+    if "PULLEYNAVY_SKIPPED" in os.environ:
+        with open(os.environ["PULLEYNAVY_SKIPPED"], "a", encoding="utf-8") as file:
+            file.write(why + "\n")
+    if "PULLEYNAVY_ALL" in os.environ:
+        sys.exit(SKIPPED)
+
+
+def found(name):
+    """The path of a program. If it is missing, what needs it is skipped. `a|b` is one of two programs."""
+    path = next((path for path in map(shutil.which, name.split("|")) if path), None)
+    if not path:
+        skip("missing: %s" % name.replace("|", " or "))
+    return path
+
+
+def all_found(names):
+    """Whether all these programs are there. Each that is missing is reported."""
+    return all([found(name) for name in names])
 
 
 # ---- arguments

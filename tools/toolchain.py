@@ -9,18 +9,10 @@ import common
 LINUX = "x86_64-unknown-linux-gnu"
 
 
-def found(name):
-    """The path of a program. Reports a missing one."""
-    path = shutil.which(name)
-    if not path:
-        print("missing: %s" % name)
-    return path
-
-
 @functools.lru_cache(maxsize=None)
 def folder():
     """The folder of the toolchain, which has the page that `rt doc` names."""
-    if not found("rt"):
+    if not shutil.which("rt"):
         common.stop(common.NO_PROGRAM, "rt is not on the path")
     return os.path.dirname(subprocess.run(["rt", "doc"], stdout=subprocess.PIPE, check=True).stdout.decode().strip())
 

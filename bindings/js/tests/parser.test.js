@@ -84,6 +84,23 @@ test("a limit beyond 2^53 is a bigint", () => {
     assert.equal(itemsOf(HEADER + "\x05\x0a\x01\x04" + large)[0].type.initial, 2n ** 53n);
 });
 
+test("types with their offsets", () => {
+    const [group, single] = itemsOf(HEADER + "\x01\x0e\x02\x4e\x02\x60\x01\x7f\0\x50\0\x5f\0\x60\0\0");
+    assert.deepEqual([group.explicit, group.start, group.end, single.explicit, single.start, single.end], [true, 11, 21, false, 21, 24]);
+    assert.deepEqual([...group.types, ...single.types], [
+        { kind: "func", start: 13, end: 17, final: true, supertype: null, params: ["i32"], results: [] },
+        { kind: "struct", start: 17, end: 21, final: false, supertype: null, fields: [] },
+        { kind: "func", start: 21, end: 24, final: true, supertype: null, params: [], results: [] },
+    ]);
+});
+
+test("an addend beyond 2^53 is a bigint", () => {
+    const [low, zero] = ["\xff".repeat(7), "\x80".repeat(7)], addends = [zero + "\x70", low + "\x6f", low + "\x0f", zero + "\x10"];
+    const data = "\x0areloc.CODE\x0a\x04" + addends.map(addend => "\x0e\0\0" + addend).join("");
+    const [, custom] = parse(bytes(HEADER + "\0" + String.fromCharCode(data.length) + data));
+    assert.deepEqual(custom.contents.relocations.map(one => one.addend), [-(2 ** 53), -(2n ** 53n) - 1n, 2 ** 53 - 1, 2n ** 53n]);
+});
+
 test("events of functions and their bodies", () => {
     assert.deepEqual([...parse(bytes(FUNCTIONS))], [
         { kind: "version", offset: 0, start: 0, end: 8, version: 1, encoding: "module" },

@@ -61,6 +61,9 @@ class Items(unittest.TestCase):
         self.assertEqual(Module(HEADER + b"\5\4\1\1\0\0").memories, [Memory(Limits(0, 0, False, False), None)])
         self.assertEqual(module.globals, [Global(ValueType(TypeKind.I32), True, False)])
 
+    def test_a_page_of_one_byte(self):
+        self.assertEqual(Module(HEADER + b"\5\4\1\x08\1\0").memories, [Memory(Limits(1, None, False, False), 0)])
+
     def test_exports(self):
         module = Module(HEADER + b"\7\x0a\2\2\xc3\xa9\4\5\1a\3\0")
         self.assertEqual(module.exports, [Export("é", ExternalKind.TAG, 5), Export("a", ExternalKind.GLOBAL, 0)])
@@ -159,6 +162,17 @@ class Streams(unittest.TestCase):
         custom = list(pulleynavy.events(io.BytesIO(stream), 1000))[1]
         self.assertEqual((custom.name, custom.data), ("x", bytes(100_000)))
 
+    def test_what_is_stored_is_kept_when_the_storage_grows(self):
+        data = b"\1x" + bytes(number % 251 for number in range(200_000))
+        size = bytes([len(data) & 0x7F | 0x80, len(data) >> 7 & 0x7F | 0x80, len(data) >> 14])
+        # A part larger than any chunk, small parts between large ones, and parts of which most bytes are stored first.
+        streams = [HEADER + b"\0" + size + data, HEADER + b"\0\1\0\0\7\1bZZZZZ", HEADER + b"".join(b"\0%c\1a" % (2 + count) + b"Z" * count for count in range(100))]
+        for stream in streams:
+            for chunk in (1, 2, 3, 4, 5, 1000, 65536):
+                events = list(pulleynavy.events(io.BytesIO(stream), chunk))
+                self.assertEqual(b"".join(event.raw for event in events), stream)
+                self.assertEqual((events[-1].kind, events[-2].end), (EventKind.END, len(stream)))
+
     def test_a_path_in_place_of_a_file(self):
         with tempfile.NamedTemporaryFile() as file:
             file.write(FUNCTIONS)
@@ -168,6 +182,17 @@ class Streams(unittest.TestCase):
                 self.assertEqual(list(pulleynavy.events(path)), list(pulleynavy.events(io.BytesIO(FUNCTIONS))))
         with self.assertRaises(FileNotFoundError):
             Module.read("no such file")
+
+    def test_features_of_a_path_and_of_a_file(self):
+        stream = HEADER + b"\2\x0a\1\1m\0\x7e\0\5\1\1a"
+        with tempfile.NamedTemporaryFile() as file:
+            file.write(stream)
+            file.flush()
+            for source in (file.name, pathlib.Path(file.name), io.BytesIO(stream)):
+                with self.assertRaises(Fault) as caught:
+                    Module.read(source, pulleynavy.MEMORY64).imports
+                self.assertEqual((caught.exception.kind, caught.exception.offset), (FaultKind.COMPACT_7E, 14))
+            self.assertEqual([one.name for one in Module.read(file.name, pulleynavy.COMPACT_IMPORTS).imports], ["a"])
 
     def test_a_file_in_text_mode_and_bytes_in_place_of_a_file(self):
         for read in (Module.read, lambda file: list(pulleynavy.events(file))):
