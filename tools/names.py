@@ -26,6 +26,8 @@ ELSEWHERE = {
     "Rattle's std": "OnErr decimal",
     "Rust's std": "bool Display Write",
     "the system": "x86_64 PKG_CONFIG_PATH LD_LIBRARY_PATH",
+    "custom sections that only other programs read": "target_features",
+    "a constant that the prover refuses": "TAKES_MEMORY",
 }
 KNOWN_ELSEWHERE = set(" ".join(ELSEWHERE.values()).split())
 # Folders of sources in other languages, with all words in them.
