@@ -25,6 +25,8 @@ OF_CRATE = re.compile(r"((?:`[\w:]+`(?:, | and )?)+) of `(wasm_\w+)`")
 ELSEWHERE = {
     "Rattle's std": "OnErr decimal",
     "Rust's std": "bool Display Write",
+    "C functions of the toolchain": "rattle_alloc rattle_realloc rattle_dealloc rattle_open_dir_at rattle_arg rattle_env rattle_env_at"
+    " rattle_errno rattle_set_errno",
     "the system": "x86_64 PKG_CONFIG_PATH LD_LIBRARY_PATH",
     "custom sections that only other programs read": "target_features",
     "a constant that the prover refuses": "TAKES_MEMORY",
