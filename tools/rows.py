@@ -12,6 +12,9 @@ import common
 TABLE = os.path.join(common.TOP, "crates", "wasm_rows", "stdout")
 INPUT = os.path.join(common.TOP, "crates", "wasm_rows", "stdin")
 
+# The readers whose rows no model computes, each with the reason. A row of another reader has to have a model.
+WITHOUT_MODEL = {}
+
 # The bits of the features.
 FEATURES = {"none": 0, "memory64": 1, "compact": 2, "all": 3}
 NAMES = {bits: name for name, bits in FEATURES.items()}

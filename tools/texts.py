@@ -314,6 +314,10 @@ def rec_group(node):
     return "rec(%s %s )" % (node["explicit"], some(map(sub_type, types)))
 
 
+def type_section(node):
+    return "#%d[%s]" % (len(node.under), "".join(placed(one, rec_group) + " " for one in node.under))
+
+
 def table_type(node):
     return "table(%s %s %s %s %s )" % (type_of(node, "element_type"), node["table64"], node["initial"], node.any("maximum"), node["shared"])
 
@@ -662,8 +666,9 @@ def counted(item):
     return text
 
 
-# The text of each custom section, by its row.
+# The text of each custom section, and of a type section, by its row.
 CUSTOM = {
+    "types": type_section,
     "namemap": name_map,
     "indirect": indirect_map,
     "names": lambda node: subsections(node, name_part),

@@ -790,6 +790,7 @@ ITEMS = {"bool": boolean, "u32": u32, "string": name, "kind": kind, "typeref": t
          "constexpr": constexpr, "symbol": symbol, "comdat": comdat, "relocation": relocation, "corevalue": corevalue,
          "instance": instance, "frame": frame, "compactitem": compact, "producersvalue": producers_value}
 SECTIONS = {"bools": lambda r: listed(r, boolean), "u32s": lambda r: listed(r, u32), "strings": lambda r: listed(r, name),
+            "types": lambda r: listed(r, recgroup).partition(" ")[2],
             "flatimports": flatimports, "namemap": namemap, "indirect": indirect, "names": names, "dylink": dylink,
             "hints": hints, "producers": producers, "linking": linking, "reloc": reloc, "core": core,
             "coremodules": coremodules, "coreinstances": coreinstances, "corestack": corestack, "known": custom}

@@ -1,0 +1,291 @@
+"""Which names of documents, in code type, the sources don't have, or don't have where the document says.
+
+A name is a word with an underscore or with capital letters inside. Every document may name what the crates, the bindings, the page, the
+tools and the tests declare. DEFINITIONS.md names the file of each definition, and PROVED.md the clauses of functions.
+"""
+import functools
+import glob
+import os
+import re
+
+import common
+import declared
+
+WORD = re.compile(r"(?<![\w/.\-#$])[A-Za-z_]\w*(?:(?:::|\.)[A-Za-z_]\w*)*(?![\w/\-])")
+IS_NAME = re.compile(r"[a-z0-9]\w*_\w+|[A-Z][A-Z0-9]*_[A-Z0-9_]+|[A-Z][a-z0-9]+[A-Z]\w*")
+CALL = re.compile(r"(?:[\w.]+\.|\w+::)?(\w+)\(((?:&?(?:mut )?\w+(?:, )?)*)\)")
+QUOTED = re.compile(r"`([^`]+)`")
+# Quoted names, each perhaps with what a clause cites in parentheses.
+SEVERAL = r"(?:`[^`]+`(?: \([^)]*\))?(?:,? and |, )?)+"
+ON = re.compile(r"(%s)(?<! ) (?:on|of) (?:the trait )?((?:`[^`]+`(?:, | and )?)+)" % SEVERAL)
+AT_FILE = re.compile(r"((?:`\w+`(?:, | and )?)+) in `([\w/.]+\.(?:antt|rt|rs|py))`")
+OF_CRATE = re.compile(r"((?:`[\w:]+`(?:, | and )?)+) of `(wasm_\w+)`")
+
+# Names that no source of this repository declares, by where they come from.
+ELSEWHERE = {
+    "Rattle's std": "OnErr decimal",
+    "Rust's std": "bool Display Write",
+    "C functions of the toolchain": "rattle_alloc rattle_realloc rattle_dealloc rattle_open_dir_at rattle_arg rattle_env rattle_env_at"
+    " rattle_errno rattle_set_errno",
+    "the system": "x86_64 PKG_CONFIG_PATH LD_LIBRARY_PATH",
+    "custom sections that only other programs read": "target_features",
+    "a constant that the prover refuses": "TAKES_MEMORY",
+}
+KNOWN_ELSEWHERE = set(" ".join(ELSEWHERE.values()).split())
+# Folders of sources in other languages, with all words in them.
+OTHERS = ("bindings", "page", "tools", "tests", "benches", "crates/wasm_c/include", "crates/wasm_c/examples")
+# Names what types of wasmparser have and these don't.
+OF_ORIGINAL = ("DIFFERENCES.md",)
+DOCUMENTS = ("README.md", "CONTRIBUTING.md", "docs/*.md", "tools/README.md", "bindings/*/README.md")
+
+
+@functools.lru_cache(maxsize=None)
+def other_words():
+    """The words of the sources in other languages. In C all names begin with that of the library, which documents may leave out."""
+    found = set()
+    for top in OTHERS:
+        for folder, folders, names in os.walk(os.path.join(common.TOP, top)):
+            folders[:] = [name for name in folders if name not in ("__pycache__", "node_modules", "target", "dist")]
+            for name in names:
+                if not name.endswith((".md", ".jsonl", ".png", ".html")):
+                    found.update(re.findall(r"\w+", declared.read(os.path.join(folder, name))))
+    return found | {re.sub("^pulleynavy_", "", word, flags=re.I) for word in found}
+
+
+@functools.lru_cache(maxsize=None)
+def all_names():
+    """All names that a document may have."""
+    crates = [declared.crate(name) for name in common.crates()]
+    parameters = {parameter for one in crates for function in one.functions for parameter in function.parameters}
+    return other_words().union(parameters, KNOWN_ELSEWHERE, common.crates(), *(one.names() | one.proofs | one.for_callers for one in crates))
+
+
+def lines_of(path):
+    """The lines of a document that are no code, with their numbers."""
+    is_code = False
+    for number, line in enumerate(declared.read(path).split("\n"), 1):
+        if line.lstrip().startswith("```"):
+            is_code = not is_code
+        elif not is_code and not line.startswith("    "):
+            yield number, line
+
+
+def rows_of(path, count):
+    """The rows of a document's tables with `count` cells: the number of the line, the crates of the heading, and the cells."""
+    heading, is_head = "", True
+    for number, line in lines_of(path):
+        if line.startswith("#"):
+            heading = line
+        cells = [cell.strip() for cell in line.strip("|").split(" | ")] if line.startswith("|") else []
+        if not line.startswith("|---"):
+            if len(cells) == count and not is_head:
+                yield number, crates_in(heading), cells
+            is_head = not cells
+        else:
+            is_head = False
+
+
+def crates_in(text):
+    return [name for name in re.findall(r"`(wasm_\w+)`", text) if name in common.crates()]
+
+
+def with_libraries(crates):
+    """These crates and those below them."""
+    return {one for crate in crates for one in common.crates_of(crate)}
+
+
+# ---- any document
+
+
+def parts_missing(quoted):
+    """The names in quoted code that nothing declares."""
+    for word in WORD.findall(quoted):
+        for part in re.split(r"::|\.", word):
+            if IS_NAME.fullmatch(part) and part not in all_names():
+                yield part
+
+
+def has_member(crates, owner, member):
+    """Whether a type, a trait or a module of these crates has this member."""
+    functions = [function for crate in crates for function in declared.crate(crate).functions if function.name == member]
+    if not owner[0].isupper():
+        return bool(functions)
+    ghosts = (declared.crate(crate).ghosts.get(member, ()) for crate in crates)
+    cases = (declared.crate(crate).members for crate in crates)
+    return any(owner in one for one in (*(function.owners for function in functions), *ghosts)) or any((owner, member) in one for one in cases)
+
+
+def is_declared(name, crates):
+    """Whether these crates declare a name, perhaps with its type or module before it."""
+    owner, _, member = name.rpartition("::")
+    if owner:
+        return has_member(crates, owner.split("::")[-1], member)
+    return any(name in declared.crate(crate).names() for crate in crates)
+
+
+def wrong_members(quoted):
+    """Members that no type of the crates with that name has."""
+    for word in WORD.findall(quoted):
+        owner, _, member = word.rpartition("::")
+        owner = owner.split("::")[-1]
+        if owner[:1].isupper() and any(owner in declared.crate(crate).items for crate in common.crates()):
+            if not has_member(common.crates(), owner, member):
+                yield "no %s of %s" % (member, owner)
+
+
+def wrong_calls(quoted):
+    """A call with names as arguments that are not those of a function's parameters."""
+    call = CALL.fullmatch(quoted)
+    if not call or not call[2]:
+        return
+    given = [re.sub(r"^&?(?:mut )?", "", argument) for argument in call[2].split(", ")]
+    functions = [one for crate in common.crates() for one in declared.crate(crate).functions if one.name == call[1]]
+    if functions and given not in [one.parameters for one in functions]:
+        yield "`%s`, and its parameters are %s" % (quoted, " or ".join(sorted({", ".join(one.parameters) for one in functions})))
+
+
+def wrong_places(line):
+    """Names that are not in the file or the crate that a line says."""
+    for names, path in AT_FILE.findall(line):
+        found = [file for file in glob.glob(os.path.join(common.TOP, "**", path), recursive=True) if os.path.isfile(file)]
+        for name in QUOTED.findall(names):
+            if not any(re.search(r"\b%s\b" % name, declared.read(one)) for one in found):
+                yield "no %s in %s" % (name, path)
+    for names, crate in OF_CRATE.findall(line):
+        for name in QUOTED.findall(names):
+            if crate in common.crates() and not (is_declared(name, [crate]) or name in declared.crate(crate).texts | declared.crate(crate).proofs):
+                yield "no %s in %s" % (name, crate)
+
+
+def wrong_lines(path):
+    """What a document says in code type that the sources don't have."""
+    for number, line in lines_of(path):
+        for quoted in QUOTED.findall(line):
+            for name in parts_missing(quoted):
+                yield number, "no %s in the sources" % name
+            if os.path.dirname(path) == os.path.join(common.TOP, "docs") and os.path.basename(path) not in OF_ORIGINAL:
+                yield from ((number, text) for text in (*wrong_members(quoted), *wrong_calls(quoted)))
+        for text in wrong_places(line):
+            yield number, text
+
+
+# ---- definitions
+
+
+def named_definitions(cell, crates):
+    """The definitions that a cell names, each with its file of specs and the crates that may have it; a file alone has no name."""
+    module = None
+    for part in cell.split(";"):
+        own = re.match(r"\s*`(wasm_\w+)`:", part)
+        where = [own[1]] if own else crates
+        names, _, modules = part.partition("` of `")
+        if modules:
+            yield from ((file, name, where) for file in QUOTED.findall("`" + modules) for name in QUOTED.findall(names + "`"))
+            continue
+        for quoted in QUOTED.findall(part[own.end() :] if own else part):
+            file, _, name = quoted.rpartition(".")
+            module = file or module
+            is_file = not file and any(name in declared.crate(crate).specs for crate in where)
+            yield (name, "", where) if is_file else (module, name, where)
+
+
+def wrong_definitions(path):
+    """Definitions that are not in the file of specs that the table says."""
+    for number, crates, cells in rows_of(path, 3):
+        for module, name, where in named_definitions(cells[1], crates) if crates else ():
+            files = [declared.crate(crate).specs[module] for crate in where if module in declared.crate(crate).specs]
+            if not files:
+                yield number, "no file of specs %s in %s" % (module, ", ".join(where))
+            elif name and not any(name in names for names in files):
+                yield number, "no %s in %s of %s" % (name, module, ", ".join(where))
+
+
+# ---- clauses
+
+
+def has_clause(crates, target, clause):
+    """Whether a function, a type or a definition has a clause, a ghost member or a field of this name."""
+    owner, _, name = target.partition("(")[0].rpartition("::")
+    owner = owner if owner[:1].isupper() else ""
+    all_crates = [declared.crate(crate) for crate in crates]
+    functions = [one for crate in all_crates for one in crate.functions if one.name == name and (not owner or owner in one.owners)]
+    owners = {one for function in functions for one in function.owners}
+    of_owners = [one for crate in all_crates for one in crate.functions if name in one.owners or one.name == name and owners & set(one.owners)]
+    ghosts = set().union(*(crate.ghosts.get(clause, ()) for crate in all_crates))
+    return (
+        any(clause in one.clauses for one in functions + of_owners)
+        or any(clause == one.name for one in of_owners)
+        or name in ghosts
+        or (clause == name + "_gives" and bool(ghosts))
+        or any({name, clause} <= names for crate in all_crates for names in crate.specs.values())
+    )
+
+
+def clauses_in(text, crates):
+    """The names of clauses and ghost members in a text, without what parentheses have."""
+    known = set().union(*(declared.crate(crate).clauses | set(declared.crate(crate).ghosts) for crate in crates))
+    return [name for name in QUOTED.findall(re.sub(r"\([^)]*\)", "", text)) if name in known]
+
+
+def pairs_in(cells, crates):
+    """Each function or type with a clause that a row says it has."""
+    said = ON.findall(cells[1])
+    if not said and not re.search(r"\b(?:on|of|the)\b", cells[1]):
+        subject = re.match(r"(?:`[^`]+`(?:, | and |,)?)+", cells[0])
+        said = [(cells[1], subject[0])] if subject else []
+    for clauses, targets in said:
+        for target in QUOTED.findall(targets):
+            for clause in clauses_in(clauses, crates):
+                yield target, clause
+
+
+def names_in_row(cell):
+    """The names that a cell of clauses cites."""
+    for quoted in QUOTED.findall(cell):
+        if re.fullmatch(r"\w+(?:::\w+)*", quoted):
+            yield quoted
+
+
+def wrong_clauses(path):
+    """Clauses and definitions that the crates of the heading don't have, and functions without the clause that a row says."""
+    for number, heading, cells in rows_of(path, 2):
+        crates = with_libraries(heading + ["wasm_plain"] * ("wasm_c" in heading))
+        if not heading:
+            continue
+        for name in names_in_row(cells[1]):
+            is_known = name in KNOWN_ELSEWHERE or name in common.crates()
+            if not (is_known or is_declared(name, crates) or is_declared("pulleynavy_" + name, crates)):
+                yield number, "no %s in %s" % (name, ", ".join(heading))
+        for target, clause in pairs_in(cells, crates):
+            if not has_clause(crates, target, clause):
+                yield number, "no clause %s on %s" % (clause, target)
+
+
+def wrong_statements(path):
+    """Statements for callers that the modules ForCallers don't pass on, and those that no row has."""
+    listed = {}
+    for number, crates, cells in rows_of(path, 2):
+        if crates and cells[0].startswith("`"):
+            for name in QUOTED.findall(cells[0]):
+                listed[name] = number
+    passed_on = declared.crate("wasm_parser").for_callers | declared.crate("wasm_feeder").for_callers
+    for name in sorted(set(listed) - passed_on):
+        yield listed[name], "no %s in ForCallers" % name
+    told = set(QUOTED.findall(declared.read(path)))
+    for name in sorted(passed_on - told):
+        yield 1, "nothing of %s, which ForCallers passes on" % name
+
+
+def wrong_names():
+    """What documents name that is not there, as texts with the file and the line."""
+    paths = [path for pattern in DOCUMENTS for path in sorted(glob.glob(os.path.join(common.TOP, pattern)))]
+    for path in paths:
+        found = list(wrong_lines(path))
+        if path.endswith("DEFINITIONS.md"):
+            found += wrong_definitions(path)
+        if path.endswith("PROVED.md"):
+            found += wrong_clauses(path)
+        if path.endswith("PROOFS.md"):
+            found += wrong_statements(path)
+        for number, text in sorted(set(found)):
+            yield "%s:%d: %s" % (os.path.relpath(path, common.TOP), number, text)
