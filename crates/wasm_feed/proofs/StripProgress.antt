@@ -280,8 +280,8 @@ module _ (keeps : List ℕ → Bool) (source rest taken written : Option (List �
   -- a request could not be met
   pub stopped_here : (written' : Option (List ℕ)) (e : ListError) → StopsHere keeps rest rest' written written' c stored chunk page e
       → StripsHead keeps (from_to source rest') (from_to taken written')
-  stopped_here written' e (inl ((given, gave, same), skips)) = rw same (gave_up_at_once keeps source rest taken written (lending stored chunk c) page
-      (progress.progress_of w) rest' given gave)
+  stopped_here written' e (inl ((given, gave, same), skips)) = rw same (gave_up_at_once keeps source rest taken written
+      (lending stored chunk c) page (progress.progress_of w) rest' given gave)
   stopped_here written' e (inr x) = gave_up_within x.passing x.skipped x.skips x.up.given x.up.gave x.up.passed x.left x.up.parts
       (few_before written' x.passing.stays x.passing.size x.up.passed x.left x.page e x.up.ends) written'
       (head_before written written' x.passing.stays x.passing.size page x.up.passed x.left x.page e x.up.ends)
