@@ -8,6 +8,7 @@ mod walking;
 mod worked;
 
 use crate::tests::same;
+use std::ops::Range;
 use std::process::Abort;
 use wasm_parser::{Chunk, Error, ParseAll, Parser, Payload};
 
@@ -42,6 +43,11 @@ fn end_of(chunk: &Chunk<'_>) -> Option<u64> {
 // Where the stream ends, if it does so here.
 fn end(parser: &mut Parser) -> Option<u64> {
     end_of(&parser.parse(b"", true).ok()?)
+}
+
+// The id of a section and the range of its content.
+fn section_of(payload: Payload<'_>) -> Option<(u8, Range<u64>)> {
+    payload.as_section()
 }
 
 // The next payload of a walk.

@@ -2,14 +2,19 @@
 use super::HEADER;
 use crate::tests::is_printed;
 use std::alloc::Global;
+use std::fmt::Debug;
 use std::process::Abort;
-use wasm_parser::Parser;
+use wasm_parser::{Parser, Result};
 
-// What the parser returns for these bytes is printed so, after its first words.
-fn is_parsed(rt: &impl Abort, alloc: Global, parser: &mut Parser, bytes: &[u8], text: &str) {
-    let chunk = parser.parse(bytes, true).expect(rt, "a fault");
+// What the parser returned is printed so, after its first words.
+pub(super) fn is_parsed<T: Debug + Drop>(
+    rt: &impl Abort,
+    alloc: Global,
+    chunk: Result<T>,
+    text: &str,
+) {
     let wanted = format!(in alloc; "Parsed {{ consumed: {text}").expect(rt, "out of memory");
-    is_printed(rt, alloc, &chunk, wanted.as_str());
+    is_printed(rt, alloc, &chunk.expect(rt, "a fault"), wanted.as_str());
 }
 
 /// The parts of a module, and what is returned for each.
@@ -56,7 +61,7 @@ const PAYLOADS: [(&[u8], &str); 18] = [
 fn payloads_as_debug_text(rt: HostRuntime) {
     let mut parser = Parser::new(0);
     for (bytes, text) in &PAYLOADS {
-        is_parsed(&rt, rt.alloc(), &mut parser, bytes, text);
+        is_parsed(&rt, rt.alloc(), parser.parse(bytes, true), text);
     }
 }
 
@@ -89,7 +94,7 @@ const LARGE: [(&[u8], &str); 6] = [
 fn large_numbers_as_debug_text(rt: HostRuntime) {
     let mut parser = Parser::new(1000);
     for (bytes, text) in &LARGE {
-        is_parsed(&rt, rt.alloc(), &mut parser, bytes, text);
+        is_parsed(&rt, rt.alloc(), parser.parse(bytes, true), text);
     }
 }
 
@@ -114,6 +119,6 @@ const COMPONENT: [(&[u8], &str); 4] = [
 fn a_components_payloads_as_debug_text(rt: HostRuntime) {
     let mut parser = Parser::new(1000);
     for (bytes, text) in &COMPONENT {
-        is_parsed(&rt, rt.alloc(), &mut parser, bytes, text);
+        is_parsed(&rt, rt.alloc(), parser.parse(bytes, true), text);
     }
 }

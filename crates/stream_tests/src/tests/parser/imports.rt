@@ -8,9 +8,9 @@ use wasm_parser::{ImportSection, ImportSectionReader, Parser, Payload, WasmFeatu
 // A module whose import section has a bundle of two functions.
 const GROUP: &[u8] = b"\0asm\x01\0\0\0\x02\x0e\x01\x01m\0\x7f\x02\x01a\0\x03\x01b\0\x04";
 
-fn imports<'a>(payload: &Payload<'a>) -> Option<ImportSectionReader<'a>> {
+fn imports<'a>(payload: Payload<'a>) -> Option<ImportSectionReader<'a>> {
     match payload {
-        Payload::ImportSection(section) => section.clone().ok(),
+        Payload::ImportSection(section) => Some(section),
         _other => None,
     }
 }
@@ -21,7 +21,7 @@ fn imports_are(rt: &impl Abort, alloc: Global, features: WasmFeatures, texts: &[
     parser.set_features(features);
     let mut walk = parser.parse_all(GROUP);
     drop(next(rt, &mut walk));
-    let section = imports(&next(rt, &mut walk)).expect(rt, "no imports");
+    let section = imports(next(rt, &mut walk)).expect(rt, "no imports");
     gives(rt, alloc, section.into_imports_with_offsets(), texts);
 }
 

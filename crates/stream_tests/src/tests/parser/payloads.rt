@@ -38,9 +38,9 @@ fn a_component(rt: HostRuntime) {
 }
 
 // The bytes of an unknown section.
-fn contents_of<'a>(payload: &Payload<'a>) -> Option<&'a [u8]> {
+fn contents_of<'a>(payload: Payload<'a>) -> Option<&'a [u8]> {
     match payload {
-        Payload::UnknownSection { contents, .. } => Some(*contents),
+        Payload::UnknownSection { contents, .. } => Some(contents),
         _other => None,
     }
 }
@@ -50,7 +50,7 @@ fn contents_of_an_unknown_section(rt: HostRuntime) {
     let mut walk = Parser::new(1000).parse_all(COMPONENT);
     drop(next(&rt, &mut walk));
     let section = next(&rt, &mut walk);
-    same(&rt, contents_of(&section), Some(b"\0".as_slice()));
+    same(&rt, contents_of(section), Some(b"\0".as_slice()));
 }
 
 // What a payload has beside its debug text: the first offset of its items, or its bytes, and their offsets and features.
@@ -61,7 +61,7 @@ enum Inside<'a> {
     Nothing,
 }
 
-fn inside_of<'a>(payload: &Payload<'a>) -> Inside<'a> {
+fn inside_of<'a>(payload: Payload<'a>) -> Inside<'a> {
     match payload {
         Payload::FunctionSection(section) => {
             Inside::Functions(
@@ -99,7 +99,6 @@ fn functions_bodies_and_custom_sections(rt: HostRuntime) {
     parser.set_features(set);
     let mut walk = parser.parse_all(MODULE);
     for wanted in wanted {
-        let payload = next(&rt, &mut walk);
-        same(&rt, inside_of(&payload), wanted);
+        same(&rt, inside_of(next(&rt, &mut walk)), wanted);
     }
 }

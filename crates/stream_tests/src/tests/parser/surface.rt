@@ -1,5 +1,5 @@
 // The calls of a parser beside `parse`, and the ids of payloads.
-use super::{HEADER, after_header, end, next, pass, refusal};
+use super::{HEADER, after_header, end, next, pass, refusal, section_of};
 use crate::tests::same;
 use bitflags::Flags;
 use wasm_parser::{Encoding, Error, Fault, Parser, Payload, WasmFeatures};
@@ -121,14 +121,13 @@ fn sections_by_their_payloads(rt: HostRuntime) {
     ];
     let mut walk = Parser::new(0).parse_all(SECTIONS);
     for wanted in &wanted {
-        let payload = next(&rt, &mut walk);
-        same(&rt, &payload.as_section(), wanted);
+        same(&rt, &section_of(next(&rt, &mut walk)), wanted);
     }
     assert!(rt; walk.next().is_none());
 }
 
 // The id and the count of a payload that begins with a count of items.
-fn counted(payload: &Payload<'_>) -> Option<(u8, u32)> {
+fn counted(payload: Payload<'_>) -> Option<(u8, u32)> {
     let section = payload.as_counted()?;
     Some((section.id, section.count))
 }
@@ -157,8 +156,7 @@ fn counted_sections_by_their_payloads(rt: HostRuntime) {
     ];
     let mut walk = Parser::new(0).parse_all(SECTIONS);
     for wanted in wanted {
-        let payload = next(&rt, &mut walk);
-        same(&rt, counted(&payload), wanted);
+        same(&rt, counted(next(&rt, &mut walk)), wanted);
     }
     assert!(rt; walk.next().is_none());
 }

@@ -44,9 +44,9 @@ fn a_walk_near_the_top_of_the_offsets(rt: HostRuntime) {
 }
 
 // The types of a function section.
-fn functions<'a>(payload: &Payload<'a>) -> Option<SectionLimited<'a, u32>> {
+fn functions<'a>(payload: Payload<'a>) -> Option<SectionLimited<'a, u32>> {
     match payload {
-        Payload::FunctionSection(section) => section.clone().ok(),
+        Payload::FunctionSection(section) => Some(section),
         _other => None,
     }
 }
@@ -56,7 +56,7 @@ fn items_of_a_section_begin_after_its_count(rt: HostRuntime) {
     let stream = b"\0asm\x01\0\0\0\x03\x04\x02\x05\x80\x01";
     let mut walk = Parser::new(100).parse_all(stream);
     drop(next(&rt, &mut walk));
-    let section = functions(&next(&rt, &mut walk)).expect(&rt, "no functions");
+    let section = functions(next(&rt, &mut walk)).expect(&rt, "no functions");
     same(&rt, section.range(), 110..114);
     let texts = ["Ok((111, 5))", "Ok((112, 128))"];
     gives(&rt, rt.alloc(), section.into_iter_with_offsets(), &texts);

@@ -1,6 +1,7 @@
 // A small module, call by call and chunk by chunk, and what a code section announces beyond its bytes.
-use super::{after_header, end, next, pass};
-use crate::tests::{SMALL, is_printed, same};
+use super::debug::is_parsed;
+use super::{after_header, end, next, pass, section_of};
+use crate::tests::{SMALL, same};
 use wasm_parser::{Chunk, Parser};
 
 #[test]
@@ -8,7 +9,7 @@ fn sections_of_a_small_module(rt: HostRuntime) {
     let wanted = [None, Some((3, 10..12)), Some((10, 14..18)), None, None];
     let mut walk = Parser::new(0).parse_all(SMALL);
     for wanted in &wanted {
-        same(&rt, &next(&rt, &mut walk).as_section(), wanted);
+        same(&rt, &section_of(next(&rt, &mut walk)), wanted);
     }
     assert!(rt; walk.next().is_none());
 }
@@ -75,10 +76,8 @@ fn hints_behind_the_start_of_a_code_section(rt: HostRuntime) {
 fn a_code_section_of_four_gigabytes(rt: HostRuntime) {
     let mut parser = after_header(&rt, 0);
     pass(&rt, &mut parser, b"\x03\x02\x01\0");
-    let chunk = parser
-        .parse(b"\x0a\xff\xff\xff\xff\x0f\x01", false)
-        .expect(&rt, "a fault");
-    let text = "Parsed { consumed: 7, payload: CodeSectionStart { count: 1, \
-        unchecked_range: 18..4294967313, size: 4294967294 } }";
-    is_printed(&rt, rt.alloc(), &chunk, text);
+    let chunk = parser.parse(b"\x0a\xff\xff\xff\xff\x0f\x01", false);
+    let text =
+        "7, payload: CodeSectionStart { count: 1, unchecked_range: 18..4294967313, size: 4294967294 } }";
+    is_parsed(&rt, rt.alloc(), chunk, text);
 }
