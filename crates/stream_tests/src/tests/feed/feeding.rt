@@ -1,5 +1,5 @@
 // Feeders of streams that come in chunks.
-use crate::tests::same;
+use crate::tests::{SMALL, same};
 use bitflags::Flags;
 use std::alloc::{AllocError, Allocator, Global};
 use std::ops::Range;
@@ -8,9 +8,6 @@ use std::test::Fail;
 use wasm_feed::{Feeder, Step};
 use wasm_parser::{Error, Fault, Payload, Result, WasmFeatures};
 use wasm_testing::Sparing;
-
-// A header, a function section, and a code section with one body.
-pub(super) const MODULE: &[u8] = b"\0asm\x01\0\0\0\x03\x02\x01\0\x0a\x04\x01\x02\0\x0b";
 
 // More blocks than any of these feeders takes.
 const AMPLE: u64 = 20;
@@ -79,14 +76,14 @@ fn steps_after(rt: &impl Abort, feeder: &mut Feeder, piece: &[u8]) -> (Reported,
 fn a_module_in_three_pieces(rt: HostRuntime) {
     let mut feeder = Feeder::new(rt.alloc(), 0, WasmFeatures::all());
     let rows: [(&[u8], (Reported, usize, usize)); 3] = [
-        (&MODULE[..5], (Reported::Asks(3), 5, 5)),
-        (&MODULE[5..10], (Reported::Asks(2), 2, 10)),
-        (&MODULE[10..15], (Reported::Asks(1), 0, 7)),
+        (&SMALL[..5], (Reported::Asks(3), 5, 5)),
+        (&SMALL[5..10], (Reported::Asks(2), 2, 10)),
+        (&SMALL[10..15], (Reported::Asks(1), 0, 7)),
     ];
     for (piece, wanted) in rows {
         same(&rt, steps_after(&rt, &mut feeder, piece), wanted);
     }
-    same(&rt, push(&mut feeder, &MODULE[15..]), Ok(()));
+    same(&rt, push(&mut feeder, &SMALL[15..]), Ok(()));
     same(&rt, step(&mut feeder), Reported::Shows(3));
     same(&rt, step(&mut feeder), Reported::Asks(1));
     feeder.finish();
@@ -95,6 +92,38 @@ fn a_module_in_three_pieces(rt: HostRuntime) {
         feeder.finish();
         same(&rt, step(&mut feeder), Reported::Ends(18));
     }
+}
+
+// What the next step is, and how many bytes are held after it.
+fn step_and_held(feeder: &mut Feeder) -> (Reported, usize) {
+    let now = step(feeder);
+    (now, feeder.held())
+}
+
+// Pushes a chunk. The next steps are these, each with how many bytes are held after it.
+fn steps_are(rt: &impl Abort, feeder: &mut Feeder, piece: &[u8], steps: &[(Reported, usize)]) {
+    same(rt, push(feeder, piece), Ok(()));
+    for wanted in steps {
+        same(rt, step_and_held(feeder), *wanted);
+    }
+}
+
+#[test]
+fn what_is_held_after_each_step(rt: HostRuntime) {
+    let mut feeder = Feeder::new(rt.alloc(), 0, WasmFeatures::all());
+    steps_are(&rt, &mut feeder, &SMALL[..5], &[(Reported::Asks(3), 5)]);
+    let steps = [(Reported::Shows(8), 2), (Reported::Asks(2), 2)];
+    steps_are(&rt, &mut feeder, &SMALL[5..10], &steps);
+    let steps = [
+        (Reported::Shows(4), 3),
+        (Reported::Shows(3), 0),
+        (Reported::Asks(1), 0),
+    ];
+    steps_are(&rt, &mut feeder, &SMALL[10..15], &steps);
+    let steps = [(Reported::Shows(3), 0), (Reported::Asks(1), 0)];
+    steps_are(&rt, &mut feeder, &SMALL[15..], &steps);
+    feeder.finish();
+    same(&rt, step(&mut feeder), Reported::Ends(18));
 }
 
 // The range of the section of imports that a step shows, if these are the bytes that it consumed.
@@ -167,7 +196,7 @@ fn feed<'a>(feeder: &mut Feeder, download: &'a [u8], size: usize) -> Result<&'a 
 
 // The loop that the documents show: how many bytes the last part before the end has.
 fn last_part(feeder: &mut Feeder) -> Result<usize> {
-    let mut download = MODULE;
+    let mut download = SMALL;
     let mut last = 0;
     for _ in 0..20 {
         match feeder.open().step()? {
@@ -235,7 +264,7 @@ fn note_pieces(
     steps: &mut Vec<Reported>,
 ) -> bool {
     let mut refused = false;
-    let mut rest = MODULE;
+    let mut rest = SMALL;
     for size in sizes {
         let (piece, later) = rest.split_at(rest.len().min(*size));
         rest = later;
@@ -279,24 +308,24 @@ fn repeats(rt: &impl Abort, alloc: Global, sizes: &[usize], wanted: &[Reported])
 fn refused_pushes_are_repeated(rt: HostRuntime) {
     let (asks, shows) = (Reported::Asks, Reported::Shows);
     let steps = [
-        asks(3),
-        shows(8),
-        asks(2),
-        shows(4),
-        shows(3),
-        asks(1),
-        shows(3),
-        asks(1),
+        Reported::Asks(3),
+        Reported::Shows(8),
+        Reported::Asks(2),
+        Reported::Shows(4),
+        Reported::Shows(3),
+        Reported::Asks(1),
+        Reported::Shows(3),
+        Reported::Asks(1),
         Reported::Ends(18),
     ];
     repeats(&rt, rt.alloc(), &[5, 5, 5, 3], &steps);
     let steps = [
-        shows(8),
-        asks(1),
-        shows(4),
-        shows(3),
-        shows(3),
-        asks(1),
+        Reported::Shows(8),
+        Reported::Asks(1),
+        Reported::Shows(4),
+        Reported::Shows(3),
+        Reported::Shows(3),
+        Reported::Asks(1),
         Reported::Ends(18),
     ];
     repeats(&rt, rt.alloc(), &[8, 10], &steps);

@@ -1,8 +1,8 @@
 // Chunks that a feeder borrows.
 ghost use Rattle.wasm_feed.specs.Beside.{MayCome};
 
-use super::feeding::{MODULE, Reported, push, say};
-use crate::tests::same;
+use super::feeding::{Reported, push, say};
+use crate::tests::{SMALL, same};
 use bitflags::Flags;
 use std::alloc::{AllocError, Allocator, Global};
 use std::process::Abort;
@@ -67,7 +67,7 @@ fn says_which<A: Allocator>(
 fn parts_complete_in_a_piece_are_not_stored(rt: HostRuntime) {
     let (asks, shows, ends) = (Reported::Asks, Reported::Shows, Reported::Ends);
     let mut feeder = Feeder::new(rt.alloc(), 0, WasmFeatures::all());
-    let (first, second) = MODULE.split_at(14);
+    let (first, second) = SMALL.split_at(14);
     let rows = [(shows(8), 0, 0), (shows(4), 0, 0), (asks(1), 2, 2)];
     says_which(&rt, &mut feeder, first, &rows);
     assert!(rt; feeder.wants_more());
@@ -105,7 +105,7 @@ fn only_what_a_part_misses_is_stored(rt: HostRuntime) {
 fn a_piece_comes_after_what_was_pushed(rt: HostRuntime) {
     let (asks, shows) = (Reported::Asks, Reported::Shows);
     let mut feeder = Feeder::new(rt.alloc(), 0, WasmFeatures::all());
-    let (first, second) = MODULE.split_at(13);
+    let (first, second) = SMALL.split_at(13);
     same(&rt, push(&mut feeder, first), Ok(()));
     let rows = [(shows(8), 5, 13), (shows(4), 1, 13), (asks(1), 1, 13)];
     says_which(&rt, &mut feeder, b"", &rows);
@@ -118,12 +118,12 @@ fn a_piece_comes_after_what_was_pushed(rt: HostRuntime) {
 fn a_refused_piece_is_pushed_again(rt: HostRuntime) {
     let heap = Sparing::new(rt.alloc(), 0);
     let mut feeder = Feeder::new_in(&heap, 0, WasmFeatures::all());
-    let refused = over(&mut feeder, MODULE).err();
+    let refused = over(&mut feeder, SMALL).err();
     same(&rt, refused, Some(Error::new(Fault::OutOfMemory, 0)));
     assert!(rt; feeder.wants_more());
     heap.give(20);
-    let said = over(&mut feeder, MODULE);
-    same(&rt, said, Ok((Reported::Shows(8), &MODULE[8..])));
+    let said = over(&mut feeder, SMALL);
+    same(&rt, said, Ok((Reported::Shows(8), &SMALL[8..])));
 }
 
 #[test]

@@ -1,7 +1,7 @@
 // Streams that are cut into chunks.
 use super::events;
 use super::feeding::push;
-use crate::tests::same;
+use crate::tests::{SMALL, same};
 use bitflags::Flags;
 use std::alloc::{AllocError, Global};
 use std::ops::Range;
@@ -9,9 +9,6 @@ use std::process::Abort;
 use wasm_feed::{Event, EventKind, Feeder, fits_pieces, read_pieces_in};
 use wasm_parser::{Encoding, Error, Fault, WasmFeatures};
 use wasm_testing::Sparing;
-
-// A header, a function section, and a code section with one body.
-const MODULE: &[u8] = b"\0asm\x01\0\0\0\x03\x02\x01\0\x0a\x04\x01\x02\0\x0b";
 
 // A custom section and an unknown one, whose lengths have two and three bytes, and then no section's id.
 const CUSTOM: &[u8] = b"\0asm\x01\0\0\0\0\x84\0\x01abc\x0e\x82\x80\0\x07\x08\x80";
@@ -92,13 +89,13 @@ fn readings_with_ample_memory(rt: HostRuntime) {
         (EventKind::Body, 16..18, b"\x02\0\x0b"),
         (EventKind::End, 18..18, b""),
     ];
-    gives(&rt, rt.alloc(), 0, MODULE, &wanted);
+    gives(&rt, rt.alloc(), 0, SMALL, &wanted);
 }
 
 #[test]
 fn a_push_with_ample_memory(rt: HostRuntime) {
     let mut feeder = Feeder::new(rt.alloc(), 0, WasmFeatures::all());
-    same(&rt, push(&mut feeder, MODULE), Ok(()));
+    same(&rt, push(&mut feeder, SMALL), Ok(()));
     same(&rt, feeder.held(), 18);
 }
 
@@ -171,7 +168,7 @@ fn runs_out(rt: &impl Abort, alloc: Global, stream: &[u8], least: u64) {
 
 #[test]
 fn readings_whose_memory_runs_out(rt: HostRuntime) {
-    runs_out(&rt, rt.alloc(), MODULE, 6);
+    runs_out(&rt, rt.alloc(), SMALL, 6);
     runs_out(&rt, rt.alloc(), CUSTOM, 5);
     runs_out(&rt, rt.alloc(), NUMBERS, 5);
 }

@@ -1,6 +1,6 @@
 // Loops over a source by a feeder.
-use super::feeding::{MODULE, Reported, say};
-use crate::tests::same;
+use super::feeding::{Reported, say};
+use crate::tests::{SMALL, same};
 use bitflags::Flags;
 use std::alloc::Global;
 use std::process::Abort;
@@ -48,10 +48,10 @@ fn read_by(rt: &impl Abort, alloc: Global, bytes: &[u8], size: usize) -> (u32, u
 #[test]
 fn a_source_is_read_where_more_is_asked_for(rt: HostRuntime) {
     let alloc = rt.alloc();
-    same(&rt, read_by(&rt, alloc, MODULE, 18), (2, 5, 18));
-    same(&rt, read_by(&rt, alloc, MODULE, 10), (3, 5, 10));
-    same(&rt, read_by(&rt, alloc, MODULE, 3), (7, 5, 9));
-    same(&rt, read_by(&rt, alloc, MODULE, 1), (19, 5, 8));
+    same(&rt, read_by(&rt, alloc, SMALL, 18), (2, 5, 18));
+    same(&rt, read_by(&rt, alloc, SMALL, 10), (3, 5, 10));
+    same(&rt, read_by(&rt, alloc, SMALL, 3), (7, 5, 9));
+    same(&rt, read_by(&rt, alloc, SMALL, 1), (19, 5, 8));
 }
 
 #[test]
@@ -180,9 +180,9 @@ fn read_borrowed(
 fn chunks_are_parsed_where_they_are(rt: HostRuntime) {
     let heap = rt.alloc();
     let end = Reported::Ends(18);
-    same(&rt, read_borrowed(&rt, heap, MODULE, 18), (2, 4, end));
-    same(&rt, read_borrowed(&rt, heap, MODULE, 3), (7, 4, end));
-    same(&rt, read_borrowed(&rt, heap, MODULE, 1), (19, 4, end));
+    same(&rt, read_borrowed(&rt, heap, SMALL, 18), (2, 4, end));
+    same(&rt, read_borrowed(&rt, heap, SMALL, 3), (7, 4, end));
+    same(&rt, read_borrowed(&rt, heap, SMALL, 1), (19, 4, end));
 }
 
 #[test]
