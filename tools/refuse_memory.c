@@ -2,11 +2,17 @@
  * number REFUSE_CALL, and where REFUSE_LATER is set, at every later one. The calls are counted from the program's start. For each that
  * fails, a byte is written to the file descriptor REFUSE_LOG. free is not touched.
  */
-#define _GNU_SOURCE
-#include <dlfcn.h>
-#include <errno.h>
-#include <stdlib.h>
-#include <unistd.h>
+/* The toolchain's compiler has no headers: these are the calls of glibc that this file makes. */
+typedef __SIZE_TYPE__ size_t;
+#define NULL ((void *)0)
+#define RTLD_NEXT ((void *)-1L)
+#define ENOMEM 12
+void *dlsym(void *library, const char *name);
+int *__errno_location(void);
+char *getenv(const char *name);
+unsigned long strtoul(const char *text, char **end, int base);
+long write(int file, const void *bytes, size_t count);
+void abort(void);
 
 static void *(*real_malloc)(size_t);
 static void *(*real_calloc)(size_t, size_t);
@@ -47,7 +53,7 @@ static int is_refused(void) {
         return 0;
     if (write(log_to, "x", 1) != 1)
         abort();
-    errno = ENOMEM;
+    *__errno_location() = ENOMEM;
     return 1;
 }
 
