@@ -223,13 +223,25 @@ def sources():
     yield os.path.join(TOP, "crates.txt")
 
 
+def checksum_lines(paths):
+    """The checksum and the name of each of these files, as sha256sum writes them."""
+    for path in paths:
+        with open(path, "rb") as file:
+            digest = hashlib.sha256(file.read()).hexdigest()
+        yield "%s  %s\n" % (digest, os.path.relpath(path, TOP))
+
+
+def sources_of_programs():
+    """The files that the prebuilt programs are made of, in order."""
+    for crate in sorted({crate for name in ("wasm_list", "wasm_dump") for crate in crates_of(name)}):
+        yield from sources_of(crate)
+
+
 def checksum_of_sources():
     """A checksum of the names and bytes of all sources."""
     whole = hashlib.sha256()
-    for path in sources():
-        with open(path, "rb") as file:
-            digest = hashlib.sha256(file.read()).hexdigest()
-        whole.update(("%s  %s\n" % (digest, os.path.relpath(path, TOP))).encode())
+    for line in checksum_lines(sources()):
+        whole.update(line.encode())
     return whole.hexdigest()
 
 

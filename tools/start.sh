@@ -1,0 +1,17 @@
+# For wasm_list and wasm_dump at the top: runs the prebuilt program of a name, with the arguments after it.
+#
+# prebuilt/SOURCES has the checksum of each source that the programs are made of. If one differs, tools/run proves and builds the program,
+# or without `rt` the prebuilt one runs as it is.
+start() {
+    local name=$1 prebuilt=$top/prebuilt/$1
+    shift
+    if [ "${1:-}" != --build ] && [ "$(uname -sm)" = "Linux x86_64" ] && [ -x "$prebuilt" ]; then
+        if (cd "$top" && sha256sum --check --status --strict prebuilt/SOURCES 2> /dev/null); then
+            exec "$prebuilt" "$@"
+        elif ! command -v rt > /dev/null; then
+            echo "$name: a source differs from that of the prebuilt program, which runs since there is no rt to build it" >&2
+            exec "$prebuilt" "$@"
+        fi
+    fi
+    exec "$top/tools/run" "$name" "$@"
+}
