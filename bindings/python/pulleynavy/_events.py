@@ -7,7 +7,7 @@ import dataclasses
 import os
 from typing import Any, BinaryIO, Iterator
 
-from ._library import ALL_FEATURES, Fault, load
+from ._library import ALL_FEATURES, fault_of, load
 from .declared import EventKind
 
 
@@ -102,7 +102,7 @@ def events(
         event = library.pulleynavy_feed_step(feed, storage, len(storage))
         kind = EventKind(event.kind)
         if kind is EventKind.FAULT:
-            raise Fault(library, event.fault)
+            raise fault_of(library, event.fault)
         if kind is not EventKind.NEED_MORE:
             consumed = ctypes.string_at(ctypes.addressof(storage) + feed.mark - event.consumed, event.consumed)
             yield Event(
