@@ -82,7 +82,7 @@ def events(
 ) -> Iterator[Event]:
     """Yields the events of a stream, which is read in chunks of `chunk` bytes, up to its end.
 
-    `file` is a file that was opened in binary mode, or a path. Memory use is bounded by the largest undecided part and two chunks.
+    `file` is a file that was opened in binary mode, or a path. Memory use is at most three times the size of the largest part and of a chunk.
 
     Raises `Fault` at the first fault of the stream, after the events before it; `TypeError` if the file was opened in text mode; and `OSError`
     if a path can't be opened.

@@ -12,6 +12,7 @@ import pickle
 import subprocess
 import sys
 import tempfile
+import tracemalloc
 import unittest
 
 import pulleynavy
@@ -179,6 +180,16 @@ class Streams(unittest.TestCase):
         stream = HEADER + b"\0" + bytes([len(data) & 0x7F | 0x80, len(data) >> 7 & 0x7F | 0x80, len(data) >> 14]) + data
         custom = list(pulleynavy.events(io.BytesIO(stream), 1000))[1]
         self.assertEqual((custom.name, custom.data), ("x", bytes(100_000)))
+
+    def test_memory_for_a_large_part(self):
+        for size in (2_000_000, 2_600_000, 3_000_000):
+            stream = io.BytesIO(HEADER + b"\0" + bytes([size & 0x7F | 0x80, size >> 7 & 0x7F | 0x80, size >> 14 & 0x7F | 0x80, size >> 21]) + bytes(size))
+            tracemalloc.start()
+            for event in pulleynavy.events(stream, 10_000):
+                del event
+            _, peak = tracemalloc.get_traced_memory()
+            tracemalloc.stop()
+            self.assertLess(peak, 3 * (size + 10_000))
 
     def test_what_is_stored_is_kept_when_the_storage_grows(self):
         data = b"\1x" + bytes(number % 251 for number in range(200_000))
