@@ -217,7 +217,7 @@ def sources():
         yield from sources_of(crate)
     for folder in ("page", os.path.join("bindings", "js")):
         for name in sorted(os.listdir(os.path.join(TOP, folder))):
-            if name.endswith((".js", ".html", ".css")) or name == "pack":
+            if name.endswith((".js", ".html", ".css")) and not name.endswith(".wasm.js") or name == "pack":
                 yield os.path.join(TOP, folder, name)
     yield os.path.join(TOP, "VERSION")
     yield os.path.join(TOP, "crates.txt")

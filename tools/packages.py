@@ -1,4 +1,5 @@
 """How each package is made from prebuilt/. A package has the same bytes whenever it is made: its dates are that of the release."""
+import base64
 import glob
 import gzip
 import hashlib
@@ -159,11 +160,18 @@ def sdist(folder, place):
 # ---- JavaScript
 
 
+def add_module(wasm, place):
+    """Adds the module to the package for JavaScript, and a script that has it."""
+    shutil.copyfile(wasm, os.path.join(place, "pulleynavy.wasm"))
+    with open(os.path.join(place, "pulleynavy.wasm.js"), "wb") as file:
+        file.write(b'export default "%s";\n' % base64.b64encode(read(wasm)))
+
+
 def npm(folder, place):
     """The package for npm, with the module in it."""
     copy_tracked("bindings/js", place)
     copy_all(LICENSES, place)
-    shutil.copy(prebuilt("pulleynavy.wasm"), os.path.join(place, "pulleynavy.wasm"))
+    add_module(prebuilt("pulleynavy.wasm"), place)
     run([needed("npm"), "pack", "--offline", "--pack-destination", folder], place)
 
 

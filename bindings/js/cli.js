@@ -2,7 +2,7 @@
 // SPDX-License-Identifier: Apache-2.0 OR MIT
 // Prints the sections of a module with their sizes in bytes: pulleynavy FILE
 import { open } from "node:fs/promises";
-import { SECTIONS, faultText, load } from "./pulleynavy.js";
+import { SECTIONS, faultText, load } from "./node.js";
 
 const MALFORMED = 1, WRONG_USE = 2, UNREADABLE = 3;
 

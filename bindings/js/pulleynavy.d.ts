@@ -1,4 +1,12 @@
 // SPDX-License-Identifier: Apache-2.0 OR MIT
+declare global {
+    // These merge with the declarations of the library dom or of Node, if there are any.
+    interface TransformStream<I = any, O = any> {}
+    namespace WebAssembly {
+        interface Module {}
+    }
+}
+
 /** A range of bytes: `start` is the offset of the first one, `end` the offset after the last one, in bytes from the start of the stream. */
 export interface Range {
     readonly start: number;
@@ -618,7 +626,8 @@ export interface Pulleynavy {
     readonly ParserStream: new (options?: Options) => ParserStream;
 }
 /**
- * Compiles the parser: by default `pulleynavy.wasm` next to this module, or that of a URL, its bytes, or a compiled module.
+ * Compiles the parser: by default `pulleynavy.wasm` next to this module, or that of a URL or a response, its bytes, or a compiled module.
+ * By default `load` of `pulleynavy/inline` compiles a module that is in the script, for bundles that are one file.
  *
  * The promise is rejected with the errors of `fromModule`, with those of `WebAssembly.compile`, and if a file can't be fetched.
  *
@@ -633,7 +642,17 @@ export interface Pulleynavy {
  * const [fault] = parse(new Uint8Array(8));
  * assert.equal(fault.fault, "BAD_MAGIC");
  */
-export declare function load(source?: URL | string | ArrayBuffer | ArrayBufferView | WebAssembly.Module): Promise<Pulleynavy>;
+export declare function load(source?: Address | string | Received | ArrayBuffer | ArrayBufferView | WebAssembly.Module): Promise<Pulleynavy>;
+/** A `URL`. */
+export interface Address {
+    readonly href: string;
+}
+/** A `Response`. */
+export interface Received {
+    readonly ok: boolean;
+    readonly status: number;
+    arrayBuffer(): Promise<ArrayBuffer>;
+}
 /**
  * Returns the functions of a compiled `pulleynavy.wasm`, synchronously.
  *

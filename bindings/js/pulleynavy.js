@@ -298,25 +298,21 @@ export function fromModule(module) {
     };
 }
 
-async function fetched(source) {
-    if (source instanceof URL && source.protocol === "file:" && globalThis.process?.versions?.node) {
-        return (await import("node:fs/promises")).readFile(source);
-    }
-    const response = await fetch(source);
-    if (!response.ok) throw new Error(`${source}: status ${response.status}`);
+async function received(response) {
+    if (!response.ok) throw new Error(`${response.url}: status ${response.status}`);
     return response.arrayBuffer();
 }
 
 /**
- * Compiles the parser: by default `pulleynavy.wasm` next to this file, or that of a URL, its bytes, or a compiled module.
+ * Compiles the parser: by default `pulleynavy.wasm` next to this file, or that of a URL or a response, its bytes, or a compiled module.
  *
- * @param {URL | string | ArrayBuffer | ArrayBufferView | WebAssembly.Module} source
+ * @param {URL | string | Response | ArrayBuffer | ArrayBufferView | WebAssembly.Module} source
  * @returns {Promise<import("./pulleynavy.js").Pulleynavy>}
  * @throws {TypeError} if it is another module, or of another version
  * @throws {Error} if the response for a URL is not successful
  */
 export async function load(source = new URL("./pulleynavy.wasm", import.meta.url)) {
     if (source instanceof WebAssembly.Module) return fromModule(source);
-    const isPlace = source instanceof URL || typeof source === "string";
-    return fromModule(await WebAssembly.compile(isPlace ? await fetched(source) : source));
+    if (source instanceof URL || typeof source === "string") source = await fetch(source);
+    return fromModule(await WebAssembly.compile(source instanceof Response ? await received(source) : source));
 }

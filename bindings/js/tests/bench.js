@@ -2,7 +2,7 @@
 // Times the parser on modules that it makes, or on files: node tests/bench.js [FILE..]
 // Each time is the least of the rounds of two seconds.
 import { readFileSync } from "node:fs";
-import { load } from "../pulleynavy.js";
+import { load } from "../node.js";
 
 const { parse, Parser } = await load();
 const CHUNK = 65536, ROUNDS = 2000;

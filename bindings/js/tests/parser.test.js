@@ -5,7 +5,7 @@ import { spawnSync } from "node:child_process";
 import { readFileSync } from "node:fs";
 import test from "node:test";
 import { CALLS } from "../declared.js";
-import { ALL_FEATURES, COMPACT_IMPORTS, MEMORY64, VERSION, faultText, fromModule, load, typeText } from "../pulleynavy.js";
+import { ALL_FEATURES, COMPACT_IMPORTS, MEMORY64, VERSION, faultText, fromModule, load, typeText } from "../node.js";
 
 const wasm = readFileSync(new URL("../pulleynavy.wasm", import.meta.url));
 const { parse, Parser, ParserStream, strip } = await load(wasm);
@@ -313,7 +313,7 @@ test("an instance that trapped is discarded", () => {
 test("a memory that cannot grow is a RangeError, and the next parse works", () => {
     const script = `
         import assert from "node:assert/strict";
-        import { load } from ${JSON.stringify(new URL("../pulleynavy.js", import.meta.url).href)};
+        import { load } from ${JSON.stringify(new URL("../node.js", import.meta.url).href)};
         const { parse, Parser, strip } = await load();
         const large = new Uint8Array(8_000_000), small = new Uint8Array([0, 97, 115, 109, 1, 0, 0, 0]);
         large.set([...small, 0, 0xf4, 0xa3, 0xe8, 0x03, 1, 120]);
@@ -340,8 +340,10 @@ test("a file that is not the module of this version", async () => {
 
 test("the parser from each kind of source", async () => {
     const url = new URL("../pulleynavy.wasm", import.meta.url), data = `data:application/wasm;base64,${wasm.toString("base64")}`;
-    for (const source of [url, data, new URL(data), wasm, new Uint8Array(wasm).buffer, new WebAssembly.Module(wasm)]) {
+    const response = new Response(wasm, { headers: { "content-type": "application/wasm" } });
+    for (const source of [undefined, url, data, new URL(data), response, wasm, new Uint8Array(wasm).buffer, new WebAssembly.Module(wasm)]) {
         const { parse } = await load(source);
         assert.equal([...parse(bytes(FUNCTIONS))].length, 5);
     }
+    await assert.rejects(load(new Response("", { status: 404 })), /status 404/);
 });

@@ -3,7 +3,7 @@
 import assert from "node:assert/strict";
 import { readFileSync } from "node:fs";
 import test from "node:test";
-import { load } from "../pulleynavy.js";
+import { load } from "../node.js";
 import { agrees, eventLine, itemLines, withoutRanges } from "./lines.js";
 
 const { parse, Parser, ParserStream, strip } = await load();

@@ -58,6 +58,7 @@ function contents(it: Contents | Fault): string {
 
 export async function all(response: Response, module: WebAssembly.Module): Promise<string[]> {
     const { parse, Parser, ParserStream, strip } = await load();
+    for (const source of [new URL("https://localhost/pulleynavy.wasm"), "pulleynavy.wasm", response, module]) await load(source);
     const parser = new Parser({ features: MEMORY64, items: false }), lines: string[] = [];
     for (const event of parse(new Uint8Array(8))) lines.push(shown(event));
     lines.push(...parser.push(new ArrayBuffer(8)).map(shown), ...parser.finish().map(shown));

@@ -18,12 +18,12 @@ return what the binary grammar assigns; this package is tested.
 from __future__ import annotations
 
 import ctypes
-from typing import Any
+from typing import TYPE_CHECKING, Any
 
 from . import declared
 from ._events import Event, events
 from ._items import Items
-from ._library import ALL_FEATURES, COMPACT_IMPORTS, MEMORY64, Fault, load
+from ._library import ALL_FEATURES, COMPACT_IMPORTS, MEMORY64, Fault, bytes_of, fault_of, load
 from .declared import (
     CustomKind,
     DataKind,
@@ -56,6 +56,9 @@ from .module import (
     ValueType,
 )
 
+if TYPE_CHECKING:
+    from _typeshed import ReadableBuffer
+
 __version__ = declared.VERSION
 __all__ = [
     "ALL_FEATURES", "COMPACT_IMPORTS", "MEMORY64",
@@ -66,17 +69,18 @@ __all__ = [
 ]  # fmt: skip
 
 
-def strip(stream: bytes, keep_names: bool = False, library: Any = None) -> bytes:
+def strip(stream: ReadableBuffer, keep_names: bool = False, library: Any = None) -> bytes:
     """Returns a copy of a module without its custom sections. With `keep_names` the sections called `name` stay.
 
-    Raises `Fault` at the first fault of the stream. `library` is a library that `load` returned, by default the one it finds.
+    `stream` is any buffer. Raises `Fault` at the first fault of the stream. `library` is a library that `load` returned, by default the one it finds.
 
     >>> strip(b"\\0asm\\1\\0\\0\\0\\0\\2\\1a")
     b'\\x00asm\\x01\\x00\\x00\\x00'
     """
     library = library or load()
-    held = ctypes.create_string_buffer(stream, max(1, len(stream)))
-    stripped = library.pulleynavy_strip(held, len(stream), keep_names)
+    given = bytes_of(stream)
+    held = ctypes.create_string_buffer(given, max(1, len(given)))
+    stripped = library.pulleynavy_strip(held, len(given), keep_names)
     if stripped.fault.kind:
-        raise Fault(library, stripped.fault)
+        raise fault_of(library, stripped.fault)
     return held.raw[: stripped.size]

@@ -7,7 +7,7 @@ import dataclasses
 import os
 from typing import Any, BinaryIO, Iterator
 
-from ._library import ALL_FEATURES, Fault, load
+from ._library import ALL_FEATURES, fault_of, load
 from .declared import EventKind
 
 
@@ -82,7 +82,7 @@ def events(
 ) -> Iterator[Event]:
     """Yields the events of a stream, which is read in chunks of `chunk` bytes, up to its end.
 
-    `file` is a file that was opened in binary mode, or a path. Memory use is bounded by the largest undecided part and two chunks.
+    `file` is a file that was opened in binary mode, or a path. Memory use is at most three times the size of the largest part and of a chunk.
 
     Raises `Fault` at the first fault of the stream, after the events before it; `TypeError` if the file was opened in text mode; and `OSError`
     if a path can't be opened.
@@ -102,7 +102,7 @@ def events(
         event = library.pulleynavy_feed_step(feed, storage, len(storage))
         kind = EventKind(event.kind)
         if kind is EventKind.FAULT:
-            raise Fault(library, event.fault)
+            raise fault_of(library, event.fault)
         if kind is not EventKind.NEED_MORE:
             consumed = ctypes.string_at(ctypes.addressof(storage) + feed.mark - event.consumed, event.consumed)
             yield Event(

@@ -6,10 +6,13 @@ import ctypes
 import functools
 import itertools
 import struct
-from typing import Any, Iterator
+from typing import TYPE_CHECKING, Any, Iterator
 
 from . import declared
-from ._library import ALL_FEATURES, Fault, load
+from ._library import ALL_FEATURES, bytes_of, fault_of, load
+
+if TYPE_CHECKING:
+    from _typeshed import ReadableBuffer
 
 # How many items a call stores: structs, and rows of their fields.
 STRUCTS, ROWS = 64, 4096
@@ -56,9 +59,9 @@ class Items:
     [(5, 'a'), (7, 'b')]
     """
 
-    def __init__(self, data: bytes, offset: int, features: int = ALL_FEATURES, library: Any = None) -> None:
-        self.library, self.data, self.offset, self.features = library or load(), data, offset, features
-        self._held = ctypes.create_string_buffer(data, max(1, len(data)))
+    def __init__(self, data: ReadableBuffer, offset: int, features: int = ALL_FEATURES, library: Any = None) -> None:
+        self.library, self.data, self.offset, self.features = library or load(), bytes_of(data), offset, features
+        self._held = ctypes.create_string_buffer(self.data, max(1, len(self.data)))
         self._cursor = self.library.pulleynavy_list_init(offset, 0, features)
 
     @property
@@ -74,9 +77,13 @@ class Items:
     def skip(self, size: int, count: int = 0) -> Items:
         """Moves past `size` bytes, to a list of `count` items, and returns itself.
 
+        Raises `ValueError` if `size` is negative or more than remains, or if `count` is no u32.
+
         >>> [one.value for one in Items(b"\\xff\\5\\7", 100).skip(1, 2).all("numbers")]
         [5, 7]
         """
+        if not 0 <= size <= len(self.data) - self.position or not 0 <= count < 1 << 32:
+            raise ValueError(f"can't skip {size} bytes, to {count} items: {len(self.data) - self.position} bytes remain")
         self._cursor.offset += size
         self._cursor.position += size
         self._cursor.remaining = count
@@ -102,9 +109,21 @@ class Items:
             ctypes.addressof(self._held) + at, len(self.data) - at, self.offset + at, self.features
         )
         if item.fault.kind:
-            raise Fault(self.library, item.fault)
+            raise fault_of(self.library, item.fault)
         self.skip(item.consumed)
         return item
+
+    def check_name_end(self) -> None:
+        """Raises `Fault` if bytes remain after the name of a module, which was read.
+
+        >>> items = Items(b"\\1m", 100)
+        >>> items.text(items.read("name").name), items.check_name_end()
+        ('m', None)
+        """
+        at = self.position
+        fault = self.library.pulleynavy_check_name_end(ctypes.addressof(self._held) + at, len(self.data) - at, self.offset + at)
+        if fault.kind:
+            raise fault_of(self.library, fault)
 
     def _batches(self, call: str, room: Any, cursor: Any) -> Iterator[int]:
         """Stores items and yields how many."""
@@ -125,7 +144,7 @@ class Items:
         for count in self._batches(call, room, self._cursor):
             for one in room[:count]:
                 if one.fault.kind:
-                    raise Fault(self.library, one.fault)
+                    raise fault_of(self.library, one.fault)
                 yield one
 
     def rows(self, call: str, layout: struct.Struct) -> Iterator[tuple[Any, ...]]:
@@ -157,7 +176,7 @@ class Items:
                 sound = next(at for at, code in enumerate(codes) if code)
             yield room, layout.iter_unpack(held[: sound * layout.size])
             if sound < count:
-                raise Fault(self.library, room[sound].fault)
+                raise fault_of(self.library, room[sound].fault)
 
     def bytes_of(self, span: Any) -> bytes:
         """Returns the bytes of a span, which counts from the start of `data`.

@@ -38,7 +38,7 @@ def load(path: str | None = None) -> Any:
 
 
 class Fault(ValueError):
-    """A fault of a malformed or truncated module, as an exception.
+    """A fault of a malformed or truncated module, as an exception. It can be pickled and copied.
 
     `kind` is the kind of the fault, and `code` also has its detail in the bits above the lowest 8. `offset` is in bytes from the start of
     the stream. `number` is the number of the fault, if it has one: a version, a length or a byte. `text` is the message of the Rust crate
@@ -52,13 +52,23 @@ class Fault(ValueError):
     UNKNOWN_VERSION 4 2
     """
 
-    def __init__(self, library: Any, fault: Any) -> None:
-        room = ctypes.create_string_buffer(80)
-        size = library.pulleynavy_format_message(fault.kind, room, len(room))
-        self.code: int = fault.kind
-        self.kind = FaultKind(fault.kind & 0xFF)
-        self.offset: int = fault.offset
-        self.text = room.raw[:size].decode()
-        self.number: int | None = fault.number if fault.has_number else None
-        number = "" if self.number is None else f": {self.number}"
-        super().__init__(f"{self.text}{number} (at offset {self.offset:#x})")
+    def __init__(self, code: int, offset: int, number: int | None, text: str) -> None:
+        self.code, self.offset, self.number, self.text = code, offset, number, text
+        self.kind = FaultKind(code & 0xFF)
+        tail = "" if number is None else f": {number}"
+        super().__init__(f"{text}{tail} (at offset {offset:#x})")
+
+    def __reduce__(self) -> tuple[Any, ...]:
+        return type(self), (self.code, self.offset, self.number, self.text), self.__dict__
+
+
+def fault_of(library: Any, fault: Any) -> Fault:
+    """The exception for a fault of the library."""
+    room = ctypes.create_string_buffer(80)
+    size = library.pulleynavy_format_message(fault.kind, room, len(room))
+    return Fault(fault.kind, fault.offset, fault.number if fault.has_number else None, room.raw[:size].decode())
+
+
+def bytes_of(stream: Any) -> bytes:
+    """The bytes of any buffer, such as a `bytearray`, a `memoryview` or an `mmap`. Raises `TypeError` if it is none."""
+    return stream if isinstance(stream, bytes) else memoryview(stream).tobytes()

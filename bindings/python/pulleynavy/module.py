@@ -8,12 +8,15 @@ import functools
 import gc
 import io
 import os
-from typing import Any, BinaryIO, Iterator, NamedTuple
+from typing import TYPE_CHECKING, Any, BinaryIO, Iterator, NamedTuple
 
 from ._events import Event, binary, events
 from ._items import Items, fields
-from ._library import ALL_FEATURES, load
+from ._library import ALL_FEATURES, bytes_of, load
 from .declared import CustomKind, DataKind, ElementKind, EventKind, ExternalKind, HeapKind, NameId, SectionId, TypeKind
+
+if TYPE_CHECKING:
+    from _typeshed import ReadableBuffer
 
 
 @dataclasses.dataclass(frozen=True)
@@ -229,7 +232,7 @@ _EXTERNAL_KINDS, _ELEMENT_KINDS, _DATA_KINDS = tuple(ExternalKind), tuple(Elemen
 
 
 class Module:
-    """A module in memory.
+    """A module in memory, as `bytes`, a `bytearray`, a `memoryview`, an `mmap` or another buffer. It can be pickled and copied.
 
     The framing is parsed at once. The items of a section are read when you first access them, and kept; a malformed item raises `Fault` then.
     `features` is a sum of `MEMORY64` and `COMPACT_IMPORTS`, and `library` a library that `load` returned. Raises `Fault` at the first fault of
@@ -240,9 +243,12 @@ class Module:
     [Export(name='a', kind=<ExternalKind.FUNC: 0>, index=0)]
     """
 
-    def __init__(self, stream: bytes, features: int = ALL_FEATURES, library: Any = None) -> None:
-        self._library, self._features = library or load(), features
-        self._events = list(events(io.BytesIO(stream), max(1, len(stream)), features, self._library))
+    def __init__(self, stream: ReadableBuffer, features: int = ALL_FEATURES, library: Any = None) -> None:
+        self._library, self._features, given = library or load(), features, bytes_of(stream)
+        self._events = list(events(io.BytesIO(given), max(1, len(given)), features, self._library))
+
+    def __reduce__(self) -> tuple[Any, ...]:
+        return type(self), (b"".join(event.raw for event in self._events), self._features)
 
     @classmethod
     def read(cls, file: BinaryIO | str | os.PathLike[str], features: int = ALL_FEATURES) -> Module:
@@ -430,6 +436,7 @@ class Module:
                 for number, contents in self._subsections(section):
                     if number == NameId.MODULE:
                         module = contents.text(contents.read("name").name)
+                        contents.check_name_end()
                     elif number == NameId.FUNCTION:
                         text = _text(contents.data)
                         functions.update((index, text[at : at + size]) for index, at, size in contents.counted().rows("namings", _NAMING))

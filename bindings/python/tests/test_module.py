@@ -1,11 +1,18 @@
 """Modules by hand, and the doctests: `python -m unittest discover -s tests -t .`."""
 # SPDX-License-Identifier: Apache-2.0 OR MIT
+import array
+import concurrent.futures
+import copy
 import doctest
 import io
+import mmap
+import multiprocessing
 import pathlib
+import pickle
 import subprocess
 import sys
 import tempfile
+import tracemalloc
 import unittest
 
 import pulleynavy
@@ -88,6 +95,18 @@ class Items(unittest.TestCase):
         self.assertEqual([section.name for section in module.custom_sections], ["name", "x"])
         self.assertEqual(Module(HEADER).names.functions, {})
 
+    def test_bytes_after_the_name_of_a_module(self):
+        with self.assertRaises(Fault) as caught:
+            Module(HEADER + b"\0\x09\4name\0\2\0\0").names
+        self.assertEqual((caught.exception.kind, caught.exception.offset), (FaultKind.NAME_TRAILING, 18))
+
+    def test_a_cursor_stays_in_its_bytes(self):
+        items = pulleynavy.Items(b"\5\7", 100).skip(1)
+        for size, count in ((-1, 0), (2, 0), (0, -1), (0, 1 << 32), (1 << 64, 0)):
+            with self.assertRaises(ValueError):
+                items.skip(size, count)
+        self.assertEqual((items.position, items.read("number").value, items.skip(0).position), (1, 7, 2))
+
     def test_many_items(self):
         names = [b"%d" % number for number in range(10_000)]
         content = b"\x90\x4e" + b"".join(bytes([len(name)]) + name + b"\0\0" for name in names)
@@ -162,6 +181,16 @@ class Streams(unittest.TestCase):
         custom = list(pulleynavy.events(io.BytesIO(stream), 1000))[1]
         self.assertEqual((custom.name, custom.data), ("x", bytes(100_000)))
 
+    def test_memory_for_a_large_part(self):
+        for size in (2_000_000, 2_600_000, 3_000_000):
+            stream = io.BytesIO(HEADER + b"\0" + bytes([size & 0x7F | 0x80, size >> 7 & 0x7F | 0x80, size >> 14 & 0x7F | 0x80, size >> 21]) + bytes(size))
+            tracemalloc.start()
+            for event in pulleynavy.events(stream, 10_000):
+                del event
+            _, peak = tracemalloc.get_traced_memory()
+            tracemalloc.stop()
+            self.assertLess(peak, 3 * (size + 10_000))
+
     def test_what_is_stored_is_kept_when_the_storage_grows(self):
         data = b"\1x" + bytes(number % 251 for number in range(200_000))
         size = bytes([len(data) & 0x7F | 0x80, len(data) >> 7 & 0x7F | 0x80, len(data) >> 14])
@@ -201,10 +230,55 @@ class Streams(unittest.TestCase):
         with self.assertRaisesRegex(TypeError, "Module"):
             Module.read(HEADER)
 
+    def test_buffers_of_each_kind(self):
+        stream = FUNCTIONS + b"\0\2\1x"
+        with tempfile.TemporaryFile() as file:
+            file.write(stream)
+            file.flush()
+            with mmap.mmap(file.fileno(), 0, access=mmap.ACCESS_READ) as mapped:
+                wide = memoryview(array.array("H", stream + bytes(len(stream) % 2)))
+                for buffer in (bytearray(stream), memoryview(stream), memoryview(b"." + stream)[1:], mapped, wide):
+                    self.assertEqual(pulleynavy.strip(buffer), FUNCTIONS)
+                    self.assertEqual(Module(buffer).functions, [0])
+        self.assertEqual(pulleynavy.Items(bytearray(b"\5"), 100).read("number").value, 5)
+        for wrong in ("text", 5, None):
+            for call in (pulleynavy.strip, Module, lambda data: pulleynavy.Items(data, 0)):
+                with self.assertRaises(TypeError):
+                    call(wrong)
+
     def test_strip(self):
         self.assertEqual(pulleynavy.strip(HEADER + b"\0\5\4name\0\2\1x", keep_names=True), HEADER + b"\0\5\4name")
         with self.assertRaises(Fault):
             pulleynavy.strip(HEADER + b"\x80")
+
+
+class Copies(unittest.TestCase):
+    def test_copies_of_values(self):
+        module = Module(FUNCTIONS + b"\0\2\1x", pulleynavy.MEMORY64)
+        values = [module.sections, module.custom_sections, module.names, list(pulleynavy.events(io.BytesIO(FUNCTIONS))), FUNCREF]
+        for copied in (copy.copy, copy.deepcopy, lambda value: pickle.loads(pickle.dumps(value))):
+            self.assertEqual([copied(value) for value in values], values)
+            same = copied(module)
+            self.assertEqual((same.sections, same.functions, same._features), (module.sections, [0], pulleynavy.MEMORY64))
+
+    def test_copies_of_a_fault(self):
+        for stream in (HEADER + b"\x80", b"\0asm\2\0\0\0"):
+            with self.assertRaises(Fault) as caught:
+                Module(stream)
+            fault = caught.exception
+            for copied in (copy.copy(fault), copy.deepcopy(fault), pickle.loads(pickle.dumps(fault))):
+                self.assertIs(type(copied), Fault)
+                self.assertEqual((str(copied), vars(copied)), (str(fault), vars(fault)))
+
+    def test_faults_of_other_processes(self):
+        with multiprocessing.Pool(2) as pool:
+            self.assertEqual(pool.map_async(Module, [FUNCTIONS] * 3).get(60)[2].functions, [0])
+            with self.assertRaises(Fault) as caught:
+                pool.map_async(Module, [FUNCTIONS, HEADER + b"\x80", FUNCTIONS]).get(60)
+        self.assertEqual(caught.exception.offset, 8)
+        with concurrent.futures.ProcessPoolExecutor(2) as pool:
+            self.assertEqual(pool.submit(Module, HEADER + b"\x80").exception(60).offset, 8)
+            self.assertEqual(pool.submit(Module, FUNCTIONS).result(60).functions, [0])
 
 
 class Program(unittest.TestCase):
