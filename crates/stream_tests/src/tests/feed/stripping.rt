@@ -150,6 +150,18 @@ fn strips_modules(rt: HostRuntime) {
     }
 }
 
+// How many bytes a stripped stream has room for.
+fn room_of(alloc: Global, stream: &[u8]) -> Result<usize> {
+    Ok(strip(alloc, stream, false)?.capacity())
+}
+
+#[test]
+fn a_stripped_stream_has_no_room_for_what_went(rt: HostRuntime) {
+    for (stream, _, kept) in rows() {
+        same_at(&rt, room_of(rt.alloc(), stream), Ok(kept.len()), stream);
+    }
+}
+
 #[test]
 fn stripping_again_changes_nothing(rt: HostRuntime) {
     for (_, with_names, without) in rows() {
