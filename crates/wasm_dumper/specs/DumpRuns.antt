@@ -47,7 +47,7 @@ abbrev pub names_usage : List ℕ
 names_usage = codes "wasm_dump: --names reads each file twice, and standard input can't be: name files\n"
 
 abbrev pub version_text : List ℕ
-version_text = codes "wasm_dump 0.12.0 (follows wasmparser 0.263.0)\n"
+version_text = codes "wasm_dump 0.13.0 (follows wasmparser 0.263.0)\n"
 
 abbrev pub help_text : List ℕ
 help_text =

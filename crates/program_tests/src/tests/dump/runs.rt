@@ -344,7 +344,7 @@ fn says_how_it_is_used(rt: HostRuntime) -> Result<(), Fail> {
 
 #[test]
 fn says_which_version_it_is(rt: HostRuntime) -> Result<(), Fail> {
-    let text = b"wasm_dump 0.12.0 (follows wasmparser 0.263.0)\n";
+    let text = b"wasm_dump 0.13.0 (follows wasmparser 0.263.0)\n";
     runs(&rt, rt.alloc(), &["--version"], MODULE, (0, text, b""))
 }
 
