@@ -1,13 +1,16 @@
 -- What a run does that strips a file: it reads the file once to check it, and again to write it.
-use Rattle.std.specs.Prelude.{◌≡◌, ℕ, Bool, false, List, None, Result, Ok, Err}
+use Rattle.std.specs.Prelude.{◌≡◌, ◌⊎◌, ℕ, Bool, false, List, None, Result, Ok, Err}
 use Rattle.wasm_text.specs.Calls.{Device}
 use Rattle.wasm_text.specs.declared.devices.ListError.{ListError}
 use Rattle.wasm_feed.specs.StripStream.{StripsSource}
+use Rattle.wasm_feeder.specs.Fates.{stays_by}
+use Rattle.wasm_feeder.specs.declared.fates.Keep.{Keep}
 use Rattle.wasm_feeder.specs.declared.turns.Ended.{Ended}
 use Rattle.wasm_feeder.specs.declared.turns.Ended.TheVariants.{End, Fault}
 use Rattle.wasm_cli.specs.Devices.{IsUntouched}
 use Rattle.wasm_cli.specs.Endings.{GivesUpAs}
-use Rattle.wasm_cli.specs.Strips.{Refuses}
+use Rattle.wasm_cli.specs.StripOptions.{KeepsAs}
+use Rattle.wasm_cli.specs.Strips.{CannotChoose, Refuses}
 
 -- a device that drops what is written to it
 abbrev pub dropped : Device
@@ -39,3 +42,20 @@ pub record StripsTwice (keeps : List ℕ → Bool) (first second output errors :
   pub checked : Result Ended ListError
   pub checks : StripsSource keeps first dropped checked
   pub goes_on : GoesOnAs keeps checked second output errors status
+
+-- a run that strips a file as these options say
+pub record StripsTwiceAs (options : List (List ℕ)) (first second output errors : Device) (status : ℕ) : Type 0 where
+  pub keep : Keep
+  pub chosen : KeepsAs options keep
+  pub strips : StripsTwice (stays_by keep) first second output errors status
+
+-- An allocation failed, and nothing was read or written.
+pub record CannotBeginToStrip (first second output errors : Device) (status : ℕ) : Type 0 where
+  pub once : IsUntouched first
+  pub again : IsUntouched second
+  pub gives_up : CannotChoose output errors status
+
+-- the one or the other
+abbrev pub StripsFile : (options : List (List ℕ)) (first second output errors : Device) (status : ℕ) → Type 0
+StripsFile options first second output errors status =
+    StripsTwiceAs options first second output errors status ⊎ CannotBeginToStrip first second output errors status

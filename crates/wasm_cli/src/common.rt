@@ -47,8 +47,19 @@ fn reason(kind: ErrorKind) -> &'static [u8]
     }
 }
 
-// Writes one text and then another.
-fn write_both<E: Sink>(output: &mut E, first: &[u8], second: &[u8]) -> Result<(), Failed>
+/// Writes one text and then another.
+///
+/// # Errors
+///
+/// `Failed` if a write failed. A prefix of both texts, one after the other, is then written.
+///
+/// ```rattle
+/// let mut output = BoundedSink::new(alloc, 9)?;
+/// write_both(&mut output, b"a.wasm", b":\n")?;
+/// assert_eq!(rt; output.written(), b"a.wasm:\n".as_slice());
+/// assert_eq!(rt; write_both(&mut output, b"b", b":\n"), Err(Failed));
+/// ```
+pub fn write_both<E: Sink>(output: &mut E, first: &[u8], second: &[u8]) -> Result<(), Failed>
     ensures ok { OnOk result
         (Appends (E.taken output.old) (E.taken output.new) (first.now ++ second.now)) }
     ensures err { OnErr result ((n : ℕ)

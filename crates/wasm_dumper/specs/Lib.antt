@@ -3,6 +3,7 @@ pub mod Colors
 pub mod Counting
 pub mod Dump
 pub mod DumpCommands
+pub mod DumpFiles
 pub mod DumpRuns
 pub mod Hiding
 pub mod Options

@@ -98,8 +98,8 @@ pub fn run_host(rt: HostRuntime) -> ExitCode {
 
 /// Runs `wasm_list` with arguments as the system has them, flushes the output, and returns the exit status.
 ///
-/// `arguments` are those after the name of the program. One that is not valid UTF-8 is a wrong argument. The statuses
-/// are those of `run`.
+/// `arguments` begin with the name of the program, which is skipped. One that is not valid UTF-8 is a wrong argument.
+/// The statuses are those of `run`.
 ///
 /// # Errors
 ///

@@ -1,6 +1,12 @@
 // Dumps the files that the arguments name.
-ghost use Rattle.std.specs.Prelude.{◌≡◌};
+ghost use Rattle.std.specs.Prelude.{◌≡◌, ℕ, OnOk, OnErr, take, true, is_ok, if◌then◌else◌};
+ghost use Rattle.std.specs.Io.KnownBytes.{Appends};
+ghost use Rattle.wasm_text.specs.Calls.{device_of, writer_device};
+ghost use Rattle.wasm_text.specs.Messages.{Says};
 ghost use Rattle.wasm_cli.specs.Endings.{status_of};
+ghost use Rattle.wasm_dumper.specs.Colors.{seen_as};
+ghost use Rattle.wasm_dumper.specs.DumpFiles.{ReportsFile, ShowsFile, heading_of, reason_for};
+ghost use Rattle.wasm_dumper.specs.Options.{has_colors};
 
 use super::command::{Named, Rest, chosen_by};
 use super::options::Options;
@@ -11,9 +17,9 @@ use std::alloc::Global;
 use std::env::Args;
 use std::fs;
 use std::io::Write;
-use wasm_cli::{Input, refuse_file};
-use wasm_feed::{Ended, Failed, ListError, ReadSource, Sink, WriteSink, write_all};
-use wasm_text::{complain, give_up};
+use wasm_cli::{Input, refuse_file, write_both};
+use wasm_feed::{Ended, Failed, ListError, ReadSource, Sink, Source, WriteSink};
+use wasm_text::give_up;
 use wasm_tree::{ItemNames, Objects, Tree};
 
 /// The sections to show of each file, and the options.
@@ -24,9 +30,16 @@ struct Plan<'w> {
 }
 
 // Writes the name of a file as a line, before its dump.
-fn write_name<W: Write>(name: &str, output: &mut WriteSink<W>) -> Result<(), Failed> {
-    write_all(output, name.as_bytes())?;
-    write_all(output, b":\n")
+fn write_name<W: Write>(name: &str, output: &mut WriteSink<W>) -> Result<(), Failed>
+    ensures ok { OnOk result
+        (Appends (W.contents output.old.writer) (W.contents output.new.writer)
+        (heading_of name.now)) }
+    ensures err { OnErr result ((n : ℕ)
+        × Appends (W.contents output.old.writer) (W.contents output.new.writer)
+        (take n (heading_of name.now))) }
+    ensures failed { output.new.failed ≡ (if is_ok result then output.old.failed else true) }
+{
+    write_both(output, name.as_bytes(), b":\n")
 }
 
 // Writes the name of a file as a JSON object, before its dump.
@@ -61,15 +74,50 @@ fn write_heading<W: Write>(
     }
 }
 
-// Returns the exit status of a file's dump. If it failed, prints the reason, after the name of the file if it can't be read.
-fn answer_for<E: Sink>(name: &str, how: Result<Ended, ListError>, errors: &mut E) -> u8
-    ensures { result ≡ status_of how }
+// Prints why the dump of a file failed, after the name of the file if it can't be read. Returns the status.
+fn give_up_on<E: Sink>(name: &str, why: ListError, errors: &mut E) -> u8
+    ensures status { result ≡ 3 }
+    ensures says { Says (device_of E.taken E.has_failed errors.old errors.new)
+        (reason_for name.now why) }
 {
-    if let Err(ListError::Input) = how {
-        complain(errors, name.as_bytes());
-        complain(errors, b": ");
+    match why {
+        ListError::Input => {
+            let _ = write_both(errors, name.as_bytes(), b": input failed\n");
+            3
+        }
+        ListError::Output | ListError::Memory => give_up(errors, why),
     }
-    answer(how, errors)
+}
+
+// Returns the exit status of a file's dump. If it failed, prints the reason.
+fn answer_for<E: Sink>(name: &str, how: Result<Ended, ListError>, errors: &mut E) -> u8
+    ensures status { result ≡ status_of how }
+    ensures reports { ReportsFile name.now how
+        (device_of E.taken E.has_failed errors.old errors.new) }
+{
+    match how {
+        Ok(_) => answer(how, errors),
+        Err(why) => give_up_on(name, why, errors),
+    }
+}
+
+// Dumps a file that was opened, with these names if there are any. Returns the status.
+fn show_opened<R: Source, W: Write, E: Sink>(
+    alloc: Global,
+    plan: Plan<'_>,
+    names: Option<ItemNames>,
+    name: &str,
+    input: &mut R,
+    output: WriteSink<W>,
+    errors: &mut E,
+) -> (u8, WriteSink<W>)
+    ensures { ShowsFile name.now plan.entry.options plan.entry.only.now result.1.forwarded
+        (device_of R.remaining R.has_failed input.old input.new)
+        (seen_as (has_colors plan.entry.options) (writer_device W.contents output result.1))
+        (device_of E.taken E.has_failed errors.old errors.new) result.0 }
+{
+    let (how, output) = dump_as(alloc, plan.only, plan.options, names, input, output);
+    (answer_for(name, how, errors), output)
 }
 
 // Dumps standard input. `--names` is refused, because standard input can't be read twice.
@@ -105,15 +153,7 @@ fn dump_opened<W: Write, E: Sink>(
     match fs::open(rt, name) {
         Ok(file) => {
             let mut input = ReadSource::new(Input::File(file));
-            let (how, output) = dump_as(
-                rt.alloc(),
-                plan.only,
-                plan.options,
-                names,
-                &mut input,
-                output,
-            );
-            (answer_for(name, how, errors), output)
+            show_opened(rt.alloc(), plan, names, name, &mut input, output, errors)
         }
         Err(error) => (refuse_file(name, &error, errors), output),
     }

@@ -110,8 +110,8 @@ pub fn run_host(rt: HostRuntime) -> ExitCode {
 /// Runs `wasm_dump` over the input, with arguments as the system has them, flushes the output, and returns the exit
 /// status and the output.
 ///
-/// `arguments` are those after the name of the program. One that is not valid UTF-8 is a wrong argument. Arguments that
-/// name files are refused: only `run_host` opens files.
+/// `arguments` begin with the name of the program, which is skipped. One that is not valid UTF-8 is a wrong argument.
+/// Arguments that name files are refused: only `run_host` opens files.
 ///
 /// # Errors
 ///
