@@ -25,7 +25,7 @@ def main():
     try:
         for event in wasm.events(sys.stdin.buffer, size):
             print(LINES[event.kind](event))
-    except wasm.Fault as fault:
+    except wasm.ParseError as fault:
         print("fault %d %s%s" % (fault.offset, fault.text, "" if fault.number is None else ": %d" % fault.number))
         return 1
     return 0

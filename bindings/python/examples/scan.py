@@ -16,7 +16,6 @@ import sys
 
 import pulleynavy
 from dask.distributed import Client, as_completed
-from pulleynavy import CustomKind, Items
 
 COLUMNS = ["file", "bytes", "fault", "offset", "types", "imports", "functions", "exports", "data_segments", "code_bytes", "data_bytes"]
 COLUMNS += ["custom_bytes", "names", "language", "processed_by", "sdk"]
@@ -27,16 +26,7 @@ BATCH = 200
 
 def producers(module):
     """The values of the section `producers`, by the name of the field."""
-    found = {}
-    for section in module.custom_sections:
-        if section.kind is CustomKind.PRODUCERS:
-            items = Items(section.data, section.offset)
-            for field in items.counted().all("producers_fields"):
-                values = items.part(field.values)
-                values.skip(0, field.count)
-                texts = ["%s %s" % (values.text(one.name), values.text(one.version)) for one in values.all("producers_values")]
-                found[items.text(field.name)] = "; ".join(text.strip() for text in texts)
-    return found
+    return {field: "; ".join(f"{one.name} {one.version}".strip() for one in values) for field, values in module.producers.items()}
 
 
 def row_of(path):
@@ -56,7 +46,7 @@ def row_of(path):
         row["names"] = len(module.names.functions)
         said = producers(module)
         row.update(language=said.get("language"), processed_by=said.get("processed-by"), sdk=said.get("sdk"))
-    except pulleynavy.Fault as fault:
+    except pulleynavy.ParseError as fault:
         row.update(fault=fault.text, offset=fault.offset)
     except (OSError, UnicodeDecodeError) as error:
         row["fault"] = str(error)

@@ -10,7 +10,7 @@
         for event in pulleynavy.events(file):
             print(event.kind.name, event.start, event.end)
 
-A malformed module raises `Fault`, which has a kind and an offset. Offsets and sizes are in bytes; offsets count from the start of the stream.
+A malformed module raises `ParseError`, which has a kind and an offset. Offsets and sizes are in bytes; offsets count from the start of the stream.
 Nothing is validated, and function bodies are not decoded. The parser is the C library of Pulleynavy, `libpulleynavy.so.0`, which is proved to
 return what the binary grammar assigns; this package is tested.
 """
@@ -21,10 +21,53 @@ import ctypes
 from typing import TYPE_CHECKING, Any
 
 from . import declared
-from ._events import Event, events
-from ._items import Items
-from ._library import ALL_FEATURES, COMPACT_IMPORTS, MEMORY64, Fault, bytes_of, fault_of, load
+from ._customs import Names
+from ._events import Event, Parser, events
+from ._items import Items, Subsection
+from ._library import ALL_FEATURES, COMPACT_IMPORTS, MEMORY64, Fault, ParseError, bytes_of, fault_of, load
+from ._values import (
+    ArrayType,
+    BranchHint,
+    Comdat,
+    ComdatSymbol,
+    CoreFrame,
+    CoreInstance,
+    CoreStack,
+    CoreValue,
+    CustomSection,
+    Data,
+    Dylink,
+    DylinkExport,
+    DylinkImport,
+    DylinkMemory,
+    Element,
+    Export,
+    Expression,
+    Field,
+    FunctionType,
+    Global,
+    Import,
+    InitFunction,
+    Instruction,
+    Limits,
+    Linking,
+    LinkingSegment,
+    Memory,
+    Producer,
+    Relocation,
+    Relocations,
+    Section,
+    StructType,
+    SubType,
+    Symbol,
+    Table,
+    TargetFeature,
+    TypeGroup,
+    ValueType,
+)
 from .declared import (
+    ComdatKind,
+    CoreValueKind,
     CustomKind,
     DataKind,
     DylinkId,
@@ -35,26 +78,15 @@ from .declared import (
     HeapKind,
     LinkingId,
     NameId,
+    Opcode,
     RelocationKind,
     SectionId,
+    SegmentFlags,
+    SymbolFlags,
     SymbolKind,
     TypeKind,
 )
-from .module import (
-    CustomSection,
-    Data,
-    Element,
-    Export,
-    Global,
-    Import,
-    Limits,
-    Memory,
-    Module,
-    Names,
-    Section,
-    Table,
-    ValueType,
-)
+from .module import Module
 
 if TYPE_CHECKING:
     from _typeshed import ReadableBuffer
@@ -62,9 +94,13 @@ if TYPE_CHECKING:
 __version__ = declared.VERSION
 __all__ = [
     "ALL_FEATURES", "COMPACT_IMPORTS", "MEMORY64",
-    "CustomKind", "CustomSection", "Data", "DataKind", "DylinkId", "Element", "ElementKind", "Event", "EventKind", "Export",
-    "ExternalKind", "Fault", "FaultKind", "Global", "HeapKind", "Import", "Items", "Limits", "LinkingId", "Memory", "Module",
-    "NameId", "Names", "RelocationKind", "Section", "SectionId", "SymbolKind", "Table", "TypeKind", "ValueType",
+    "ArrayType", "BranchHint", "Comdat", "ComdatKind", "ComdatSymbol", "CoreFrame", "CoreInstance", "CoreStack", "CoreValue",
+    "CoreValueKind", "CustomKind", "CustomSection", "Data", "DataKind", "Dylink", "DylinkExport", "DylinkId", "DylinkImport",
+    "DylinkMemory", "Element", "ElementKind", "Event", "EventKind", "Export", "Expression", "ExternalKind", "Fault", "FaultKind",
+    "Field", "FunctionType", "Global", "HeapKind", "Import", "InitFunction", "Instruction", "Items", "Limits", "Linking",
+    "LinkingId", "LinkingSegment", "Memory", "Module", "NameId", "Names", "Opcode", "ParseError", "Parser", "Producer",
+    "Relocation", "RelocationKind", "Relocations", "Section", "SectionId", "SegmentFlags", "StructType", "SubType", "Subsection",
+    "Symbol", "SymbolFlags", "SymbolKind", "Table", "TargetFeature", "TypeGroup", "TypeKind", "ValueType",
     "events", "load", "strip",
 ]  # fmt: skip
 
@@ -72,7 +108,7 @@ __all__ = [
 def strip(stream: ReadableBuffer, keep_names: bool = False, library: Any = None) -> bytes:
     """Returns a copy of a module without its custom sections. With `keep_names` the sections called `name` stay.
 
-    `stream` is any buffer. Raises `Fault` at the first fault of the stream. `library` is a library that `load` returned, by default the one it finds.
+    `stream` is any buffer. Raises `ParseError` at the first fault of the stream. `library` is a library that `load` returned, by default the one it finds.
 
     >>> strip(b"\\0asm\\1\\0\\0\\0\\0\\2\\1a")
     b'\\x00asm\\x01\\x00\\x00\\x00'

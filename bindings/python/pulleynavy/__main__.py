@@ -1,44 +1,99 @@
-"""Prints the sections of a module with their sizes in bytes: `python -m pulleynavy FILE`."""
+"""The program `pulleynavy`, which is also `python -m pulleynavy`: lists, checks and strips modules."""
 # SPDX-License-Identifier: Apache-2.0 OR MIT
 from __future__ import annotations
 
+import argparse
 import os
+import shutil
 import sys
+from typing import Callable
 
-from . import Fault, Module, Section
+from . import Module, ParseError, Section, __version__, strip
 
 NAMES = ["custom", "type", "import", "function", "table", "memory", "global", "export", "start", "element", "code", "data", "data count", "tag"]
+MALFORMED, WRONG_USE, FAILED = 1, 2, 3
+EPILOG = "The exit status is 1 for a malformed module, 2 for wrong use, and 3 if a file or wasm_dump fails."
 
 
-def main(arguments: list[str]) -> int:
-    if len(arguments) != 1:
-        print("usage: python -m pulleynavy FILE", file=sys.stderr)
-        return 2
+def arguments(words: list[str]) -> argparse.Namespace:
+    line = argparse.ArgumentParser(prog="pulleynavy", description="Reads WebAssembly binaries.", epilog=EPILOG)
+    line.add_argument("--version", action="version", version=f"pulleynavy {__version__}")
+    commands = line.add_subparsers(dest="command", required=True, metavar="COMMAND")
+    listed = commands.add_parser("list", help="prints the sections with their sizes in bytes")
+    checked = commands.add_parser("check", help="reads all items and known custom sections, and prints a fault of each file")
+    stripped = commands.add_parser("strip", help="writes a module without its custom sections to standard output")
+    listed.add_argument("file", metavar="FILE")
+    checked.add_argument("files", metavar="FILE", nargs="+")
+    stripped.add_argument("--keep-names", action="store_true", help="keeps the sections called name")
+    stripped.add_argument("file", metavar="FILE")
+    commands.add_parser("dump", help="runs the program wasm_dump with the arguments that follow", add_help=False)
+    # A file in place of a command is listed.
+    return line.parse_args(words if not words or words[0].startswith("-") or words[0] in commands.choices else ["list", *words])
+
+
+def main(words: list[str] | None = None) -> int:
+    """Runs the program with these arguments, by default those of the command line. Returns its exit status."""
+    words = sys.argv[1:] if words is None else words
+    if words[:1] == ["dump"]:
+        return dump(words[1:])
+    given = arguments(words)
     try:
-        with open(arguments[0], "rb") as file:
-            sections = Module.read(file).sections
-    except OSError as error:
-        print(f"{arguments[0]}: {error.strerror}", file=sys.stderr)
-        return 3
-    except Fault as fault:
-        print(f"{arguments[0]}: {fault}", file=sys.stderr)
-        return 1
-    try:
-        show(sections)
+        if given.command == "check":
+            status = max([check(path) for path in given.files])
+        else:
+            status = attempt(given.file, lambda: show(given))
         sys.stdout.flush()
+        return status
     except BrokenPipeError:
         # The reader has closed the pipe, so there is nothing to say. Python flushes standard output once more at its end.
         os.dup2(os.open(os.devnull, os.O_WRONLY), sys.stdout.fileno())
-        return 3
+        return FAILED
+
+
+def show(given: argparse.Namespace) -> None:
+    """Lists or strips a file."""
+    with open(given.file, "rb") as file:
+        stream = file.read()
+    if given.command == "strip":
+        sys.stdout.buffer.write(strip(stream, given.keep_names))
+    else:
+        for section in Module(stream).sections:
+            print(row(section))
+
+
+def check(path: str) -> int:
+    return attempt(path, lambda: Module.read(path).check())
+
+
+def attempt(path: str, act: Callable[[], None]) -> int:
+    """Runs a function over a file, prints its fault, and returns the exit status."""
+    try:
+        act()
+    except BrokenPipeError:
+        raise
+    except OSError as error:
+        print(f"{path}: {error.strerror}", file=sys.stderr)
+        return FAILED
+    except ParseError as error:
+        print(f"{path}: {error}", file=sys.stderr)
+        return MALFORMED
     return 0
 
 
-def show(sections: list[Section]) -> None:
-    """Prints a line for each section: its size, its offset, its name, and the number of its items."""
-    for section in sections:
-        name = section.name if section.name is not None else NAMES[section.id] if section.id < len(NAMES) else f"section {section.id}"
-        print(f"{section.size:>12,} {section.start:>#12x}  {name}" + ("" if section.count is None else f" ({section.count})"))
+def row(section: Section) -> str:
+    """A line for a section: its size, its offset, its name, and the number of its items."""
+    name = section.name if section.name is not None else NAMES[section.id] if section.id < len(NAMES) else f"section {section.id}"
+    return f"{section.size:>12,} {section.start:>#12x}  {name}" + ("" if section.count is None else f" ({section.count})")
+
+
+def dump(words: list[str]) -> int:
+    """Runs the program `wasm_dump` of this project in place of this one."""
+    program = shutil.which("wasm_dump")
+    if not program:
+        print("pulleynavy: there is no program wasm_dump on the path", file=sys.stderr)
+        return FAILED
+    os.execv(program, [program, *words])
 
 
 if __name__ == "__main__":
-    sys.exit(main(sys.argv[1:]))
+    sys.exit(main())

@@ -5,10 +5,13 @@ from __future__ import annotations
 import ctypes
 import dataclasses
 import os
-from typing import Any, BinaryIO, Iterator
+from typing import TYPE_CHECKING, Any, BinaryIO, Iterator
 
-from ._library import ALL_FEATURES, fault_of, load
-from .declared import EventKind
+from ._library import ALL_FEATURES, bytes_of, fault_of, load
+from .declared import EventKind, Fault, FaultKind
+
+if TYPE_CHECKING:
+    from _typeshed import ReadableBuffer
 
 
 def binary(piece: Any) -> bytes:
@@ -43,7 +46,7 @@ class Event:
     end: int
     data_offset: int
     name_size: int
-    raw: bytes
+    raw: bytes = dataclasses.field(repr=False)
 
     @property
     def content(self) -> bytes:
@@ -77,6 +80,101 @@ class Event:
         return self.raw[len(self.raw) - (self.end - self.data_offset) :]
 
 
+class Parser:
+    """A parser of a stream whose chunks you pass: `feed` adds one, and iterating over the parser yields the events that are complete.
+
+    Only the bytes of the part that is not complete are kept. The last event is of the kind `END`, after `finish`. Iterating raises
+    `ParseError` at the first fault of the stream.
+
+    >>> parser = Parser()
+    >>> for chunk in (b"\\0asm\\1\\0", b"\\0\\0\\1", b"\\1\\0"):
+    ...     print([event.kind.name for event in parser.feed(chunk)])
+    []
+    ['VERSION']
+    ['SECTION']
+    >>> [event.kind.name for event in parser.finish()]
+    ['END']
+    """
+
+    def __init__(self, features: int = ALL_FEATURES, library: Any = None) -> None:
+        self._library = library or load()
+        self._feed = self._library.pulleynavy_feed_init(0, features)
+        self._storage = ctypes.create_string_buffer(1)
+        # The offset where skipping began, and how many bytes of the next chunks are skipped.
+        self._skipped_from, self._skipping, self._is_ended = 0, 0, False
+
+    def feed(self, chunk: ReadableBuffer) -> Iterator[Event]:
+        """Adds the next bytes of the stream, of any buffer. Returns an iterator over the events that are complete.
+
+        Raises `ValueError` after `finish`.
+        """
+        if self._feed.is_finished:
+            raise ValueError("the stream has been finished")
+        given = bytes_of(chunk)
+        passed = min(self._skipping, len(given))
+        self._skipping -= passed
+        self._push(given[passed:])
+        return iter(self)
+
+    def _push(self, piece: bytes) -> None:
+        while piece and not self._library.pulleynavy_feed_push(self._feed, self._storage, len(self._storage), piece, len(piece)):
+            grown = ctypes.create_string_buffer(max(2 * len(self._storage), len(piece)))
+            ctypes.memmove(grown, self._storage, len(self._storage))
+            self._storage = grown
+
+    def finish(self) -> Iterator[Event]:
+        """Says that the stream has ended. Returns an iterator over the last events."""
+        self._library.pulleynavy_feed_finish(self._feed)
+        return iter(self)
+
+    def skip(self) -> int:
+        """Skips the rest of the code section: call it after an event `CODE` or `BODY`. Returns how many bytes are skipped.
+
+        The bodies are neither kept nor parsed, and there are no events of them. Elsewhere it returns 0 and skips nothing. If the stream ends
+        within the skipped bytes, the fault is `UNEXPECTED_EOF`, at the first of them.
+
+        >>> parser = Parser()
+        >>> events = parser.feed(b"\\0asm\\1\\0\\0\\0\\3\\2\\1\\0\\x0a\\4\\1\\2\\0\\x0b")
+        >>> for event in events:
+        ...     if event.kind is EventKind.CODE:
+        ...         print(parser.skip())
+        3
+        >>> [event.kind.name for event in parser.finish()]
+        ['END']
+        """
+        feed = self._feed
+        start = feed.parser.offset
+        size = int(self._library.pulleynavy_skip_section(feed.parser))
+        stored = min(size, feed.end - feed.mark)
+        feed.mark += stored
+        if size:
+            self._skipped_from, self._skipping = start, size - stored
+        return size
+
+    def __iter__(self) -> Iterator[Event]:
+        while not self._is_ended:
+            if self._skipping:
+                if self._feed.is_finished:
+                    raise fault_of(self._library, Fault(FaultKind.UNEXPECTED_EOF, 0, 0, self._skipped_from))
+                return
+            event = self._step()
+            if event is None:
+                return
+            self._is_ended = event.kind is EventKind.END
+            yield event
+
+    def _step(self) -> Event | None:
+        """The next event, or none if it needs more bytes. Raises the fault of the stream."""
+        event = self._library.pulleynavy_feed_step(self._feed, self._storage, len(self._storage))
+        kind = EventKind(event.kind)
+        if kind is EventKind.FAULT:
+            raise fault_of(self._library, event.fault)
+        if kind is EventKind.NEED_MORE:
+            return None
+        raw = ctypes.string_at(ctypes.addressof(self._storage) + self._feed.mark - event.consumed, event.consumed)
+        return Event(kind, event.id, event.count, event.size, event.start, event.end, event.data_offset, event.name_size, raw)
+
+
 def events(
     file: BinaryIO | str | os.PathLike[str], chunk: int = 65536, features: int = ALL_FEATURES, library: Any = None
 ) -> Iterator[Event]:
@@ -84,8 +182,8 @@ def events(
 
     `file` is a file that was opened in binary mode, or a path. Memory use is at most three times the size of the largest part and of a chunk.
 
-    Raises `Fault` at the first fault of the stream, after the events before it; `TypeError` if the file was opened in text mode; and `OSError`
-    if a path can't be opened.
+    Raises `ParseError` at the first fault of the stream, after the events before it; `TypeError` if the file was opened in text mode; and
+    `OSError` if a path can't be opened.
 
     >>> import io
     >>> [event.kind.name for event in events(io.BytesIO(b"\\0asm\\1\\0\\0\\0"))]
@@ -95,26 +193,9 @@ def events(
         with open(file, "rb") as opened:
             yield from events(opened, chunk, features, library)
         return
-    library = library or load()
-    feed = library.pulleynavy_feed_init(0, features)
-    storage = ctypes.create_string_buffer(2 * chunk)
+    parser = Parser(features, library)
     while True:
-        event = library.pulleynavy_feed_step(feed, storage, len(storage))
-        kind = EventKind(event.kind)
-        if kind is EventKind.FAULT:
-            raise fault_of(library, event.fault)
-        if kind is not EventKind.NEED_MORE:
-            consumed = ctypes.string_at(ctypes.addressof(storage) + feed.mark - event.consumed, event.consumed)
-            yield Event(
-                kind, event.id, event.count, event.size, event.start, event.end, event.data_offset, event.name_size, consumed
-            )
-            if kind is EventKind.END:
-                return
-            continue
         piece = binary(file.read(chunk))
+        yield from parser.feed(piece) if piece else parser.finish()
         if not piece:
-            library.pulleynavy_feed_finish(feed)
-        while piece and not library.pulleynavy_feed_push(feed, storage, len(storage), piece, len(piece)):
-            grown = ctypes.create_string_buffer(2 * len(storage))
-            ctypes.memmove(grown, storage, len(storage))
-            storage = grown
+            return

@@ -37,8 +37,8 @@ def load(path: str | None = None) -> Any:
     return library
 
 
-class Fault(ValueError):
-    """A fault of a malformed or truncated module, as an exception. It can be pickled and copied.
+class ParseError(ValueError):
+    """A malformed or truncated module. It can be pickled and copied.
 
     `kind` is the kind of the fault, and `code` also has its detail in the bits above the lowest 8. `offset` is in bytes from the start of
     the stream. `number` is the number of the fault, if it has one: a version, a length or a byte. `text` is the message of the Rust crate
@@ -47,8 +47,8 @@ class Fault(ValueError):
     >>> from pulleynavy import Module
     >>> try:
     ...     Module(b"\\0asm\\2\\0\\0\\0")
-    ... except Fault as fault:
-    ...     print(fault.kind.name, fault.offset, fault.number)
+    ... except ParseError as error:
+    ...     print(error.kind.name, error.offset, error.number)
     UNKNOWN_VERSION 4 2
     """
 
@@ -62,11 +62,15 @@ class Fault(ValueError):
         return type(self), (self.code, self.offset, self.number, self.text), self.__dict__
 
 
-def fault_of(library: Any, fault: Any) -> Fault:
+# The name of `ParseError` before version 0.13.
+Fault = ParseError
+
+
+def fault_of(library: Any, fault: Any) -> ParseError:
     """The exception for a fault of the library."""
     room = ctypes.create_string_buffer(80)
     size = library.pulleynavy_format_message(fault.kind, room, len(room))
-    return Fault(fault.kind, fault.offset, fault.number if fault.has_number else None, room.raw[:size].decode())
+    return ParseError(fault.kind, fault.offset, fault.number if fault.has_number else None, room.raw[:size].decode())
 
 
 def bytes_of(stream: Any) -> bytes:

@@ -2,240 +2,51 @@
 # SPDX-License-Identifier: Apache-2.0 OR MIT
 from __future__ import annotations
 
-import contextlib
-import dataclasses
 import functools
-import gc
 import io
 import os
-from typing import TYPE_CHECKING, Any, BinaryIO, Iterator, NamedTuple
+from typing import TYPE_CHECKING, Any, BinaryIO, Iterator, TypeVar
 
+from ._customs import Names, dylink, linking
 from ._events import Event, binary, events
-from ._items import Items, fields
+from ._items import Items
 from ._library import ALL_FEATURES, bytes_of, load
-from .declared import CustomKind, DataKind, ElementKind, EventKind, ExternalKind, HeapKind, NameId, SectionId, TypeKind
+from ._values import (
+    BranchHint,
+    CoreInstance,
+    CoreStack,
+    CustomSection,
+    Data,
+    Dylink,
+    Element,
+    Export,
+    FunctionType,
+    Global,
+    Import,
+    Linking,
+    Memory,
+    Producer,
+    Relocations,
+    Section,
+    SubType,
+    Symbol,
+    Table,
+    TargetFeature,
+    TypeGroup,
+)
+from .declared import CustomKind, EventKind, ExternalKind, SectionId
 
 if TYPE_CHECKING:
     from _typeshed import ReadableBuffer
 
-
-@dataclasses.dataclass(frozen=True)
-class Section:
-    """A section of a module.
-
-    `id` is the id of the section, a `SectionId` if it is known. `start` and `end` are the offsets of the content, in bytes from the start of
-    the stream. `count` is the announced number of items or bodies, or `None`. `name` is the name of a custom section, otherwise `None`.
-
-    >>> Module(b"\\0asm\\1\\0\\0\\0\\5\\3\\1\\0\\2").sections
-    [Section(id=5, start=10, end=13, count=1, name=None)]
-    """
-
-    id: int
-    start: int
-    end: int
-    count: int | None
-    name: str | None = None
-
-    @property
-    def size(self) -> int:
-        """The size of the content in bytes.
-
-        >>> Section(3, 10, 12, 1).size
-        2
-        """
-        return self.end - self.start
-
-
-@dataclasses.dataclass(frozen=True)
-class ValueType:
-    """A value type: a number type, a vector type or a reference.
-
-    Of a reference, `nullable` says whether it may be null, and `heap` is the type of what it refers to. If that is `HeapKind.CONCRETE`, it is
-    the type with this `index`.
-
-    >>> ValueType(TypeKind.REF, True, HeapKind.FUNC).kind.name
-    'REF'
-    """
-
-    kind: TypeKind
-    nullable: bool = False
-    heap: HeapKind | None = None
-    index: int | None = None
-
-
-@dataclasses.dataclass(frozen=True)
-class Limits:
-    """The limits of a table, in elements, or of a memory, in pages.
-
-    `maximum` is `None` without a maximum. `is_64` says whether indices or addresses have 64 bits, and `shared` whether threads share it.
-    """
-
-    initial: int
-    maximum: int | None
-    is_64: bool
-    shared: bool
-
-
-@dataclasses.dataclass(frozen=True)
-class Table:
-    """A table: the type of its elements, and its limits in elements."""
-
-    element: ValueType
-    limits: Limits
-
-
-@dataclasses.dataclass(frozen=True)
-class Memory:
-    """A memory: its limits in pages, and the base-2 logarithm of the page size in bytes.
-
-    If `page_size_log2` is `None`, a page has 65,536 bytes.
-
-    >>> Module(b"\\0asm\\1\\0\\0\\0\\5\\3\\1\\0\\2").memories[0].limits.initial
-    2
-    """
-
-    limits: Limits
-    page_size_log2: int | None
-
-
-@dataclasses.dataclass(frozen=True)
-class Global:
-    """The type of a global: that of its value, and whether it is mutable and shared."""
-
-    content: ValueType
-    mutable: bool
-    shared: bool
-
-
-class Import(NamedTuple):
-    """An import: the names of the module and of the import in it, its kind and its type.
-
-    `type` is the type index of a function or a tag, or the `Table`, `Memory` or `Global`.
-    """
-
-    module: str
-    name: str
-    kind: ExternalKind
-    type: int | Table | Memory | Global
-
-
-class Export(NamedTuple):
-    """An export: its name, its kind, and its index in the index space of the kind."""
-
-    name: str
-    kind: ExternalKind
-    index: int  # type: ignore[assignment]  # in place of tuple.index
-
-
-class Element(NamedTuple):
-    """An element segment: its kind, the index of the table of an active segment, and the number of its elements.
-
-    `table` is `None` if no index is encoded: the segment is then for table 0, or not active.
-    """
-
-    kind: ElementKind
-    table: int | None
-    count: int  # type: ignore[assignment]  # in place of tuple.count
-
-
-class Data(NamedTuple):
-    """A data segment: its kind, the index of the memory of an active segment, and its bytes."""
-
-    kind: DataKind
-    memory: int | None
-    contents: bytes
-
-
-@dataclasses.dataclass(frozen=True)
-class CustomSection:
-    """A custom section: its name, its kind by this name, its data, and the offset of the data in bytes from the start of the stream.
-
-    Read the lists of a section with `Items`.
-
-    >>> Module(b"\\0asm\\1\\0\\0\\0\\0\\3\\1a\\7").custom_sections
-    [CustomSection(name='a', kind=<CustomKind.UNKNOWN: 0>, data=b'\\x07', offset=12)]
-    """
-
-    name: str
-    kind: CustomKind
-    data: bytes
-    offset: int
-
-
-@dataclasses.dataclass(frozen=True)
-class Names:
-    """The names of the section `name`: that of the module, if any, and those of functions by their indices.
-
-    (Core specification, Appendix, Custom Sections, Name Section.)
-    """
-
-    module: str | None
-    functions: dict[int, str]
-
-
-class _Texts(bytes):
-    """Bytes whose slices are texts."""
-
-    def __getitem__(self, part: Any) -> Any:
-        return super().__getitem__(part).decode()
-
-
-@contextlib.contextmanager
-def _paused_collector() -> Iterator[None]:
-    """Pauses the garbage collector while a list of items is made: they have no cycles, and looking for some takes a third of the time."""
-    was_enabled = gc.isenabled()
-    gc.disable()
-    try:
-        yield
-    finally:
-        if was_enabled:
-            gc.enable()
-
-
-def _text(data: bytes) -> Any:
-    """What has the texts of a section as its slices. A section in ASCII is decoded at once, which makes its slices twice as fast."""
-    return data.decode("ascii") if data.isascii() else _Texts(data)
-
-
-def _value_type(ty: Any) -> ValueType:
-    kind = TypeKind(ty.kind)
-    if kind is not TypeKind.REF:
-        return ValueType(kind)
-    heap = HeapKind(ty.heap)
-    return ValueType(kind, bool(ty.nullable), heap, ty.index if heap is HeapKind.CONCRETE else None)
-
-
-def _limits(ty: Any, is_64: int) -> Limits:
-    return Limits(ty.initial, ty.maximum if ty.has_maximum else None, bool(is_64), bool(ty.shared))
-
-
-def _table(ty: Any) -> Table:
-    return Table(_value_type(ty.element), _limits(ty, ty.table64))
-
-
-def _memory(ty: Any) -> Memory:
-    return Memory(_limits(ty, ty.memory64), ty.page_size_log2 if ty.has_page_size else None)
-
-
-def _global(ty: Any) -> Global:
-    return Global(_value_type(ty.content), bool(ty.is_mutable), bool(ty.shared))
-
-
-# The fields that are read of items that modules have by the thousand, and the kinds by their numbers.
-_NUMBER = fields("Number", "value")
-_IMPORT = fields("Import", "module_name.at", "module_name.size", "name.at", "name.size", "ty.kind", "ty.index")
-_EXPORT = fields("Export", "name.at", "name.size", "kind", "index")
-_ELEMENT = fields("Element", "kind", "has_table", "table", "count")
-_DATA = fields("Data", "kind", "memory", "bytes.at", "bytes.size")
-_NAMING = fields("Naming", "index", "name.at", "name.size")
-_EXTERNAL_KINDS, _ELEMENT_KINDS, _DATA_KINDS = tuple(ExternalKind), tuple(ElementKind), tuple(DataKind)
-
+Key = TypeVar("Key")
+Value = TypeVar("Value")
 
 class Module:
     """A module in memory, as `bytes`, a `bytearray`, a `memoryview`, an `mmap` or another buffer. It can be pickled and copied.
 
-    The framing is parsed at once. The items of a section are read when you first access them, and kept; a malformed item raises `Fault` then.
-    `features` is a sum of `MEMORY64` and `COMPACT_IMPORTS`, and `library` a library that `load` returned. Raises `Fault` at the first fault of
+    The framing is parsed at once. The items of a section are read when you first access them, and kept; a malformed item raises `ParseError` then.
+    `features` is a sum of `MEMORY64` and `COMPACT_IMPORTS`, and `library` a library that `load` returned. Raises `ParseError` at the first fault of
     the framing.
 
     >>> module = Module(b"\\0asm\\1\\0\\0\\0\\7\\5\\1\\1a\\0\\0")
@@ -247,6 +58,10 @@ class Module:
         self._library, self._features, given = library or load(), features, bytes_of(stream)
         self._events = list(events(io.BytesIO(given), max(1, len(given)), features, self._library))
 
+    def __repr__(self) -> str:
+        last, count = self._events[-1], len(self.sections)
+        return f"<Module: {last.start} bytes, {count} section{'' if count == 1 else 's'}>"
+
     def __reduce__(self) -> tuple[Any, ...]:
         return type(self), (b"".join(event.raw for event in self._events), self._features)
 
@@ -254,7 +69,7 @@ class Module:
     def read(cls, file: BinaryIO | str | os.PathLike[str], features: int = ALL_FEATURES) -> Module:
         """Reads a whole file: a path, or a file that was opened in binary mode.
 
-        Raises `Fault` at the first fault of the framing; `TypeError` if the file was opened in text mode, or if `file` is the bytes of a module,
+        Raises `ParseError` at the first fault of the framing; `TypeError` if the file was opened in text mode, or if `file` is the bytes of a module,
         for which you call `Module`; and `OSError` if a path can't be read.
 
         >>> Module.read(io.BytesIO(b"\\0asm\\1\\0\\0\\0")).sections
@@ -266,6 +81,16 @@ class Module:
             with open(file, "rb") as opened:
                 return cls(opened.read(), features)
         return cls(binary(file.read()), features)
+
+    def check(self) -> None:
+        """Reads the items of all sections and of the known custom sections. Raises `ParseError` at a malformed item. Nothing is validated.
+
+        >>> Module(b"\\0asm\\1\\0\\0\\0").check()
+        """
+        for name in _ITEMS:
+            getattr(self, name)
+        for name in _SPACES:
+            getattr(self.names, name)
 
     def _lists(self, number: int) -> Iterator[Items]:
         """The items of each section with this id."""
@@ -292,6 +117,46 @@ class Module:
         return [section for event in self._events for section in _section(event)]
 
     @functools.cached_property
+    def type_groups(self) -> list[TypeGroup]:
+        """The recursive groups of types, in order."""
+        return [group for items in self._lists(SectionId.TYPE) for group in items.type_groups()]
+
+    @functools.cached_property
+    def types(self) -> list[SubType]:
+        """The types of all groups, in the order of their indices.
+
+        >>> print(Module(b"\\0asm\\1\\0\\0\\0\\1\\6\\1\\x60\\1\\x7f\\1\\x7e").types[0].type)
+        (i32) -> (i64)
+        """
+        return [one for group in self.type_groups for one in group.types]
+
+    def function_type(self, index: int) -> FunctionType:
+        """Returns the type of the function with this index, imported or defined.
+
+        Raises `IndexError` if there is no such function, or if its type index is that of no type; and `TypeError` if that type is no function
+        type. No valid module has such a type index.
+
+        >>> types, functions = b"\\1\\6\\1\\x60\\1\\x7f\\1\\x7e", b"\\3\\2\\1\\0\\x0a\\4\\1\\2\\0\\x0b"
+        >>> print(Module(b"\\0asm\\1\\0\\0\\0" + types + functions).function_type(0))
+        (i32) -> (i64)
+        """
+        if not 0 <= index < len(self._functions):
+            raise IndexError(f"there is no function {index}: there are {len(self._functions)}")
+        number = self._functions[index]
+        if number >= len(self.types):
+            raise IndexError(f"function {index} has type {number}: there are {len(self.types)} types")
+        found = self.types[number].type
+        if not isinstance(found, FunctionType):
+            raise TypeError(f"type {number} of function {index} is no function type")
+        return found
+
+    @functools.cached_property
+    def _functions(self) -> list[int]:
+        """The type index of each function, imported or defined."""
+        kinds = (ExternalKind.FUNC, ExternalKind.FUNC_EXACT)
+        return [one.type for one in self.imports if one.kind in kinds and isinstance(one.type, int)] + self.functions
+
+    @functools.cached_property
     def imports(self) -> list[Import]:
         """The imports, including those of bundles.
 
@@ -299,17 +164,16 @@ class Module:
         >>> one.module, one.name, one.kind.name, one.type
         ('m', 'f', 'FUNC', 5)
         """
-        with _paused_collector():
-            return [one for items in self._lists(SectionId.IMPORT) for one in _imports(items)]
+        return [one for items in self._lists(SectionId.IMPORT) for one in items.imports()]
 
     @functools.cached_property
     def functions(self) -> list[int]:
-        """The type index of each function that the module defines. Imported functions come before them in the index space.
+        """The type index of each function that the module defines. Imported functions come before them in the index space: see `function_type`.
 
         >>> Module(b"\\0asm\\1\\0\\0\\0\\3\\2\\1\\7\\x0a\\4\\1\\2\\0\\x0b").functions
         [7]
         """
-        return [index for items in self._lists(SectionId.FUNCTION) for index, in items.rows("numbers", _NUMBER)]
+        return [one for items in self._lists(SectionId.FUNCTION) for one in items.numbers()]
 
     @functools.cached_property
     def tables(self) -> list[Table]:
@@ -318,7 +182,7 @@ class Module:
         >>> Module(b"\\0asm\\1\\0\\0\\0\\4\\4\\1\\x70\\0\\5").tables[0].limits
         Limits(initial=5, maximum=None, is_64=False, shared=False)
         """
-        return [_table(one.ty) for items in self._lists(SectionId.TABLE) for one in items.all("tables")]
+        return [one for items in self._lists(SectionId.TABLE) for one in items.tables()]
 
     @functools.cached_property
     def memories(self) -> list[Memory]:
@@ -327,16 +191,16 @@ class Module:
         >>> Module(b"\\0asm\\1\\0\\0\\0\\5\\4\\1\\1\\1\\2").memories[0].limits.maximum
         2
         """
-        return [_memory(one.ty) for items in self._lists(SectionId.MEMORY) for one in items.all("memories")]
+        return [one for items in self._lists(SectionId.MEMORY) for one in items.memories()]
 
     @functools.cached_property
     def globals(self) -> list[Global]:
-        """The types of the globals that the module defines.
+        """The globals that the module defines, with the expressions of their values.
 
         >>> Module(b"\\0asm\\1\\0\\0\\0\\6\\6\\1\\x7f\\1\\x41\\5\\x0b").globals[0].mutable
         True
         """
-        return [_global(one.ty) for items in self._lists(SectionId.GLOBAL) for one in items.all("globals")]
+        return [one for items in self._lists(SectionId.GLOBAL) for one in items.globals()]
 
     @functools.cached_property
     def tags(self) -> list[int]:
@@ -345,7 +209,7 @@ class Module:
         >>> Module(b"\\0asm\\1\\0\\0\\0\\x0d\\3\\1\\0\\7").tags
         [7]
         """
-        return [one.func_type_index for items in self._lists(SectionId.TAG) for one in items.all("tags")]
+        return [one for items in self._lists(SectionId.TAG) for one in items.tags()]
 
     @functools.cached_property
     def exports(self) -> list[Export]:
@@ -354,41 +218,26 @@ class Module:
         >>> [(one.name, one.index) for one in Module(b"\\0asm\\1\\0\\0\\0\\7\\5\\1\\1a\\0\\5").exports]
         [('a', 5)]
         """
-        new = tuple.__new__
-        with _paused_collector():
-            return [
-                new(Export, (text[at : at + size], _EXTERNAL_KINDS[kind], index))
-                for items in self._lists(SectionId.EXPORT)
-                for text in [_text(items.data)]
-                for at, size, kind, index in items.rows("exports", _EXPORT)
-            ]
+        return [one for items in self._lists(SectionId.EXPORT) for one in items.exports()]
 
     @functools.cached_property
     def elements(self) -> list[Element]:
         """The element segments.
 
-        >>> Module(b"\\0asm\\1\\0\\0\\0\\x09\\7\\1\\0\\x41\\0\\x0b\\1\\5").elements
-        [Element(kind=<ElementKind.ACTIVE: 1>, table=None, count=1)]
+        >>> one, = Module(b"\\0asm\\1\\0\\0\\0\\x09\\7\\1\\0\\x41\\0\\x0b\\1\\5").elements
+        >>> one.functions, one.offset.instructions[0].integer
+        ((5,), 0)
         """
-        return [
-            Element(_ELEMENT_KINDS[kind], table if has_table else None, count)
-            for items in self._lists(SectionId.ELEMENT)
-            for kind, has_table, table, count in items.rows("elements", _ELEMENT)
-        ]
+        return [one for items in self._lists(SectionId.ELEMENT) for one in items.elements()]
 
     @functools.cached_property
     def data(self) -> list[Data]:
         """The data segments.
 
         >>> Module(b"\\0asm\\1\\0\\0\\0\\x0b\\5\\1\\1\\2hi").data
-        [Data(kind=<DataKind.PASSIVE: 0>, memory=None, contents=b'hi')]
+        [Data(kind=<DataKind.PASSIVE: 0>, memory=None, contents=b'hi', offset=None)]
         """
-        with _paused_collector():
-            return [
-                Data(_DATA_KINDS[kind], memory if kind == DataKind.ACTIVE else None, items.data[at : at + size])
-                for items in self._lists(SectionId.DATA)
-                for kind, memory, at, size in items.rows("data", _DATA)
-            ]
+        return [one for items in self._lists(SectionId.DATA) for one in items.data_segments()]
 
     @functools.cached_property
     def start(self) -> int | None:
@@ -422,30 +271,97 @@ class Module:
         kind = CustomKind(self._library.pulleynavy_classify_custom(name, len(name)))
         return CustomSection(event.name, kind, event.data, event.data_offset)
 
+    def _customs(self, kind: CustomKind) -> Iterator[Items]:
+        """A cursor over the data of each custom section of this kind."""
+        for section in self.custom_sections:
+            if section.kind is kind:
+                yield Items(section.data, section.offset, self._features, self._library)
+
     @functools.cached_property
     def names(self) -> Names:
-        """The names of the module and of functions, empty without a section `name`.
+        """The names of the module, of functions, locals and so on, empty without a section `name`.
 
-        >>> Module(b"\\0asm\\1\\0\\0\\0\\0\\x0b\\4name\\1\\4\\1\\5\\1f").names
-        Names(module=None, functions={5: 'f'})
+        >>> Module(b"\\0asm\\1\\0\\0\\0\\0\\x0b\\4name\\1\\4\\1\\5\\1f").names.functions
+        {5: 'f'}
         """
-        module: str | None = None
-        functions: dict[int, str] = {}
-        for section in self.custom_sections:
-            if section.kind is CustomKind.NAME:
-                for number, contents in self._subsections(section):
-                    if number == NameId.MODULE:
-                        module = contents.text(contents.read("name").name)
-                        contents.check_name_end()
-                    elif number == NameId.FUNCTION:
-                        text = _text(contents.data)
-                        functions.update((index, text[at : at + size]) for index, at, size in contents.counted().rows("namings", _NAMING))
-        return Names(module, functions)
+        sections = tuple([section for section in self.custom_sections if section.kind is CustomKind.NAME])
+        return Names(sections, self._features, self._library)
 
-    def _subsections(self, section: CustomSection) -> Iterator[tuple[int, Items]]:
-        items = Items(section.data, section.offset, self._features, self._library)
-        for one in items.all("name_subsections"):
-            yield one.id, items.part(one.contents)
+    @functools.cached_property
+    def producers(self) -> dict[str, tuple[Producer, ...]]:
+        """The fields of the section `producers`: `language`, `processed-by` and `sdk`, each with its values.
+
+        >>> section = b"\\0\\x14\\x09producers\\1\\3sdk\\1\\1e\\1" + b"4"
+        >>> Module(b"\\0asm\\1\\0\\0\\0" + section).producers
+        {'sdk': (Producer(name='e', version='4'),)}
+        """
+        return _merged(field for items in self._customs(CustomKind.PRODUCERS) for field in items.counted().producers())
+
+    @functools.cached_property
+    def target_features(self) -> list[TargetFeature]:
+        """The features that the module uses, from the section `target_features`."""
+        sections = [one for one in self.custom_sections if one.name == "target_features"]
+        lists = [Items(one.data, one.offset, self._features, self._library) for one in sections]
+        return [feature for items in lists for feature in items.counted().target_features()]
+
+    @functools.cached_property
+    def linking(self) -> Linking | None:
+        """The section `linking` of an object file, or `None`: symbols, segments, functions that run first, groups."""
+        return linking(list(self._customs(CustomKind.LINKING)))
+
+    @functools.cached_property
+    def symbols(self) -> tuple[Symbol, ...]:
+        """The symbols of an object file, in the order of their indices."""
+        return self.linking.symbols if self.linking else ()
+
+    @functools.cached_property
+    def relocations(self) -> list[Relocations]:
+        """The relocations of an object file, section by section: `sections[one.section]` is the one that each patches."""
+        lists = self._customs(CustomKind.RELOC)
+        return [Relocations(items.read_number(), tuple(items.counted().relocations())) for items in lists]
+
+    @functools.cached_property
+    def dylink(self) -> Dylink | None:
+        """The section `dylink.0` of a dynamic library, or `None`."""
+        return dylink(list(self._customs(CustomKind.DYLINK0)))
+
+    @functools.cached_property
+    def branch_hints(self) -> dict[int, tuple[BranchHint, ...]]:
+        """The branch hints of each function, by its index."""
+        return _merged(one for items in self._customs(CustomKind.BRANCH_HINTS) for one in items.counted().branch_hints())
+
+    @functools.cached_property
+    def core_process(self) -> str | None:
+        """The name of the process of a core dump, or `None`."""
+        return next((items.read_core_process() for items in self._customs(CustomKind.CORE)), None)
+
+    @functools.cached_property
+    def core_modules(self) -> list[str]:
+        """The names of the modules of a core dump."""
+        return [name for items in self._customs(CustomKind.CORE_MODULES) for name in items.read_core_modules()]
+
+    @functools.cached_property
+    def core_instances(self) -> list[CoreInstance]:
+        """The instances of a core dump."""
+        return [one for items in self._customs(CustomKind.CORE_INSTANCES) for one in items.read_core_instances()]
+
+    @functools.cached_property
+    def core_stacks(self) -> list[CoreStack]:
+        """The stacks of the threads of a core dump."""
+        return [items.read_core_stack() for items in self._customs(CustomKind.CORE_STACK)]
+
+
+# The properties that read something, and those of `names`.
+_ITEMS = [name for name, value in vars(Module).items() if isinstance(value, functools.cached_property)]
+_SPACES = [name for name, value in vars(Names).items() if isinstance(value, functools.cached_property)]
+
+
+def _merged(pairs: Iterator[tuple[Key, tuple[Value, ...]]]) -> dict[Key, tuple[Value, ...]]:
+    """The values by their keys. Those of a key that comes twice are together."""
+    found: dict[Key, tuple[Value, ...]] = {}
+    for key, values in pairs:
+        found[key] = found.get(key, ()) + values
+    return found
 
 
 def _section(event: Event) -> Iterator[Section]:
@@ -461,19 +377,3 @@ def _section(event: Event) -> Iterator[Section]:
         yield Section(SectionId.DATA_COUNT, event.start, event.end, None)
     elif event.kind is EventKind.UNKNOWN:
         yield Section(event.id, event.start, event.end, None)
-
-
-def _imported(ty: Any) -> Table | Memory | Global:
-    """The type of a table, a memory or a global."""
-    if ty.kind == ExternalKind.TABLE:
-        return _table(ty.table)
-    return _memory(ty.memory) if ty.kind == ExternalKind.MEMORY else _global(getattr(ty, "global"))
-
-
-def _imports(items: Items) -> Iterator[Import]:
-    indexed, text = (ExternalKind.FUNC, ExternalKind.TAG, ExternalKind.FUNC_EXACT), _text(items.data)
-    for room, rows in items.imports(_IMPORT):
-        for at, (module, module_size, name, size, number, index) in enumerate(rows):
-            kind = _EXTERNAL_KINDS[number]
-            type = index if kind in indexed else _imported(room[at].ty)
-            yield Import(text[module : module + module_size], text[name : name + size], kind, type)
