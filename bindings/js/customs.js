@@ -1,7 +1,6 @@
 // SPDX-License-Identifier: Apache-2.0 OR MIT
 // The data of each known custom section, as plain objects.
 import * as d from "./declared.js";
-import { i64, u64 } from "./instance.js";
 
 const names = numbers => Object.freeze(Object.keys(numbers).map(name => name.toLowerCase()));
 const SYMBOLS = names(d.SymbolKind), COMDATS = names(d.ComdatKind), CORE_VALUES = names(d.CoreValueKind);
@@ -215,15 +214,22 @@ function linking(w) {
     return { kind: "linking", version, subsections: subsections(rest, linkingPart) };
 }
 
-const RELOCATION_LIST = {
-    call: "pulleynavy_next_relocations", layout: d.RelocationLayout,
-    make: (w, view, p, start, end) => ({
-        kind: "relocation", start, end, type: RELOCATIONS[u32(view, p + d.RelocationLayout.kind)],
+// The addends of these types have 64 bits, and are bigints; the others have 32.
+const WIDE = new Set([
+    "MEMORY_ADDR_LEB64", "MEMORY_ADDR_SLEB64", "MEMORY_ADDR_I64", "MEMORY_ADDR_REL_SLEB64", "FUNCTION_OFFSET_I64", "MEMORY_ADDR_TLS_SLEB64",
+]);
+
+function relocation(w, view, p, start, end) {
+    const type = RELOCATIONS[u32(view, p + d.RelocationLayout.kind)], addend = view.getBigInt64(p + d.RelocationLayout.addend, true);
+    return {
+        kind: "relocation", start, end, type,
         offset: u32(view, p + d.RelocationLayout.offset), index: u32(view, p + d.RelocationLayout.index),
-        addend: i64(view, p + d.RelocationLayout.addend),
+        addend: WIDE.has(type) ? addend : Number(addend),
         extent: u32(view, p + d.RelocationLayout.extent),
-    }),
-};
+    };
+}
+
+const RELOCATION_LIST = { call: "pulleynavy_next_relocations", layout: d.RelocationLayout, make: relocation };
 
 function relocations(w) {
     const section = w.number(), found = section < 0 ? null : listed(w, 0, RELOCATION_LIST);
@@ -233,12 +239,18 @@ function relocations(w) {
 // ---- core dumps
 
 const INDICES = { call: "pulleynavy_next_numbers", layout: d.NumberLayout, make: (w, view, p) => u32(view, p + d.NumberLayout.value) };
+// What reads a value of each kind: an integer, or the bits of a float. Those of 64 bits are bigints.
+const CORE_VALUE = {
+    [d.CoreValueKind.I32]: (view, p) => view.getInt32(p + d.CoreValueLayout.integer, true),
+    [d.CoreValueKind.I64]: (view, p) => view.getBigInt64(p + d.CoreValueLayout.integer, true),
+    [d.CoreValueKind.F32]: (view, p) => u32(view, p + d.CoreValueLayout.bits),
+    [d.CoreValueKind.F64]: (view, p) => view.getBigUint64(p + d.CoreValueLayout.bits, true),
+};
 const CORE_VALUE_LIST = {
     call: "pulleynavy_next_core_values", layout: d.CoreValueLayout,
     make: (w, view, p) => {
-        const kind = u32(view, p + d.CoreValueLayout.kind), isFloat = kind >= d.CoreValueKind.F32;
-        const value = isFloat ? u64(view, p + d.CoreValueLayout.bits) : i64(view, p + d.CoreValueLayout.integer);
-        return { type: CORE_VALUES[kind], value: kind === d.CoreValueKind.MISSING ? null : value };
+        const kind = u32(view, p + d.CoreValueLayout.kind), value = CORE_VALUE[kind];
+        return { type: CORE_VALUES[kind], value: value ? value(view, p) : null };
     },
 };
 

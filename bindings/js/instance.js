@@ -14,20 +14,7 @@ const MOST = 2 ** 32;
 const decoder = new TextDecoder("utf-8", { ignoreBOM: true });
 const FAULTS = new Map(Object.entries(FaultKind).map(([name, number]) => [number, name]));
 
-/** The u64 at an address: a number, or a bigint beyond 2^53. */
-export function u64(view, p) {
-    const high = view.getUint32(p + 4, true);
-    if (high === 0) return view.getUint32(p, true);
-    return high < 0x200000 ? high * MOST + view.getUint32(p, true) : view.getBigUint64(p, true);
-}
-
-/** The i64 at an address: a number, or a bigint beyond 2^53. */
-export function i64(view, p) {
-    const high = view.getInt32(p + 4, true);
-    return high >= -0x200000 && high < 0x200000 ? high * MOST + view.getUint32(p, true) : view.getBigInt64(p, true);
-}
-
-/** The offset at an address. No stream of JavaScript's has 2^53 bytes. */
+/** The u64 at an address, as a number: an offset, since no stream of JavaScript's has 2^53 bytes, or a number of 32 bits. */
 export function offsetAt(view, p) {
     const high = view.getUint32(p + 4, true);
     return high === 0 ? view.getUint32(p, true) : high * MOST + view.getUint32(p, true);
@@ -116,7 +103,7 @@ export class Instance {
 
     // The fault at an address, whose kind is not 0.
     fault(p) {
-        const { view } = this, number = view.getUint32(p + FaultLayout.hasNumber, true) ? u64(view, p + FaultLayout.number) : null;
+        const { view } = this, number = view.getUint32(p + FaultLayout.hasNumber, true) ? offsetAt(view, p + FaultLayout.number) : null;
         return this.faultOf(view.getUint32(p + FaultLayout.kind, true), offsetAt(view, p + FaultLayout.offset), number);
     }
 

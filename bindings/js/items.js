@@ -1,7 +1,7 @@
 // SPDX-License-Identifier: Apache-2.0 OR MIT
 // The items of each core section, as plain objects.
 import * as d from "./declared.js";
-import { u64 } from "./instance.js";
+import { offsetAt } from "./instance.js";
 
 // The names of an enumeration by their numbers, as the text format has them.
 const names = numbers => Object.freeze(Object.keys(numbers).map(name => name.toLowerCase().replaceAll("_", "")));
@@ -18,22 +18,26 @@ function typeAt(view, p) {
     return { nullable: flag(view, p + d.TypeLayout.nullable), heap: heap === d.HeapKind.CONCRETE ? index : HEAPS[heap] };
 }
 
+// A limit: a bigint of a table or memory of 64 bits, otherwise a number. Of 32 bits no valid limit exceeds 2^32; one beyond 2^53 is rounded.
+const limit = (view, p, is64) => (is64 ? view.getBigUint64(p, true) : offsetAt(view, p));
+
 function tableType(view, p) {
+    const table64 = flag(view, p + d.TableTypeLayout.table64);
     return {
         element: typeAt(view, p + d.TableTypeLayout.element),
-        initial: u64(view, p + d.TableTypeLayout.initial),
-        maximum: flag(view, p + d.TableTypeLayout.hasMaximum) ? u64(view, p + d.TableTypeLayout.maximum) : null,
-        table64: flag(view, p + d.TableTypeLayout.table64),
+        initial: limit(view, p + d.TableTypeLayout.initial, table64),
+        maximum: flag(view, p + d.TableTypeLayout.hasMaximum) ? limit(view, p + d.TableTypeLayout.maximum, table64) : null,
+        table64,
         shared: flag(view, p + d.TableTypeLayout.shared),
     };
 }
 
 function memoryType(view, p) {
-    const hasPageSize = flag(view, p + d.MemoryTypeLayout.hasPageSize);
+    const hasPageSize = flag(view, p + d.MemoryTypeLayout.hasPageSize), memory64 = flag(view, p + d.MemoryTypeLayout.memory64);
     return {
-        initial: u64(view, p + d.MemoryTypeLayout.initial),
-        maximum: flag(view, p + d.MemoryTypeLayout.hasMaximum) ? u64(view, p + d.MemoryTypeLayout.maximum) : null,
-        memory64: flag(view, p + d.MemoryTypeLayout.memory64),
+        initial: limit(view, p + d.MemoryTypeLayout.initial, memory64),
+        maximum: flag(view, p + d.MemoryTypeLayout.hasMaximum) ? limit(view, p + d.MemoryTypeLayout.maximum, memory64) : null,
+        memory64,
         shared: flag(view, p + d.MemoryTypeLayout.shared),
         pageSizeLog2: hasPageSize ? view.getUint32(p + d.MemoryTypeLayout.pageSizeLog2, true) : null,
     };

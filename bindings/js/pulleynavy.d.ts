@@ -1,4 +1,6 @@
 // SPDX-License-Identifier: Apache-2.0 OR MIT
+import type { RelocationKind } from "./declared.js";
+
 declare global {
     // These merge with the declarations of the library dom or of Node, if there are any.
     interface TransformStream<I = any, O = any> {}
@@ -108,7 +110,7 @@ export interface Fault {
     /** The number of the fault in the C library: its kind in the lowest 8 bits, and its detail above them. */
     readonly code: number;
     /** The number of the fault, if it has one: a version, a length or a byte; otherwise null. */
-    readonly number: Big | null;
+    readonly number: number | null;
     /** The message, without the number and the offset. */
     readonly text: string;
 }
@@ -117,8 +119,6 @@ export type Event = Version | Section | Start | DataCount | Code | Body | Custom
 
 // ---- items
 
-/** A number, or a bigint beyond 2^53. */
-export type Big = number | bigint;
 /** An abstract heap type, by its name in the text format. */
 export type HeapType = "func" | "extern" | "any" | "eq" | "i31" | "struct" | "array" | "exn" | "none" | "noextern" | "nofunc" | "noexn";
 /** A reference type. */
@@ -133,28 +133,30 @@ export type ValueType = "i32" | "i64" | "f32" | "f64" | "v128" | ReferenceType;
 /** The type of the values that a field stores: a value type, or a packed integer. */
 export type StorageType = ValueType | "i8" | "i16";
 /** The limits of a table, in elements, or of a memory, in pages. */
-interface Limits {
-    /** The initial number of elements or pages. */
-    readonly initial: Big;
+interface Limits<Size extends number | bigint> {
+    /** The initial number of elements or pages. A number beyond 2^53, which no valid module has, is rounded. */
+    readonly initial: Size;
     /** The maximum number of elements or pages, or null. */
-    readonly maximum: Big | null;
+    readonly maximum: Size | null;
     /** Whether threads share it. */
     readonly shared: boolean;
 }
-/** The type of a table. */
-export interface TableType extends Limits {
+interface TableOf<Size extends number | bigint, Is64 extends boolean> extends Limits<Size> {
     /** The type of the elements. */
     readonly element: ReferenceType;
     /** Whether indices have 64 bits. */
-    readonly table64: boolean;
+    readonly table64: Is64;
 }
-/** The type of a memory. */
-export interface MemoryType extends Limits {
+/** The type of a table. The limits of one with 64-bit indices are bigints. */
+export type TableType = TableOf<number, false> | TableOf<bigint, true>;
+interface MemoryOf<Size extends number | bigint, Is64 extends boolean> extends Limits<Size> {
     /** Whether addresses have 64 bits. */
-    readonly memory64: boolean;
+    readonly memory64: Is64;
     /** The base-2 logarithm of the page size in bytes, or null for pages of 65,536 bytes. */
     readonly pageSizeLog2: number | null;
 }
+/** The type of a memory. The limits of one with 64-bit addresses are bigints. */
+export type MemoryType = MemoryOf<number, false> | MemoryOf<bigint, true>;
 /** The type of a global. */
 export interface GlobalType {
     /** The type of the value. */
@@ -457,27 +459,29 @@ export type LinkingSubsection =
     | LinkingList<"comdats", Comdat>
     | LinkingList<"symbols", LinkingSymbol>
     | (SubsectionBase & { readonly kind: "target arch"; readonly name: string });
-/** A relocation: a place that the linker fills in. */
-export interface Relocation extends Range {
+/** The types of relocations whose addends have 64 bits. */
+type WideRelocation =
+    | "MEMORY_ADDR_LEB64" | "MEMORY_ADDR_SLEB64" | "MEMORY_ADDR_I64" | "MEMORY_ADDR_REL_SLEB64" | "FUNCTION_OFFSET_I64" | "MEMORY_ADDR_TLS_SLEB64";
+interface RelocationOf<Type extends string, Addend extends number | bigint> extends Range {
     readonly kind: "relocation";
     /** The type, such as "MEMORY_ADDR_LEB": a name of `RelocationKind` in `declared.js`. */
-    readonly type: string;
+    readonly type: Type;
     /** The offset of the place, in bytes from the start of the relocated section's content. */
     readonly offset: number;
     /** The index of the symbol whose value is written; for "TYPE_INDEX_LEB", the index of a type. */
     readonly index: number;
     /** The addend, which is added to the value; 0 if the type has none. */
-    readonly addend: Big;
+    readonly addend: Addend;
     /** The number of bytes that the relocation fills in: 4, 5, 8 or 10. */
     readonly extent: number;
 }
-/** A value of a local or on the stack of a frame in a core dump. */
-export interface CoreValue {
-    /** The type of the value. */
-    readonly type: "missing" | "i32" | "i64" | "f32" | "f64";
-    /** The integer, the bits of a float, or null. */
-    readonly value: Big | null;
-}
+/** A relocation: a place that the linker fills in. An addend of 64 bits is a bigint. */
+export type Relocation = RelocationOf<Exclude<keyof typeof RelocationKind, WideRelocation>, number> | RelocationOf<WideRelocation, bigint>;
+/** A value of a local or on the stack of a frame in a core dump: an integer, the bits of a float, or null. Those of 64 bits are bigints. */
+export type CoreValue =
+    | { readonly type: "missing"; readonly value: null }
+    | { readonly type: "i32" | "f32"; readonly value: number }
+    | { readonly type: "i64" | "f64"; readonly value: bigint };
 /** An instance of a module in a core dump. */
 export interface CoreInstance {
     /** The index of the module in the section `coremodules`. */

@@ -207,7 +207,13 @@ export function itemLines(event, bytes) {
 }
 
 /** The lines of a model without the offsets of lists of elements, which the package leaves out. */
-export const withoutRanges = lines => lines.map(line => line.replace(/^(  \d+ element\(.*) \d+\.\.\d+ (#\d+\[)/, "$1 $2"));
+export const withoutRanges = lines => lines.map(line => rounded(line.replace(/^(  \d+ element\(.*) \d+\.\.\d+ (#\d+\[)/, "$1 $2")));
+
+// A line of a model with the limits of 32-bit memories and tables as numbers, which are rounded beyond 2^53.
+function rounded(line) {
+    const number = text => (text === "-" ? text : `${Number(text)}`);
+    return line.replace(/(memory\(false \w+|table\(\S+ false) (\d+) (\d+|-)/g, (all, head, low, high) => `${head} ${number(low)} ${number(high)}`);
+}
 
 /** Whether a line is what a model says; after a star a model says no more. */
 export const agrees = (said, wanted) => said === wanted || (wanted?.endsWith("*") && said?.startsWith(wanted.slice(0, -1)));

@@ -78,10 +78,16 @@ test("segments", () => {
     ]);
 });
 
-test("a limit beyond 2^53 is a bigint", () => {
-    const [small, large] = ["\xff\xff\xff\xff\xff\xff\xff\x0f", "\x80\x80\x80\x80\x80\x80\x80\x10"];
-    assert.equal(itemsOf(HEADER + "\x05\x0a\x01\x04" + small)[0].type.initial, 2 ** 53 - 1);
-    assert.equal(itemsOf(HEADER + "\x05\x0a\x01\x04" + large)[0].type.initial, 2n ** 53n);
+test("limits of 64 bits are bigints, others numbers", () => {
+    const limitOf = flags => itemsOf(HEADER + "\x05\x0a\x01" + flags + "\xff\xff\xff\xff\xff\xff\xff\x0f")[0].type.initial;
+    assert.equal(limitOf("\x00"), 2 ** 53 - 1);
+    assert.equal(limitOf("\x04"), 2n ** 53n - 1n);
+    assert.deepEqual(itemsOf(HEADER + "\x05\x04\x01\x05\x01\x02")[0].type, { initial: 1n, maximum: 2n, memory64: true, shared: false, pageSizeLog2: null });
+    assert.deepEqual(itemsOf(HEADER + "\x04\x05\x01\x70\x05\x01\x02")[0].type,
+        { element: { nullable: true, heap: "func" }, initial: 1n, maximum: 2n, table64: true, shared: false });
+    assert.equal(itemsOf(HEADER + "\x05\x0c\x01\x04\xff\xff\xff\xff\xff\xff\xff\xff\xff\x01")[0].type.initial, 2n ** 64n - 1n);
+    // A limit of 32 bits that no valid module has.
+    assert.equal(itemsOf(HEADER + "\x05\x0a\x01\x00\x81\x80\x80\x80\x80\x80\x80\x10")[0].type.initial, 2 ** 53);
 });
 
 test("types with their offsets", () => {
@@ -94,11 +100,33 @@ test("types with their offsets", () => {
     ]);
 });
 
-test("an addend beyond 2^53 is a bigint", () => {
-    const [low, zero] = ["\xff".repeat(7), "\x80".repeat(7)], addends = [zero + "\x70", low + "\x6f", low + "\x0f", zero + "\x10"];
-    const data = "\x0areloc.CODE\x0a\x04" + addends.map(addend => "\x0e\0\0" + addend).join("");
+test("addends of 64 bits are bigints, others numbers", () => {
+    const zero = "\x80".repeat(7), addends = [zero + "\x70", "\x7f", "\x05", zero + "\x10"];
+    const data = "\x0areloc.CODE\x0a\x05" + addends.map(addend => "\x0e\0\0" + addend).join("") + "\x05\0\0\x7f";
     const [, custom] = parse(bytes(HEADER + "\0" + String.fromCharCode(data.length) + data));
-    assert.deepEqual(custom.contents.relocations.map(one => one.addend), [-(2 ** 53), -(2n ** 53n) - 1n, 2 ** 53 - 1, 2n ** 53n]);
+    assert.deepEqual(custom.contents.relocations.map(one => one.addend), [-(2n ** 53n), -1n, 5n, 2n ** 53n, -1]);
+});
+
+test("the type of each addend is that of its number in the binary format", () => {
+    // An addend of 10 bytes is one of 64 bits.
+    const wide = [14, 15, 16, 17, 22, 25], narrow = [3, 4, 5, 8, 9, 11, 21, 23];
+    for (const type of Array(27).keys()) {
+        const addend = wide.includes(type) ? "\x80".repeat(9) + "\x7f" : narrow.includes(type) ? "\x7e" : "";
+        const data = "\x0areloc.CODE\x0a\x01" + String.fromCharCode(type) + "\0\0" + addend;
+        const [, custom] = parse(bytes(HEADER + "\0" + String.fromCharCode(data.length) + data));
+        const wanted = wide.includes(type) ? -(2n ** 63n) : narrow.includes(type) ? -2 : 0;
+        assert.equal(custom.contents.relocations[0].addend, wanted, type);
+    }
+});
+
+test("values of 64 bits in a core dump are bigints, others numbers", () => {
+    const values = "\x7f\x7f" + "\x7e\x7f" + "\x7d\xff\xff\xff\xff" + "\x7c" + "\xff".repeat(8) + "\x01";
+    const data = "\x09corestack\0\x01m\x01\0\0\0\0\x05" + values + "\0";
+    const [, custom] = parse(bytes(HEADER + "\0" + String.fromCharCode(data.length) + data));
+    assert.deepEqual(custom.contents.frames[0].locals, [
+        { type: "i32", value: -1 }, { type: "i64", value: -1n }, { type: "f32", value: 2 ** 32 - 1 }, { type: "f64", value: 2n ** 64n - 1n },
+        { type: "missing", value: null },
+    ]);
 });
 
 test("events of functions and their bodies", () => {

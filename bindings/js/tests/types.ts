@@ -1,10 +1,12 @@
 // SPDX-License-Identifier: Apache-2.0 OR MIT
 // What `tsc --strict` accepts and refuses of a program that uses the package. It is compiled, and not run.
 import { EventKind, ExportLayout } from "../declared.js";
-import type { Contents, Event, Fault, Import, StorageType, TypeGroup } from "../pulleynavy.js";
+import type { Contents, CoreValue, Event, Fault, Import, Relocation, StorageType, TypeGroup } from "../pulleynavy.js";
 import { MEMORY64, faultText, fromModule, load, typeText } from "../pulleynavy.js";
 
 const never = (value: never): string => value;
+const wide = (value: bigint): bigint => value / 2n;
+const offset = (value: number): number => value;
 
 function shown(event: Event): string {
     switch (event.kind) {
@@ -38,8 +40,8 @@ function section(event: Event & { kind: "section" }): string {
 function imported(it: Import): string {
     switch (it.external) {
         case "func": case "funcexact": case "tag": return `${it.type + 1}`;
-        case "table": return typeText(it.type.element);
-        case "memory": return `${it.type.initial}`;
+        case "table": return `${typeText(it.type.element)} ${it.type.table64 ? wide(it.type.maximum ?? 0n) : (it.type.maximum ?? 0) / 2}`;
+        case "memory": return `${it.type.memory64 ? wide(it.type.initial) : it.type.initial / 2}`;
         case "global": return `${it.type.mutable}`;
         default: return never(it);
     }
@@ -50,9 +52,20 @@ function contents(it: Contents | Fault): string {
         case "fault": return faultText(it);
         case "name": return it.subsections.map(one => (one.kind === "names" ? one.names.length : one.kind)).join();
         case "linking": return it.subsections.map(one => (one.kind === "symbols" ? one.items.length : one.kind)).join();
-        case "relocations": return `${it.section} ${it.relocations.length}`;
-        case "core stack": return it.frames.map(frame => frame.function).join();
+        case "relocations": return it.relocations.map(one => (one.kind === "fault" ? one.number ?? 0 : addend(one) + one.offset)).join();
+        case "core stack": return it.frames.flatMap(frame => frame.locals.map(value)).join();
         default: return it.kind;
+    }
+}
+
+const addend = (it: Relocation): number => (it.type === "MEMORY_ADDR_I64" ? Number(wide(it.addend)) : it.type === "MEMORY_ADDR_I32" ? offset(it.addend) : 0);
+
+function value(it: CoreValue): string {
+    switch (it.type) {
+        case "missing": return `${it.value}`;
+        case "i32": case "f32": return `${offset(it.value)}`;
+        case "i64": case "f64": return `${wide(it.value)}`;
+        default: return never(it);
     }
 }
 

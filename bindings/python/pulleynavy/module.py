@@ -140,15 +140,30 @@ class Module:
         >>> print(Module(b"\\0asm\\1\\0\\0\\0" + types + functions).function_type(0))
         (i32) -> (i64)
         """
-        if not 0 <= index < len(self._functions):
-            raise IndexError(f"there is no function {index}: there are {len(self._functions)}")
-        number = self._functions[index]
+        number = self._functions[self._known(index)]
         if number >= len(self.types):
             raise IndexError(f"function {index} has type {number}: there are {len(self.types)} types")
         found = self.types[number].type
         if not isinstance(found, FunctionType):
             raise TypeError(f"type {number} of function {index} is no function type")
         return found
+
+    def function_body(self, index: int) -> range | None:
+        """Returns the offsets of the body of the function with this index, or `None` if the function is imported.
+
+        Raises `IndexError` if there is no such function.
+
+        >>> Module(b"\\0asm\\1\\0\\0\\0\\3\\2\\1\\0\\x0a\\4\\1\\2\\0\\x0b").function_body(0)
+        range(16, 18)
+        """
+        imported = len(self._functions) - len(self.functions)
+        return self.bodies[index - imported] if self._known(index) >= imported else None
+
+    def _known(self, index: int) -> int:
+        """The index of a function. Raises `IndexError` if there is no such function."""
+        if not 0 <= index < len(self._functions):
+            raise IndexError(f"there is no function {index}: there are {len(self._functions)}")
+        return index
 
     @functools.cached_property
     def _functions(self) -> list[int]:

@@ -191,11 +191,16 @@ class Types(unittest.TestCase):
         functions = b"\3\4\3\0\1\5\x0a\x0a\3\2\0\x0b\2\0\x0b\2\0\x0b"
         module = Module(HEADER + self.SECTION + imports + functions)
         self.assertEqual((module.functions, [str(module.function_type(index)) for index in (0, 1)]), ([0, 1, 5], ["(i32, (ref null func)) -> (i64)"] * 2))
+        # The content of the code section begins at offset 55.
+        self.assertEqual([module.function_body(index) for index in range(4)], [None, range(57, 59), range(60, 62), range(63, 65)])
         with self.assertRaises(TypeError):
             module.function_type(2)
         for index in (-1, 3, 4):
             with self.assertRaises(IndexError):
                 module.function_type(index)
+        for index in (-1, 4):
+            with self.assertRaises(IndexError):
+                module.function_body(index)
 
     def test_a_malformed_type_and_trailing_bytes(self) -> None:
         for section, kind, offset in ((b"\1\2\1\x40", FaultKind.LEADING_BYTE, 11), (b"\1\5\1\x60\0\0\0", FaultKind.SIZE_MISMATCH, 14)):
