@@ -61,3 +61,10 @@ def stream_of(rng):
     if rng.random() < 0.1:
         data = mutated(rng, data)
     return data[: rng.randrange(len(data) + 1)] if rng.random() < 0.05 else data
+
+
+def mutants(rng, sources, count):
+    """As many streams, each made from one of the sources or from a random module with items by changing some bytes."""
+    for _ in range(count):
+        data = rng.choice(sources) if rng.random() < 0.5 else stream_of(rng)
+        yield mutated(rng, data)

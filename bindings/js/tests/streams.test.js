@@ -37,6 +37,18 @@ test(`${streams.length} streams in memory, with their items`, () => {
     for (const { bytes, lines } of streams) compare(bytes, linesOf([...parse(bytes)], bytes), lines);
 });
 
+test("memory does not grow", { skip: !globalThis.gc || streams.length < 10_000 }, () => {
+    const third = Math.floor(streams.length / 3), held = [];
+    for (const [number, { bytes }] of streams.entries()) {
+        for (const event of parse(bytes)) assert.ok(event.kind);
+        if (number % third !== 0) continue;
+        globalThis.gc();
+        const { heapUsed, external } = process.memoryUsage();
+        held.push(heapUsed + external);
+    }
+    assert.ok(held.at(-1) < held[1] + 2 ** 20, held.join());
+});
+
 test("the same streams without items", () => {
     for (const { bytes, lines } of streams) compare(bytes, [...parse(bytes, { items: false })].map(eventLine), eventsAlone(lines));
 });

@@ -2,8 +2,10 @@
 # SPDX-License-Identifier: Apache-2.0 OR MIT
 from __future__ import annotations
 
+import gc
 import json
 import os
+import tracemalloc
 import unittest
 from typing import Any, Callable, Iterator
 
@@ -63,6 +65,18 @@ class Streams(unittest.TestCase):
                     self.assertEqual(found, fault or texts)
                     count += len(texts)
         self.assertGreater(count, 250)
+
+    def test_memory_does_not_grow(self) -> None:
+        streams = [stream for stream, _ in self.rows()][:5000]
+        held = []
+        tracemalloc.start()
+        for number, stream in enumerate(streams):
+            if number % (len(streams) // 3) == 0:
+                gc.collect()
+                held.append(tracemalloc.get_traced_memory()[0])
+            read(lambda: Module(stream).check())
+        tracemalloc.stop()
+        self.assertLess(held[-1], held[1] + 50_000, held)
 
     def test_custom_sections(self) -> None:
         count = 0
