@@ -264,6 +264,15 @@ class Module:
         return next((event.count for event in self._events if event.kind is EventKind.START), None)
 
     @functools.cached_property
+    def data_count(self) -> int | None:
+        """The number of data segments that the data count section announces, or `None` without one.
+
+        >>> Module(b"\\0asm\\1\\0\\0\\0\\x0c\\1\\0").data_count
+        0
+        """
+        return next((event.count for event in self._events if event.kind is EventKind.DATA_COUNT), None)
+
+    @functools.cached_property
     def bodies(self) -> list[range]:
         """The offsets of each function body, in bytes from the start of the stream.
 

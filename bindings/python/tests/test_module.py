@@ -115,6 +115,10 @@ class Items(unittest.TestCase):
         self.assertEqual((module.functions, module.bodies, module.start), ([0], [range(16, 18)], None))
         self.assertEqual(module.sections, [Section(3, 10, 12, 1), Section(10, 14, 18, 1)])
 
+    def test_a_data_count_section(self) -> None:
+        self.assertEqual(Module(HEADER + b"\x0c\1\1\x0b\3\1\1\0").data_count, 1)
+        self.assertIsNone(Module(HEADER).data_count)
+
     def test_names(self) -> None:
         module = Module(HEADER + b"\0\x10\4name\0\2\1m\1\5\1\7\2\xc3\xa9\0\2\1x")
         self.assertEqual((module.names.module, module.names.functions), ("m", {7: "é"}))
@@ -485,6 +489,9 @@ class Copies(unittest.TestCase):
     def test_copies_of_values(self) -> None:
         module = Module(FUNCTIONS + b"\0\2\1x", pulleynavy.MEMORY64)
         values = [module.sections, module.custom_sections, module.names, list(pulleynavy.events(io.BytesIO(FUNCTIONS))), FUNCREF]
+        # Types, a table with an expression, and a global.
+        other = Module(HEADER + Types.SECTION + b"\4\x09\1\x40\0\x70\0\1\xd0\x70\x0b\6\6\1\x7f\1\x41\0\x0b")
+        values += [other.type_groups, other.tables, other.globals, [one.initial.instructions for one in other.globals if one.initial]]
         copies: list[Any] = [copy.copy, copy.deepcopy, lambda value: pickle.loads(pickle.dumps(value))]
         for copied in copies:
             self.assertEqual([copied(value) for value in values], values)
