@@ -17,6 +17,8 @@ from pulleynavy import (
     Data,
     Element,
     ElementKind,
+    Event,
+    EventKind,
     Export,
     Expression,
     ExternalKind,
@@ -75,6 +77,26 @@ def listed(items: Collection[Any], show: Callable[[Any], str]) -> str:
 
 def row(items: Collection[Any], show: Callable[[Any], str]) -> str:
     return "[%s]" % "".join(show(one) + " " for one in items)
+
+
+# ---- events
+
+
+def event_line(one: Event) -> str:
+    """The line of an event, as `wasm_list` writes it."""
+    place = "%d %d" % (one.start, one.end)
+    shows = {
+        EventKind.VERSION: "version %s %d %s" % (place, one.count, "component" if one.id else "module"),
+        EventKind.SECTION: "section %d %s %d" % (one.id, place, one.count),
+        EventKind.START: "start %s %d" % (place, one.count),
+        EventKind.DATA_COUNT: "datacount %s %d" % (place, one.count),
+        EventKind.CODE: "code %s %d %d" % (place, one.count, one.size),
+        EventKind.BODY: "body %s" % place,
+        EventKind.CUSTOM: "custom %s %d" % (place, one.data_offset),
+        EventKind.UNKNOWN: "unknown %d %s" % (one.id, place),
+        EventKind.END: "end %d" % one.start,
+    }
+    return shows[one.kind]
 
 
 # ---- items

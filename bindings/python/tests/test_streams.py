@@ -1,4 +1,4 @@
-"""The items of `Module` over the streams of $PULLEYNAVY_STREAMS, as tools/golden.jsonl has them: JSON lines with `hex` and `lines`."""
+"""The events and the items of `Module` over the streams of $PULLEYNAVY_STREAMS, as tools/golden.jsonl has them: JSON lines with `hex` and `lines`."""
 # SPDX-License-Identifier: Apache-2.0 OR MIT
 from __future__ import annotations
 
@@ -9,12 +9,14 @@ import tracemalloc
 import unittest
 from typing import Any, Callable, Iterator
 
-from pulleynavy import CustomKind, Module, ParseError
+from pulleynavy import CustomKind, Module, ParseError, Parser
 
 from . import lines
 
 OWN = os.path.join(os.path.dirname(os.path.abspath(__file__)), "..", "..", "..", "tools", "golden.jsonl")
 STREAMS = os.environ.get("PULLEYNAVY_STREAMS") or (OWN if os.path.exists(OWN) else None)
+# The sizes of chunks, in turn.
+SIZES = (1, 7, 100, 65536)
 
 
 def fault_line(error: ParseError) -> str:
@@ -46,6 +48,19 @@ class Streams(unittest.TestCase):
             for line in file:
                 row = json.loads(line)
                 yield bytes.fromhex(row["hex"]), row["lines"]
+
+    def test_events_in_chunks(self) -> None:
+        for number, (stream, expected) in enumerate(self.rows()):
+            with self.subTest(stream.hex()):
+                parser, size = Parser(), SIZES[number % len(SIZES)]
+                found: list[str] = []
+                try:
+                    for at in range(0, len(stream), size):
+                        found.extend(map(lines.event_line, parser.feed(stream[at : at + size])))
+                    found.extend(map(lines.event_line, parser.finish()))
+                except ParseError as error:
+                    found.append(fault_line(error))
+                self.assertEqual(found, [line for line in expected if not line.startswith("  ")])
 
     def test_items_of_sections(self) -> None:
         count = 0
