@@ -316,7 +316,8 @@ class Items(Cursor):
     def target_features(self) -> Iterator[TargetFeature]:
         """Yields the features of the section `target_features` (tool-conventions, Linking, Target Features Section).
 
-        Raises the `ParseError` `LEADING_BYTE` at a prefix that is none, with the byte.
+        Raises the `ParseError` `LEADING_BYTE` at a prefix that is none, with the byte. The library does not know this section: the text is of
+        this package, and the detail of the code, 255, is none of the library's.
 
         >>> list(Items(b"\\1+\\4simd", 100).counted().target_features())
         [TargetFeature(prefix='+', name='simd')]
@@ -325,7 +326,7 @@ class Items(Cursor):
             at = self.position
             if at < len(self.data) and self.data[at] not in b"+-=":
                 text = "invalid leading byte for target feature"
-                raise ParseError(int(FaultKind.LEADING_BYTE), self.offset + at, self.data[at], text)
+                raise ParseError(FaultKind.LEADING_BYTE | 255 << 8, self.offset + at, self.data[at], text)
             prefix = chr(self.read_number())
             yield TargetFeature(prefix, self.read_text())
         self._end()

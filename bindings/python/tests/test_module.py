@@ -258,6 +258,9 @@ class Customs(unittest.TestCase):
             with self.assertRaises(ParseError) as caught:
                 self.custom(b"target_features", data).target_features
             self.assertEqual((caught.exception.kind, caught.exception.offset), (kind, offset))
+        with self.assertRaises(ParseError) as caught:
+            self.custom(b"target_features", b"\1*\1x").target_features
+        self.assertEqual((caught.exception.number, caught.exception.code), (42, 25 + 255 * 256))
         self.assertEqual(Module(HEADER).target_features, [])
 
     def test_sections_that_are_not_there(self) -> None:
