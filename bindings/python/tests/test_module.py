@@ -53,6 +53,8 @@ from pulleynavy import (
     Section,
     StructType,
     SubType,
+    SymbolFlags,
+    SymbolKind,
     Table,
     TargetFeature,
     TypeGroup,
@@ -274,6 +276,23 @@ class Customs(unittest.TestCase):
         self.assertEqual([one.index for one in self.custom(b"linking", linking).symbols], [5, 7])
         section = b"\0\x13\x09producers\1\3sdk\1\1e\0"
         self.assertEqual([one.name for one in Module(HEADER + section * 2).producers["sdk"]], ["e", "e"])
+
+    def test_symbols(self) -> None:
+        # Data d in segment 2, at 3 and of 4 bytes; data u, which is not defined; function 5, whose import has the name.
+        table = b"\3\1\0\1d\2\3\4\1\x10\1u\0\x10\5"
+        symbols = self.custom(b"linking", b"\2\x08" + bytes([len(table)]) + table).symbols
+        data, undefined, function = (tuple(one) for one in symbols)
+        self.assertEqual(data, (SymbolKind.DATA, SymbolFlags(0), 2, "d", 3, 4))
+        self.assertEqual(undefined, (SymbolKind.DATA, SymbolFlags.UNDEFINED, 0, "u", None, None))
+        self.assertEqual(function, (SymbolKind.FUNC, SymbolFlags.UNDEFINED, 5, None, None, None))
+
+    def test_relocations(self) -> None:
+        # Of section 3: numbers in LEB128 take 5 or 10 bytes, others 4 or 8.
+        data = b"\3\4\0\7\1\5\x08\2\x7f\x0e\x09\3\1\x10\x0a\4\2"
+        (found,) = self.custom(b"reloc.CODE", data).relocations
+        rows = [(one.kind.name, one.offset, one.index, one.addend, one.extent) for one in found.relocations]
+        wanted = [("FUNCTION_INDEX_LEB", 7, 1, 0, 5), ("MEMORY_ADDR_I32", 8, 2, -1, 4), ("MEMORY_ADDR_LEB64", 9, 3, 1, 10)]
+        self.assertEqual((found.section, rows), (3, wanted + [("MEMORY_ADDR_I64", 10, 4, 2, 8)]))
 
     def test_a_core_dump(self) -> None:
         self.assertEqual(self.custom(b"core", b"\0\1p").core_process, "p")
