@@ -7,6 +7,12 @@ import subprocess
 import common
 
 LINUX = "x86_64-unknown-linux-gnu"
+# Stands in for clang: keeps its input, which is the only word that names a file, and its words, and hands them on.
+KEEPER = """#!/bin/sh
+for word; do if [ -f "$word" ]; then cp "$word" "%(kept)s/module"; fi; done
+printf '%%s\\n' "$@" > "%(kept)s/words"
+exec "%(clang)s" "$@"
+"""
 
 
 @functools.lru_cache(maxsize=None)
@@ -63,3 +69,42 @@ def link_command(triple, path, *objects, stack=None):
     """The command that links what was built into the file at this path."""
     words = [folder() + "/bin/rattle-link", "--target", triple, "--toolchain", folder() + "/toolchain"]
     return words + (["--stack", str(stack)] if stack else []) + ["-o", path, *objects]
+
+
+# ---- the module that LLVM is given
+
+
+def llvm():
+    """The folder of LLVM in the toolchain."""
+    return os.path.join(folder(), "toolchain")
+
+
+def clang():
+    return os.path.join(llvm(), "bin", "clang")
+
+
+def keeping(kept):
+    """The folder of an LLVM whose clang keeps in `kept` the last module that it is given, from which it makes the object, and its words."""
+    stand_in = os.path.join(kept, "toolchain")
+    os.makedirs(os.path.join(stand_in, "bin"))
+    others = [name for name in os.listdir(llvm()) if name != "bin"]
+    others += [os.path.join("bin", name) for name in os.listdir(os.path.join(llvm(), "bin")) if name != "clang"]
+    for name in others:
+        os.symlink(os.path.join(llvm(), name), os.path.join(stand_in, name))
+    with open(os.path.join(stand_in, "bin", "clang"), "w", encoding="utf-8") as file:
+        file.write(KEEPER % {"kept": kept, "clang": clang()})
+    os.chmod(file.name, 0o755)
+    return stand_in
+
+
+def text_command(kept, text):
+    """The command that writes the kept module as text."""
+    return [clang(), "-S", "-emit-llvm", "-Xclang", "-disable-llvm-passes", "-O3", "-x", "ir", os.path.join(kept, "module"), "-o", text]
+
+
+def compile_command(kept, module, made):
+    """The command that compiles a module as the kept one was compiled."""
+    with open(os.path.join(kept, "words"), encoding="utf-8") as file:
+        words = file.read().replace(os.path.join(kept, "toolchain"), llvm()).splitlines()
+    words[words.index("ir") + 1], words[words.index("-o") + 1] = module, made
+    return [clang(), *words]

@@ -1,5 +1,6 @@
 /* Times the events of the module on standard input: whole, by the word `parse` or, many at a time, `batch`, or in chunks of a given size in bytes. Of each word it prints how
    many events there are, their bytes, and the nanoseconds of the fastest of the rounds of a second. */
+#include "binary.h"
 #include <pulleynavy.h>
 #include <stdio.h>
 #include <stdlib.h>
@@ -55,6 +56,7 @@ __attribute__((noinline)) static size_t in_pieces(const uint8_t *bytes, size_t s
 }
 
 int main(int count, char **words) {
+    use_binary_streams();
     size_t room = 1 << 20, size = 0;
     uint8_t *bytes = malloc(room), *storage = NULL;
     while (bytes && (size += fread(bytes + size, 1, room - size, stdin)) == room) bytes = realloc(bytes, room *= 2);

@@ -2,6 +2,7 @@
 
        afl-cc -O1 -g -I include examples/fuzz.c out/libwasm_c.a -o fuzz
        afl-fuzz -i seeds -o findings ./fuzz */
+#include "binary.h"
 #include <pulleynavy.h>
 #include <stdio.h>
 #include <stdlib.h>
@@ -40,6 +41,7 @@ static void compare(size_t size, size_t piece) {
 }
 
 int main(void) {
+    use_binary_streams();
     size_t size = fread(bytes, 1, sizeof bytes, stdin);
     compare(size, 1);
     compare(size, 7);

@@ -1,5 +1,6 @@
 /* Prints the imports of the module on standard input, those of bundles one by one: module and name in hexadecimal, and what it is. The
    argument is how many imports a call stores at most: up to 64. */
+#include "binary.h"
 #include <pulleynavy.h>
 #include <stdio.h>
 #include <stdlib.h>
@@ -28,6 +29,7 @@ static void print_imports(const pulleynavy_event *event, const uint8_t *bytes, s
 }
 
 int main(int count, char **words) {
+    use_binary_streams();
     size_t batch = count > 1 ? strtoul(words[1], NULL, 10) : MOST, room = 1 << 16, size = 0;
     if (batch < 1 || batch > MOST) return 2;
     uint8_t *bytes = malloc(room);

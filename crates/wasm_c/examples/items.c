@@ -1,5 +1,6 @@
 /* Lists the module on standard input, and under each section its items, each at its offset. The argument is how many items a call stores
    at most: up to 64. */
+#include "binary.h"
 #include "customs.h"
 #include "show.h"
 
@@ -203,7 +204,7 @@ static void put_import_item(uint64_t from, uint64_t at, const pulleynavy_import 
 }
 
 /* Prints the line of the item at an offset, or its fault. */
-static bool tell(uint64_t at, pulleynavy_fault found) {
+static bool print_item(uint64_t at, pulleynavy_fault found) {
     if (!found.kind) printf("  %" PRIu64 " %.*s\n", at, (int)used, line);
     else printf("  "), show_fault(found);
     used = 0;
@@ -218,7 +219,7 @@ static void bundle(uint64_t from, const pulleynavy_import *g) {
         pulleynavy_import_item one =
             pulleynavy_read_bundled_import(g, stream + at, (size_t)(w.end - at), at, PULLEYNAVY_ALL_FEATURES);
         if (passed(&w, one.fault, one.consumed)) put_import(from, g->module_name, at, one.name, &one.ty);
-        if (!tell(at, one.fault)) return;
+        if (!print_item(at, one.fault)) return;
     }
 }
 
@@ -231,7 +232,7 @@ static void bundle(uint64_t from, const pulleynavy_import *g) {
         for (size_t n; (n = next(&items, stream + e->start, (size_t)(e->end - e->start), out, batch)) > 0;) \
             for (size_t i = 0; i < n; at += out[i].consumed, i++) { \
                 if (!out[i].fault.kind) put_##item##_item(e->start, at, &out[i]); \
-                tell(at, out[i].fault); \
+                print_item(at, out[i].fault); \
             } \
     }
 
@@ -255,7 +256,7 @@ static void import_section(const pulleynavy_event *e) {
             continue;
         }
         if (!one.fault.kind) put_import_item(e->start, at, &one);
-        tell(at, one.fault);
+        print_item(at, one.fault);
     }
 }
 
@@ -265,10 +266,10 @@ static void type_section(const pulleynavy_event *e) {
     for (uint32_t i = 0; i < e->count; i++) {
         uint64_t at = w.at;
         type_group(&w);
-        if (!tell(at, fault)) return;
+        if (!print_item(at, fault)) return;
     }
     set_fault(PULLEYNAVY_FAULT_SIZE_MISMATCH, w.at);
-    if (w.at < w.end) tell(w.at, fault);
+    if (w.at < w.end) print_item(w.at, fault);
 }
 
 /* The items of a section, up to the first fault; bytes after them are one. */
@@ -316,6 +317,7 @@ static size_t read_all(void) {
 }
 
 int main(int count, char **words) {
+    use_binary_streams();
     if (count > 1) batch = strtoul(words[1], NULL, 10);
     if (batch < 1 || batch > MOST) return 2;
     size_t size = read_all();

@@ -1,4 +1,5 @@
 /* Lists the module on standard input, read in chunks of this many bytes (the argument), exactly as wasm_list does. */
+#include "binary.h"
 #include "show.h"
 #include <stdlib.h>
 #include <string.h>
@@ -14,6 +15,7 @@ static uint8_t *push(pulleynavy_feed *feed, uint8_t *storage, size_t *room, cons
 }
 
 int main(int argc, char **argv) {
+    use_binary_streams();
     size_t size = argc > 1 ? strtoul(argv[1], 0, 10) : 65536, room = size < 2048 ? 4096 : 2 * size;
     uint8_t *storage = malloc(room), *piece = malloc(size);
     pulleynavy_feed feed = pulleynavy_feed_init(0, PULLEYNAVY_ALL_FEATURES);

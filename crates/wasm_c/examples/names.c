@@ -1,5 +1,6 @@
 /* Prints the function names of the module on standard input, which is read in chunks of 4,096 bytes: an index and a name on each line, up to
    the first fault of a list of names. The status is 1 if the module has a fault. */
+#include "binary.h"
 #include <inttypes.h>
 #include <pulleynavy.h>
 #include <stdio.h>
@@ -33,6 +34,7 @@ static void print_names(const pulleynavy_event *event, const uint8_t *bytes) {
 }
 
 int main(void) {
+    use_binary_streams();
     static uint8_t chunk[CHUNK];
     size_t room = 2 * CHUNK;
     uint8_t *storage = malloc(room);

@@ -1,5 +1,6 @@
 /* Every repeated byte is a parser and a feeder: parses the bytes on standard input by each of them, at each feature, and looks at what the
    contract says of any parser: what was consumed is there, a fault lies within, and what changed nothing changed nothing. */
+#include "binary.h"
 #include "show.h"
 #include <stdlib.h>
 #include <string.h>
@@ -50,6 +51,7 @@ static int feed(int byte, size_t size) {
 }
 
 int main(void) {
+    use_binary_streams();
     size_t size = fread(bytes, 1, sizeof bytes, stdin);
     for (int byte = 0; byte < 256; byte++)
         if (parse(byte, size, true) || parse(byte, size, false) || feed(byte, size)) return 1;

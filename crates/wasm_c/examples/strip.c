@@ -1,10 +1,12 @@
 /* Strips the custom sections of the module on standard input, in place, and writes the result. With the argument `names` the
    section of names stays. Of a module with a fault nothing is written. */
+#include "binary.h"
 #include <pulleynavy.h>
 #include <stdio.h>
 #include <stdlib.h>
 
 int main(int count, char **words) {
+    use_binary_streams();
     size_t room = 1 << 16, size = 0;
     uint8_t *bytes = malloc(room);
     while (bytes) {

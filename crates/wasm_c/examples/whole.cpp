@@ -1,4 +1,5 @@
 // Lists the module on standard input, which is read whole first. A copy of the parser reads each part once more, and says the same.
+#include "binary.h"
 #include "show.h"
 #include <cstring>
 #include <iterator>
@@ -11,6 +12,7 @@ static bool same(const pulleynavy_event &one, const pulleynavy_event &other) {
 }
 
 int main() {
+    use_binary_streams();
     std::vector<char> chars{std::istreambuf_iterator<char>(std::cin), {}};
     std::vector<uint8_t> bytes(chars.begin(), chars.end());
     bytes.push_back(0); // so that there is a byte to point to

@@ -1,0 +1,171 @@
+"""The C library for Windows and macOS: the module that LLVM is given for Linux, with the data layout and triple of the other system.
+
+The exports take integers and pointers, and return an integer or write to a pointer of the caller, so the module fits the calling conventions
+of all these systems. Each folder of a target has archives and a shared library, whose only imports are memcpy and memmove.
+"""
+import functools
+import itertools
+import os
+import re
+import shutil
+import subprocess
+
+import common
+import toolchain
+
+HEADER = os.path.join(common.TOP, "crates", "wasm_c", "include", "pulleynavy.h")
+# Each target, the target for Linux that it has its module from, and its triple.
+TARGETS = {
+    "x86_64-windows": ("x86_64", "x86_64-w64-windows-gnu"),
+    "aarch64-windows": ("aarch64", "aarch64-w64-windows-gnu"),
+    "x86_64-macos": ("x86_64", "x86_64-apple-macosx11.0.0"),
+    "aarch64-macos": ("aarch64", "arm64-apple-macosx11.0.0"),
+}
+# What linkers for Windows call the processors.
+MACHINES = {"x86_64": ("x64", "i386:x86-64"), "aarch64": ("arm64", "arm64")}
+# How a module begins that isn't text.
+BITCODE = b"BC\xc0\xde"
+LINES = re.compile(r'^target (datalayout|triple) = ".*"$', re.M)
+# The two functions that the library calls, which both systems have.
+CALLED = ("memcpy", "memmove")
+# The system library of macOS, as a linker wants to know it.
+STUB = """--- !tapi-tbd
+tbd-version: 4
+targets: [ x86_64-macos, arm64-macos ]
+install-name: '/usr/lib/libSystem.B.dylib'
+exports:
+  - targets: [ x86_64-macos, arm64-macos ]
+    symbols: [ _memcpy, _memmove, dyld_stub_binder ]
+...
+"""
+
+
+class Failed(Exception):
+    """A command failed, or a module differs in other lines."""
+
+
+def run(*words, folder=None):
+    done = subprocess.run(words, cwd=folder, stdin=subprocess.DEVNULL, stdout=subprocess.PIPE, stderr=subprocess.STDOUT)
+    said = done.stdout.decode(errors="replace")
+    if done.returncode:
+        raise Failed("%s: status %d\n%s" % (" ".join(words), done.returncode, said[-3000:]))
+    return said
+
+
+def read(path):
+    with open(path, "rb") as file:
+        return file.read()
+
+
+def exports():
+    """The names that the header declares."""
+    return sorted(re.findall(r"^\w[^\n(]*?\b(pulleynavy_\w+)\(", read(HEADER).decode(), re.M))
+
+
+# ---- the module
+
+
+def lines_of(triple):
+    """The data layout and the triple of a system, as clang writes them for it."""
+    words = ["--target=" + triple, "--no-default-config", "-S", "-emit-llvm", "-x", "c", os.devnull, "-o", "-"]
+    return {found[1]: found[0] for found in LINES.finditer(run(toolchain.clang(), *words))}
+
+
+def changed(text, other):
+    """The lines of a text that are others in the other text."""
+    pairs = itertools.zip_longest(text.split("\n"), other.split("\n"))
+    return [(line, there) for line, there in pairs if line != there]
+
+
+def retargeted(text, triple):
+    """The text of a module with the data layout and triple of another system. Nothing else may change."""
+    lines = lines_of(triple)
+    made = LINES.sub(lambda found: lines[found[1]], text)
+    differing = changed(text, made)
+    kinds = [LINES.fullmatch(line or "") and LINES.fullmatch(line)[1] for line, _ in differing]
+    if sorted(map(str, kinds)) != ["datalayout", "triple"] or [there for _, there in differing] != [lines[kind] for kind in kinds]:
+        raise Failed("the module for %s differs from that of Linux in other lines: %s" % (triple, differing[:5]))
+    return made
+
+
+@functools.lru_cache(maxsize=None)
+def text_of(kept, archive):
+    """The kept module as text. Compiled as it is, that must give the object in the archive for Linux."""
+    path, made = os.path.join(kept, "module.ll"), os.path.join(kept, "again.o")
+    if read(os.path.join(kept, "module")).startswith(BITCODE):
+        run(*toolchain.text_command(kept, path))
+    else:
+        shutil.copyfile(os.path.join(kept, "module"), path)
+    run(*toolchain.compile_command(kept, path, made), folder=kept)
+    if read(made) not in read(archive):
+        raise Failed("%s is not in %s" % (made, archive))
+    return read(path).decode()
+
+
+def compiled(kept, text, triple, made):
+    """Compiles a text for this triple with the words of the kept module."""
+    module = made + ".ll"
+    with open(module, "w", encoding="utf-8") as file:
+        file.write(retargeted(text, triple))
+    words = toolchain.compile_command(kept, module, made)
+    run(*[re.sub(r"^--target=.*", "--target=" + triple, word) for word in words], folder=kept)
+
+
+# ---- archives and shared libraries
+
+
+def archive(kind, path, made):
+    """An archive of one object in this format, in which names and dates don't depend on the machine."""
+    run(os.path.join(toolchain.llvm(), "bin", "llvm-ar"), "--format=" + kind, "rcsD", path, made)
+
+
+def written(path, text):
+    with open(path, "w", encoding="ascii") as file:
+        file.write(text)
+    return path
+
+
+def import_library(folder, name, called, machine):
+    """An import library of a DLL with these functions."""
+    names = written(os.path.join(folder, name + ".def"), "LIBRARY %s\nEXPORTS\n%s\n" % (name, "\n".join(called)))
+    path = os.path.join(folder, name + ".lib")
+    run("llvm-dlltool", "-m", machine, "-d", names, "-l", path)
+    return path
+
+
+def dll(folder, machine, place):
+    """The DLL, and its import library under the names that MSVC and MinGW look for. Both functions are those of msvcrt.dll, which every Windows has."""
+    linker, flavor = MACHINES[machine]
+    system = import_library(place, "msvcrt.dll", CALLED, flavor)
+    words = ["/dll", "/noentry", "/nodefaultlib", "/Brepro", "/opt:noref", "/machine:" + linker, *("/export:" + name for name in exports())]
+    made = os.path.join(folder, "pulleynavy.dll")
+    run("lld", "-flavor", "link", *words, "/out:" + made, "/implib:" + made + ".lib", os.path.join(folder, "libpulleynavy.a"), system)
+    shutil.copyfile(made + ".lib", os.path.join(folder, "libpulleynavy.dll.a"))
+
+
+def dylib(folder, machine, place):
+    """The dynamic library. For arm64 the linker adds the signature without a certificate that macOS wants."""
+    names = written(os.path.join(place, "exports"), "".join("_%s\n" % name for name in exports()))
+    system = written(os.path.join(place, "libSystem.tbd"), STUB)
+    words = ["-dylib", "-arch", "arm64" if machine == "aarch64" else machine, "-platform_version", "macos", "11.0.0", "11.0.0"]
+    words += ["-install_name", "@rpath/libpulleynavy.dylib", "-exported_symbols_list", names, "-all_load"]
+    run("lld", "-flavor", "darwin", *words, "-o", os.path.join(folder, "libpulleynavy.dylib"), os.path.join(folder, "libpulleynavy.a"), system)
+
+
+def build(target, kept, archive_of_linux, folder):
+    """Writes the library for a target into a folder. Returns the paths of what was made; what a machine can't link is skipped."""
+    machine, triple = TARGETS[target]
+    shutil.rmtree(folder, ignore_errors=True)
+    place = os.path.join(folder, "work")
+    os.makedirs(place)
+    made = os.path.join(place, "pulleynavy.o")
+    compiled(kept, text_of(kept, archive_of_linux), triple, made)
+    is_windows = target.endswith("-windows")
+    archive("gnu" if is_windows else "darwin", os.path.join(folder, "libpulleynavy.a"), made)
+    if is_windows:
+        archive("coff", os.path.join(folder, "pulleynavy.lib"), made)
+        if common.all_found(["lld", "llvm-dlltool"]):
+            dll(folder, machine, place)
+    elif common.found("lld"):
+        dylib(folder, machine, place)
+    return sorted(os.path.join(folder, name) for name in os.listdir(folder) if name != "work")
