@@ -67,7 +67,7 @@ impl Sink for Slow {
     ghost has_failed = { λ s. s.inner.failed };
 
     fn write(&mut self, buf: &[u8]) -> Result<usize, Failed> {
-        self.inner.write(&buf[..buf.len().min(self.step)])
+        self.inner.write(&buf[..buf.len().min(self.step.max(1))])
     }
 
     fn failed(&self) -> bool {
@@ -79,24 +79,20 @@ impl Sink for Slow {
 fn shades(alloc: Global, bytes: &[u8]) -> Result<Vec<u8>, Fail> {
     let mut shades = Vec::new(alloc);
     let mut color = 0_u8;
-    let mut rest = bytes;
-    while let Some((first, after)) = rest.split_first() {
-        rest = after;
-        if *first != 0x1b || after.starts_with(b"\\") {
-            shades.push(*first)?;
+    let mut is_sequence = false;
+    for place in 0..bytes.len() {
+        let byte = bytes[place];
+        let begins = byte == 0x1b && !bytes[place..].starts_with(b"\x1b\\");
+        if begins {
+            color = 0;
+            is_sequence = true;
+        } else if is_sequence && byte != 0x1b {
+            color = color.wrapping_add(if byte == b'm' { 0 } else { byte });
+            is_sequence = byte != b'm';
+        } else {
+            is_sequence = false;
+            shades.push(byte)?;
             shades.push(color)?;
-            continue;
-        }
-        color = 0;
-        while let Some((next, later)) = rest.split_first() {
-            if *next == 0x1b {
-                break;
-            }
-            rest = later;
-            if *next == b'm' {
-                break;
-            }
-            color = color.wrapping_add(*next);
         }
     }
     Ok(shades)

@@ -1,6 +1,7 @@
 // A cursor and a chunk by their own calls, what becomes of the parts of a stripped stream, and the lines of events.
 use super::PARTS;
 use crate::tests::same;
+use std::alloc::Allocator;
 use std::process::Abort;
 use std::test::Fail;
 use wasm_feed::{Ahead, Cursor, Failed, Keep, SliceSource, Step, parse_next};
@@ -80,6 +81,12 @@ fn a_part_that_a_cursor_skips(rt: HostRuntime) -> Result<(), Fail> {
     Ok(())
 }
 
+// Consumes two bytes of a chunk, if there are as many.
+fn pass_two<A: Allocator>(ahead: &mut Ahead<A>) {
+    let count = ahead.bytes().len().min(2);
+    ahead.pass(count);
+}
+
 #[test]
 fn a_chunk_by_its_calls(rt: HostRuntime) -> Result<(), Fail> {
     let mut input = SliceSource::new(b"abcde");
@@ -88,12 +95,12 @@ fn a_chunk_by_its_calls(rt: HostRuntime) -> Result<(), Fail> {
     ahead.pass(0);
     same(&rt, ahead.fetch(&mut input), Ok(()));
     same(&rt, ahead.bytes(), b"abc".as_slice());
-    ahead.pass(2);
+    pass_two(&mut ahead);
     same(&rt, ahead.bytes(), b"c".as_slice());
     // The next chunk replaces the remaining bytes.
     same(&rt, ahead.fetch(&mut input), Ok(()));
     same(&rt, ahead.bytes(), b"de".as_slice());
-    ahead.pass(2);
+    pass_two(&mut ahead);
     for _ in 0..2 {
         same(&rt, ahead.fetch(&mut input), Ok(()));
         same(&rt, ahead.bytes(), b"".as_slice());

@@ -1,4 +1,6 @@
 // Bytes that go on a page or past it, and parts that are forwarded or dropped.
+ghost use Rattle.std.specs.Prelude.{◌≡◌, ◌+◌, ◌≤◌, true, length, vec_len, vec_capacity};
+
 use super::PARTS;
 use super::devices::Failing;
 use crate::tests::{same, same_at};
@@ -78,6 +80,16 @@ fn a_page_whose_sink_is_full(rt: HostRuntime) -> Result<(), Fail> {
 
 const PIECES: [usize; 5] = [1, 3, 5, 14, 30];
 
+// Returns whether the chunk fits behind the bytes that are stored.
+fn has_room<A: Allocator>(stored: &Vec<u8, A>, ahead: &Ahead<A>) -> bool
+    ensures { result ≡ true → vec_len stored.now + length ahead.now ≤ vec_capacity stored.now }
+{
+    match stored.capacity().checked_sub(stored.len()) {
+        Some(room) => ahead.bytes().len() <= room,
+        None => false,
+    }
+}
+
 // What the calls for one stream share.
 #[derive(Drop)]
 struct Stream<R: Drop, A: Allocator + Copy> {
@@ -118,10 +130,18 @@ impl<R: Source + Drop, A: Allocator + Copy> Stream<R, A> {
             if self.cursor.skip_next(bytes).is_some() {
                 return Ok(());
             }
-            self.ahead
-                .refill(&mut self.cursor, &mut self.stored, &mut self.input)?;
+            self.refill()?;
         }
         Err("nothing was skipped".into())
+    }
+
+    // Reads more, for which `make_ready` has made room.
+    fn refill(&mut self) -> Result<(), ListError> {
+        if !has_room(&self.stored, &self.ahead) {
+            return Err(ListError::Memory);
+        }
+        self.ahead
+            .refill(&mut self.cursor, &mut self.stored, &mut self.input)
     }
 
     // Forwards or drops a part.
@@ -131,6 +151,11 @@ impl<R: Source + Drop, A: Allocator + Copy> Stream<R, A> {
         page: &mut Page<A>,
         output: &mut BoundedSink,
     ) -> Result<Option<Error>, ListError> {
+        let bytes = seen(&self.stored, self.ahead.bytes());
+        let held = self.cursor.remaining(bytes).len();
+        if held as u64 >= part.size {
+            return Err(ListError::Memory);
+        }
         pass_part(
             part,
             &mut self.cursor,
@@ -200,10 +225,7 @@ fn a_part_is_forwarded_or_dropped(rt: HostRuntime) -> Result<(), Fail> {
                 if next.is_some() {
                     break;
                 }
-                let input = &mut stream.input;
-                stream
-                    .ahead
-                    .refill(&mut stream.cursor, &mut stream.stored, input)?;
+                stream.refill()?;
             }
             same_at(&rt, next, Some(23), &piece);
         }
