@@ -21,6 +21,8 @@ TARGETS = {
     "x86_64-macos": ("x86_64", "x86_64-apple-macosx11.0.0"),
     "aarch64-macos": ("aarch64", "arm64-apple-macosx11.0.0"),
 }
+# The archives and import libraries for Windows.
+LIBRARIES = ("libpulleynavy.a", "libpulleynavy.dll.a", "pulleynavy.dll.lib", "pulleynavy.lib")
 # What linkers for Windows call the processors.
 MACHINES = {"x86_64": ("x64", "i386:x86-64"), "aarch64": ("arm64", "arm64")}
 # How a module begins that isn't text.

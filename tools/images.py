@@ -30,7 +30,9 @@ class Image:
         lines = ['.section .image, "awx", %progbits', ".balign %d" % ALIGNMENT, "image:"]
         at = 0
         for place, target in sorted(self.pointers.items()):
-            lines += ['.incbin "%s", %d, %d' % (data, at, place - at), ".quad %s" % (target if isinstance(target, str) else "image + %d" % target)]
+            # A size of 0 would include the rest.
+            lines += ['.incbin "%s", %d, %d' % (data, at, place - at)] if place > at else []
+            lines.append(".quad %s" % (target if isinstance(target, str) else "image + %d" % target))
             at = place + 8
         lines.append('.incbin "%s", %d' % (data, at))
         for export, offset in sorted(self.exports.items()):

@@ -10,14 +10,28 @@ import shutil
 import subprocess
 import sys
 import tarfile
+import time
+import zipfile
 
 import common
+import desktops
 
 MACHINES = {"x86_64": {"compiler": "gcc", "debian": "amd64"}, "aarch64": {"compiler": "aarch64-linux-gnu-gcc", "debian": "arm64"}}
 LICENSES = ("LICENSE-APACHE", "LICENSE-MIT", "NOTICE")
 # The library calls nothing, not even libc, so it fits every version of glibc and musl.
 SHARED = ["-shared", "-nostdlib", "-s", "-Wl,--gc-sections", "-Wl,--build-id=none"]
 WHEEL_TAGS = "manylinux_2_17_{0}.manylinux2014_{0}.musllinux_1_1_{0}"
+
+# The folder that has the libraries for Windows and macOS, if one is given.
+targets = None
+# What CMake asks of the version: one that begins with the same numbers.
+CMAKE_VERSION = """set(PACKAGE_VERSION "%s")
+string(FIND "${PACKAGE_VERSION}." "${PACKAGE_FIND_VERSION}." _pulleynavy)
+if(_pulleynavy EQUAL 0)
+  set(PACKAGE_VERSION_COMPATIBLE TRUE)
+endif()
+unset(_pulleynavy)
+"""
 
 # A wheel for any Python 3, with a library for one machine.
 SETUP = """from setuptools import Distribution, setup
@@ -110,13 +124,23 @@ def shared_library(machine, path):
 # ---- Rust
 
 
+def built(target, *names):
+    """The paths of these files of a target, of those that are there."""
+    paths = [os.path.join(targets, target, name) for name in names] if targets else []
+    return [path for path in paths if os.path.exists(path)]
+
+
 def crate(folder, place):
-    """The crate, with the archives of both machines in lib/."""
+    """The crate, with the archives of both machines in lib/, and those for Windows and macOS if they are given."""
     copy_tracked("bindings/rust", place)
     copy_all(LICENSES, place)
     for machine in MACHINES:
         os.makedirs(os.path.join(place, "lib", machine))
         shutil.copy(archive(machine), os.path.join(place, "lib", machine, "libwasm_c.a"))
+    for target in desktops.TARGETS:
+        for path in built(target, "libpulleynavy.a", "pulleynavy.lib"):
+            os.makedirs(os.path.join(place, "lib", target), exist_ok=True)
+            shutil.copy(path, os.path.join(place, "lib", target))
     run([needed("cargo"), "package", "--offline", "--allow-dirty", "--no-verify", "--target-dir", os.path.join(place, "target")], place)
     for path in glob.glob(os.path.join(place, "target", "package", "*.crate")):
         shutil.copy(path, folder)
@@ -231,6 +255,38 @@ def tarball(machine, folder, place):
     links = [("lib/" + soname(), full), ("lib/libpulleynavy.so", soname())]
     path = os.path.join(folder, top + ".tar.gz")
     write_tarball(path, [("%s/%s" % (top, name), data, mode) for name, data, mode in files], [("%s/%s" % (top, name), to) for name, to in links])
+
+
+# ---- Windows
+
+
+def write_zip(path, files):
+    """Writes a zip of (name, bytes)."""
+    date = tuple(time.gmtime(max(epoch(), 315532800)))[:6]
+    with zipfile.ZipFile(path, "w", zipfile.ZIP_DEFLATED) as made:
+        for name, data in sorted(files):
+            entry = zipfile.ZipInfo(name, date)
+            entry.compress_type, entry.external_attr, entry.create_system = zipfile.ZIP_DEFLATED, 0o644 << 16, 3
+            made.writestr(entry, data)
+
+
+def zipped(target, folder):
+    """The library for Windows: the DLL, its import library, the archives, the header, and what CMake needs to find them."""
+    top = "pulleynavy-%s-%s" % (common.version(), target)
+    cmake = "lib/cmake/pulleynavy/pulleynavy-config"
+    files = [("bin/pulleynavy.dll", "pulleynavy.dll"), *(("lib/" + name, name) for name in desktops.LIBRARIES)]
+    files = [(name, read(path)) for name, file in files for path in built(target, file)]
+    files += [("include/pulleynavy.h", read(HEADER)), (cmake + ".cmake", read(source("crates", "wasm_c", "pulleynavy-config.cmake")))]
+    files += [(cmake + "-version.cmake", (CMAKE_VERSION % common.version()).encode())]
+    files += [("doc/" + name, read(source(name))) for name in (*LICENSES, "README.md", "CHANGELOG.md")]
+    write_zip(os.path.join(folder, top + ".zip"), [("%s/%s" % (top, name), data) for name, data in files])
+
+
+def zips(folder, place):
+    """A zip for each processor that there is a DLL for."""
+    for target in desktops.TARGETS:
+        if built(target, "pulleynavy.dll"):
+            zipped(target, folder)
 
 
 # ---- what comes with them

@@ -1,28 +1,47 @@
 //! Links the static library: that of `PULLEYNAVY_LIB`, of this package, of a checkout that built it, or of a checkout's `prebuilt/`.
-use std::{env, path::Path, path::PathBuf};
+use std::{env, fs, path::Path, path::PathBuf};
 
-/// The library for this processor, if there is one.
-fn library(package: &Path, machine: &str) -> Option<PathBuf> {
+/// The folder of `lib/` for a target, and what the library is called there.
+fn named(machine: &str, system: &str, environment: &str) -> (String, &'static str) {
+    match system {
+        "linux" | "android" | "none" => (machine.into(), "libwasm_c.a"),
+        "windows" if environment == "msvc" => (format!("{machine}-windows"), "pulleynavy.lib"),
+        _ => (format!("{machine}-{system}"), "libpulleynavy.a"),
+    }
+}
+
+/// The library for this target, if there is one.
+fn library(package: &Path, folder: &str, file: &str) -> Option<PathBuf> {
     let places = [
-        package.join("lib").join(machine).join("libwasm_c.a"),
-        package.join("../../crates/wasm_c/out/libwasm_c.a"),
-        package.join(format!("../../prebuilt/libpulleynavy-{machine}.a")),
+        package.join("lib").join(folder).join(file),
+        package.join("../../crates/wasm_c/out").join(file),
+        package.join(format!("../../prebuilt/libpulleynavy-{folder}.a")),
     ];
-    let is_native = env::var("HOST").is_ok_and(|host| host.starts_with(machine));
+    let is_native = env::var("HOST").is_ok_and(|host| host.starts_with(folder));
     places.into_iter().enumerate().find(|(place, path)| path.is_file() && (*place != 1 || is_native)).map(|(_, path)| path)
+}
+
+/// The targets that this package has libraries for.
+fn targets(package: &Path) -> String {
+    let entries = fs::read_dir(package.join("lib")).into_iter().flatten().flatten();
+    let mut names: Vec<String> = entries.map(|entry| entry.file_name().to_string_lossy().into_owned()).collect();
+    names.sort();
+    if names.is_empty() { "none".into() } else { names.join(", ") }
 }
 
 fn main() {
     println!("cargo::rerun-if-env-changed=PULLEYNAVY_LIB");
     let of = |name: &str| env::var(name).unwrap_or_default();
     let (machine, system) = (of("CARGO_CFG_TARGET_ARCH"), of("CARGO_CFG_TARGET_OS"));
+    let (folder, file) = named(&machine, &system, &of("CARGO_CFG_TARGET_ENV"));
     let path = match env::var_os("PULLEYNAVY_LIB") {
-        Some(given) if Path::new(&given).is_dir() => PathBuf::from(given).join("libwasm_c.a"),
+        Some(given) if Path::new(&given).is_dir() => PathBuf::from(given).join(file),
         Some(given) => PathBuf::from(given),
         None => {
-            let found = library(Path::new(&of("CARGO_MANIFEST_DIR")), &machine);
-            let Some(path) = found.filter(|_| matches!(system.as_str(), "linux" | "android" | "none")) else {
-                println!("cargo::error=pulleynavy has no library for {machine} and {system}: set PULLEYNAVY_LIB to a libwasm_c.a or its folder");
+            let package = PathBuf::from(of("CARGO_MANIFEST_DIR"));
+            let Some(path) = library(&package, &folder, file) else {
+                let there = targets(&package);
+                println!("cargo::error=pulleynavy has no library for {machine} and {system}, but for: {there}. Set PULLEYNAVY_LIB to a library or its folder");
                 return;
             };
             path
