@@ -406,6 +406,36 @@ class Streams(unittest.TestCase):
             list(parser.finish())
         self.assertEqual((caught.exception.kind, caught.exception.offset), (FaultKind.UNEXPECTED_EOF, 15))
 
+    def test_parts_that_are_skipped(self) -> None:
+        stream = HEADER + b"\1\5\1\x60\0\1\x7f\3\2\1\0\x0a\6\1\4\0\x41\0\x0b\0\5\2ab\1\2\x7f\2\0\0"
+
+        def parts(size: int, skips: bool) -> tuple[list[tuple[object, ...]], int]:
+            parser, found, skipped = Parser(), [], 0
+            for at in range(0, len(stream), size):
+                for event in parser.feed(stream[at : at + size]):
+                    name = event.name if event.kind is EventKind.CUSTOM else ""
+                    found.append((event.kind, event.id, event.count, event.start, event.end, name))
+                part = parser.skip_part() if skips else None
+                if part:
+                    found.append((part.kind, part.id, part.count, part.start, part.end, part.name))
+                    self.assertIsNone(parser.skip_part())
+                    skipped += 1
+            found += [(event.kind, event.id, event.count, event.start, event.end, "") for event in parser.finish()]
+            return found, skipped
+
+        for size in range(1, len(stream) + 1):
+            self.assertEqual(parts(size, True)[0], parts(len(stream), False)[0])
+        self.assertEqual([parts(size, True)[1] for size in (1, 3, 7, len(stream))], [5, 5, 1, 0])
+
+    def test_a_stream_that_ends_in_a_skipped_part(self) -> None:
+        parser = Parser()
+        self.assertEqual(len(list(parser.feed(HEADER + b"\0\x64\1a"))), 1)
+        self.assertEqual(parser.skip_part(), pulleynavy.SkippedPart(EventKind.CUSTOM, 0, 0, 10, 110, "a"))
+        self.assertEqual(list(parser.feed(bytes(97))), [])
+        with self.assertRaises(ParseError) as caught:
+            list(parser.finish())
+        self.assertEqual((caught.exception.kind, caught.exception.offset), (FaultKind.UNEXPECTED_EOF, 10))
+
     def test_skipped_bytes_are_not_kept(self) -> None:
         size = 5_000_000
         content = b"\1" + bytes([size - 5 & 0x7F | 0x80, size - 5 >> 7 & 0x7F | 0x80, size - 5 >> 14 & 0x7F | 0x80, size - 5 >> 21])

@@ -64,6 +64,7 @@ mod payload;
 mod reader;
 mod relocations;
 mod section;
+mod skipped;
 mod strip;
 mod types;
 
@@ -100,6 +101,7 @@ pub use payload::{
 pub use reader::BinaryReader;
 pub use relocations::{RelocAddendKind, RelocSectionReader, RelocationEntry, RelocationEntryReader, RelocationType};
 pub use section::{FromReader, SectionLimited, SectionLimitedIntoIter, SectionLimitedIntoIterWithOffsets};
+pub use skipped::{PartHead, SkippedPart};
 pub use strip::strip;
 pub use types::{AbstractHeapType, ArrayType, ContType, FieldType, HeapType, PackedIndex, RefType, StorageType, UnpackedIndex, ValType};
 
