@@ -55,7 +55,7 @@ abbrev pub no_value_text : List ℕ
 no_value_text = codes "wasm_dump: option '--section' needs a value\nTry 'wasm_dump --help'.\n"
 
 abbrev pub version_text : List ℕ
-version_text = codes "wasm_dump 0.13.0 (follows wasmparser 0.263.0)\n"
+version_text = codes "wasm_dump 0.14.0 (follows wasmparser 0.263.0)\n"
 
 abbrev pub help_text : List ℕ
 help_text =

@@ -73,7 +73,7 @@ With several files the exit status is the greatest of theirs.
 ";
 
 /// The text of `--version`.
-const VERSION: &[u8] = b"wasm_dump 0.13.0 (follows wasmparser 0.263.0)\n";
+const VERSION: &[u8] = b"wasm_dump 0.14.0 (follows wasmparser 0.263.0)\n";
 
 // Returns `HELP`. A clause can't cite a constant.
 fn help() -> &'static [u8]

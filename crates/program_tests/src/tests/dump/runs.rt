@@ -65,7 +65,7 @@ Exit status:
 With several files the exit status is the greatest of theirs.
 ";
 
-const VERSION: &[u8] = b"wasm_dump 0.13.0 (follows wasmparser 0.263.0)\n";
+const VERSION: &[u8] = b"wasm_dump 0.14.0 (follows wasmparser 0.263.0)\n";
 
 pub(super) const USAGE: &[u8] =
     b"usage: wasm_dump [--help] [--version] [OPTION]... [--section ID|NAME]... [FILE]...\n";
