@@ -39,7 +39,7 @@ def found(path: str | None) -> tuple[str, str]:
         return given, f"{given} is no library of pulleynavy for {here}"
     if os.path.exists(own):
         return own, f"{own} is not for {here}: install the wheel for this system"
-    return name, f"pulleynavy finds no {name} for {here}: install a wheel for this system, or set PULLEYNAVY_LIB to the library or its folder"
+    return name, f"there is no {name} for {here}: install a wheel for this system, or set PULLEYNAVY_LIB to the library or its folder"
 
 
 @functools.lru_cache(maxsize=None)
