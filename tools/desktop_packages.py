@@ -1,6 +1,7 @@
-"""Checks of the packages for Windows and macOS: the wheels, and that CMake finds and links what the zips and tarballs have."""
+"""Checks of the packages for Windows and macOS: the wheels, the library that the crate links, and that CMake finds and links what the zips and tarballs have."""
 import glob
 import os
+import re
 import shutil
 import struct
 import subprocess
@@ -44,7 +45,7 @@ __attribute__((constructor)) static void load(void) {
 }
 """
 JUMP = '__asm__(".globl {0}\\n{0}: jmp *calls+{1}(%rip)");\n'
-# Two programs over a package: with the shared library and with the archive.
+# Two programs over a package: with the shared library, which is put beside it, and with the archive.
 CMAKE = """cmake_minimum_required(VERSION 3.10)
 project(names C)
 find_package(pulleynavy %s REQUIRED CONFIG)
@@ -52,6 +53,8 @@ foreach(library pulleynavy static)
   add_executable(names_${library} %s)
   target_link_libraries(names_${library} PRIVATE pulleynavy::${library})
 endforeach()
+add_custom_command(TARGET names_pulleynavy POST_BUILD COMMAND
+  ${CMAKE_COMMAND} -E copy $<TARGET_FILE:pulleynavy::pulleynavy> $<TARGET_FILE_DIR:names_pulleynavy>)
 """
 # A program that needs nothing of a system but the library.
 ALONE = """#include <pulleynavy.h>
@@ -60,6 +63,17 @@ int main(void) {
     return pulleynavy_version() != PULLEYNAVY_VERSION_NUMBER || parser.offset;
 }
 """
+# The library that the crate links for each target of Rust, in a folder of targets.
+CRATE = {
+    "x86_64-pc-windows-gnu": "x86_64-windows/libpulleynavy.a",
+    "x86_64-pc-windows-msvc": "x86_64-windows/pulleynavy.lib",
+    "aarch64-pc-windows-gnullvm": "aarch64-windows/libpulleynavy.a",
+    "aarch64-pc-windows-msvc": "aarch64-windows/pulleynavy.lib",
+    "x86_64-apple-darwin": "x86_64-macos/libpulleynavy.a",
+    "aarch64-apple-darwin": "aarch64-macos/libpulleynavy.a",
+}
+# One that it has no library for.
+NO_TARGET = "powerpc64le-unknown-linux-gnu"
 # How a program is linked with the shared library, as llvm-readobj prints it.
 NEEDED = {"windows": "pulleynavy.dll", "macos": "@rpath/libpulleynavy.dylib"}
 # CMake asks this program for the version of macOS.
@@ -71,8 +85,9 @@ class Failed(Exception):
 
 
 def must(words, folder=None, **more):
-    """What a command prints."""
-    done = subprocess.run(words, cwd=folder, stdin=subprocess.DEVNULL, stdout=subprocess.PIPE, stderr=subprocess.STDOUT, env={**os.environ, **more})
+    """What a command prints. No library is named to it."""
+    environment = {name: value for name, value in os.environ.items() if name != "PULLEYNAVY_LIB"}
+    done = subprocess.run(words, cwd=folder, stdin=subprocess.DEVNULL, stdout=subprocess.PIPE, stderr=subprocess.STDOUT, env={**environment, **more})
     text = done.stdout.decode(errors="replace")
     if done.returncode:
         raise Failed("%s: status %d\n%s" % (" ".join(words), done.returncode, text[-3000:]))
@@ -159,6 +174,38 @@ def loader(folder, wheel):
     return written(os.path.join(folder, "loader.c"), text), "Z:" + library.replace("/", "\\")
 
 
+# ---- Rust
+
+
+def target_of(triple):
+    """What cargo tells a build script of a target."""
+    said = dict(re.findall(r'^target_(arch|os|env)="(.*)"$', must(["rustc", "--print", "cfg", "--target", triple]), re.M))
+    return {"CARGO_CFG_TARGET_" + name.upper(): said.get(name, "") for name in ("arch", "os", "env")}
+
+
+def wrong_crate(targets, folder):
+    """The targets for which the build script of the crate links another library than that of the target."""
+    if not common.all_found(["cargo", "rustc"]):
+        return
+    place = os.path.join(folder, "crate")
+    packages.crate(folder, place)
+    [made] = glob.glob(folder + "/*.crate")
+    shutil.unpack_archive(made, folder, "gztar")
+    package = made[: -len(".crate")]
+    must(["rustc", "--edition", "2024", package + "/build.rs", "-o", folder + "/build"])
+    for triple in [*CRATE, NO_TARGET]:
+        said = must([folder + "/build"], package, CARGO_MANIFEST_DIR=package, HOST="x86_64-unknown-linux-gnu", **target_of(triple))
+        found = dict(re.findall(r"^cargo::(rustc-link-search|rustc-link-lib|error)=(?:native=|static:\+verbatim=)?(.*)$", said, re.M))
+        if triple == NO_TARGET:
+            if "pulleynavy has no library for powerpc64 and linux" not in found.get("error", ""):
+                yield "build.rs says %r of %s" % (said, triple)
+            continue
+        linked = os.path.join(found.get("rustc-link-search", ""), found.get("rustc-link-lib", ""))
+        wanted = os.path.join(targets, CRATE[triple])
+        if os.path.basename(linked) != os.path.basename(wanted) or packages.read(linked) != packages.read(wanted):
+            yield "the crate links %s on %s: %s" % (linked, triple, found)
+
+
 # ---- CMake
 
 
@@ -183,7 +230,6 @@ def under_wine(folder, system):
     package = unpacked(folder, "x86_64-windows")
     sources = [os.path.join(common.TOP, "crates", "wasm_c", "examples", "names.c"), wine.WITNESS]
     out = built(os.path.join(folder, "cmake"), package, sources, ["-DCMAKE_SYSTEM_NAME=Windows", "-DCMAKE_C_COMPILER=" + wine.COMPILERS[0]])
-    shutil.copy(os.path.join(package, "bin", "pulleynavy.dll"), out)
     return [system.running(os.path.join(out, name)) for name in ("names_pulleynavy.exe", "names_static.exe")]
 
 
@@ -207,7 +253,7 @@ def wrongly_linked(folder, target):
     path = os.path.join(place, "bin") + os.pathsep + os.environ["PATH"]
     out = built(place, unpacked(folder, target), [source], options(target, stub), PATH=path)
     for name in ("pulleynavy", "static"):
-        program = glob.glob("%s/names_%s*" % (out, name))[0]
+        [program] = [path for path in glob.glob("%s/names_%s*" % (out, name)) if path.endswith((name, ".exe"))]
         needed = NEEDED[target.partition("-")[2]] in must(["llvm-readobj", "--needed-libs", program]).split()
         machine = machine_of(packages.read(program))
         if needed != (name == "pulleynavy") or machine != WHEELS[target][4]:
@@ -217,6 +263,7 @@ def wrongly_linked(folder, target):
 def differences(targets, folder):
     """What is wrong in the packages of a folder of targets, without what wine runs. Makes the packages in another folder."""
     differ = list(wrong_wheels(folder, WHEELS)) if make(targets, folder) else []
+    differ += wrong_crate(targets, folder)
     for target in WHEELS:
         if target != "x86_64-windows":
             differ += wrongly_linked(folder, target)
