@@ -71,6 +71,8 @@ CRATE = {
     "aarch64-pc-windows-msvc": "aarch64-windows/pulleynavy.lib",
     "x86_64-apple-darwin": "x86_64-macos/libpulleynavy.a",
     "aarch64-apple-darwin": "aarch64-macos/libpulleynavy.a",
+    "x86_64-unknown-freebsd": "x86_64-freebsd/libpulleynavy.a",
+    "riscv64gc-unknown-linux-gnu": "riscv64-linux/libpulleynavy.a",
 }
 # One that it has no library for.
 NO_TARGET = "powerpc64le-unknown-linux-gnu"
@@ -178,7 +180,7 @@ def loader(folder, wheel):
 
 
 def target_of(triple):
-    """What cargo tells a build script of a target."""
+    """What cargo passes to a build script for a target."""
     said = dict(re.findall(r'^target_(arch|os|env)="(.*)"$', must(["rustc", "--print", "cfg", "--target", triple]), re.M))
     return {"CARGO_CFG_TARGET_" + name.upper(): said.get(name, "") for name in ("arch", "os", "env")}
 
