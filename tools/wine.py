@@ -1,7 +1,7 @@
 """Runs programs for Windows under wine, which sometimes ends with status 1 before a program begins: twice in 12,000 runs on a busy machine.
 
-A program is linked with tools/witness.c, which writes to a file that it began and how many bytes it wrote. A run that never began, or whose bytes did not
-arrive, says nothing about the program: it is repeated, at most twice, and listed. Every other run counts, also one that crashes or writes nothing.
+A program is linked with tools/witness.c, which writes to a file that it began and how many bytes it wrote. A run with status 1 that never began, or whose bytes did
+not arrive, says nothing about the program: it is repeated, at most twice, and listed. Every other run counts, also one that crashes, writes nothing or lacks a DLL.
 """
 import contextlib
 import os
@@ -12,8 +12,8 @@ import common
 COMPILERS = ("x86_64-w64-mingw32-gcc", "x86_64-w64-mingw32-g++")
 PROGRAMS = [*COMPILERS, "wine", "wineserver"]
 WITNESS = os.path.join(common.TOP, "tools", "witness.c")
-# The exit status where no run was one of the program.
-LOST = 99
+# The exit status where no run was one of the program, and how many runs may be repeated.
+LOST, MOST_REPEATED = 99, 10
 SCRIPT = """#!/bin/sh
 at=$(mktemp -d '%(folder)s/run-XXXXXX')
 cat > "$at/input"
@@ -26,12 +26,17 @@ for turn in 1 2 3; do
     if [ "$began" ] && [ "${size:-$arrived}" -eq "$arrived" ]; then
         cat "$at/output"
         cat "$at/errors" >&2
-        [ "$size" ] || echo "did not end by itself" >&2
+        # Wine may end with status 0 where a program crashed.
+        if [ -z "$size" ]; then
+            echo "did not end by itself"
+            status=%(lost)d
+        fi
         rm -r "$at"
         exit "$status"
     fi
     echo "status $status, ${began:-did not begin}, wrote ${size:-no} bytes, $arrived arrived: %(program)s $*" >> '%(folder)s/repeated'
     rm -f "$at/witness"
+    [ "$began" ] || [ "$status" -eq 1 ] || break
 done
 exit %(lost)d
 """
@@ -56,7 +61,7 @@ class Wine:
         return script
 
     def repeated(self):
-        """A line for each run that was repeated."""
+        """A line for each run that wine lost."""
         path = os.path.join(self.folder, "repeated")
         if not os.path.exists(path):
             return []
@@ -66,7 +71,7 @@ class Wine:
 
 @contextlib.contextmanager
 def windows(folder):
-    """A Windows that ends afterwards. Prints which runs were repeated."""
+    """A Windows that ends afterwards. Prints which runs it lost."""
     wine = Wine(folder)
     try:
         # Between programs the server and the services stay, so that a program starts in hundredths of a second. The server can't begin before
@@ -77,4 +82,4 @@ def windows(folder):
     finally:
         wine.call("wineserver", "--kill", "--wait")
         for line in wine.repeated():
-            print("wine lost a run, which was repeated: %s" % line, flush=True)
+            print("wine lost a run: %s" % line, flush=True)
