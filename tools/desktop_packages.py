@@ -56,8 +56,14 @@ endforeach()
 add_custom_command(TARGET names_pulleynavy POST_BUILD COMMAND
   ${CMAKE_COMMAND} -E copy $<TARGET_FILE:pulleynavy::pulleynavy> $<TARGET_FILE_DIR:names_pulleynavy>)
 """
-# A program that needs nothing of a system but the library.
+# A program that needs nothing of a system but the library, and has the two functions that the library calls.
 ALONE = """#include <pulleynavy.h>
+static void *copy(volatile unsigned char *to, const unsigned char *from, size_t size, int step, size_t at) {
+    for (size_t i = 0; i < size; i++, at += (size_t)step) to[at] = from[at];
+    return (void *)to;
+}
+void *memcpy(void *to, const void *from, size_t size) { return copy(to, from, size, 1, 0); }
+void *memmove(void *to, const void *from, size_t size) { return to < from ? copy(to, from, size, 1, 0) : copy(to, from, size, -1, size - 1); }
 int main(void) {
     pulleynavy_parser parser = pulleynavy_parser_init(0, PULLEYNAVY_ALL_FEATURES);
     return pulleynavy_version() != PULLEYNAVY_VERSION_NUMBER || parser.offset;

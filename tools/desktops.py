@@ -21,7 +21,7 @@ TARGETS = {
     "x86_64-macos": ("x86_64", "x86_64-apple-macosx11.0.0"),
     "aarch64-macos": ("aarch64", "arm64-apple-macosx11.0.0"),
     "x86_64-freebsd": ("x86_64", "x86_64-unknown-freebsd13.0"),
-    "riscv64-linux": ("aarch64", "riscv64-unknown-linux-gnu"),
+    "riscv64-linux": ("x86_64", "riscv64-unknown-linux-gnu"),
 }
 # The archives and import libraries for Windows.
 LIBRARIES = ("libpulleynavy.a", "libpulleynavy.dll.a", "pulleynavy.dll.lib", "pulleynavy.lib")
@@ -30,7 +30,7 @@ MACHINES = {"x86_64": ("x64", "i386:x86-64"), "aarch64": ("arm64", "arm64")}
 # How a module begins that isn't text.
 BITCODE = b"BC\xc0\xde"
 LINES = re.compile(r'^target (datalayout|triple) = ".*"$', re.M)
-# The two functions that the library calls, which both systems have.
+# The two functions that the library calls, which all systems have. On riscv64 it calls memset too, which LLVM writes as stores elsewhere.
 CALLED = ("memcpy", "memmove")
 # The system library of macOS, as a linker wants to know it.
 STUB = """--- !tapi-tbd
@@ -107,11 +107,13 @@ def text_of(kept, archive):
 
 
 def compiled(kept, text, triple, made):
-    """Compiles a text for this triple with the words of the kept module."""
+    """Compiles a text for this triple with the words of the kept module; for another processor without the word that names it."""
     module = made + ".ll"
     with open(module, "w", encoding="utf-8") as file:
         file.write(retargeted(text, triple))
     words = toolchain.compile_command(kept, module, made)
+    if triple.startswith("riscv64"):
+        words = [word for word in words if not word.startswith("-march=")]
     run(*[re.sub(r"^--target=.*", "--target=" + triple, word) for word in words], folder=kept)
 
 
