@@ -10,7 +10,6 @@ import sys
 from typing import Callable
 
 from . import Module, ParseError, Section, __version__, strip
-from ._library import load
 
 NAMES = ["custom", "type", "import", "function", "table", "memory", "global", "export", "start", "element", "code", "data", "data count", "tag"]
 MALFORMED, WRONG_USE, FAILED = 1, 2, 3
@@ -43,7 +42,6 @@ def main(words: list[str] | None = None) -> int:
         # The encoding of standard output may lack characters of a name, as on Windows.
         sys.stdout.reconfigure(errors="backslashreplace")
     try:
-        load()
         status = run(given)
         sys.stdout.flush()
         return status
