@@ -46,8 +46,8 @@ def found(path: str | None) -> tuple[str, str]:
 def load(path: str | None = None) -> Any:
     """Loads the shared library from `path`, from `$PULLEYNAVY_LIB`, from this package, or from where the system looks, in this order.
 
-    The first two name the library or its folder. It is called `libpulleynavy.so.0`, on Windows `pulleynavy.dll`, on macOS `libpulleynavy.dylib`. It is loaded
-    once for each path. Raises `OSError` with one sentence if it is not found or not for this system, and `AttributeError` if it lacks a call of this version.
+    The first two name the library or its folder. In a folder it is `pulleynavy.dll` on Windows, `libpulleynavy.dylib` on macOS, and `libpulleynavy.so` with a number
+    elsewhere. It is loaded once for each path. Raises `OSError` with one sentence if it is not found or not for this system, and `AttributeError` if it lacks a call of this version.
 
     >>> load().pulleynavy_version() > 0
     True

@@ -673,7 +673,9 @@ class Systems(unittest.TestCase):
         return done.returncode, done.stdout, done.stderr
 
     def test_the_library_of_each_system(self) -> None:
-        for system, name in (("win32", "pulleynavy.dll"), ("darwin", "libpulleynavy.dylib"), ("linux", "libpulleynavy.so.0"), ("freebsd14", "libpulleynavy.so.0")):
+        on_linux = _library.name_on("linux")
+        self.assertRegex(on_linux, r"^libpulleynavy\.so(\.\d+)+$")
+        for system, name in (("win32", "pulleynavy.dll"), ("darwin", "libpulleynavy.dylib"), ("linux", on_linux), ("freebsd14", on_linux)):
             with self.subTest(system=system):
                 shutil.copyfile(self.library, self.package / name)
                 status, output, errors = self.run_on(system)
