@@ -18,8 +18,7 @@ import desktops
 
 MACHINES = {"x86_64": {"compiler": "gcc", "debian": "amd64"}, "aarch64": {"compiler": "aarch64-linux-gnu-gcc", "debian": "arm64"}}
 LICENSES = ("LICENSE-APACHE", "LICENSE-MIT", "NOTICE")
-# The library calls nothing, not even libc, so it fits every version of glibc and musl.
-SHARED = ["-shared", "-nostdlib", "-s", "-Wl,--gc-sections", "-Wl,--build-id=none"]
+# The library calls memcpy and memmove of libc, and nothing else: glibc has had both since 2.17, and musl takes its own for what is asked of glibc.
 WHEEL_TAGS = "manylinux_2_17_{0}.manylinux2014_{0}.musllinux_1_1_{0}"
 
 # The folder that has the libraries for Windows and macOS, if one is given.
@@ -66,8 +65,12 @@ def archive(machine):
     return prebuilt("libpulleynavy-%s.a" % machine)
 
 
+LINKER = os.path.join(common.TOP, "tools", "shared_library")
+
+
 def soname():
-    return "libpulleynavy.so.%s" % common.version().split(".")[0]
+    """The name by which programs load the shared library."""
+    return run([LINKER, "--soname"]).strip()
 
 
 def source(*parts):
@@ -85,8 +88,10 @@ def epoch():
     return int(os.environ["SOURCE_DATE_EPOCH"])
 
 
-def run(words, folder=None):
-    done = subprocess.run(words, cwd=folder, stdin=subprocess.DEVNULL, stdout=subprocess.PIPE, stderr=subprocess.STDOUT)
+def run(words, folder=None, **more):
+    """What a command prints. More names are variables of its environment."""
+    options = {"stdin": subprocess.DEVNULL, "stdout": subprocess.PIPE, "stderr": subprocess.STDOUT}
+    done = subprocess.run(words, cwd=folder, env={**os.environ, **more}, **options)
     if done.returncode:
         sys.stderr.write(done.stdout.decode(errors="replace"))
         common.stop(common.DIFFERS, "%s failed with status %d" % (" ".join(words[:3]), done.returncode))
@@ -116,8 +121,7 @@ def copy_tracked(folder, to):
 
 def shared_library(machine, path):
     """Makes the shared library of a machine from its archive."""
-    words = [needed(MACHINES[machine]["compiler"]), *SHARED, "-Wl,-soname," + soname(), "-o", path]
-    run([*words, "-Wl,--whole-archive", archive(machine), "-Wl,--no-whole-archive"])
+    run([LINKER, archive(machine), path], CC=needed(MACHINES[machine]["compiler"]))
     os.chmod(path, 0o644)
 
 

@@ -14,7 +14,9 @@ MEMORY64 = 1
 COMPACT_IMPORTS = 2
 ALL_FEATURES = MEMORY64 | COMPACT_IMPORTS
 
-NAME = "libpulleynavy.so.0"
+_PARTS = declared.VERSION.split(".")
+# Until version 1.0 each minor version of the library has a name of its own.
+NAME = "libpulleynavy.so." + ".".join(_PARTS[: 2 if _PARTS[0] == "0" else 1])
 
 
 @functools.lru_cache(maxsize=None)
