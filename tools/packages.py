@@ -6,6 +6,7 @@ import hashlib
 import io
 import json
 import os
+import re
 import shutil
 import subprocess
 import sys
@@ -23,15 +24,6 @@ WHEEL_TAGS = "manylinux_2_17_{0}.manylinux2014_{0}.musllinux_1_1_{0}"
 
 # The folder that has the libraries for Windows and macOS, if one is given.
 targets = None
-# What CMake asks of the version: one that begins with the same numbers.
-CMAKE_VERSION = """set(PACKAGE_VERSION "%s")
-string(FIND "${PACKAGE_VERSION}." "${PACKAGE_FIND_VERSION}." _pulleynavy)
-if(_pulleynavy EQUAL 0)
-  set(PACKAGE_VERSION_COMPATIBLE TRUE)
-endif()
-unset(_pulleynavy)
-"""
-
 # A wheel for any Python 3, with a library for one machine.
 SETUP = """from setuptools import Distribution, setup
 from wheel.bdist_wheel import bdist_wheel
@@ -54,7 +46,7 @@ HEADER = os.path.join(common.TOP, "crates", "wasm_c", "include", "pulleynavy.h")
 
 
 class Missing(Exception):
-    """A program that makes a package is not there."""
+    """What a package needs is not there."""
 
 
 def prebuilt(name):
@@ -227,38 +219,47 @@ def read(path):
         return file.read()
 
 
-def pkg_config(prefix, libdir="${prefix}/lib"):
-    """The text for pkg-config of a library that is installed there."""
-    text = read(source("crates", "wasm_c", "pulleynavy.pc.in")).decode()
-    text = text.replace("libdir=${prefix}/lib", "libdir=" + libdir)
-    return text.replace("@PREFIX@", prefix).replace("@VERSION@", common.version()).encode()
-
-
-def manuals():
-    """The manual pages, compressed as Debian has them."""
-    for path in sorted(glob.glob(source("docs", "man", "*.1"))):
-        yield os.path.basename(path), read(path)
-
-
-def programs(machine):
-    """The programs of a machine, for which they are prebuilt or not."""
-    return ["wasm_list", "wasm_dump"] if machine == "x86_64" else []
-
-
 def tarball(machine, folder, place):
-    """The library, the header, the programs and their manual pages, to be unpacked anywhere."""
+    """What ./install installs, to be unpacked anywhere."""
     top = "pulleynavy-%s-%s-linux" % (common.version(), machine)
-    shared_library(machine, os.path.join(place, "shared"))
-    full = "libpulleynavy.so." + common.version()
-    files = [("lib/libpulleynavy.a", read(archive(machine)), 0o644), ("lib/" + full, read(os.path.join(place, "shared")), 0o755)]
-    files += [("include/pulleynavy.h", read(HEADER), 0o644)]
-    files += [("lib/pkgconfig/pulleynavy.pc", pkg_config("${pcfiledir}/../.."), 0o644)]
-    files += [("bin/" + name, read(prebuilt(name)), 0o755) for name in programs(machine)]
-    files += [("share/man/man1/" + name, text, 0o644) for name, text in manuals() if name.split(".")[0] in programs(machine)]
-    files += [("share/doc/pulleynavy/" + name, read(source(name)), 0o644) for name in (*LICENSES, "README.md", "CHANGELOG.md")]
-    links = [("lib/" + soname(), full), ("lib/libpulleynavy.so", soname())]
-    path = os.path.join(folder, top + ".tar.gz")
-    write_tarball(path, [("%s/%s" % (top, name), data, mode) for name, data, mode in files], [("%s/%s" % (top, name), to) for name, to in links])
+    place = os.path.join(place, machine)
+    run([source("install"), "--prebuilt", "/"], DESTDIR=place, MACHINE=machine, CC=needed(MACHINES[machine]["compiler"]))
+    shutil.rmtree(os.path.join(place, "share", "pulleynavy"))
+    with open(os.path.join(place, "lib", "pkgconfig", "pulleynavy.pc"), "r+", encoding="utf-8") as file:
+        text = file.read()
+        file.seek(0)
+        file.write(re.sub("^prefix=.*", "prefix=${pcfiledir}/../..", text, flags=re.M))
+    copy_all((*LICENSES, "README.md", "CHANGELOG.md"), os.path.join(place, "share", "doc", "pulleynavy"))
+    paths = sorted(os.path.join(at, name) for at, _, names in os.walk(place) for name in names)
+    named = [("%s/%s" % (top, os.path.relpath(path, place)), path) for path in paths]
+    files = [(name, read(path), os.stat(path).st_mode & 0o777) for name, path in named if not os.path.islink(path)]
+    links = [(name, os.readlink(path)) for name, path in named if os.path.islink(path)]
+    write_tarball(os.path.join(folder, top + ".tar.gz"), files, links)
+
+
+def tarballs(folder, place):
+    for machine in MACHINES:
+        tarball(machine, folder, place)
+
+
+# ---- Debian
+
+# What debian/ builds from, without the sources that are proved.
+FOR_DEBIAN = ("debian", "prebuilt", "tools", os.path.join("crates", "wasm_c"), os.path.join("docs", "man"), os.path.join("docs", "completions"))
+
+
+def debs(folder, place):
+    """The packages for Debian, as debian/ has dpkg-buildpackage build them. Those of another processor need no build dependencies of it."""
+    for program in ("dpkg-buildpackage", "dh", "doxygen", *(MACHINES[machine]["compiler"] for machine in MACHINES)):
+        needed(program)
+    for machine, names in MACHINES.items():
+        at = os.path.join(place, machine, "pulleynavy")
+        for part in FOR_DEBIAN:
+            copy_tracked(part, os.path.join(at, part))
+        copy_all((*LICENSES, "VERSION", "CHANGELOG.md", "install"), at)
+        run(["dpkg-buildpackage", "--build=binary", "--no-sign", "--no-check-builddeps", "--host-arch=" + names["debian"]], at)
+        for path in glob.glob(os.path.join(place, machine, "*.deb")):
+            shutil.copy(path, folder)
 
 
 # ---- Windows
@@ -274,6 +275,12 @@ def write_zip(path, files):
             made.writestr(entry, data)
 
 
+def cmake_version():
+    """What CMake asks of the version."""
+    text = read(source("crates", "wasm_c", "pulleynavyConfigVersion.cmake"))
+    return text.replace(b"@VERSION@", common.version().encode())
+
+
 def zipped(target, folder):
     """The library for Windows: the DLL, its import library, the archives, the header, and what CMake needs to find them."""
     top = "pulleynavy-%s-%s" % (common.version(), target)
@@ -281,13 +288,15 @@ def zipped(target, folder):
     files = [("bin/pulleynavy.dll", "pulleynavy.dll"), *(("lib/" + name, name) for name in desktops.LIBRARIES)]
     files = [(name, read(path)) for name, file in files for path in built(target, file)]
     files += [("include/pulleynavy.h", read(HEADER)), (cmake + ".cmake", read(source("crates", "wasm_c", "pulleynavy-config.cmake")))]
-    files += [(cmake + "-version.cmake", (CMAKE_VERSION % common.version()).encode())]
+    files += [(cmake + "-version.cmake", cmake_version())]
     files += [("doc/" + name, read(source(name))) for name in (*LICENSES, "README.md", "CHANGELOG.md")]
     write_zip(os.path.join(folder, top + ".zip"), [("%s/%s" % (top, name), data) for name, data in files])
 
 
 def zips(folder, place):
     """A zip for each processor that there is a DLL for."""
+    if not any(built(target, "pulleynavy.dll") for target in desktops.TARGETS):
+        raise Missing("--targets with a folder that has a DLL")
     for target in desktops.TARGETS:
         if built(target, "pulleynavy.dll"):
             zipped(target, folder)
