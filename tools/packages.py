@@ -14,6 +14,7 @@ import tarfile
 import time
 import zipfile
 
+import cargo
 import common
 import desktops
 
@@ -137,7 +138,10 @@ def crate(folder, place):
         for path in built(target, "libpulleynavy.a", "pulleynavy.lib"):
             os.makedirs(os.path.join(place, "lib", target), exist_ok=True)
             shutil.copy(path, os.path.join(place, "lib", target))
-    run([needed("cargo"), "package", "--offline", "--allow-dirty", "--no-verify", "--target-dir", os.path.join(place, "target")], place)
+    if cargo.version() is None or cargo.version() < cargo.oldest():
+        raise Missing("cargo %d.%d or later" % cargo.oldest())
+    cargo.offline(os.path.dirname(place))
+    run(["cargo", "package", "--offline", "--allow-dirty", "--no-verify", "--target-dir", os.path.join(place, "target")], place)
     for path in glob.glob(os.path.join(place, "target", "package", "*.crate")):
         shutil.copy(path, folder)
 
