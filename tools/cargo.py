@@ -13,7 +13,7 @@ DEBIAN, SERDE = "/usr/share/cargo/registry", "librust-serde-dev librust-serde-js
 # The row of crates.io for the version that Debian 12 has, as far as a resolver needs it.
 ROWS = {"serde": {"name": "serde", "vers": "1.0.152", "deps": [], "features": {"default": ["std"], "std": [], "alloc": []}, "yanked": False}}
 ROWS["serde"]["cksum"] = "bb7d1f0d3021d347a83e556fc4683dea2ea09d87bccdf88ff5c12545d89d5efb"
-SETTINGS = '[source.crates-io]\nreplace-with = "local"\n\n[source.local]\n%s = "%s"\n'
+SETTINGS = '[source.crates-io]\nreplace-with = "%s-crates"\n\n[source.%s-crates]\n%s = "%s"\n'
 
 
 def manifest():
@@ -70,7 +70,12 @@ def with_debian(folder):
     return False
 
 
+def settings(kind, path):
+    """What has cargo take crates from a folder of this kind."""
+    return SETTINGS % (kind, kind, kind, path)
+
+
 def write_settings(folder, kind, path):
     os.makedirs(os.path.join(folder, ".cargo"), exist_ok=True)
     with open(os.path.join(folder, ".cargo", "config.toml"), "w", encoding="utf-8") as file:
-        file.write(SETTINGS % (kind, path))
+        file.write(settings(kind, path))
