@@ -310,7 +310,10 @@ def zips(folder, place):
 
 
 def bill_of_materials():
-    """A bill of materials in the form of SPDX 2.3: the files of prebuilt/ and what they are made from."""
+    """A bill of materials in the form of SPDX 2.3: the files of prebuilt/ and what they are made from.
+
+    `reuse spdx` of Debian is not used: it lists the sources, not the release and its toolchain, and has the time and a random name in it.
+    """
     made = common.made_from()
     files = []
     for number, name in enumerate(sorted(os.listdir(common.PREBUILT))):
