@@ -35,6 +35,14 @@ def version():
     return found and (int(found[1]), int(found[2]))
 
 
+def found():
+    """Whether this machine has a cargo that builds the crate. What needs it is skipped otherwise."""
+    if version() and version() >= oldest():
+        return True
+    common.skip("missing: cargo %d.%d or later" % oldest())
+    return False
+
+
 def own_row(digest):
     """What crates.io would say of the crate, of which the package has this checksum."""
     serde = {"name": "serde", "req": "^1", "features": [], "optional": True, "default_features": False, "target": None, "kind": "normal"}
