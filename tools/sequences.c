@@ -277,7 +277,7 @@ static bool step_others(struct actor *it) {
     return draw(3);
 }
 
-/* Strips a copy. It is what is left of the stream if the events of its custom sections are taken out. */
+/* Strips a copy. It is the stream without the bytes of its custom sections. */
 static bool step_strip(struct actor *it) {
     bool keeps_names = draw(2), is_fault = events[event_count - 1].kind == PULLEYNAVY_EVENT_FAULT;
     uint8_t *bytes = exact(stream, stream_size), *kept = malloc(stream_size + 1);
