@@ -283,9 +283,9 @@ static bool step_strip(struct actor *it) {
     uint8_t *bytes = exact(stream, stream_size), *kept = malloc(stream_size + 1);
     size_t size = 0, at = 0;
     for (size_t i = 0; i < event_count; at += events[i++].consumed) {
-        const uint8_t *data = stream + at + events[i].at + (events[i].data_offset - events[i].start);
         bool is_custom = events[i].kind == PULLEYNAVY_EVENT_CUSTOM;
-        bool is_name = is_custom && events[i].name_size == 4 && !memcmp(data - 4, "name", 4);
+        size_t data = is_custom ? at + events[i].at + (size_t)(events[i].data_offset - events[i].start) : 0;
+        bool is_name = is_custom && events[i].name_size == 4 && !memcmp(stream + data - 4, "name", 4);
         if (is_custom && !(keeps_names && is_name)) continue;
         memcpy(kept + size, stream + at, events[i].consumed);
         size += events[i].consumed;
