@@ -167,13 +167,35 @@ static void check_fault(struct actor *it, const uint8_t *bytes, size_t size, boo
     require(length == wanted && !memcmp(text, whole, wanted < room ? wanted : room), "the text of a fault");
 }
 
+/* Skips a part by these bytes, of which a call of `pulleynavy_parse` has requested more. The parser is beyond a stream that ends within the part. */
+static void skip_part(struct actor *it, const uint8_t *bytes, size_t size) {
+    uint64_t before = it->parser.offset;
+    pulleynavy_event event = CALL(pulleynavy_skip, &it->parser, bytes, size);
+    const pulleynavy_event *wanted = &events[it->next];
+    if (event.kind == PULLEYNAVY_EVENT_NEED_MORE) {
+        require(!event.hint && it->parser.offset == before, "a part that is not skipped");
+        return;
+    }
+    require(event.consumed == size && it->parser.offset == event.end && event.end > before + size, "the end of a skipped part");
+    if (wanted->kind == PULLEYNAVY_EVENT_FAULT) {
+        require(wanted->fault.kind == PULLEYNAVY_FAULT_UNEXPECTED_EOF && wanted->fault.offset == event.start, "a skipped part that is truncated");
+        it->at = stream_size + 1;
+        return;
+    }
+    require(event.data_offset == (event.kind == PULLEYNAVY_EVENT_SECTION ? 0 : wanted->data_offset), "the data of a skipped part");
+    event.consumed = wanted->consumed;
+    event.data_offset = wanted->data_offset;
+    expect(it, &event);
+    it->at = (size_t)(event.end - start);
+}
+
 static bool step_parser(struct actor *it) {
     if (it->at > stream_size) return false;
     size_t left = stream_size - it->at, size = draw(3) ? left : draw((uint32_t)left + 1);
     bool is_all = size == left && draw(4), is_over = false;
     uint8_t *bytes = exact(stream + it->at, size);
     pulleynavy_event some[5];
-    size_t room = draw(6), count = 0;
+    size_t room = draw(6), count = 0, first = it->at;
     if (!draw(8)) check_fault(it, bytes, size, is_all);
     if (!draw(6)) {
         free(bytes);
@@ -184,6 +206,8 @@ static bool step_parser(struct actor *it) {
     for (size_t i = 0; i < count; i++) {
         if (some[i].kind == PULLEYNAVY_EVENT_NEED_MORE) {
             require(!is_all && some[i].hint && i + 1 == count, "a request");
+            size_t used = it->at - first;
+            if (draw(2)) skip_part(it, bytes + used, size - used);
             break;
         }
         expect(it, &some[i]);

@@ -759,6 +759,14 @@ export declare const SymbolLayout: {
     readonly dataSize: 72;
 };
 
+export declare const TargetFeatureLayout: {
+    readonly SIZE: 56;
+    readonly fault: 0;
+    readonly consumed: 24;
+    readonly name: 32;
+    readonly prefix: 48;
+};
+
 export declare const RelocationLayout: {
     readonly SIZE: 56;
     readonly fault: 0;

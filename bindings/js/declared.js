@@ -716,6 +716,13 @@ export const SymbolLayout = Object.freeze({
     dataOffset: 68,
     dataSize: 72,
 });
+export const TargetFeatureLayout = Object.freeze({
+    SIZE: 56,
+    fault: 0,
+    consumed: 24,
+    name: 32,
+    prefix: 48,
+});
 export const RelocationLayout = Object.freeze({
     SIZE: 56,
     fault: 0,
@@ -778,6 +785,7 @@ export const CALLS = Object.freeze([
     "pulleynavy_format_message",
     "pulleynavy_parser_init",
     "pulleynavy_parse",
+    "pulleynavy_skip",
     "pulleynavy_skip_section",
     "pulleynavy_format_fault",
     "pulleynavy_next_events",
@@ -861,6 +869,8 @@ export const CALLS = Object.freeze([
     "pulleynavy_read_linking_version",
     "pulleynavy_read_symbol",
     "pulleynavy_next_symbols",
+    "pulleynavy_read_target_feature",
+    "pulleynavy_next_target_features",
     "pulleynavy_read_relocation",
     "pulleynavy_next_relocations",
     "pulleynavy_read_core_process",

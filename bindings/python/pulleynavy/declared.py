@@ -834,6 +834,15 @@ class Symbol(ctypes.Structure):
     ]
 
 
+class TargetFeature(ctypes.Structure):
+    _fields_ = [
+        ("fault", Fault),
+        ("consumed", ctypes.c_size_t),
+        ("name", Span),
+        ("prefix", ctypes.c_uint32),
+    ]
+
+
 class Relocation(ctypes.Structure):
     _fields_ = [
         ("fault", Fault),
@@ -911,6 +920,7 @@ CALLS: dict[str, tuple[Any, list[Any]]] = {
     "pulleynavy_format_message": (ctypes.c_size_t, [ctypes.c_uint32, ctypes.c_void_p, ctypes.c_size_t]),
     "pulleynavy_parser_init": (Parser, [ctypes.c_uint64, ctypes.c_uint32]),
     "pulleynavy_parse": (Event, [ctypes.POINTER(Parser), ctypes.c_void_p, ctypes.c_size_t, ctypes.c_bool]),
+    "pulleynavy_skip": (Event, [ctypes.POINTER(Parser), ctypes.c_void_p, ctypes.c_size_t]),
     "pulleynavy_skip_section": (ctypes.c_uint32, [ctypes.POINTER(Parser)]),
     "pulleynavy_format_fault": (ctypes.c_size_t, [ctypes.POINTER(Parser), ctypes.c_void_p, ctypes.c_size_t, ctypes.c_bool, ctypes.c_void_p, ctypes.c_size_t]),
     "pulleynavy_next_events": (ctypes.c_size_t, [ctypes.POINTER(Parser), ctypes.c_void_p, ctypes.c_size_t, ctypes.c_bool, ctypes.POINTER(Event), ctypes.c_size_t]),
@@ -994,6 +1004,8 @@ CALLS: dict[str, tuple[Any, list[Any]]] = {
     "pulleynavy_read_linking_version": (Number, [ctypes.c_void_p, ctypes.c_size_t, ctypes.c_uint64, ctypes.c_uint32]),
     "pulleynavy_read_symbol": (Symbol, [ctypes.c_void_p, ctypes.c_size_t, ctypes.c_uint64, ctypes.c_uint32]),
     "pulleynavy_next_symbols": (ctypes.c_size_t, [ctypes.POINTER(Items), ctypes.c_void_p, ctypes.c_size_t, ctypes.POINTER(Symbol), ctypes.c_size_t]),
+    "pulleynavy_read_target_feature": (TargetFeature, [ctypes.c_void_p, ctypes.c_size_t, ctypes.c_uint64, ctypes.c_uint32]),
+    "pulleynavy_next_target_features": (ctypes.c_size_t, [ctypes.POINTER(Items), ctypes.c_void_p, ctypes.c_size_t, ctypes.POINTER(TargetFeature), ctypes.c_size_t]),
     "pulleynavy_read_relocation": (Relocation, [ctypes.c_void_p, ctypes.c_size_t, ctypes.c_uint64, ctypes.c_uint32]),
     "pulleynavy_next_relocations": (ctypes.c_size_t, [ctypes.POINTER(Items), ctypes.c_void_p, ctypes.c_size_t, ctypes.POINTER(Relocation), ctypes.c_size_t]),
     "pulleynavy_read_core_process": (CoreProcess, [ctypes.c_void_p, ctypes.c_size_t, ctypes.c_uint64, ctypes.c_uint32]),

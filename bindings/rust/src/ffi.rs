@@ -461,6 +461,15 @@ pub struct Symbol {
 
 #[repr(C)]
 #[derive(Clone, Copy, Debug)]
+pub struct TargetFeature {
+    pub fault: Fault,
+    pub consumed: usize,
+    pub name: Span,
+    pub prefix: u32,
+}
+
+#[repr(C)]
+#[derive(Clone, Copy, Debug)]
 pub struct Relocation {
     pub fault: Fault,
     pub consumed: usize,
@@ -540,6 +549,7 @@ unsafe extern "C" {
         bytes_size: usize,
         is_all: bool,
     ) -> Event;
+    pub fn pulleynavy_skip(parser: &mut Parser, bytes: *const u8, bytes_size: usize) -> Event;
     pub fn pulleynavy_skip_section(parser: &mut Parser) -> u32;
     pub fn pulleynavy_format_fault(
         parser: &Parser,
@@ -1037,6 +1047,19 @@ unsafe extern "C" {
         bytes: *const u8,
         bytes_size: usize,
         out: *mut Symbol,
+        out_count: usize,
+    ) -> usize;
+    pub fn pulleynavy_read_target_feature(
+        bytes: *const u8,
+        bytes_size: usize,
+        offset: u64,
+        features: u32,
+    ) -> TargetFeature;
+    pub fn pulleynavy_next_target_features(
+        items: &mut Items,
+        bytes: *const u8,
+        bytes_size: usize,
+        out: *mut TargetFeature,
         out_count: usize,
     ) -> usize;
     pub fn pulleynavy_read_relocation(

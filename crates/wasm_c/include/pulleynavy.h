@@ -546,7 +546,10 @@ typedef struct pulleynavy_event {
     uint64_t start;
     /** The offset where it ends. For a code section, it is the end of the content, including the bodies. */
     uint64_t end;
-    /** The offset of the first item after a count, of the first body of a code section, or of the data of a custom section. */
+    /**
+     * The offset of the first item after a count, of the first body of a code section, or of the data of a custom section. It is 0
+     * for a section with a count that was skipped.
+     */
     uint64_t data_offset;
     /**
      * The position in memory where it begins: that of the byte at offset `start`.
@@ -555,9 +558,15 @@ typedef struct pulleynavy_event {
      * end and a fault it is the position of the first byte that is not consumed.
      */
     size_t at;
-    /** The number of consumed bytes: 0 for a request, the end and a fault, otherwise at least 1. */
+    /**
+     * The number of consumed bytes: 0 for a request, the end and a fault, otherwise at least 1. For a part that was skipped, it is
+     * the number of bytes that were passed, all of which belong to the part.
+     */
     size_t consumed;
-    /** For a request, the number of bytes that are known to be missing, at least 1; otherwise 0. */
+    /**
+     * For a request, how many bytes to read next, at least 1; otherwise 0. Fewer can be enough: after a byte 0 at the start of a
+     * section, it is 3, for a header, although the byte can also begin a custom section.
+     */
     size_t hint;
     /** The size of a custom section's name in bytes. The name ends where the data begins. */
     size_t name_size;
@@ -641,6 +650,35 @@ pulleynavy_parser pulleynavy_parser_init(uint64_t offset, uint32_t features);
  * @endcode
  */
 pulleynavy_event pulleynavy_parse(pulleynavy_parser *parser, const uint8_t *bytes, size_t bytes_size, bool is_all);
+
+/**
+ * Skips the next section or body if its first fields are in `bytes`, but not all of it, and returns its event. So a part needs no
+ * buffer of its size.
+ *
+ * `bytes` are a prefix of the remaining bytes of the stream. Call it after `pulleynavy_parse` returned a request for the same bytes.
+ * If it skips the part, all of `bytes` belong to the part, and the parser is at its end: drop the bytes of the stream up to the
+ * offset `end` of the event, whatever they are, and pass those after it to the next call. The event is that of `pulleynavy_parse`,
+ * except for two fields: `consumed` is `bytes_size`, and `data_offset` is 0 for a section with a count.
+ *
+ * It returns a request with the hint 0, and leaves the parser unchanged, if `pulleynavy_parse` has to look: if all of the part is in
+ * `bytes`, if its first fields are not, at a fault, a header and the end, and at the start of a code section, a start section and a
+ * data count section. The first fields are the name of a custom section, and the count of a section that begins with one.
+ *
+ * @par Errors
+ * It returns no fault. If the stream ends before the offset `end`, its fault is `UNEXPECTED_EOF` at the offset `start`.
+ *
+ * @code{.c}
+ * // A custom section "a" of 100 bytes, of which the first 4 are here.
+ * const uint8_t bytes[] = {0, 'a', 's', 'm', 1, 0, 0, 0, 0, 100, 1, 'a'};
+ * pulleynavy_parser parser = pulleynavy_parser_init(0, PULLEYNAVY_ALL_FEATURES);
+ * pulleynavy_parse(&parser, bytes, 12, false);
+ * assert(pulleynavy_parse(&parser, bytes + 8, 4, false).kind == PULLEYNAVY_EVENT_NEED_MORE);
+ * pulleynavy_event part = pulleynavy_skip(&parser, bytes + 8, 4);
+ * assert(part.kind == PULLEYNAVY_EVENT_CUSTOM && part.start == 10 && part.end == 110 && part.data_offset == 12);
+ * assert(part.consumed == 4 && parser.offset == 110);
+ * @endcode
+ */
+pulleynavy_event pulleynavy_skip(pulleynavy_parser *parser, const uint8_t *bytes, size_t bytes_size);
 
 /**
  * Skips the remaining bytes of a code section, and returns their number. Pass the bytes after them to the next `pulleynavy_parse`.
@@ -2252,6 +2290,48 @@ pulleynavy_symbol pulleynavy_read_symbol(const uint8_t *bytes, size_t bytes_size
 size_t pulleynavy_next_symbols(
     pulleynavy_items *items, const uint8_t *bytes, size_t bytes_size, pulleynavy_symbol *out, size_t out_count);
 
+/** A feature of WebAssembly and how a module uses it, or a fault. */
+typedef struct pulleynavy_target_feature {
+    /** The fault of the item, of kind 0 if there is none. */
+    pulleynavy_fault fault;
+    /** The size of the item in bytes, 0 after a fault. */
+    size_t consumed;
+    /** The name of the feature, which is UTF-8. */
+    pulleynavy_span name;
+    /**
+     * The byte `+` if the module uses the feature, `-` if no module that uses it may be linked with this one. Other bytes are
+     * returned too.
+     */
+    uint32_t prefix;
+} pulleynavy_target_feature;
+
+/**
+ * Reads a feature of a `target_features` section: a byte that says how the module uses it, and its name.
+ *
+ * @par Errors
+ * `UNEXPECTED_EOF` if the byte is missing, and the faults of `pulleynavy_read_text`.
+ *
+ * @code{.c}
+ * const uint8_t bytes[] = {'+', 8, 's', 'i', 'g', 'n', '-', 'e', 'x', 't'};
+ * pulleynavy_target_feature feature = pulleynavy_read_target_feature(bytes, sizeof bytes, 0, PULLEYNAVY_ALL_FEATURES);
+ * assert(feature.prefix == '+' && feature.name.at == 2 && feature.name.size == 8);
+ * @endcode
+ *
+ * (Tool conventions, Linking, Target Features Section.)
+ */
+pulleynavy_target_feature pulleynavy_read_target_feature(
+    const uint8_t *bytes, size_t bytes_size, uint64_t offset, uint32_t features);
+
+/**
+ * Stores the next features of a `target_features` section in `out`, and returns their number. The data of the section begins with
+ * their count: pass it to `pulleynavy_items_init`.
+ *
+ * @par Errors
+ * An item has the faults of `pulleynavy_read_target_feature`; the last one `SIZE_MISMATCH` if bytes follow the list.
+ */
+size_t pulleynavy_next_target_features(
+    pulleynavy_items *items, const uint8_t *bytes, size_t bytes_size, pulleynavy_target_feature *out, size_t out_count);
+
 /** A relocation, or a fault. */
 typedef struct pulleynavy_relocation {
     /** The fault of the item, of kind 0 if there is none. */
@@ -2598,6 +2678,7 @@ PULLEYNAVY_ASSERT(sizeof(pulleynavy_init_function) == 40 && offsetof(pulleynavy_
 PULLEYNAVY_ASSERT(sizeof(pulleynavy_comdat) == 72 && offsetof(pulleynavy_comdat, symbols) == 56, "layout");
 PULLEYNAVY_ASSERT(sizeof(pulleynavy_comdat_symbol) == 40 && offsetof(pulleynavy_comdat_symbol, index) == 36, "layout");
 PULLEYNAVY_ASSERT(sizeof(pulleynavy_symbol) == 80 && offsetof(pulleynavy_symbol, data_size) == 72, "layout");
+PULLEYNAVY_ASSERT(sizeof(pulleynavy_target_feature) == 56 && offsetof(pulleynavy_target_feature, prefix) == 48, "layout");
 PULLEYNAVY_ASSERT(sizeof(pulleynavy_relocation) == 56 && offsetof(pulleynavy_relocation, addend) == 48, "layout");
 PULLEYNAVY_ASSERT(sizeof(pulleynavy_core_process) == 48 && offsetof(pulleynavy_core_process, name) == 32, "layout");
 PULLEYNAVY_ASSERT(sizeof(pulleynavy_core_module) == 48 && offsetof(pulleynavy_core_module, name) == 32, "layout");

@@ -24,77 +24,111 @@ mod relocations;
 mod segments;
 mod strip;
 mod symbols;
+mod target_features;
 mod types;
 mod values;
 mod version;
 
-pub use coredumps::{
-    pulleynavy_next_core_values, pulleynavy_read_core_frame, pulleynavy_read_core_instance,
-    pulleynavy_read_core_module, pulleynavy_read_core_process, pulleynavy_read_core_thread,
-    pulleynavy_read_core_value,
-};
-pub use cursors::{pulleynavy_items_init, pulleynavy_list_init};
+pub use coredumps::pulleynavy_next_core_values;
+pub use coredumps::pulleynavy_read_core_frame;
+pub use coredumps::pulleynavy_read_core_instance;
+pub use coredumps::pulleynavy_read_core_module;
+pub use coredumps::pulleynavy_read_core_process;
+pub use coredumps::pulleynavy_read_core_thread;
+pub use coredumps::pulleynavy_read_core_value;
+pub use cursors::pulleynavy_items_init;
+pub use cursors::pulleynavy_list_init;
 pub use customs::pulleynavy_classify_custom;
-pub use dylink::{
-    pulleynavy_next_dylink_exports, pulleynavy_next_dylink_imports, pulleynavy_read_dylink_export,
-    pulleynavy_read_dylink_import, pulleynavy_read_dylink_memory,
-};
-pub use ends::{pulleynavy_check_custom_end, pulleynavy_check_name_end};
+pub use dylink::pulleynavy_next_dylink_exports;
+pub use dylink::pulleynavy_next_dylink_imports;
+pub use dylink::pulleynavy_read_dylink_export;
+pub use dylink::pulleynavy_read_dylink_import;
+pub use dylink::pulleynavy_read_dylink_memory;
+pub use ends::pulleynavy_check_custom_end;
+pub use ends::pulleynavy_check_name_end;
 pub use event_batches::pulleynavy_next_events;
-pub use exports::{pulleynavy_next_exports, pulleynavy_read_export};
-pub use feeding::{
-    pulleynavy_feed_finish, pulleynavy_feed_init, pulleynavy_feed_push, pulleynavy_feed_step,
-};
-pub use flat_imports::{pulleynavy_imports_init, pulleynavy_next_flat_imports};
-pub use hints::{
-    pulleynavy_next_branch_hints, pulleynavy_next_hinted_functions, pulleynavy_read_branch_hint,
-    pulleynavy_read_hinted_function,
-};
-pub use imports::{
-    pulleynavy_next_imports, pulleynavy_next_names, pulleynavy_next_texts,
-    pulleynavy_read_bundled_import, pulleynavy_read_import, pulleynavy_read_import_item,
-    pulleynavy_read_name, pulleynavy_read_text,
-};
+pub use exports::pulleynavy_next_exports;
+pub use exports::pulleynavy_read_export;
+pub use feeding::pulleynavy_feed_finish;
+pub use feeding::pulleynavy_feed_init;
+pub use feeding::pulleynavy_feed_push;
+pub use feeding::pulleynavy_feed_step;
+pub use flat_imports::pulleynavy_imports_init;
+pub use flat_imports::pulleynavy_next_flat_imports;
+pub use hints::pulleynavy_next_branch_hints;
+pub use hints::pulleynavy_next_hinted_functions;
+pub use hints::pulleynavy_read_branch_hint;
+pub use hints::pulleynavy_read_hinted_function;
+pub use imports::pulleynavy_next_imports;
+pub use imports::pulleynavy_next_names;
+pub use imports::pulleynavy_next_texts;
+pub use imports::pulleynavy_read_bundled_import;
+pub use imports::pulleynavy_read_import;
+pub use imports::pulleynavy_read_import_item;
+pub use imports::pulleynavy_read_name;
+pub use imports::pulleynavy_read_text;
 pub use instructions::pulleynavy_read_instruction;
-pub use kinds::{
-    pulleynavy_next_globals, pulleynavy_next_memories, pulleynavy_next_tables,
-    pulleynavy_next_tags, pulleynavy_read_global, pulleynavy_read_global_type,
-    pulleynavy_read_memory, pulleynavy_read_table, pulleynavy_read_table_type, pulleynavy_read_tag,
-};
-pub use linking::{
-    pulleynavy_next_comdat_symbols, pulleynavy_next_comdats, pulleynavy_next_init_functions,
-    pulleynavy_next_linking_segments, pulleynavy_read_comdat, pulleynavy_read_comdat_symbol,
-    pulleynavy_read_init_function, pulleynavy_read_linking_segment,
-};
+pub use kinds::pulleynavy_next_globals;
+pub use kinds::pulleynavy_next_memories;
+pub use kinds::pulleynavy_next_tables;
+pub use kinds::pulleynavy_next_tags;
+pub use kinds::pulleynavy_read_global;
+pub use kinds::pulleynavy_read_global_type;
+pub use kinds::pulleynavy_read_memory;
+pub use kinds::pulleynavy_read_table;
+pub use kinds::pulleynavy_read_table_type;
+pub use kinds::pulleynavy_read_tag;
+pub use linking::pulleynavy_next_comdat_symbols;
+pub use linking::pulleynavy_next_comdats;
+pub use linking::pulleynavy_next_init_functions;
+pub use linking::pulleynavy_next_linking_segments;
+pub use linking::pulleynavy_read_comdat;
+pub use linking::pulleynavy_read_comdat_symbol;
+pub use linking::pulleynavy_read_init_function;
+pub use linking::pulleynavy_read_linking_segment;
 pub use messages::pulleynavy_format_message;
-pub use names::{
-    pulleynavy_next_indirect_namings, pulleynavy_next_name_subsections, pulleynavy_next_namings,
-    pulleynavy_next_subsections, pulleynavy_read_indirect_naming, pulleynavy_read_naming,
-    pulleynavy_read_subsection,
-};
-pub use numbers::{
-    pulleynavy_next_numbers, pulleynavy_read_number, pulleynavy_read_s32, pulleynavy_read_s33,
-    pulleynavy_read_s64, pulleynavy_read_u64,
-};
-pub use parsing::{
-    pulleynavy_format_fault, pulleynavy_parse, pulleynavy_parser_init, pulleynavy_skip_section,
-};
-pub use producers::{
-    pulleynavy_next_producers_fields, pulleynavy_next_producers_values,
-    pulleynavy_read_producers_field, pulleynavy_read_producers_value,
-};
-pub use relocations::{pulleynavy_next_relocations, pulleynavy_read_relocation};
-pub use segments::{
-    pulleynavy_next_data, pulleynavy_next_elements, pulleynavy_next_expressions,
-    pulleynavy_read_data, pulleynavy_read_element, pulleynavy_read_expression,
-};
+pub use names::pulleynavy_next_indirect_namings;
+pub use names::pulleynavy_next_name_subsections;
+pub use names::pulleynavy_next_namings;
+pub use names::pulleynavy_next_subsections;
+pub use names::pulleynavy_read_indirect_naming;
+pub use names::pulleynavy_read_naming;
+pub use names::pulleynavy_read_subsection;
+pub use numbers::pulleynavy_next_numbers;
+pub use numbers::pulleynavy_read_number;
+pub use numbers::pulleynavy_read_s32;
+pub use numbers::pulleynavy_read_s33;
+pub use numbers::pulleynavy_read_s64;
+pub use numbers::pulleynavy_read_u64;
+pub use parsing::pulleynavy_format_fault;
+pub use parsing::pulleynavy_parse;
+pub use parsing::pulleynavy_parser_init;
+pub use parsing::pulleynavy_skip;
+pub use parsing::pulleynavy_skip_section;
+pub use producers::pulleynavy_next_producers_fields;
+pub use producers::pulleynavy_next_producers_values;
+pub use producers::pulleynavy_read_producers_field;
+pub use producers::pulleynavy_read_producers_value;
+pub use relocations::pulleynavy_next_relocations;
+pub use relocations::pulleynavy_read_relocation;
+pub use segments::pulleynavy_next_data;
+pub use segments::pulleynavy_next_elements;
+pub use segments::pulleynavy_next_expressions;
+pub use segments::pulleynavy_read_data;
+pub use segments::pulleynavy_read_element;
+pub use segments::pulleynavy_read_expression;
 pub use strip::pulleynavy_strip;
-pub use symbols::{
-    pulleynavy_next_symbols, pulleynavy_read_linking_version, pulleynavy_read_symbol,
-};
-pub use types::{pulleynavy_read_subtype, pulleynavy_read_type_group};
-pub use values::{
-    pulleynavy_next_field_types, pulleynavy_next_value_types, pulleynavy_read_field_type,
-    pulleynavy_read_heap_type, pulleynavy_read_reference_type, pulleynavy_read_value_type,
-};
+pub use symbols::pulleynavy_next_symbols;
+pub use symbols::pulleynavy_read_linking_version;
+pub use symbols::pulleynavy_read_symbol;
+pub use target_features::pulleynavy_next_target_features;
+pub use target_features::pulleynavy_read_target_feature;
+pub use types::pulleynavy_read_subtype;
+pub use types::pulleynavy_read_type_group;
+pub use values::pulleynavy_next_field_types;
+pub use values::pulleynavy_next_value_types;
+pub use values::pulleynavy_read_field_type;
+pub use values::pulleynavy_read_heap_type;
+pub use values::pulleynavy_read_reference_type;
+pub use values::pulleynavy_read_value_type;
 pub use version::pulleynavy_version;

@@ -3,10 +3,11 @@ ghost use Rattle.std.specs.Prelude.{◌≡◌};
 ghost use Rattle.wasm_parser.specs.ParserState.{initial_state};
 ghost use Rattle.wasm_plain.specs.Events.{ParsesPlain};
 ghost use Rattle.wasm_parser.specs.Stored.{parser_of, skipped_of};
+ghost use Rattle.wasm_plain.specs.Skips.{SkipsPlain};
 ghost use Rattle.wasm_plain.specs.Texts.{SaysFault};
 
 use wasm_parser::StoredParser;
-use wasm_plain::{PlainEvent, new_parser, parse, write_next_fault};
+use wasm_plain::{PlainEvent, new_parser, parse, skip, write_next_fault};
 
 /// Returns a parser for a stream that begins at this offset and is read with these features.
 #[unsafe(no_mangle)]
@@ -59,6 +60,42 @@ pub extern "C" fn pulleynavy_parse(
     ensures { ParsesPlain 0 (parser_of parser.old) is_all bytes.now result (parser_of parser.new) }
 {
     parse(parser, bytes, is_all)
+}
+
+/// Skips the next section or body if its first fields are in `bytes`, but not all of it, and returns its event. So a
+/// part needs no buffer of its size.
+///
+/// `bytes` are a prefix of the remaining bytes of the stream. Call it after `pulleynavy_parse` returned a request for
+/// the same bytes. If it skips the part, all of `bytes` belong to the part, and the parser is at its end: drop the
+/// bytes of the stream up to the offset `end` of the event, whatever they are, and pass those after it to the next
+/// call. The event is that of `pulleynavy_parse`, except for two fields: `consumed` is `bytes_size`, and `data_offset`
+/// is 0 for a section with a count.
+///
+/// It returns a request with the hint 0, and leaves the parser unchanged, if `pulleynavy_parse` has to look: if all of
+/// the part is in `bytes`, if its first fields are not, at a fault, a header and the end, and at the start of a code
+/// section, a start section and a data count section. The first fields are the name of a custom section, and the count
+/// of a section that begins with one.
+///
+/// # Errors
+///
+/// It returns no fault. If the stream ends before the offset `end`, its fault is `UNEXPECTED_EOF` at the offset
+/// `start`.
+///
+/// ```c
+/// // A custom section "a" of 100 bytes, of which the first 4 are here.
+/// const uint8_t bytes[] = {0, 'a', 's', 'm', 1, 0, 0, 0, 0, 100, 1, 'a'};
+/// pulleynavy_parser parser = pulleynavy_parser_init(0, PULLEYNAVY_ALL_FEATURES);
+/// pulleynavy_parse(&parser, bytes, 12, false);
+/// assert(pulleynavy_parse(&parser, bytes + 8, 4, false).kind == PULLEYNAVY_EVENT_NEED_MORE);
+/// pulleynavy_event part = pulleynavy_skip(&parser, bytes + 8, 4);
+/// assert(part.kind == PULLEYNAVY_EVENT_CUSTOM && part.start == 10 && part.end == 110 && part.data_offset == 12);
+/// assert(part.consumed == 4 && parser.offset == 110);
+/// ```
+#[unsafe(no_mangle)]
+pub extern "C" fn pulleynavy_skip(parser: &mut StoredParser, bytes: &[u8]) -> PlainEvent
+    ensures { SkipsPlain (parser_of parser.old) bytes.now result (parser_of parser.new) }
+{
+    skip(parser, bytes)
 }
 
 /// Skips the remaining bytes of a code section, and returns their number. Pass the bytes after them to the next

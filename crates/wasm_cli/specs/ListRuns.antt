@@ -55,12 +55,14 @@ help_text =
     codes "Any other argument prints the usage line to standard error.\n" ++ (
     codes "\n" ++ (
     codes "Exit status:\n" ++ (
-    codes "  0  The input was read to its end.\n" ++ (
+    codes "  0  The input was read to its end. Headers, and the order, sizes and counts of\n" ++ (
+    codes "     sections and bodies, are checked. A malformed item does not change the\n" ++ (
+    codes "     status.\n" ++ (
     codes "  1  The input has a fault. With strip, the fault is printed to standard error.\n" ++ (
     codes "  2  The arguments are wrong.\n" ++ (
     codes "  3  The input or the output failed, or memory ran out. The reason is printed\n" ++ (
     codes "     to standard error, unless the output is a pipe that its reader has closed.\n"
-    )))))))))))))))))))))))))))))))))))))
+    )))))))))))))))))))))))))))))))))))))))
 
 -- a run whose listing ended so
 pub record RunsListingAs (how : Result Ended ListError) (input output errors : Device) (status : ℕ) : Type 0 where

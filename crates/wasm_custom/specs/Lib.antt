@@ -9,3 +9,4 @@ pub mod Linking
 pub mod Names
 pub mod Producers
 pub mod Reloc
+pub mod TargetFeatures

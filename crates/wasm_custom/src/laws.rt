@@ -29,6 +29,7 @@ use crate::linking::{
 use crate::names::{IndirectNameMap, IndirectNaming, Name, NameMap, NameSectionReader, Naming};
 use crate::producers::{ProducersField, ProducersFieldValue};
 use crate::reloc::{RelocAddendKind, RelocSectionReader, RelocationEntry, RelocationType};
+use crate::target_features::TargetFeature;
 use std::hash::Hash;
 use wasm_base::{
     FromReader, FromReaderIn, SectionLimitedIntoIter, SkipItem, Subsection, Subsections,
@@ -101,6 +102,9 @@ pub fn copies_are_the_same<'a>()
     ensures value { IsCopy
         ⟦<ProducersFieldValue<'a> as Clone>⟧.is_clone
         ⟦<ProducersFieldValue<'a> as Clone>⟧.is_infallible }
+    ensures feature { IsCopy
+        ⟦<TargetFeature<'a> as Clone>⟧.is_clone
+        ⟦<TargetFeature<'a> as Clone>⟧.is_infallible }
     ensures core_value { IsCopy
         ⟦<CoreDumpValue as Clone>⟧.is_clone
         ⟦<CoreDumpValue as Clone>⟧.is_infallible }
@@ -188,6 +192,7 @@ pub fn items_allow_one_outcome<'a>()
     ensures hint { AllowsOne ⟦<BranchHint as FromReader<'a>>⟧.meaning }
     ensures field { AllowsOne ⟦<ProducersField<'a> as FromReader<'a>>⟧.meaning }
     ensures value { AllowsOne ⟦<ProducersFieldValue<'a> as FromReader<'a>>⟧.meaning }
+    ensures feature { AllowsOne ⟦<TargetFeature<'a> as FromReader<'a>>⟧.meaning }
     ensures core_value { AllowsOne ⟦<CoreDumpValue as FromReader<'a>>⟧.meaning }
     ensures core_instance { AllowsOne ⟦<CoreDumpInstance as FromReaderIn<'a>>⟧.meaning }
     ensures core_frame { AllowsOne ⟦<CoreDumpStackFrame as FromReaderIn<'a>>⟧.meaning }

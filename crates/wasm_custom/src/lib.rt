@@ -1,4 +1,5 @@
-//! Readers for custom sections: the name, branch hint, producers, dylink, linking, relocation and core dump sections.
+//! Readers for custom sections: the name, branch hint, producers, dylink, linking, relocation, target features
+//! and core dump sections.
 //!
 //! A `CustomSectionReader` has the name and the data of a section. Its method `as_known` selects the reader for the
 //! data by the name. Reading never fails the stream: custom sections with malformed data are `KnownCustom::Unknown`, or
@@ -39,6 +40,7 @@ mod linking;
 mod names;
 mod producers;
 mod reloc;
+mod target_features;
 
 pub use branch_hinting::{BranchHint, BranchHintFunction, BranchHintSectionReader};
 pub use coredumps::{
@@ -60,3 +62,4 @@ pub use producers::{ProducersField, ProducersFieldValue, ProducersSectionReader}
 pub use reloc::{
     RelocAddendKind, RelocSectionReader, RelocationEntry, RelocationEntryReader, RelocationType,
 };
+pub use target_features::{TargetFeature, TargetFeaturesSectionReader};

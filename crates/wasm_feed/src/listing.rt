@@ -1,6 +1,7 @@
 // The listing of a stream.
 ghost use Rattle.std.specs.Prelude.{◌≡◌, ◌+◌, ◌≤◌, length, vec_len, vec_capacity};
 ghost use Rattle.wasm_text.specs.Calls.{change_of, device_of, input_failed, output_failed};
+ghost use Rattle.wasm_text.specs.Page.{WritesOut};
 ghost use Rattle.wasm_lines.specs.Listing.{line_of, skip_text};
 ghost use Rattle.wasm_text.specs.declared.digits.Base.TheVariants.{Decimal};
 ghost use Rattle.wasm_parser.specs.SkipNext.{skip_is};
@@ -98,6 +99,14 @@ fn skip_dropped(cursor: &mut Cursor, bytes: &[u8]) -> Option<Dropped>
     })
 }
 
+// Writes the lines so far, so that none waits for a read.
+fn write_lines<A: Allocator, W: Sink>(page: &mut Page<A>, sink: &mut W) -> Result<(), ListError>
+    ensures writes { WritesOut (W.taken sink.old) (W.taken sink.new) page.old page.new result }
+    ensures failed { W.has_failed sink.new ≡ output_failed result (W.has_failed sink.old) }
+{
+    page.write_out(sink)
+}
+
 // Writes the page out, and reads on: drops the part at the cursor and puts its line on the page; or reads more, if its
 // first fields are not here. Returns the fault of a stream that ends within a part that was skipped, once all is written.
 fn read_on<A: Allocator, R: Source, W: Sink>(
@@ -116,7 +125,7 @@ fn read_on<A: Allocator, R: Source, W: Sink>(
     ensures source { R.has_failed input.new ≡ input_failed result (R.has_failed input.old) }
     ensures sink { W.has_failed output.new ≡ output_failed result (W.has_failed output.old) }
 {
-    page.write_out(output)?; // No line waits for a read.
+    write_lines(page, output)?;
     let Some(dropped) = skip_dropped(cursor, seen(stored, ahead.bytes())) else {
         ahead.refill(cursor, stored, input)?;
         return Ok(None);

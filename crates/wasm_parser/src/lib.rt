@@ -130,6 +130,8 @@ pub use wasm_custom::SegmentMap;
 pub use wasm_custom::SymbolFlags;
 pub use wasm_custom::SymbolInfo;
 pub use wasm_custom::SymbolInfoMap;
+pub use wasm_custom::TargetFeature;
+pub use wasm_custom::TargetFeaturesSectionReader;
 pub use wasm_grammar::Encoding;
 pub use wasm_items::CompositeType;
 pub use wasm_items::ConstExpr;

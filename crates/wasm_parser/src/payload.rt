@@ -113,8 +113,9 @@ pub enum Payload<'a> {
 /// The result of `Parser::parse` without an error: a part, or a request for more bytes.
 #[derive(Debug, Drop)]
 pub enum Chunk<'a> {
-    /// More bytes are needed to decide what comes next. The number is a hint of how many, at least 1. Nothing was
-    /// consumed.
+    /// More bytes are needed to decide what comes next. The number is a hint of how many to read, at least 1. Fewer can
+    /// be enough: after a byte 0 at the start of a section, it is 3, for a header, although the byte can also begin a
+    /// custom section. Nothing was consumed.
     NeedMoreData(usize),
     /// A part of the stream was consumed.
     Parsed {

@@ -98,7 +98,7 @@ pub(crate) fn count_of(has: u8, count: u32) -> Option<u32>
 impl StoredParser {
     // Limits the remaining bytes of a code section to the offsets of a stream.
     #[inline(always)]
-    fn settle(&mut self)
+    pub(crate) fn settle(&mut self)
         ensures is { numbers_of self.new ≡ parser_of self.old }
         ensures fits { self.new.offset + self.new.code_bytes < 2 ^ 64 }
     {

@@ -20,10 +20,13 @@ pub mod Numbers
 pub mod Producers
 pub mod Readable
 pub mod Relocations
+pub mod SectionLists
 pub mod Segments
+pub mod Skips
 pub mod Spans
 pub mod Strips
 pub mod Symbols
+pub mod TargetFeatures
 pub mod Texts
 pub mod TypeHeads
 pub mod Values

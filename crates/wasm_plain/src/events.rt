@@ -42,16 +42,18 @@ pub struct PlainEvent {
     /// The offset where it ends. For a code section, it is the end of the content, including the bodies.
     pub end: u64,
     /// The offset of the first item after a count, of the first body of a code section, or of the data of a custom
-    /// section.
+    /// section. It is 0 for a section with a count that was skipped.
     pub data_offset: u64,
     /// The position in memory where it begins: that of the byte at offset `start`.
     ///
     /// It counts bytes from the first one passed to `pulleynavy_parse`, or from the start of a feeder's storage. For a
     /// request, the end and a fault it is the position of the first byte that is not consumed.
     pub at: usize,
-    /// The number of consumed bytes: 0 for a request, the end and a fault, otherwise at least 1.
+    /// The number of consumed bytes: 0 for a request, the end and a fault, otherwise at least 1. For a part that was
+    /// skipped, it is the number of bytes that were passed, all of which belong to the part.
     pub consumed: usize,
-    /// For a request, the number of bytes that are known to be missing, at least 1; otherwise 0.
+    /// For a request, how many bytes to read next, at least 1; otherwise 0. Fewer can be enough: after a byte 0 at the
+    /// start of a section, it is 3, for a header, although the byte can also begin a custom section.
     pub hint: usize,
     /// The size of a custom section's name in bytes. The name ends where the data begins.
     pub name_size: usize,
@@ -82,9 +84,9 @@ pub(crate) struct Origin {
     pub(crate) consumed: usize,
 }
 
-// An event of this kind with these offsets.
+/// An event of this kind with these offsets.
 #[inline(always)]
-fn event_between(origin: Origin, kind: u32, id: u32, from: u64, to: u64) -> PlainEvent
+pub(crate) fn event_between(origin: Origin, kind: u32, id: u32, from: u64, to: u64) -> PlainEvent
     ensures { result ≡ placed_at origin (event_between kind id from to) }
 {
     PlainEvent {

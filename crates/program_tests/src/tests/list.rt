@@ -95,7 +95,9 @@ On its own:
 Any other argument prints the usage line to standard error.
 
 Exit status:
-  0  The input was read to its end.
+  0  The input was read to its end. Headers, and the order, sizes and counts of
+     sections and bodies, are checked. A malformed item does not change the
+     status.
   1  The input has a fault. With strip, the fault is printed to standard error.
   2  The arguments are wrong.
   3  The input or the output failed, or memory ran out. The reason is printed

@@ -8,7 +8,7 @@ ghost use Rattle.wasm_grammar.specs.Content.{kind_of};
 ghost use Rattle.wasm_grammar.specs.KindInCode.{kind_is};
 ghost use Rattle.wasm_parser.specs.SkipNext.{SkipsNext, body_skip_at, content_skip_at, fields_at, head_is, is_cut, items, report_with, section_skip_at, skip_at, skip_is, skip_of, state_after_skip};
 ghost use Rattle.wasm_parser.specs.StateAfter.{knowing, known_rank, state_after};
-ghost use Rattle.wasm_parser.specs.Stored.{numbers_of};
+ghost use Rattle.wasm_parser.specs.Stored.{numbers_of, parser_of};
 
 use super::{Parser, passes};
 use crate::contents::differs;
@@ -88,13 +88,38 @@ impl Parser {
         ensures state { self.new ≡ state_after_skip self.old (skip_of self.old bytes.now) }
         ensures skips { SkipsNext self.old bytes.now (option_map skip_is result) self.new }
     {
-        self.stored.skip_next(bytes)
+        self.stored.skip_settled(bytes)
     }
 }
 
 impl StoredParser {
+    /// Skips the next section or body if its first fields are in `bytes`, but not all of it, as `Parser::skip_next`
+    /// does.
+    ///
+    /// Any numbers are a parser. The remaining bytes of a code section are limited to the offsets of a stream.
+    ///
+    /// ```rattle
+    /// let mut parser = Parser::new(0).stored();
+    /// parser.parse(b"\0asm\x01\0\0\0", false)?;
+    /// assert!(rt; parser.skip_next(b"\0\x64").is_none());
+    /// let part = parser.skip_next(b"\0\x64\x01a").ok_or("not skipped")?;
+    /// assert_eq!(rt; (part.range.start, part.range.end, parser.offset), (10, 110, 110));
+    /// ```
+    ///
+    /// (Core specification, Binary format, Modules, Sections and Code Section.)
+    pub fn skip_next<'a>(&mut self, bytes: &'a [u8]) -> Option<SkippedPart<'a>>
+        ensures gives { option_map skip_is result ≡ skip_of (parser_of self.old) bytes.now }
+        ensures state { parser_of self.new ≡ state_after_skip (parser_of self.old)
+            (skip_of (parser_of self.old) bytes.now) }
+        ensures skips { SkipsNext (parser_of self.old) bytes.now (option_map skip_is result)
+            (parser_of self.new) }
+    {
+        self.settle();
+        self.skip_settled(bytes)
+    }
+
     // Does what `Parser::skip_next` says.
-    fn skip_next<'a>(&mut self, bytes: &'a [u8]) -> Option<SkippedPart<'a>>
+    fn skip_settled<'a>(&mut self, bytes: &'a [u8]) -> Option<SkippedPart<'a>>
         requires { self.old.offset + self.old.code_bytes < 2 ^ 64 }
         ensures gives { option_map skip_is result ≡ skip_of (numbers_of self.old) bytes.now }
         ensures state { numbers_of self.new ≡ state_after_skip (numbers_of self.old)

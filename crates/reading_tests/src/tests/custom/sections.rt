@@ -1,4 +1,4 @@
-// Branch hints, producers and core dumps by the calls that read them. Tables of rows are in `wasm_rows`.
+// Branch hints, producers, target features and core dumps by the calls that read them. Tables of rows are in `wasm_rows`.
 use crate::tests::{gives, is_printed, prints, prints_in, same, window};
 use std::test::Fail;
 use wasm_base::{Error, Fault, FromReader};
@@ -6,6 +6,7 @@ use wasm_custom::{
     BranchHintFunction, BranchHintSectionReader, CoreDumpInstance, CoreDumpInstancesSection,
     CoreDumpModulesSection, CoreDumpSection, CoreDumpStackFrame, CoreDumpStackSection,
     CoreDumpValue, ProducersField, ProducersFieldValue, ProducersSectionReader,
+    TargetFeaturesSectionReader,
 };
 
 #[test]
@@ -58,6 +59,22 @@ fn fields_of_producers(rt: HostRuntime) -> Result<(), Fail> {
         "Ok(ProducersField { name: \"language\", values: SectionLimited { count: 2, range: 10..23 } })",
     ];
     gives(&rt, rt.alloc(), section.into_iter(), &texts);
+    Ok(())
+}
+
+#[test]
+fn features_of_a_target(rt: HostRuntime) -> Result<(), Fail> {
+    let bytes = b"\x03+\x08sign-ext-\x01a\x7f\x01\xff";
+    let section = TargetFeaturesSectionReader::new(window(bytes, 100))?;
+    let texts = [
+        "Ok((101, TargetFeature { prefix: 43, name: \"sign-ext\" }))",
+        "Ok((111, TargetFeature { prefix: 45, name: \"a\" }))",
+        "Err(Error { fault: MalformedUtf8, offset: 116, number: None, hint: None })",
+    ];
+    gives(&rt, rt.alloc(), section.into_iter_with_offsets(), &texts);
+    let truncated = TargetFeaturesSectionReader::new(window(b"\x01", 0))?;
+    let texts = ["Err(Error { fault: UnexpectedEof, offset: 1, number: None, hint: Some(1) })"];
+    gives(&rt, rt.alloc(), truncated.into_iter(), &texts);
     Ok(())
 }
 

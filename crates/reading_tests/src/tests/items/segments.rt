@@ -56,11 +56,21 @@ fn expressions_of<'a>(
     }
 }
 
+// Whether a segment is declared.
+fn is_declared(bytes: &[u8]) -> Result<bool>
+    requires { length bytes.now < 2 ^ 64 }
+{
+    let segment = Element::from_reader(&mut BinaryReader::new(bytes, 0))?;
+    Ok(matches!(segment.kind, ElementKind::Declared))
+}
+
 #[test]
 fn a_declared_element_segment_of_expressions(rt: HostRuntime) -> std::result::Result<(), Fail> {
     let bytes = b"\x07\x70\x02\xd2\x07\x0b\x23\x80\x00\x0b";
     let (places, ty, section) = expressions_of(bytes)?;
     same(&rt, (places, ty), ((None, 0..10), RefType::FUNCREF));
+    same(&rt, is_declared(bytes), Ok(true));
+    same(&rt, is_declared(b"\x05\x70\0"), Ok(false));
     let texts = [
         "Ok((3, ConstExpr { reader: BinaryReader { bytes: [210, 7, 11], start: 3, position: 0, features: WasmFeatures(3) } }))",
         "Ok((6, ConstExpr { reader: BinaryReader { bytes: [35, 128, 0, 11], start: 6, position: 0, features: WasmFeatures(3) } }))",

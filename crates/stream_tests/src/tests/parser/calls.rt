@@ -1,7 +1,7 @@
 // Calls of the parser one after the other: what they consume, ask for and leave unchanged.
 use super::{after_header, end, pass, refusal};
 use crate::tests::same;
-use wasm_parser::{Chunk, Error, Fault, Parser, PartHead};
+use wasm_parser::{Chunk, Error, Fault, Parser, PartHead, StoredParser};
 
 // What is returned: how many bytes a payload consumed, or how many more are asked for.
 #[derive(Clone, Copy, Debug, PartialEq, Eq)]
@@ -275,6 +275,29 @@ fn bodies_that_are_not_skipped(rt: HostRuntime) {
     same(&rt, skipped(&mut parser, b"\x02\0\x0b"), None);
     same(&rt, skipped(&mut parser, b""), None);
     same(&rt, (parser.offset(), parser.skippable()), (15, Some(3)));
+}
+
+// The content of a part that a stored parser skips, and where the parser is then.
+fn range_skipped(parser: &mut StoredParser, bytes: &[u8]) -> Option<(u64, u64, u64)> {
+    let part = parser.skip_next(bytes)?;
+    Some((part.range.start, part.range.end, parser.offset))
+}
+
+#[test]
+fn a_stored_parser_skips(rt: HostRuntime) {
+    let mut parser = after_header(&rt, 100).stored();
+    same(&rt, range_skipped(&mut parser, b"\x7f\xc8"), None);
+    let unknown = Some((111, 311, 311));
+    same(&rt, range_skipped(&mut parser, b"\x7f\xc8\x01"), unknown);
+    // The rest of this code section would pass the largest offset, and is limited to it.
+    parser.offset = u64::MAX - 3;
+    parser.bodies = 1;
+    parser.code_bytes = 9;
+    parser.in_code = 1;
+    same(&rt, range_skipped(&mut parser, b"\x03"), None);
+    same(&rt, parser.code_bytes, 3);
+    let body = Some((u64::MAX - 2, u64::MAX, u64::MAX));
+    same(&rt, range_skipped(&mut parser, b"\x02"), body);
 }
 
 #[test]
