@@ -50,6 +50,10 @@ class Missing(Exception):
     """What a package needs is not there."""
 
 
+class Broken(Exception):
+    """A command that makes a package failed."""
+
+
 def prebuilt(name):
     return os.path.join(common.PREBUILT, name)
 
@@ -87,7 +91,7 @@ def run(words, folder=None, **more):
     done = subprocess.run(words, cwd=folder, env={**os.environ, **more}, **options)
     if done.returncode:
         sys.stderr.write(done.stdout.decode(errors="replace"))
-        common.stop(common.DIFFERS, "%s failed with status %d" % (" ".join(words[:3]), done.returncode))
+        raise Broken("%s ended with status %d" % (" ".join(words[:3]), done.returncode))
     return done.stdout.decode()
 
 
