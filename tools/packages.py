@@ -101,10 +101,14 @@ def copy_all(names, folder):
         shutil.copy(source(name), folder)
 
 
-def tracked(folder):
+# Folders of bindings that no package has.
+UNPACKED = {"target", "__pycache__", "node_modules", "tests", "out"}
+
+
+def tracked(folder, without=UNPACKED):
     """The files of a folder that are in the repository, without what tools made there."""
     for place, folders, names in os.walk(source(folder)):
-        folders[:] = sorted(name for name in folders if name not in ("target", "__pycache__", "node_modules", "tests", "out"))
+        folders[:] = sorted(name for name in folders if name not in without)
         for name in sorted(names):
             if not name.endswith((".lock", ".tgz", ".wasm", ".pyc")):
                 yield os.path.relpath(os.path.join(place, name), source(folder))
@@ -252,21 +256,42 @@ def tarballs(folder, place):
 
 # ---- Debian
 
-# What debian/ builds from, without the sources that are proved.
-FOR_DEBIAN = ("debian", "prebuilt", "tools", os.path.join("crates", "wasm_c"), os.path.join("docs", "man"), os.path.join("docs", "completions"))
+
+def repository():
+    """The files of the repository, as git lists them; where there is no git, all that tools did not make."""
+    if os.path.exists(source(".git")) and shutil.which("git"):
+        listed = subprocess.run(["git", "ls-files", "-z"], cwd=common.TOP, stdout=subprocess.PIPE, check=True).stdout.decode().split("\0")
+        return sorted(name for name in listed if os.path.isfile(source(name)))
+    return sorted(name for name in tracked(".", {"out", "target", "dist", "node_modules", "__pycache__"}))
+
+
+def source_package(place):
+    """Writes the source package: the repository, and debian/ separately. Returns the path of the file that describes it."""
+    top, names = "pulleynavy-" + common.version(), repository()
+    files = [("%s/%s" % (top, name), read(source(name)), os.stat(source(name)).st_mode & 0o755) for name in names if not name.startswith("debian/")]
+    original = os.path.join(place, "pulleynavy_%s.orig.tar.gz" % common.version())
+    write_tarball(original, files)
+    shutil.unpack_archive(original, place)
+    for name in names:
+        if name.startswith("debian/"):
+            os.makedirs(os.path.dirname(os.path.join(place, top, name)), exist_ok=True)
+            shutil.copy(source(name), os.path.join(place, top, name))
+    run(["dpkg-source", "--build", top], place)
+    return glob.glob(os.path.join(place, "*.dsc"))[0]
 
 
 def debs(folder, place):
-    """The packages for Debian, as debian/ has dpkg-buildpackage build them. Those of another processor need no build dependencies of it."""
+    """The source package for Debian, and the packages that dpkg-buildpackage makes of it. Those of another processor need no build dependencies of it."""
     for program in ("dpkg-buildpackage", "dh", "doxygen", *(MACHINES[machine]["compiler"] for machine in MACHINES)):
         needed(program)
+    described = source_package(place)
     for machine, names in MACHINES.items():
+        os.mkdir(os.path.join(place, machine))
         at = os.path.join(place, machine, "pulleynavy")
-        for part in FOR_DEBIAN:
-            copy_tracked(part, os.path.join(at, part))
-        copy_all((*LICENSES, "VERSION", "CHANGELOG.md", "install"), at)
+        run(["dpkg-source", "--no-check", "--extract", described, at], place)
         run(["dpkg-buildpackage", "--build=binary", "--no-sign", "--no-check-builddeps", "--host-arch=" + names["debian"]], at)
-        for path in glob.glob(os.path.join(place, machine, "*.deb")):
+    for pattern in ("*.dsc", "*.tar.*", "*/*.deb"):
+        for path in glob.glob(os.path.join(place, pattern)):
             shutil.copy(path, folder)
 
 
