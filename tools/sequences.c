@@ -127,9 +127,11 @@ struct actor {
         pulleynavy_items items;
         pulleynavy_imports imports;
     } cursor;
+    /* The bytes of a cursor or reader, and what it returned in plain order. */
     uint8_t *bytes;
     size_t size, count;
     uint64_t offset;
+    uint32_t features, list_count;
     char *items;
 };
 static struct actor actors[ACTORS];
@@ -252,9 +254,9 @@ static bool step_feeder(struct actor *it) {
 /* A cursor at the start of its list. */
 static void rewind_cursor(struct actor *it, const pulleynavy_event *event) {
     memset(&it->cursor, 0, sizeof it->cursor);
-    if (it->walker->next == next_flat_imports) it->cursor.imports = CALL(pulleynavy_imports_init, event, it->is_finished ? 3 : 1);
-    else if (event->end - event->start == it->size) it->cursor.items = CALL(pulleynavy_items_init, event, it->is_finished ? 3 : 1);
-    else it->cursor.items = CALL(pulleynavy_list_init, it->offset, (uint32_t)it->given, it->is_finished ? 3 : 1);
+    if (it->walker->next == next_flat_imports) it->cursor.imports = CALL(pulleynavy_imports_init, event, it->features);
+    else if (event->end - event->start == it->size) it->cursor.items = CALL(pulleynavy_items_init, event, it->features);
+    else it->cursor.items = CALL(pulleynavy_list_init, it->offset, it->list_count, it->features);
 }
 
 static bool step_cursor(struct actor *it) {
@@ -275,7 +277,7 @@ static bool step_cursor(struct actor *it) {
 static bool step_reader(struct actor *it) {
     uint8_t *bytes = exact(it->bytes, it->size);
     char *out = malloc(it->reader->size);
-    it->reader->read(bytes, it->size, it->offset, it->is_finished ? 3 : 1, out);
+    it->reader->read(bytes, it->size, it->offset, it->features, out);
     it->reader->calls++;
     require(is_same(it->reader->fields, out, it->items) && !memcmp(bytes, it->bytes, it->size), it->reader->name);
     free(out);
@@ -346,8 +348,8 @@ static pulleynavy_event slice(struct actor *it) {
 static void begin_cursor(struct actor *it) {
     pulleynavy_event event = slice(it);
     it->walker = &WALKERS[draw(COUNT(WALKERS))];
-    it->is_finished = draw(4);
-    it->given = draw(3) ? draw(6) : draw(1000000);
+    it->features = draw(4) ? PULLEYNAVY_ALL_FEATURES : PULLEYNAVY_FEATURE_MEMORY64;
+    it->list_count = draw(3) ? draw(6) : draw(1000000);
     it->items = malloc(MOST_ITEMS * it->walker->size);
     rewind_cursor(it, &event);
     for (it->count = 0; it->count < MOST_ITEMS; it->count++)
@@ -359,9 +361,9 @@ static void begin_cursor(struct actor *it) {
 static void begin_reader(struct actor *it) {
     slice(it);
     it->reader = &READERS[draw(COUNT(READERS))];
-    it->is_finished = draw(4);
+    it->features = draw(4) ? PULLEYNAVY_ALL_FEATURES : PULLEYNAVY_FEATURE_MEMORY64;
     it->items = malloc(it->reader->size);
-    it->reader->read(it->bytes, it->size, it->offset, it->is_finished ? 3 : 1, it->items);
+    it->reader->read(it->bytes, it->size, it->offset, it->features, it->items);
     it->step = step_reader;
 }
 
@@ -448,7 +450,7 @@ int main(int count, char **words) {
     size_t size;
     uint8_t *all = streams_of(words[3], &size);
     time_t until = time(NULL) + atoi(words[2]);
-    for (size_t at = 0; time(NULL) < until || !rounds; rounds++) {
+    for (size_t at = 0; time(NULL) < until || rounds < 1000; rounds++) {
         uint32_t next = all[at] | all[at + 1] << 8 | all[at + 2] << 16 | (uint32_t)all[at + 3] << 24;
         play(all + at + 4, next);
         at += 4 + next;
