@@ -1,7 +1,7 @@
-"""The C library for Windows and macOS: the module that LLVM is given for Linux, with the data layout and triple of the other system.
+"""The C library for other systems: the module that LLVM is given for Linux on x86-64 or aarch64, with the data layout and triple of the other system.
 
 The exports take integers and pointers, and return an integer or write to a pointer of the caller, so the module fits the calling conventions
-of all these systems. Each folder of a target has archives and a shared library, whose only imports are memcpy and memmove.
+of all these systems. Each folder of a target has archives, and for Windows and macOS a shared library, whose only imports are memcpy and memmove.
 """
 import functools
 import itertools
@@ -20,6 +20,8 @@ TARGETS = {
     "aarch64-windows": ("aarch64", "aarch64-w64-windows-gnu"),
     "x86_64-macos": ("x86_64", "x86_64-apple-macosx11.0.0"),
     "aarch64-macos": ("aarch64", "arm64-apple-macosx11.0.0"),
+    "x86_64-freebsd": ("x86_64", "x86_64-unknown-freebsd13.0"),
+    "riscv64-linux": ("x86_64", "riscv64-unknown-linux-gnu"),
 }
 # The archives and import libraries for Windows.
 LIBRARIES = ("libpulleynavy.a", "libpulleynavy.dll.a", "pulleynavy.dll.lib", "pulleynavy.lib")
@@ -28,7 +30,7 @@ MACHINES = {"x86_64": ("x64", "i386:x86-64"), "aarch64": ("arm64", "arm64")}
 # How a module begins that isn't text.
 BITCODE = b"BC\xc0\xde"
 LINES = re.compile(r'^target (datalayout|triple) = ".*"$', re.M)
-# The two functions that the library calls, which both systems have.
+# The two functions that the library calls, which all systems have. On riscv64 it calls memset too, which LLVM writes as stores elsewhere.
 CALLED = ("memcpy", "memmove")
 # The system library of macOS, as a linker wants to know it.
 STUB = """--- !tapi-tbd
@@ -80,12 +82,12 @@ def changed(text, other):
 
 
 def retargeted(text, triple):
-    """The text of a module with the data layout and triple of another system. Nothing else may change."""
+    """The text of a module with the data layout and triple of another system. Nothing else may change, and the triple has to."""
     lines = lines_of(triple)
     made = LINES.sub(lambda found: lines[found[1]], text)
     differing = changed(text, made)
     kinds = [LINES.fullmatch(line or "") and LINES.fullmatch(line)[1] for line, _ in differing]
-    if sorted(map(str, kinds)) != ["datalayout", "triple"] or [there for _, there in differing] != [lines[kind] for kind in kinds]:
+    if sorted(map(str, kinds)) not in (["datalayout", "triple"], ["triple"]) or [there for _, there in differing] != [lines[kind] for kind in kinds]:
         raise Failed("the module for %s differs from that of Linux in other lines: %s" % (triple, differing[:5]))
     return made
 
@@ -105,11 +107,13 @@ def text_of(kept, archive):
 
 
 def compiled(kept, text, triple, made):
-    """Compiles a text for this triple with the words of the kept module."""
+    """Compiles a text for this triple with the words of the kept module; for another processor without the word that names it."""
     module = made + ".ll"
     with open(module, "w", encoding="utf-8") as file:
         file.write(retargeted(text, triple))
     words = toolchain.compile_command(kept, module, made)
+    if triple.startswith("riscv64"):
+        words = [word for word in words if not word.startswith("-march=")]
     run(*[re.sub(r"^--target=.*", "--target=" + triple, word) for word in words], folder=kept)
 
 
@@ -162,12 +166,11 @@ def build(target, kept, archive_of_linux, folder):
     os.makedirs(place)
     made = os.path.join(place, "pulleynavy.o")
     compiled(kept, text_of(kept, archive_of_linux), triple, made)
-    is_windows = target.endswith("-windows")
-    archive("gnu" if is_windows else "darwin", os.path.join(folder, "libpulleynavy.a"), made)
-    if is_windows:
+    archive("darwin" if target.endswith("-macos") else "gnu", os.path.join(folder, "libpulleynavy.a"), made)
+    if target.endswith("-windows"):
         archive("coff", os.path.join(folder, "pulleynavy.lib"), made)
         if common.all_found(["lld", "llvm-dlltool"]):
             dll(folder, machine, place)
-    elif common.found("lld"):
+    elif target.endswith("-macos") and common.found("lld"):
         dylib(folder, machine, place)
     return sorted(os.path.join(folder, name) for name in os.listdir(folder) if name != "work")

@@ -360,6 +360,7 @@ ROWS = {
     "hints": lambda rng: some(rng, function_hints),
     "producers": lambda rng: some(rng, producers_field),
     "producersvalue": lambda rng: name(rng) + name(rng),
+    "features": lambda rng: some(rng, lambda rng: byte(0x2B, 0x2D, 0x3D)(rng) + name(rng)),
     "namemap": name_map,
     "indirect": indirect_map,
     "names": lambda rng: subsections(rng, NAMES),

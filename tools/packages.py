@@ -22,6 +22,13 @@ MACHINES = {"x86_64": {"compiler": "gcc", "debian": "amd64"}, "aarch64": {"compi
 LICENSES = ("LICENSE-APACHE", "LICENSE-MIT", "NOTICE")
 # The library calls memcpy and memmove of libc, and nothing else: glibc has had both since 2.17, and musl takes its own for what is asked of glibc.
 WHEEL_TAGS = "manylinux_2_17_{0}.manylinux2014_{0}.musllinux_1_1_{0}"
+# The tag of the wheel for each other target, and the library in it.
+DESKTOP_WHEELS = {
+    "x86_64-windows": ("win_amd64", "pulleynavy.dll"),
+    "aarch64-windows": ("win_arm64", "pulleynavy.dll"),
+    "x86_64-macos": ("macosx_11_0_x86_64", "libpulleynavy.dylib"),
+    "aarch64-macos": ("macosx_11_0_arm64", "libpulleynavy.dylib"),
+}
 
 # The folder that has the libraries for Windows and macOS, if one is given.
 targets = None
@@ -165,18 +172,32 @@ def python(word):
     raise Missing(word)
 
 
-def wheels(folder, place):
-    """A wheel for each machine, with the shared library in it."""
+def wheel(folder, place, library, name, tag):
+    """A wheel that has this library, by this name, for the machines of this tag."""
     tool = python("python3-build")
+    copy_tracked("bindings/python", place)
+    copy_all(LICENSES, place)
+    shutil.copyfile(library, os.path.join(place, "pulleynavy", name))
+    with open(os.path.join(place, "setup.py"), "w", encoding="ascii") as file:
+        file.write(SETUP % tag)
+    run([tool, "-m", "build", "--wheel", "--no-isolation", "--outdir", place + "/made", place])
+    shutil.copy(glob.glob(place + "/made/*.whl")[0], folder)
+
+
+def wheels(folder, place):
+    """A wheel for each machine with Linux, and for Windows and macOS if their libraries are given."""
     for machine in MACHINES:
-        at = os.path.join(place, machine)
-        copy_tracked("bindings/python", at)
-        copy_all(LICENSES, at)
-        shared_library(machine, os.path.join(at, "pulleynavy", soname()))
-        with open(os.path.join(at, "setup.py"), "w", encoding="ascii") as file:
-            file.write(SETUP % WHEEL_TAGS.format(machine))
-        run([tool, "-m", "build", "--wheel", "--no-isolation", "--outdir", at + "/made", at])
-        shutil.copy(glob.glob(at + "/made/*.whl")[0], folder)
+        shared = os.path.join(place, machine + ".so")
+        shared_library(machine, shared)
+        wheel(folder, os.path.join(place, machine), shared, soname(), WHEEL_TAGS.format(machine))
+    desktop_wheels(folder, place)
+
+
+def desktop_wheels(folder, place):
+    """A wheel for each target whose shared library is given."""
+    for target, (tag, name) in DESKTOP_WHEELS.items():
+        for library in built(target, name):
+            wheel(folder, os.path.join(place, target), library, name, tag)
 
 
 def sdist(folder, place):
@@ -252,6 +273,7 @@ def tarball(machine, folder, place):
 def tarballs(folder, place):
     for machine in MACHINES:
         tarball(machine, folder, place)
+    desktop_tarballs(folder)
 
 
 # ---- Debian
@@ -295,7 +317,7 @@ def debs(folder, place):
             shutil.copy(path, folder)
 
 
-# ---- Windows
+# ---- Windows and macOS
 
 
 def write_zip(path, files):
@@ -314,16 +336,16 @@ def cmake_version():
     return text.replace(b"@VERSION@", common.version().encode())
 
 
-def zipped(target, folder):
-    """The library for Windows: the DLL, its import library, the archives, the header, and what CMake needs to find them."""
-    top = "pulleynavy-%s-%s" % (common.version(), target)
+def for_c(target):
+    """What a package for C has, below a folder with its name: the libraries of a target, the header, and what CMake needs to find them."""
     cmake = "lib/cmake/pulleynavy/pulleynavy-config"
-    files = [("bin/pulleynavy.dll", "pulleynavy.dll"), *(("lib/" + name, name) for name in desktops.LIBRARIES)]
+    files = [("bin/pulleynavy.dll", "pulleynavy.dll"), *(("lib/" + name, name) for name in (*desktops.LIBRARIES, "libpulleynavy.dylib"))]
     files = [(name, read(path)) for name, file in files for path in built(target, file)]
     files += [("include/pulleynavy.h", read(HEADER)), (cmake + ".cmake", read(source("crates", "wasm_c", "pulleynavy-config.cmake")))]
     files += [(cmake + "-version.cmake", cmake_version())]
     files += [("doc/" + name, read(source(name))) for name in (*LICENSES, "README.md", "CHANGELOG.md")]
-    write_zip(os.path.join(folder, top + ".zip"), [("%s/%s" % (top, name), data) for name, data in files])
+    top = "pulleynavy-%s-%s" % (common.version(), target)
+    return top, [("%s/%s" % (top, name), data) for name, data in files]
 
 
 def zips(folder, place):
@@ -332,7 +354,16 @@ def zips(folder, place):
         raise Missing("--targets with a folder that has a DLL")
     for target in desktops.TARGETS:
         if built(target, "pulleynavy.dll"):
-            zipped(target, folder)
+            top, files = for_c(target)
+            write_zip(os.path.join(folder, top + ".zip"), files)
+
+
+def desktop_tarballs(folder):
+    """A tarball for each processor that there is a dylib for."""
+    for target in desktops.TARGETS:
+        if built(target, "libpulleynavy.dylib"):
+            top, files = for_c(target)
+            write_tarball(os.path.join(folder, top + ".tar.gz"), [(name, data, 0o644) for name, data in files])
 
 
 # ---- what comes with them

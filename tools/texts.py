@@ -445,6 +445,12 @@ def producers_field(node):
     return "field(%s %s )" % (node["name"], listed(node, "values", producers_value))
 
 
+def feature(node):
+    """A feature: the sign before it is a word of its line, any other byte a number."""
+    prefix = ord(node.words[0]) if node.words else int(node["prefix"])
+    return "feature(%d %s )" % (prefix, node["name"])
+
+
 def listed_word(node, word, item):
     assert all(one.words == [word] for one in node.under), node.text
     return some(item(one) for one in node.under)
@@ -660,7 +666,7 @@ ITEMS = {
 
 def counted(item):
     def text(node):
-        name = next(name for name in ("items", "functions", "fields") if name in node.fields)
+        name = next(name for name in ("items", "functions", "fields", "features") if name in node.fields)
         return listed(node, name, item)
 
     return text
@@ -674,6 +680,7 @@ CUSTOM = {
     "names": lambda node: subsections(node, name_part),
     "hints": counted(function_hints),
     "producers": counted(producers_field),
+    "features": counted(feature),
     "dylink": lambda node: subsections(node, dylink_part),
     "linking": linking,
     "reloc": reloc,
@@ -736,7 +743,7 @@ SECTIONS = {
 }
 
 # The row of each custom section that is known, by its name.
-KNOWN = {"name": "names", "metadata.code.branch_hint": "hints", "producers": "producers", "dylink.0": "dylink", "core": "core",
+KNOWN = {"name": "names", "target_features": "features", "metadata.code.branch_hint": "hints", "producers": "producers", "dylink.0": "dylink", "core": "core",
          "coremodules": "coremodules", "coreinstances": "coreinstances", "corestack": "corestack", "linking": "linking"}
 
 

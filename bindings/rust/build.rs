@@ -4,6 +4,7 @@ use std::{env, fs, path::Path, path::PathBuf};
 /// The folder of `lib/` for a target, and what the library is called there.
 fn named(machine: &str, system: &str, environment: &str) -> (String, &'static str) {
     match system {
+        "linux" if machine == "riscv64" => ("riscv64-linux".into(), "libpulleynavy.a"),
         "linux" | "android" | "none" => (machine.into(), "libwasm_c.a"),
         "windows" if environment == "msvc" => (format!("{machine}-windows"), "pulleynavy.lib"),
         _ => (format!("{machine}-{system}"), "libpulleynavy.a"),

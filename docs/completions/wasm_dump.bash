@@ -4,7 +4,7 @@ _wasm_dump() {
     local sections="custom type import function table memory global export start element code data datacount tag"
     COMPREPLY=()
     if [[ $before == --section ]]; then
-        mapfile -t COMPREPLY < <(compgen -W "$sections name producers linking dylink.0 target_features" -- "$word")
+        mapfile -t COMPREPLY < <(compgen -W "$sections name producers linking target_features dylink.0" -- "$word")
     elif [[ $word == -* ]]; then
         mapfile -t COMPREPLY < <(compgen -W "--bytes --color --help --hex --json --names --section --version" -- "$word")
     fi

@@ -608,6 +608,15 @@ def producers(r):
     return listed(r, one)
 
 
+def feature(r):
+    prefix = r.byte()
+    return "feature(%d %s )" % (prefix, text(r))
+
+
+def features(r):
+    return listed(r, feature)
+
+
 def dylink(r):
     def one(i, q):
         if i == 1:
@@ -768,11 +777,13 @@ def corestack(r):
 
 KNOWN = {"name": names, "metadata.code.branch_hint": hints, "producers": producers, "dylink.0": dylink, "core": core,
          "coremodules": coremodules, "coreinstances": coreinstances, "corestack": corestack, "linking": linking}
+# A listing has the features too, which a caller of the parser has to ask for.
+SHOWN = {**KNOWN, "target_features": features}
 
 
-def known(n, r):
+def known(n, r, readers=KNOWN):
     """What a custom section of this name says, if it is known."""
-    f = KNOWN.get(n, reloc if n.startswith("reloc.") else None)
+    f = readers.get(n, reloc if n.startswith("reloc.") else None)
     try:
         return f(r) if f else "unknown"
     except Bad:
@@ -792,7 +803,7 @@ ITEMS = {"bool": boolean, "u32": u32, "string": name, "kind": kind, "typeref": t
 SECTIONS = {"bools": lambda r: listed(r, boolean), "u32s": lambda r: listed(r, u32), "strings": lambda r: listed(r, name),
             "types": lambda r: listed(r, recgroup).partition(" ")[2],
             "flatimports": flatimports, "namemap": namemap, "indirect": indirect, "names": names, "dylink": dylink,
-            "hints": hints, "producers": producers, "linking": linking, "reloc": reloc, "core": core,
+            "hints": hints, "producers": producers, "features": features, "linking": linking, "reloc": reloc, "core": core,
             "coremodules": coremodules, "coreinstances": coreinstances, "corestack": corestack, "known": custom}
 
 
@@ -1055,7 +1066,7 @@ def listing(s, feats=3):
         elif w[0] == "custom":
             b, e, at = int(w[1]), int(w[2]), int(w[3])
             n = s[b + model.u32(s, b, e)[2]:at]
-            out.append("  %s %s" % (x(n), known(n.decode(), R(s, 0, feats, at, e))))
+            out.append("  %s %s" % (x(n), known(n.decode(), R(s, 0, feats, at, e), SHOWN)))
     return out
 
 

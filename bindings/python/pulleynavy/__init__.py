@@ -22,7 +22,7 @@ from typing import TYPE_CHECKING, Any
 
 from . import declared
 from ._customs import Names
-from ._events import Event, Parser, events
+from ._events import Event, Parser, SkippedPart, events
 from ._items import Items, Subsection
 from ._library import ALL_FEATURES, COMPACT_IMPORTS, MEMORY64, Fault, ParseError, bytes_of, fault_of, load
 from ._values import (
@@ -99,8 +99,8 @@ __all__ = [
     "DylinkMemory", "Element", "ElementKind", "Event", "EventKind", "Export", "Expression", "ExternalKind", "Fault", "FaultKind",
     "Field", "FunctionType", "Global", "HeapKind", "Import", "InitFunction", "Instruction", "Items", "Limits", "Linking",
     "LinkingId", "LinkingSegment", "Memory", "Module", "NameId", "Names", "Opcode", "ParseError", "Parser", "Producer",
-    "Relocation", "RelocationKind", "Relocations", "Section", "SectionId", "SegmentFlags", "StructType", "SubType", "Subsection",
-    "Symbol", "SymbolFlags", "SymbolKind", "Table", "TargetFeature", "TypeGroup", "TypeKind", "ValueType",
+    "Relocation", "RelocationKind", "Relocations", "Section", "SectionId", "SegmentFlags", "SkippedPart", "StructType", "SubType",
+    "Subsection", "Symbol", "SymbolFlags", "SymbolKind", "Table", "TargetFeature", "TypeGroup", "TypeKind", "ValueType",
     "events", "load", "strip",
 ]  # fmt: skip
 

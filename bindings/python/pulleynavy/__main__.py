@@ -3,6 +3,7 @@
 from __future__ import annotations
 
 import argparse
+import io
 import os
 import shutil
 import sys
@@ -12,7 +13,7 @@ from . import Module, ParseError, Section, __version__, strip
 
 NAMES = ["custom", "type", "import", "function", "table", "memory", "global", "export", "start", "element", "code", "data", "data count", "tag"]
 MALFORMED, WRONG_USE, FAILED = 1, 2, 3
-EPILOG = "The exit status is 1 for a malformed module, 2 for wrong use, and 3 if a file or wasm_dump fails."
+EPILOG = "FILE may be -, standard input. The exit status is 1 for a malformed module, 2 for wrong use, and 3 if a file, the library or wasm_dump fails."
 
 
 def arguments(words: list[str]) -> argparse.Namespace:
@@ -37,23 +38,38 @@ def main(words: list[str] | None = None) -> int:
     if words[:1] == ["dump"]:
         return dump(words[1:])
     given = arguments(words)
+    if isinstance(sys.stdout, io.TextIOWrapper):
+        # The encoding of standard output may lack characters of a name, as on Windows.
+        sys.stdout.reconfigure(errors="backslashreplace")
     try:
-        if given.command == "check":
-            status = max([check(path) for path in given.files])
-        else:
-            status = attempt(given.file, lambda: show(given))
+        status = run(given)
         sys.stdout.flush()
         return status
-    except BrokenPipeError:
-        # The reader has closed the pipe, so there is nothing to say. Python flushes standard output once more at its end.
+    except OSError as error:
+        # A reader that has closed the pipe needs no message. Python flushes standard output once more at its end.
+        if not isinstance(error, BrokenPipeError):
+            print(f"pulleynavy: {error.strerror or error}", file=sys.stderr)
         os.dup2(os.open(os.devnull, os.O_WRONLY), sys.stdout.fileno())
         return FAILED
 
 
-def show(given: argparse.Namespace) -> None:
-    """Lists or strips a file."""
-    with open(given.file, "rb") as file:
-        stream = file.read()
+def run(given: argparse.Namespace) -> int:
+    """Runs a command. Returns its exit status."""
+    if given.command == "check":
+        return max([attempt(path, lambda stream: Module(stream).check()) for path in given.files])
+    return attempt(given.file, lambda stream: show(given, stream))
+
+
+def read(path: str) -> bytes:
+    """The bytes of a file, or of standard input for `-`."""
+    if path == "-":
+        return sys.stdin.buffer.read()
+    with open(path, "rb") as file:
+        return file.read()
+
+
+def show(given: argparse.Namespace, stream: bytes) -> None:
+    """Lists or strips a module."""
     if given.command == "strip":
         sys.stdout.buffer.write(strip(stream, given.keep_names))
     else:
@@ -61,19 +77,15 @@ def show(given: argparse.Namespace) -> None:
             print(row(section))
 
 
-def check(path: str) -> int:
-    return attempt(path, lambda: Module.read(path).check())
-
-
-def attempt(path: str, act: Callable[[], None]) -> int:
-    """Runs a function over a file, prints its fault, and returns the exit status."""
+def attempt(path: str, act: Callable[[bytes], None]) -> int:
+    """Runs a function over the bytes of a file, prints its fault, and returns the exit status."""
     try:
-        act()
-    except BrokenPipeError:
-        raise
+        stream = read(path)
     except OSError as error:
         print(f"{path}: {error.strerror}", file=sys.stderr)
         return FAILED
+    try:
+        act(stream)
     except ParseError as error:
         print(f"{path}: {error}", file=sys.stderr)
         return MALFORMED

@@ -80,6 +80,22 @@ class Event:
         return self.raw[len(self.raw) - (self.end - self.data_offset) :]
 
 
+@dataclasses.dataclass(frozen=True)
+class SkippedPart:
+    """A section or body that `Parser.skip_part` skipped, by its first fields.
+
+    `kind` is `SECTION`, `BODY`, `CUSTOM` or `UNKNOWN`, and `id` the id of the section. `start` and `end` are the offsets of the content, in
+    bytes from the start of the stream. `count` is the announced number of items of a section, and `name` the name of a custom section.
+    """
+
+    kind: EventKind
+    id: int
+    count: int
+    start: int
+    end: int
+    name: str
+
+
 class Parser:
     """A parser of a stream whose chunks you pass: `feed` adds one, and iterating over the parser yields the events that are complete.
 
@@ -150,6 +166,37 @@ class Parser:
         if size:
             self._skipped_from, self._skipping = start, size - stored
         return size
+
+    def skip_part(self) -> SkippedPart | None:
+        """Skips the part that is not complete, if its first fields have come: call it after the events of a chunk. Returns what they say.
+
+        The bytes of the part are neither kept nor looked at, so a section needs no memory of its size. It returns None and skips nothing at a
+        header, at the start of a code section, at a start or data count section, at a fault, and if the first fields have not come or all of
+        the part has. If the stream ends within the part, the fault is `UNEXPECTED_EOF` at its `start`.
+
+        >>> parser = Parser()
+        >>> for event in parser.feed(b"\\0asm\\1\\0\\0\\0\\0\\x64\\1a"):
+        ...     print(event.kind.name)
+        VERSION
+        >>> part = parser.skip_part()
+        >>> part.name, part.start, part.end
+        ('a', 10, 110)
+        >>> [event.kind.name for event in parser.feed(bytes(98))], [event.kind.name for event in parser.finish()]
+        ([], ['END'])
+        """
+        feed, offset = self._feed, self._feed.parser.offset
+        held = feed.end - feed.mark
+        if self._skipping or not held:
+            return None
+        first = ctypes.addressof(self._storage) + feed.mark
+        event = self._library.pulleynavy_skip(feed.parser, first, held)
+        kind = EventKind(event.kind)
+        if kind is EventKind.NEED_MORE:
+            return None
+        name = ctypes.string_at(first + event.at + event.data_offset - event.start - event.name_size, event.name_size)
+        feed.mark = feed.end
+        self._skipped_from, self._skipping = event.start, event.end - offset - held
+        return SkippedPart(kind, event.id, event.count, event.start, event.end, name.decode())
 
     def __iter__(self) -> Iterator[Event]:
         while not self._is_ended:

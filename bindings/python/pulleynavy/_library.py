@@ -5,6 +5,8 @@ from __future__ import annotations
 import ctypes
 import functools
 import os
+import platform
+import sys
 from typing import Any
 
 from . import declared
@@ -15,24 +17,49 @@ COMPACT_IMPORTS = 2
 ALL_FEATURES = MEMORY64 | COMPACT_IMPORTS
 
 _PARTS = declared.VERSION.split(".")
-# Until version 1.0 each minor version of the library has a name of its own.
+# Until version 1.0 each minor version of the library has a name of its own on Linux.
 NAME = "libpulleynavy.so." + ".".join(_PARTS[: 2 if _PARTS[0] == "0" else 1])
+# What the shared library is called where it isn't as on Linux, by `sys.platform`.
+NAMES = {"win32": "pulleynavy.dll", "darwin": "libpulleynavy.dylib"}
+
+
+def name_on(system: str) -> str:
+    """The name of the shared library on a system, as `sys.platform` has it.
+
+    >>> name_on("darwin")
+    'libpulleynavy.dylib'
+    """
+    return NAMES.get(system, NAME)
+
+
+def found(path: str | None) -> tuple[str, str]:
+    """Where the shared library is, and what to say if it can't be loaded."""
+    name, here = name_on(sys.platform), f"{sys.platform} on {platform.machine()}"
+    own = os.path.join(os.path.dirname(os.path.abspath(__file__)), name)
+    given = path or os.environ.get("PULLEYNAVY_LIB")
+    if given:
+        given = os.path.join(given, name) if os.path.isdir(given) else given
+        return given, f"{given} is no library of pulleynavy for {here}"
+    if os.path.exists(own):
+        return own, f"{own} is not for {here}: install the wheel for this system"
+    return name, f"there is no {name} for {here}: install a wheel for this system, or set PULLEYNAVY_LIB to the library or its folder"
 
 
 @functools.lru_cache(maxsize=None)
 def load(path: str | None = None) -> Any:
     """Loads the shared library from `path`, from `$PULLEYNAVY_LIB`, from this package, or from where the system looks, in this order.
 
-    The first two name the library or its folder. It is loaded once for each path. Raises `OSError` if it is not found, and `AttributeError` if it lacks a call of this version.
+    The first two name the library or its folder. In a folder it is `pulleynavy.dll` on Windows, `libpulleynavy.dylib` on macOS, and `libpulleynavy.so` with a number
+    elsewhere. It is loaded once for each path. Raises `OSError` with one sentence if it is not found or not for this system, and `AttributeError` if it lacks a call of this version.
 
     >>> load().pulleynavy_version() > 0
     True
     """
-    own = os.path.join(os.path.dirname(os.path.abspath(__file__)), NAME)
-    given = path or os.environ.get("PULLEYNAVY_LIB")
-    if given and os.path.isdir(given):
-        given = os.path.join(given, NAME)
-    library = ctypes.CDLL(given or (own if os.path.exists(own) else NAME))
+    place, sentence = found(path)
+    try:
+        library = ctypes.CDLL(place)
+    except OSError as error:
+        raise OSError(f"{sentence} ({error})") from error
     for name, (result, arguments) in declared.CALLS.items():
         call = getattr(library, name)
         call.restype, call.argtypes = result, arguments

@@ -12,6 +12,7 @@ import multiprocessing
 import os
 import pathlib
 import pickle
+import shutil
 import subprocess
 import sys
 import tempfile
@@ -20,6 +21,7 @@ import unittest
 from typing import Any
 
 import pulleynavy
+from pulleynavy import _library
 from pulleynavy import (
     ArrayType,
     CoreFrame,
@@ -406,6 +408,36 @@ class Streams(unittest.TestCase):
             list(parser.finish())
         self.assertEqual((caught.exception.kind, caught.exception.offset), (FaultKind.UNEXPECTED_EOF, 15))
 
+    def test_parts_that_are_skipped(self) -> None:
+        stream = HEADER + b"\1\5\1\x60\0\1\x7f\3\2\1\0\x0a\6\1\4\0\x41\0\x0b\0\5\2ab\1\2\x7f\2\0\0"
+
+        def parts(size: int, skips: bool) -> tuple[list[tuple[object, ...]], int]:
+            parser, found, skipped = Parser(), [], 0
+            for at in range(0, len(stream), size):
+                for event in parser.feed(stream[at : at + size]):
+                    name = event.name if event.kind is EventKind.CUSTOM else ""
+                    found.append((event.kind, event.id, event.count, event.start, event.end, name))
+                part = parser.skip_part() if skips else None
+                if part:
+                    found.append((part.kind, part.id, part.count, part.start, part.end, part.name))
+                    self.assertIsNone(parser.skip_part())
+                    skipped += 1
+            found += [(event.kind, event.id, event.count, event.start, event.end, "") for event in parser.finish()]
+            return found, skipped
+
+        for size in range(1, len(stream) + 1):
+            self.assertEqual(parts(size, True)[0], parts(len(stream), False)[0])
+        self.assertEqual([parts(size, True)[1] for size in (1, 3, 7, len(stream))], [5, 5, 1, 0])
+
+    def test_a_stream_that_ends_in_a_skipped_part(self) -> None:
+        parser = Parser()
+        self.assertEqual(len(list(parser.feed(HEADER + b"\0\x64\1a"))), 1)
+        self.assertEqual(parser.skip_part(), pulleynavy.SkippedPart(EventKind.CUSTOM, 0, 0, 10, 110, "a"))
+        self.assertEqual(list(parser.feed(bytes(97))), [])
+        with self.assertRaises(ParseError) as caught:
+            list(parser.finish())
+        self.assertEqual((caught.exception.kind, caught.exception.offset), (FaultKind.UNEXPECTED_EOF, 10))
+
     def test_skipped_bytes_are_not_kept(self) -> None:
         size = 5_000_000
         content = b"\1" + bytes([size - 5 & 0x7F | 0x80, size - 5 >> 7 & 0x7F | 0x80, size - 5 >> 14 & 0x7F | 0x80, size - 5 >> 21])
@@ -566,6 +598,35 @@ class Program(unittest.TestCase):
             self.assertEqual(subprocess.run(words, stdout=subprocess.PIPE, check=True).stdout, FUNCTIONS)
         self.assertEqual(self.run_with("--version").stdout, f"pulleynavy {pulleynavy.__version__}\n")
 
+    def piped(self, stream: bytes, *arguments: str, **environment: str) -> subprocess.CompletedProcess[bytes]:
+        """What the program writes of a stream that it reads from standard input."""
+        words = [sys.executable, "-m", "pulleynavy", *arguments, "-"]
+        return subprocess.run(words, input=stream, capture_output=True, env={**os.environ, **environment})
+
+    def test_standard_input_is_binary(self) -> None:
+        # A text stream ends at 1A on Windows, and has other ends of lines.
+        section = b"\0\6\1x\x1a\r\n\xff"
+        done = self.piped(HEADER + section, "list")
+        self.assertEqual((done.returncode, done.stdout.split()), (0, [b"6", b"0xa", b"x"]))
+        self.assertEqual(self.piped(HEADER + section, "check").returncode, 0)
+        kept = b"\0\x09\4name\x1a\2\r\n"
+        done = self.piped(HEADER + section + kept, "strip", "--keep-names")
+        self.assertEqual((done.returncode, done.stdout), (0, HEADER + kept))
+        self.assertEqual(self.piped(HEADER + section + kept, "strip").stdout, HEADER)
+        self.assertEqual(self.piped(b"", "check").stderr, b"-: unexpected end-of-file (at offset 0x0)\n")
+
+    def test_names_that_the_encoding_lacks(self) -> None:
+        done = self.piped(HEADER + b"\0\4\3\xe2\x82\xac", "list", PYTHONIOENCODING="ascii")
+        self.assertEqual((done.returncode, done.stdout.split()[-1], done.stderr), (0, b"\\u20ac", b""))
+
+    @unittest.skipUnless(os.path.exists("/dev/full"), "there is no device that is full")
+    def test_a_full_device_is_status_3(self) -> None:
+        for command in ("list", "strip"):
+            with open("/dev/full", "wb") as full:
+                words = [sys.executable, "-m", "pulleynavy", command, "-"]
+                done = subprocess.run(words, input=FUNCTIONS, stdout=full, stderr=subprocess.PIPE)
+            self.assertEqual((done.returncode, done.stderr), (3, b"pulleynavy: No space left on device\n"))
+
     def test_check_reads_all_items_and_all_files(self) -> None:
         cases = {
             b"\7\4\1\1a\5": "invalid leading byte for external kind: 5 (at offset 0xd)",
@@ -612,6 +673,61 @@ class Program(unittest.TestCase):
                 child.stdout.readline()
                 child.stdout.close()
                 self.assertEqual((child.stderr.read(), child.wait()), (b"", 3))
+
+
+# Starts Python as on another system, and passes the remaining arguments to the program.
+ELSEWHERE = """import ctypes, os, runpy, sys
+sys.platform = sys.argv[1]
+sys.argv[1:] = sys.argv[2:]
+runpy.run_module("pulleynavy", run_name="__main__", alter_sys=True)
+"""
+
+
+class Systems(unittest.TestCase):
+    """A copy of the package, on systems that are made up."""
+
+    def setUp(self) -> None:
+        folder = tempfile.TemporaryDirectory()
+        self.addCleanup(folder.cleanup)
+        self.folder = pathlib.Path(folder.name)
+        self.library = pathlib.Path(_library.found(None)[0])
+        self.package = self.folder / "pulleynavy"
+        shutil.copytree(pathlib.Path(_library.__file__).parent, self.package, ignore=shutil.ignore_patterns("*.so*", "*.dll", "*.dylib", "__pycache__"))
+        (self.folder / "a.wasm").write_bytes(FUNCTIONS)
+
+    def run_on(self, system: str, **environment: str) -> tuple[int, str, str]:
+        """The exit status of a list of a module there, and what it prints."""
+        words = [sys.executable, "-B", "-c", ELSEWHERE, system, "list", "a.wasm"]
+        settings = {name: value for name, value in os.environ.items() if name != "PULLEYNAVY_LIB"}
+        done = subprocess.run(words, capture_output=True, text=True, cwd=self.folder, env={**settings, **environment})
+        return done.returncode, done.stdout, done.stderr
+
+    def test_the_library_of_each_system(self) -> None:
+        on_linux = _library.name_on("linux")
+        self.assertRegex(on_linux, r"^libpulleynavy\.so(\.\d+)+$")
+        for system, name in (("win32", "pulleynavy.dll"), ("darwin", "libpulleynavy.dylib"), ("linux", on_linux), ("freebsd14", on_linux)):
+            with self.subTest(system=system):
+                shutil.copyfile(self.library, self.package / name)
+                status, output, errors = self.run_on(system)
+                self.assertEqual((status, len(output.splitlines()), errors), (0, 2, ""))
+                os.rename(self.package / name, self.folder / name)
+                self.assertEqual(self.run_on(system, PULLEYNAVY_LIB=str(self.folder))[0], 0)
+                os.remove(self.folder / name)
+
+    def test_what_is_missing_is_one_sentence(self) -> None:
+        for system, name in (("win32", "pulleynavy.dll"), ("darwin", "libpulleynavy.dylib")):
+            with self.subTest(system=system):
+                status, output, errors = self.run_on(system)
+                self.assertEqual((status, output, len(errors.splitlines())), (3, "", 1))
+                self.assertIn(f"pulleynavy: there is no {name} for {system} on ", errors)
+                self.assertIn("set PULLEYNAVY_LIB", errors)
+                (self.package / name).write_bytes(b"MZ")
+                status, output, errors = self.run_on(system)
+                self.assertEqual((status, output, len(errors.splitlines())), (3, "", 1))
+                self.assertIn(f"{name} is not for {system} on ", errors)
+                status, output, errors = self.run_on(system, PULLEYNAVY_LIB="a.wasm")
+                self.assertEqual((status, output, len(errors.splitlines())), (3, "", 1))
+                self.assertIn("a.wasm is no library of pulleynavy", errors)
 
 
 if __name__ == "__main__":

@@ -66,6 +66,7 @@ mod relocations;
 mod section;
 #[cfg(feature = "serde")]
 mod serial;
+mod skipped;
 mod strip;
 mod types;
 
@@ -102,6 +103,7 @@ pub use payload::{
 pub use reader::BinaryReader;
 pub use relocations::{RelocAddendKind, RelocSectionReader, RelocationEntry, RelocationEntryReader, RelocationType};
 pub use section::{FromReader, SectionLimited, SectionLimitedIntoIter, SectionLimitedIntoIterWithOffsets};
+pub use skipped::{PartHead, SkippedPart};
 pub use strip::strip;
 pub use types::{AbstractHeapType, ArrayType, ContType, FieldType, HeapType, PackedIndex, RefType, StorageType, UnpackedIndex, ValType};
 

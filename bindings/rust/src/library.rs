@@ -115,6 +115,13 @@ pub(crate) fn parse(parser: &mut Parser, bytes: &[u8], eof: bool) -> Event {
     unsafe { ffi::pulleynavy_parse(parser, bytes.as_ptr(), bytes.len(), eof) }
 }
 
+/// Moves a parser past the part of which these bytes are the first ones, and returns its event; or a request if it does not move.
+pub(crate) fn skip(parser: &mut Parser, bytes: &[u8]) -> Event {
+    // SAFETY: the declaration is generated from the library's sources. Pointer and length are those of a slice that is borrowed for the
+    // call, and nobody else has the parser.
+    unsafe { ffi::pulleynavy_skip(parser, bytes.as_ptr(), bytes.len()) }
+}
+
 /// Moves a parser past the remaining bytes of a code section; elsewhere it does not move.
 pub(crate) fn skip_section(parser: &mut Parser) {
     // SAFETY: the declaration is generated from the library's sources, and nobody else has the parser.

@@ -2,6 +2,7 @@
 use crate::codes::event_kind;
 use crate::payload::payload;
 use crate::section::Window;
+use crate::skipped::{SkippedPart, skipped_part};
 use crate::{BinaryReader, Error, Payload, Result, WasmFeatures, library};
 
 /// The result of [`Parser::parse`]: a payload, or a request for more input.
@@ -19,8 +20,8 @@ use crate::{BinaryReader, Error, Payload, Result, WasmFeatures, library};
 /// ```
 #[derive(Debug)]
 pub enum Chunk<'a> {
-    /// The bytes so far do not determine the next payload. The hint is how many bytes are missing, at least 1; a payload may need
-    /// more.
+    /// The bytes so far do not determine the next payload. The hint is how many bytes to read next, at least 1: fewer can be enough,
+    /// and a payload may need more.
     NeedMoreData(usize),
     /// The next payload.
     Parsed {
@@ -174,6 +175,33 @@ impl Parser {
     /// ```
     pub fn skip_section(&mut self) {
         library::skip_section(&mut self.0);
+    }
+
+    /// Skips the next section or body if its first fields are in `data`, but not all of it. Pass the bytes from `range.end` on in the
+    /// next call, whatever the skipped bytes are. So a section needs no buffer of its size.
+    ///
+    /// It returns `None`, and leaves the parser unchanged, if [`Parser::parse`] has to look: if all of the part is in `data`, if its
+    /// first fields are not, at an error, at a header and at the end, and at the start of a code section, a start section or a data
+    /// count section. The first fields are the name of a custom section, or the count of a section that begins with one.
+    ///
+    /// # Examples
+    ///
+    /// ```
+    /// use pulleynavy::{Parser, PartHead};
+    ///
+    /// let mut parser = Parser::new(0);
+    /// parser.parse(b"\0asm\x01\0\0\0", false)?;
+    /// // A custom section "a" of 100 bytes, of which the first 4 are here.
+    /// let part = parser.skip_part(b"\0\x64\x01a").expect("its name is here");
+    /// assert_eq!(part.range, 10..110);
+    /// assert_eq!(part.head, PartHead::Custom { name: "a", data_offset: 12 });
+    /// assert_eq!(parser.offset(), 110);
+    /// # Ok::<(), pulleynavy::Error>(())
+    /// ```
+    pub fn skip_part<'a>(&mut self, data: &'a [u8]) -> Option<SkippedPart<'a>> {
+        let held = Window { bytes: data, offset: self.0.offset, features: self.0.features };
+        let event = library::skip(&mut self.0, data);
+        skipped_part(held, &event)
     }
 
     /// Returns an iterator over the payloads of a complete stream.

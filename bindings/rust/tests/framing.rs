@@ -258,6 +258,27 @@ fn a_code_section_is_skipped() {
 }
 
 /// After the end `parse` returns the end again, and after a fault the same fault. `parse_all` ends with the first of either.
+/// The content of a part that is skipped, its first fields, and where the parser is then.
+fn skipped<'a>(parser: &mut Parser, bytes: &'a [u8]) -> Option<(std::ops::Range<u64>, PartHead<'a>, u64)> {
+    let part = parser.skip_part(bytes)?;
+    Some((part.range, part.head, parser.offset()))
+}
+
+#[test]
+fn parts_that_are_skipped() {
+    let mut parser = Parser::new(100);
+    parser.parse(b"\0asm\x01\0\0\0", false).unwrap();
+    assert_eq!(skipped(&mut parser, b"\0\x09\x04na"), None);
+    let custom = PartHead::Custom { name: "name", data_offset: 115 };
+    assert_eq!(skipped(&mut parser, b"\0\x09\x04name\xff"), Some((110..119, custom, 119)));
+    assert_eq!(skipped(&mut parser, b"\x7f\xc8\x01"), Some((122..322, PartHead::Unknown { id: 0x7f }, 322)));
+    assert_eq!(skipped(&mut parser, b"\x03\x02\x01"), Some((324..326, PartHead::Items { id: 3, count: 1 }, 326)));
+    assert_eq!(skipped(&mut parser, b"\x0a\x04\x01"), None);
+    parser.parse(b"\x0a\x04\x01", false).unwrap();
+    assert_eq!(skipped(&mut parser, b"\x02"), Some((330..332, PartHead::Body, 332)));
+    assert!(matches!(parser.parse(b"", true), Ok(Chunk::Parsed { consumed: 0, payload: Payload::End(332) })));
+}
+
 #[test]
 fn what_comes_last_comes_again() {
     for text in ["M", WHOLE, FUNCTION] {

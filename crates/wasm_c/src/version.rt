@@ -11,7 +11,7 @@ ghost use Rattle.std.specs.Prelude.{◌≡◌};
 /// ```
 #[unsafe(no_mangle)]
 pub extern "C" fn pulleynavy_version() -> u32
-    ensures { result ≡ 3328 }
+    ensures { result ≡ 3584 }
 {
-    3328
+    3584
 }

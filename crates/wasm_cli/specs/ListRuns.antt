@@ -18,7 +18,7 @@ abbrev pub usage : List ℕ
 usage = codes "usage: wasm_list [strip]\n"
 
 abbrev pub version_text : List ℕ
-version_text = codes "wasm_list 0.13.0 (follows wasmparser 0.263.0)\n"
+version_text = codes "wasm_list 0.14.0 (follows wasmparser 0.263.0)\n"
 
 abbrev pub help_text : List ℕ
 help_text =

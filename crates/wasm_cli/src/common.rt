@@ -71,6 +71,34 @@ pub fn write_both<E: Sink>(output: &mut E, first: &[u8], second: &[u8]) -> Resul
     write_all(output, second)
 }
 
+/// Writes three texts, one after the other.
+///
+/// # Errors
+///
+/// `Failed` if a write failed. A prefix of the texts, one after the other, is then written.
+///
+/// ```rattle
+/// let mut output = BoundedSink::new(alloc, 20)?;
+/// write_three(&mut output, b"no option '", b"-x", b"'\n")?;
+/// assert_eq!(rt; output.written(), b"no option '-x'\n".as_slice());
+/// ```
+pub fn write_three<E: Sink>(
+    output: &mut E,
+    first: &[u8],
+    second: &[u8],
+    third: &[u8],
+) -> Result<(), Failed>
+    ensures ok { OnOk result (Appends (E.taken output.old) (E.taken output.new)
+        (first.now ++ (second.now ++ third.now))) }
+    ensures err { OnErr result ((n : ℕ) × Appends (E.taken output.old) (E.taken output.new)
+        (take n (first.now ++ (second.now ++ third.now)))) }
+    ensures failed { E.has_failed output.new
+        ≡ (if is_ok result then E.has_failed output.old else true) }
+{
+    write_all(output, first)?;
+    write_both(output, second, third)
+}
+
 /// Writes the name of a file to `errors`, and then why it could not be opened, as far as the sink takes it. Returns the
 /// exit status 3.
 pub fn refuse_file<E: Sink>(name: &str, error: &Error, errors: &mut E) -> u8

@@ -6,5 +6,5 @@ mod common;
 pub mod list;
 mod streams;
 
-pub use common::{PIECE, finish, is_not_utf8, read_buffer, refuse_file, write_both};
+pub use common::{PIECE, finish, is_not_utf8, read_buffer, refuse_file, write_both, write_three};
 pub use streams::{Input, Messages, Piped};

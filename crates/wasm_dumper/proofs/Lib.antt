@@ -5,5 +5,6 @@ pub mod DroppedParts
 pub mod Dumping
 pub mod Lines
 pub mod Numbering
+pub mod Refusing
 pub mod Running
 pub mod Splitting

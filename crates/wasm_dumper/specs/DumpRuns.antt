@@ -11,7 +11,7 @@ use Rattle.wasm_cli.specs.Devices.{IsUntouched}
 use Rattle.wasm_cli.specs.Endings.{status_of, Reports, RunsUsage, CannotBegin, WritesAll, WritesSome}
 use Rattle.wasm_dumper.specs.Colors.{seen_as}
 use Rattle.wasm_dumper.specs.DumpCommands.{Asked, NamedFiles, all, sections, files, names_of_input, help, version}
-use Rattle.wasm_dumper.specs.DumpCommands.{unknown}
+use Rattle.wasm_dumper.specs.DumpCommands.{no_value, unknown, unknown_option}
 use Rattle.wasm_dumper.specs.Options.{has_colors, style_of}
 use Rattle.wasm_dumper.specs.Words.{ChooseInTurn}
 use Rattle.wasm_dumper.specs.declared.program.options.Options.{Options}
@@ -46,8 +46,16 @@ usage = codes "usage: wasm_dump [--help] [--version] [OPTION]... [--section ID|N
 abbrev pub names_usage : List ℕ
 names_usage = codes "wasm_dump: --names reads each file twice, and standard input can't be: name files\n"
 
+-- what is said of an option that isn't known
+abbrev pub option_text : (word : List ℕ) → List ℕ
+option_text word = codes "wasm_dump: unknown option '" ++ (word ++ codes "'\nTry 'wasm_dump --help'.\n")
+
+-- what is said of `--section` without a value
+abbrev pub no_value_text : List ℕ
+no_value_text = codes "wasm_dump: option '--section' needs a value\nTry 'wasm_dump --help'.\n"
+
 abbrev pub version_text : List ℕ
-version_text = codes "wasm_dump 0.13.0 (follows wasmparser 0.263.0)\n"
+version_text = codes "wasm_dump 0.14.0 (follows wasmparser 0.263.0)\n"
 
 abbrev pub help_text : List ℕ
 help_text =
@@ -66,23 +74,24 @@ help_text =
     codes "\n" ++ (
     codes "Options come before files, in any order:\n" ++ (
     codes "\n" ++ (
-    codes "  --color    The text has colors for a terminal. It cannot be combined with\n" ++ (
-    codes "             --json.\n" ++ (
-    codes "  --names    Each file is read twice, and items are shown with their names from\n" ++ (
-    codes "             the custom sections called 'name'. Standard input cannot be read\n" ++ (
-    codes "             twice.\n" ++ (
-    codes "  --json     Each line is a JSON object, for programs.\n" ++ (
-    codes "  --bytes    Each line follows the bytes that it was read from, in hexadecimal.\n" ++ (
-    codes "             It cannot be combined with --json.\n" ++ (
-    codes "  --hex      Offsets are hexadecimal, as 0x1f. All other numbers stay decimal.\n" ++ (
-    codes "             It cannot be combined with --json.\n" ++ (
+    codes "  --color        The text has colors for a terminal. It cannot be combined with\n" ++ (
+    codes "                 --json.\n" ++ (
+    codes "  --names        Each file is read twice, and items are shown with their names\n" ++ (
+    codes "                 from the custom sections called 'name'. Standard input cannot\n" ++ (
+    codes "                 be read twice.\n" ++ (
+    codes "  --json         Each line is a JSON object, for programs.\n" ++ (
+    codes "  --bytes        Each line follows the bytes that it was read from, in\n" ++ (
+    codes "                 hexadecimal. It cannot be combined with --json.\n" ++ (
+    codes "  --hex          Offsets are hexadecimal, as 0x1f. All other numbers stay\n" ++ (
+    codes "                 decimal. It cannot be combined with --json.\n" ++ (
     codes "  --section ID|NAME\n" ++ (
-    codes "             Only sections with this id, with this name in the standard, or\n" ++ (
-    codes "             custom sections with this name are shown. The option may be\n" ++ (
-    codes "             repeated.\n" ++ (
-    codes "  --help     Prints a summary of the options.\n" ++ (
-    codes "  --version  Prints the version, and that of the wasmparser crate whose names\n" ++ (
-    codes "             it follows.\n" ++ (
+    codes "                 Only sections with this id, with this name in the standard, or\n" ++ (
+    codes "                 custom sections with this name are shown. The option may be\n" ++ (
+    codes "                 repeated.\n" ++ (
+    codes "  --             Ends the options: all arguments after it are files.\n" ++ (
+    codes "  -h, --help     Prints a summary of the options.\n" ++ (
+    codes "  -V, --version  Prints the version, and that of the wasmparser crate whose\n" ++ (
+    codes "                 names it follows.\n" ++ (
     codes "\n" ++ (
     codes "Exit status:\n" ++ (
     codes "  0  All files were read to their ends.\n" ++ (
@@ -92,7 +101,7 @@ help_text =
     codes "     standard error, unless the output is a pipe that its reader has closed.\n" ++ (
     codes "\n" ++ (
     codes "With several files the exit status is the greatest of theirs.\n"
-    ))))))))))))))))))))))))))))))))))))))))
+    )))))))))))))))))))))))))))))))))))))))))
 
 -- These sections of the input were shown, with the status and message of how that ended.
 pub record Shows (options : Options) (only : List Only) (forwarded : Bool) (input output errors : Device) (status : ℕ) :
@@ -136,6 +145,9 @@ pub record Runs (asked : Asked) (forwarded : Bool) (input output errors : Device
   pub helps : asked ≡ help → RunsTelling help_text forwarded input output errors status
   pub says_version : asked ≡ version → RunsTelling version_text forwarded input output errors status
   pub refuses_names : asked ≡ names_of_input → RunsUsage names_usage input output errors status
+  pub refuses_option : (word : List ℕ) → asked ≡ unknown_option word
+      → RunsUsage (option_text word) input output errors status
+  pub refuses_section : asked ≡ no_value → RunsUsage no_value_text input output errors status
   pub refuses : asked ≡ unknown → RunsUsage usage input output errors status
   pub refuses_files : (named : NamedFiles) → asked ≡ files named → RunsUsage usage input output errors status
 

@@ -5,7 +5,7 @@ use wasm_custom::{
     BranchHintFunction, CoreDumpInstance, CoreDumpInstancesSection, CoreDumpModulesSection,
     CoreDumpSection, CoreDumpStackFrame, CoreDumpStackSection, CustomSectionReader,
     Dylink0SectionReader, IndirectNameMap, KnownCustom, LinkingSectionReader, NameMap,
-    NameSectionReader, ProducersField, RelocSectionReader,
+    NameSectionReader, ProducersField, RelocSectionReader, TargetFeature,
 };
 use wasm_items::RecGroup;
 use wasm_show::{Items, Show, show_list};
@@ -22,6 +22,7 @@ pub(crate) fn show_custom<O: Tree>(
         "types" => show_counted_in::<RecGroup, O>(alloc, reader, out),
         "hints" => show_counted::<BranchHintFunction<'_>, O>(reader, out),
         "producers" => show_counted::<ProducersField<'_>, O>(reader, out),
+        "features" => show_counted::<TargetFeature<'_>, O>(reader, out),
         "namemap" => show_section(NameMap::new(reader), out),
         "indirect" => show_section(IndirectNameMap::new(reader), out),
         "names" => show_all(NameSectionReader::new(alloc, reader), out),

@@ -6,7 +6,7 @@ use crate::show::Show;
 use std::alloc::Global;
 use wasm_custom::{
     BranchHint, BranchHintFunction, CustomSectionReader, KnownCustom, NameSectionReader,
-    ProducersField, ProducersFieldValue,
+    ProducersField, ProducersFieldValue, TargetFeature, TargetFeaturesSectionReader,
 };
 use wasm_tree::Tree;
 
@@ -40,6 +40,25 @@ impl Show for ProducersField<'_> {
     }
 }
 
+// Writes the byte that says how a feature is used: the signs of the standard as they are, others as numbers.
+fn show_prefix<O: Tree>(prefix: u8, out: &mut O)
+    ensures { Adds (O.writing out.old) (O.writing out.new) }
+{
+    match prefix {
+        b'+' => out.label("prefix", "+"),
+        b'-' => out.label("prefix", "-"),
+        b'=' => out.label("prefix", "="),
+        _ => out.number("prefix", u64::from(prefix)),
+    }
+}
+
+impl Show for TargetFeature<'_> {
+    fn show<O: Tree>(&self, _level: usize, out: &mut O) {
+        show_prefix(self.prefix, out);
+        out.quoted("name", self.name);
+    }
+}
+
 /// Writes the subsections on lines under the current line.
 impl Show for NameSectionReader<'_> {
     fn show<O: Tree>(&self, level: usize, out: &mut O) {
@@ -50,8 +69,8 @@ impl Show for NameSectionReader<'_> {
 /// Writes a custom section under the line of its event: a line with its name and, if it is known, its contents under
 /// that line.
 ///
-/// An unknown section, or one whose data its reader rejects, is shown as `unknown`. The tree stops if an allocation
-/// fails.
+/// An unknown section, or one whose data its reader rejects, is shown as `unknown`. The section `target_features`, which
+/// `as_known` does not know, is shown with its features. The tree stops if an allocation fails.
 ///
 /// ```rattle
 /// let section = CustomSectionReader::new(BinaryReader::new(b"\x04core\x00\x03app", 0))?;
@@ -66,9 +85,22 @@ pub fn show_custom<O: Tree>(alloc: Global, section: &CustomSectionReader<'_>, ou
 {
     out.line(1, "section");
     out.quoted("name", section.name());
+    if section.name() == "target_features" {
+        return show_features(section, out);
+    }
     match section.as_known(alloc) {
         Ok(known) => show_known(1, &known, out),
         Err(error) => show_fault(2, &error, out),
+    }
+}
+
+// Writes the features of a section `target_features`.
+fn show_features<O: Tree>(section: &CustomSectionReader<'_>, out: &mut O)
+    ensures { Adds (O.writing out.old) (O.writing out.new) }
+{
+    match TargetFeaturesSectionReader::new(section.data_reader()) {
+        Ok(features) => show_list("features", 1, &features, out),
+        Err(_) => out.label("known", "unknown"),
     }
 }
 

@@ -104,7 +104,7 @@ Exit status:
      to standard error, unless the output is a pipe that its reader has closed.
 ";
 
-const VERSION: &[u8] = b"wasm_list 0.13.0 (follows wasmparser 0.263.0)\n";
+const VERSION: &[u8] = b"wasm_list 0.14.0 (follows wasmparser 0.263.0)\n";
 
 // A module with the custom sections a, name and b, and what of it stays.
 const CUSTOM: &[u8] = b"\0asm\x01\0\0\0\0\x02\x01a\0\x05\x04name\0\x02\x01b";

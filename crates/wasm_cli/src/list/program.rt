@@ -64,7 +64,7 @@ Exit status:
 ";
 
 /// The text of `--version`.
-const VERSION: &[u8] = b"wasm_list 0.13.0 (follows wasmparser 0.263.0)\n";
+const VERSION: &[u8] = b"wasm_list 0.14.0 (follows wasmparser 0.263.0)\n";
 
 // Returns `HELP`. A clause can't cite a constant.
 fn help() -> &'static [u8]

@@ -1,7 +1,7 @@
 // Parses the arguments of `wasm_dump`.
 ghost use Rattle.std.specs.Prelude.{◌≡◌, [], IfNone, IfOk, IfSome, OnErr, Some, drop, map, string_bytes};
 ghost use Rattle.std.specs.Vec.Iter.{into_iter_items};
-ghost use Rattle.wasm_dumper.specs.DumpCommands.{WantsMemory, asked_after, asked_alone, asked_by, asked_by_one, asked_if_any, asked_of, asked_to_show, asked_with, is_option};
+ghost use Rattle.wasm_dumper.specs.DumpCommands.{WantsMemory, asked_after, asked_alone, asked_by, asked_by_one, asked_if_any, asked_of, asked_of_files, asked_to_show, asked_with, has_others, is_option};
 ghost use Rattle.wasm_dumper.specs.Words.{Begins, ChooseInTurn, Chooses, IsSplit, rest_given, words_of};
 
 use super::options::{Mark, Options, mark_of};
@@ -121,41 +121,56 @@ pub(super) enum Command {
     Help,
     /// Print the version.
     Version,
+    /// This is not an option.
+    UnknownOption(String),
+    /// `--section` has no value.
+    NoValue,
     /// The arguments are wrong.
     Unknown,
 }
 
-// Returns whether an argument is an option: it begins with two dashes.
+// Returns whether an argument is an option: a dash, and more.
 fn is_an_option(word: &str) -> bool
     ensures { result ≡ is_option word.now }
 {
     match word.as_bytes() {
-        [b'-', b'-', ..] => true,
+        [b'-', _, ..] => true,
         _ => false,
     }
 }
 
 // Parses an option that must be the only argument.
-fn command_of_one(word: &str) -> Command
-    ensures { asked_of result ≡ asked_by_one word.now }
+fn command_of_one(word: String) -> Command
+    ensures { asked_of result ≡ asked_by_one (string_bytes word) }
 {
-    match word {
-        "--help" => Command::Help,
-        "--version" => Command::Version,
-        _ => Command::Unknown,
+    match word.as_str() {
+        "--help" | "-h" => Command::Help,
+        "--version" | "-V" => Command::Version,
+        "--section" => Command::NoValue,
+        _ => Command::UnknownOption(word),
     }
 }
 
-// Parses an option that must be the only argument, and is refused after options or before other arguments.
+// Returns whether there are other arguments than one.
+fn has_other_arguments(words: &[String], options: Options, more: &Args) -> bool
+    ensures { result ≡ has_others options (map string_bytes words.now)
+        (map string_bytes (into_iter_items more.now)) }
+{
+    options.is_named || options.say_how() || !words.is_empty() || more.len() > 0
+}
+
+// Parses an option that must be the only argument. Help and version are refused after options and before other arguments.
 fn command_alone(words: Vec<String>, options: Options, rest: Rest) -> Command
     ensures { asked_of result
         ≡ asked_alone options (map string_bytes words.items) (string_bytes rest.first)
         (map string_bytes (into_iter_items rest.more)) }
 {
-    if options.is_named || options.say_how() || !words.is_empty() || rest.more.len() > 0 {
-        return Command::Unknown;
+    let Rest { first, more } = rest;
+    let has_others = has_other_arguments(&words, options, &more);
+    match command_of_one(first) {
+        Command::Help | Command::Version if has_others => Command::Unknown,
+        command => command,
     }
-    command_of_one(rest.first.as_str())
 }
 
 // Returns the command to dump standard input, limited to these sections if there are any.
@@ -169,12 +184,12 @@ fn command_to_show(words: Vec<String>, options: Options) -> Command
     }
 }
 
-// Returns the command for these options and the arguments after them.
-fn command_with(words: Vec<String>, options: Options, rest: Option<Rest>) -> Command
+// Returns the command to dump these files, or standard input if there are none.
+fn command_for_files(words: Vec<String>, options: Options, files: Option<Rest>) -> Command
     ensures { asked_of result
-        ≡ asked_with options (map string_bytes words.items) (rest_given rest) }
+        ≡ asked_of_files options (map string_bytes words.items) (rest_given files) }
 {
-    match rest {
+    match files {
         None => {
             if options.is_named {
                 Command::NamesOfInput
@@ -182,17 +197,40 @@ fn command_with(words: Vec<String>, options: Options, rest: Option<Rest>) -> Com
                 command_to_show(words, options)
             }
         }
-        Some(rest) => {
-            if is_an_option(rest.first.as_str()) {
-                return command_alone(words, options, rest);
-            }
-            Command::Files(Named {
-                words,
-                options,
-                files: rest,
-            })
-        }
+        Some(files) => Command::Files(Named {
+            words,
+            options,
+            files,
+        }),
     }
+}
+
+// Returns the first of these arguments and the others, if there are any.
+fn rest_from(mut arguments: Args) -> Option<Rest>
+    ensures { rest_given result ≡ map string_bytes (into_iter_items arguments) }
+{
+    let first = arguments.next()?;
+    Some(Rest {
+        first,
+        more: arguments,
+    })
+}
+
+// Returns the command for these options and the arguments after them. After `--` all arguments are files.
+fn command_with(words: Vec<String>, options: Options, rest: Option<Rest>) -> Command
+    ensures { asked_of result
+        ≡ asked_with options (map string_bytes words.items) (rest_given rest) }
+{
+    let Some(rest) = rest else {
+        return command_for_files(words, options, None);
+    };
+    if rest.first.as_str() == "--" {
+        return command_for_files(words, options, rest_from(rest.more));
+    }
+    if is_an_option(rest.first.as_str()) {
+        return command_alone(words, options, rest);
+    }
+    command_for_files(words, options, Some(rest))
 }
 
 // Like `command_with`, but refuses options that exclude each other.

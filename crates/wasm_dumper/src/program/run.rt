@@ -9,7 +9,7 @@ ghost use Rattle.wasm_cli.specs.Endings.{Reports, status_of};
 ghost use Rattle.wasm_dumper.specs.Colors.{seen_as};
 ghost use Rattle.wasm_dumper.specs.Options.{has_colors};
 ghost use Rattle.wasm_dumper.specs.DumpCommands.{WantsMemory, asked_if_any, asked_of};
-ghost use Rattle.wasm_dumper.specs.DumpRuns.{DumpsAs, Flushes, Runs, RunsDump, RunsProgram, Shows, ShowsChosen, Tells, help_text, names_usage, version_text};
+ghost use Rattle.wasm_dumper.specs.DumpRuns.{DumpsAs, Flushes, Runs, RunsDump, RunsProgram, Shows, ShowsChosen, Tells, help_text, names_usage, option_text, version_text};
 
 use super::colored::Colored;
 use super::command::{Command, chosen_by, command_asked};
@@ -22,7 +22,7 @@ use std::cell::Cell;
 use std::env::{self, Args};
 use std::io::{self, Write};
 use std::process::ExitCode;
-use wasm_cli::{Input, Messages, PIECE, Piped};
+use wasm_cli::{Input, Messages, PIECE, Piped, write_three};
 use wasm_feed::{Ended, Failed, ListError, ReadSource, Sink, Source, WriteSink, write_all};
 use wasm_text::{complain, give_up};
 use wasm_tree::{ItemNames, Lines, Objects};
@@ -43,23 +43,24 @@ validate modules, and it shows function bodies as ranges of bytes.
 
 Options come before files, in any order:
 
-  --color    The text has colors for a terminal. It cannot be combined with
-             --json.
-  --names    Each file is read twice, and items are shown with their names from
-             the custom sections called 'name'. Standard input cannot be read
-             twice.
-  --json     Each line is a JSON object, for programs.
-  --bytes    Each line follows the bytes that it was read from, in hexadecimal.
-             It cannot be combined with --json.
-  --hex      Offsets are hexadecimal, as 0x1f. All other numbers stay decimal.
-             It cannot be combined with --json.
+  --color        The text has colors for a terminal. It cannot be combined with
+                 --json.
+  --names        Each file is read twice, and items are shown with their names
+                 from the custom sections called 'name'. Standard input cannot
+                 be read twice.
+  --json         Each line is a JSON object, for programs.
+  --bytes        Each line follows the bytes that it was read from, in
+                 hexadecimal. It cannot be combined with --json.
+  --hex          Offsets are hexadecimal, as 0x1f. All other numbers stay
+                 decimal. It cannot be combined with --json.
   --section ID|NAME
-             Only sections with this id, with this name in the standard, or
-             custom sections with this name are shown. The option may be
-             repeated.
-  --help     Prints a summary of the options.
-  --version  Prints the version, and that of the wasmparser crate whose names
-             it follows.
+                 Only sections with this id, with this name in the standard, or
+                 custom sections with this name are shown. The option may be
+                 repeated.
+  --             Ends the options: all arguments after it are files.
+  -h, --help     Prints a summary of the options.
+  -V, --version  Prints the version, and that of the wasmparser crate whose
+                 names it follows.
 
 Exit status:
   0  All files were read to their ends.
@@ -72,7 +73,7 @@ With several files the exit status is the greatest of theirs.
 ";
 
 /// The text of `--version`.
-const VERSION: &[u8] = b"wasm_dump 0.13.0 (follows wasmparser 0.263.0)\n";
+const VERSION: &[u8] = b"wasm_dump 0.14.0 (follows wasmparser 0.263.0)\n";
 
 // Returns `HELP`. A clause can't cite a constant.
 fn help() -> &'static [u8]
@@ -163,6 +164,14 @@ fn run_command<R: Source, W: Write, E: Sink>(
         Command::NamesOfInput => (refuse_names(errors), output),
         Command::Help => show_text(help(), output, errors),
         Command::Version => show_text(version(), output, errors),
+        Command::UnknownOption(word) => (refuse_option(word.as_str(), errors), output),
+        Command::NoValue => {
+            complain(
+                errors,
+                b"wasm_dump: option '--section' needs a value\nTry 'wasm_dump --help'.\n",
+            );
+            (2, output)
+        }
         Command::Unknown | Command::Files(_) => {
             complain(
                 errors,
@@ -171,6 +180,20 @@ fn run_command<R: Source, W: Write, E: Sink>(
             (2, output)
         }
     }
+}
+
+// Prints that this is not an option. Returns the status.
+fn refuse_option<E: Sink>(word: &str, errors: &mut E) -> u8
+    ensures status { result ≡ 2 }
+    ensures says { Says (device_of E.taken E.has_failed errors.old errors.new) (option_text word.now) }
+{
+    let _ = write_three(
+        errors,
+        b"wasm_dump: unknown option '",
+        word.as_bytes(),
+        b"'\nTry 'wasm_dump --help'.\n",
+    );
+    2
 }
 
 /// Prints that `--names` needs files. Returns the status.

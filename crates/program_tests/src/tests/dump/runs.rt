@@ -36,23 +36,24 @@ validate modules, and it shows function bodies as ranges of bytes.
 
 Options come before files, in any order:
 
-  --color    The text has colors for a terminal. It cannot be combined with
-             --json.
-  --names    Each file is read twice, and items are shown with their names from
-             the custom sections called 'name'. Standard input cannot be read
-             twice.
-  --json     Each line is a JSON object, for programs.
-  --bytes    Each line follows the bytes that it was read from, in hexadecimal.
-             It cannot be combined with --json.
-  --hex      Offsets are hexadecimal, as 0x1f. All other numbers stay decimal.
-             It cannot be combined with --json.
+  --color        The text has colors for a terminal. It cannot be combined with
+                 --json.
+  --names        Each file is read twice, and items are shown with their names
+                 from the custom sections called 'name'. Standard input cannot
+                 be read twice.
+  --json         Each line is a JSON object, for programs.
+  --bytes        Each line follows the bytes that it was read from, in
+                 hexadecimal. It cannot be combined with --json.
+  --hex          Offsets are hexadecimal, as 0x1f. All other numbers stay
+                 decimal. It cannot be combined with --json.
   --section ID|NAME
-             Only sections with this id, with this name in the standard, or
-             custom sections with this name are shown. The option may be
-             repeated.
-  --help     Prints a summary of the options.
-  --version  Prints the version, and that of the wasmparser crate whose names
-             it follows.
+                 Only sections with this id, with this name in the standard, or
+                 custom sections with this name are shown. The option may be
+                 repeated.
+  --             Ends the options: all arguments after it are files.
+  -h, --help     Prints a summary of the options.
+  -V, --version  Prints the version, and that of the wasmparser crate whose
+                 names it follows.
 
 Exit status:
   0  All files were read to their ends.
@@ -63,6 +64,8 @@ Exit status:
 
 With several files the exit status is the greatest of theirs.
 ";
+
+const VERSION: &[u8] = b"wasm_dump 0.14.0 (follows wasmparser 0.263.0)\n";
 
 pub(super) const USAGE: &[u8] =
     b"usage: wasm_dump [--help] [--version] [OPTION]... [--section ID|NAME]... [FILE]...\n";
@@ -152,7 +155,7 @@ const CUSTOM: &[u8] = b"custom 20 26 25\n  section name=\"type\" unknown\nend 26
 const BOTH: &[u8] =
     b"section 3 10 12 1 function\n  11 func[0] index=5\ncode 14 18 1 3\nbody 16 18 func[0]\nend 26\n";
 
-const CHOSEN: [Row; 16] = [
+const CHOSEN: [Row; 20] = [
     // The standard's names come before those of custom sections, and ids before both.
     (&[], DUMP),
     (&["--section", "3"], THIRD),
@@ -170,6 +173,10 @@ const CHOSEN: [Row; 16] = [
     (&["--section", "3", "--section", "3"], THIRD),
     (&["--section", "13", "--section", "3"], THIRD),
     (&["--section", "3", "--section", "--section"], THIRD),
+    (&["--section", "3", "--"], THIRD),
+    (&["--section", "--", "--section", "3"], THIRD),
+    (&["-h"], HELP),
+    (&["-V"], VERSION),
     (
         &["--section", "10", "--section", "name", "--section", "3"],
         BOTH,
@@ -276,29 +283,53 @@ fn knows_the_names_of_the_standard(rt: HostRuntime) -> Result<(), Fail> {
     all_write(&rt, rt.alloc(), stream, &STANDARD)
 }
 
-const REFUSED: [&[&str]; 17] = [
-    &["--section"],
-    &["--sections", "3"],
+// Files are refused too, since only the program itself opens files: all words after `--` are files.
+const REFUSED: [&[&str]; 16] = [
     &["3"],
     &["--help", "--help"],
+    &["-h", "-h"],
     &["--section", "3", "4"],
-    &["--section", "3", "--section"],
-    &["--section", "3", "--sections", "4"],
     &["--section", "3", "--help"],
+    &["--section", "3", "-V"],
     &["--section", "3", "--section", "code", "4"],
     &["--color", "3"],
     &["--color", "--help"],
-    &["--color", "--section"],
     &["--version", "--color"],
     &["--names", "--help"],
     &["--names", "3"],
-    &["--names", "--section"],
+    &["-"],
+    &["--", "--help"],
+    &["--color", "--", "--"],
     &[""],
+];
+
+const NO_VALUE: [&[&str]; 4] = [
+    &["--section"],
+    &["--section", "3", "--section"],
+    &["--color", "--section"],
+    &["--names", "--section"],
+];
+
+const NO_OPTIONS: [&[&str]; 4] = [
+    &["--sections"],
+    &["--sections", "3"],
+    &["--section", "3", "--sections", "4"],
+    &["--names", "--sections", "--help"],
 ];
 
 #[test]
 fn refuses_arguments(rt: HostRuntime) -> Result<(), Fail> {
     all_refused(&rt, rt.alloc(), &REFUSED, USAGE)
+}
+
+#[test]
+fn names_what_is_not_an_option(rt: HostRuntime) -> Result<(), Fail> {
+    let said = b"wasm_dump: unknown option '--sections'\nTry 'wasm_dump --help'.\n";
+    all_refused(&rt, rt.alloc(), &NO_OPTIONS, said)?;
+    let said = b"wasm_dump: unknown option '-x'\nTry 'wasm_dump --help'.\n";
+    all_refused(&rt, rt.alloc(), &[&["-x"]], said)?;
+    let said = b"wasm_dump: option '--section' needs a value\nTry 'wasm_dump --help'.\n";
+    all_refused(&rt, rt.alloc(), &NO_VALUE, said)
 }
 
 #[test]
@@ -310,8 +341,9 @@ fn refuses_arguments_that_cannot_be_read(rt: HostRuntime) -> Result<(), Fail> {
 }
 
 // Standard input can't be read twice.
-const REFUSED_NAMES: [&[&str]; 4] = [
+const REFUSED_NAMES: [&[&str]; 5] = [
     &["--names"],
+    &["--names", "--"],
     &["--names", "--names"],
     &["--names", "--section", "3", "--color"],
     &["--section", "--names", "--names"],
@@ -344,8 +376,7 @@ fn says_how_it_is_used(rt: HostRuntime) -> Result<(), Fail> {
 
 #[test]
 fn says_which_version_it_is(rt: HostRuntime) -> Result<(), Fail> {
-    let text = b"wasm_dump 0.13.0 (follows wasmparser 0.263.0)\n";
-    runs(&rt, rt.alloc(), &["--version"], MODULE, (0, text, b""))
+    runs(&rt, rt.alloc(), &["--version"], MODULE, (0, VERSION, b""))
 }
 
 /// A reader that fails.
