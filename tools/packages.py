@@ -164,17 +164,17 @@ def crate(folder, place):
 # ---- Python
 
 
-def python(word):
+def python():
     """The Python that has the packaging tools: the one that runs this, or Debian's."""
     for path in (sys.executable, "/usr/bin/python3"):
         if os.path.exists(path) and not subprocess.run([path, "-c", "import setuptools, wheel, build"], stderr=subprocess.DEVNULL).returncode:
             return path
-    raise Missing(word)
+    raise Missing("python3-build, python3-setuptools or python3-wheel")
 
 
 def wheel(folder, place, library, name, tag):
     """A wheel that has this library, by this name, for the machines of this tag."""
-    tool = python("python3-build")
+    tool = python()
     copy_tracked("bindings/python", place)
     copy_all(LICENSES, place)
     shutil.copyfile(library, os.path.join(place, "pulleynavy", name))
@@ -204,7 +204,7 @@ def sdist(folder, place):
     """The sources of the Python package, which uses a library that the system has."""
     copy_tracked("bindings/python", place)
     copy_all(LICENSES, place)
-    run([python("python3-build"), "-m", "build", "--sdist", "--no-isolation", "--outdir", place + "/made", place])
+    run([python(), "-m", "build", "--sdist", "--no-isolation", "--outdir", place + "/made", place])
     with tarfile.open(glob.glob(place + "/made/*.tar.gz")[0]) as made:
         files = [(member.name, made.extractfile(member).read(), 0o644) for member in made if member.isfile()]
     write_tarball(os.path.join(folder, "pulleynavy-%s.tar.gz" % common.version()), files)
