@@ -1,5 +1,6 @@
 """What the tools share: their arguments, the built programs, the models, and how differences are printed."""
 import argparse
+import datetime
 import functools
 import hashlib
 import importlib.machinery
@@ -7,6 +8,7 @@ import importlib.util
 import json
 import os
 import platform
+import re
 import shutil
 import subprocess
 import sys
@@ -26,6 +28,16 @@ def version():
     """The version of this project, which is in one file."""
     with open(os.path.join(TOP, "VERSION"), encoding="ascii") as file:
         return file.read().strip()
+
+
+def date_of_release():
+    """The date of packages, in seconds: SOURCE_DATE_EPOCH, or that in the heading of this version in the changelog, or an early one before there is such a heading."""
+    if "SOURCE_DATE_EPOCH" in os.environ:
+        return int(os.environ["SOURCE_DATE_EPOCH"])
+    with open(os.path.join(TOP, "CHANGELOG.md"), encoding="utf-8") as file:
+        found = re.search(r"^## \[?%s\]? - (\S+)" % re.escape(version()), file.read(), re.M)
+    day = datetime.datetime.fromisoformat(found[1] if found else "2026-01-01")
+    return int(day.replace(tzinfo=datetime.timezone.utc).timestamp())
 
 
 def stop(status, message):

@@ -6,6 +6,7 @@ import hashlib
 import io
 import json
 import os
+import re
 import shutil
 import subprocess
 import sys
@@ -13,13 +14,13 @@ import tarfile
 import time
 import zipfile
 
+import cargo
 import common
 import desktops
 
 MACHINES = {"x86_64": {"compiler": "gcc", "debian": "amd64"}, "aarch64": {"compiler": "aarch64-linux-gnu-gcc", "debian": "arm64"}}
 LICENSES = ("LICENSE-APACHE", "LICENSE-MIT", "NOTICE")
-# The library calls nothing, not even libc, so it fits every version of glibc and musl.
-SHARED = ["-shared", "-nostdlib", "-s", "-Wl,--gc-sections", "-Wl,--build-id=none"]
+# The library calls memcpy and memmove of libc, and nothing else: glibc has had both since 2.17, and musl takes its own for what is asked of glibc.
 WHEEL_TAGS = "manylinux_2_17_{0}.manylinux2014_{0}.musllinux_1_1_{0}"
 # The tag of the wheel for each other target, and the library in it.
 DESKTOP_WHEELS = {
@@ -31,15 +32,6 @@ DESKTOP_WHEELS = {
 
 # The folder that has the libraries for Windows and macOS, if one is given.
 targets = None
-# What CMake asks of the version: one that begins with the same numbers.
-CMAKE_VERSION = """set(PACKAGE_VERSION "%s")
-string(FIND "${PACKAGE_VERSION}." "${PACKAGE_FIND_VERSION}." _pulleynavy)
-if(_pulleynavy EQUAL 0)
-  set(PACKAGE_VERSION_COMPATIBLE TRUE)
-endif()
-unset(_pulleynavy)
-"""
-
 # A wheel for any Python 3, with a library for one machine.
 SETUP = """from setuptools import Distribution, setup
 from wheel.bdist_wheel import bdist_wheel
@@ -62,7 +54,11 @@ HEADER = os.path.join(common.TOP, "crates", "wasm_c", "include", "pulleynavy.h")
 
 
 class Missing(Exception):
-    """A program that makes a package is not there."""
+    """What a package needs is not there."""
+
+
+class Broken(Exception):
+    """A command that makes a package failed."""
 
 
 def prebuilt(name):
@@ -73,8 +69,12 @@ def archive(machine):
     return prebuilt("libpulleynavy-%s.a" % machine)
 
 
+LINKER = os.path.join(common.TOP, "tools", "shared_library")
+
+
 def soname():
-    return "libpulleynavy.so.%s" % common.version().split(".")[0]
+    """The name by which programs load the shared library."""
+    return run([LINKER, "--soname"]).strip()
 
 
 def source(*parts):
@@ -92,11 +92,13 @@ def epoch():
     return int(os.environ["SOURCE_DATE_EPOCH"])
 
 
-def run(words, folder=None):
-    done = subprocess.run(words, cwd=folder, stdin=subprocess.DEVNULL, stdout=subprocess.PIPE, stderr=subprocess.STDOUT)
+def run(words, folder=None, **more):
+    """What a command prints. More names are variables of its environment."""
+    options = {"stdin": subprocess.DEVNULL, "stdout": subprocess.PIPE, "stderr": subprocess.STDOUT}
+    done = subprocess.run(words, cwd=folder, env={**os.environ, **more}, **options)
     if done.returncode:
         sys.stderr.write(done.stdout.decode(errors="replace"))
-        common.stop(common.DIFFERS, "%s failed with status %d" % (" ".join(words[:3]), done.returncode))
+        raise Broken("%s ended with status %d" % (" ".join(words[:3]), done.returncode))
     return done.stdout.decode()
 
 
@@ -106,10 +108,14 @@ def copy_all(names, folder):
         shutil.copy(source(name), folder)
 
 
-def tracked(folder):
+# Folders of bindings that no package has.
+UNPACKED = {"target", "__pycache__", "node_modules", "tests", "out"}
+
+
+def tracked(folder, without=UNPACKED):
     """The files of a folder that are in the repository, without what tools made there."""
     for place, folders, names in os.walk(source(folder)):
-        folders[:] = sorted(name for name in folders if name not in ("target", "__pycache__", "node_modules", "tests", "out"))
+        folders[:] = sorted(name for name in folders if name not in without)
         for name in sorted(names):
             if not name.endswith((".lock", ".tgz", ".wasm", ".pyc")):
                 yield os.path.relpath(os.path.join(place, name), source(folder))
@@ -123,8 +129,7 @@ def copy_tracked(folder, to):
 
 def shared_library(machine, path):
     """Makes the shared library of a machine from its archive."""
-    words = [needed(MACHINES[machine]["compiler"]), *SHARED, "-Wl,-soname," + soname(), "-o", path]
-    run([*words, "-Wl,--whole-archive", archive(machine), "-Wl,--no-whole-archive"])
+    run([LINKER, archive(machine), path], CC=needed(MACHINES[machine]["compiler"]))
     os.chmod(path, 0o644)
 
 
@@ -148,7 +153,10 @@ def crate(folder, place):
         for path in built(target, "libpulleynavy.a", "pulleynavy.lib"):
             os.makedirs(os.path.join(place, "lib", target), exist_ok=True)
             shutil.copy(path, os.path.join(place, "lib", target))
-    run([needed("cargo"), "package", "--offline", "--allow-dirty", "--no-verify", "--target-dir", os.path.join(place, "target")], place)
+    if cargo.version() is None or cargo.version() < cargo.oldest():
+        raise Missing("cargo %d.%d or later" % cargo.oldest())
+    cargo.offline(os.path.dirname(place))
+    run(["cargo", "package", "--offline", "--allow-dirty", "--no-verify", "--target-dir", os.path.join(place, "target")], place)
     for path in glob.glob(os.path.join(place, "target", "package", "*.crate")):
         shutil.copy(path, folder)
 
@@ -156,17 +164,17 @@ def crate(folder, place):
 # ---- Python
 
 
-def python(word):
+def python():
     """The Python that has the packaging tools: the one that runs this, or Debian's."""
     for path in (sys.executable, "/usr/bin/python3"):
         if os.path.exists(path) and not subprocess.run([path, "-c", "import setuptools, wheel, build"], stderr=subprocess.DEVNULL).returncode:
             return path
-    raise Missing(word)
+    raise Missing("python3-build, python3-setuptools or python3-wheel")
 
 
 def wheel(folder, place, library, name, tag):
     """A wheel that has this library, by this name, for the machines of this tag."""
-    tool = python("python3-build")
+    tool = python()
     copy_tracked("bindings/python", place)
     copy_all(LICENSES, place)
     shutil.copyfile(library, os.path.join(place, "pulleynavy", name))
@@ -196,7 +204,7 @@ def sdist(folder, place):
     """The sources of the Python package, which uses a library that the system has."""
     copy_tracked("bindings/python", place)
     copy_all(LICENSES, place)
-    run([python("python3-build"), "-m", "build", "--sdist", "--no-isolation", "--outdir", place + "/made", place])
+    run([python(), "-m", "build", "--sdist", "--no-isolation", "--outdir", place + "/made", place])
     with tarfile.open(glob.glob(place + "/made/*.tar.gz")[0]) as made:
         files = [(member.name, made.extractfile(member).read(), 0o644) for member in made if member.isfile()]
     write_tarball(os.path.join(folder, "pulleynavy-%s.tar.gz" % common.version()), files)
@@ -244,38 +252,69 @@ def read(path):
         return file.read()
 
 
-def pkg_config(prefix, libdir="${prefix}/lib"):
-    """The text for pkg-config of a library that is installed there."""
-    text = read(source("crates", "wasm_c", "pulleynavy.pc.in")).decode()
-    text = text.replace("libdir=${prefix}/lib", "libdir=" + libdir)
-    return text.replace("@PREFIX@", prefix).replace("@VERSION@", common.version()).encode()
-
-
-def manuals():
-    """The manual pages, compressed as Debian has them."""
-    for path in sorted(glob.glob(source("docs", "man", "*.1"))):
-        yield os.path.basename(path), read(path)
-
-
-def programs(machine):
-    """The programs of a machine, for which they are prebuilt or not."""
-    return ["wasm_list", "wasm_dump"] if machine == "x86_64" else []
-
-
 def tarball(machine, folder, place):
-    """The library, the header, the programs and their manual pages, to be unpacked anywhere."""
+    """What ./install installs, to be unpacked anywhere."""
     top = "pulleynavy-%s-%s-linux" % (common.version(), machine)
-    shared_library(machine, os.path.join(place, "shared"))
-    full = "libpulleynavy.so." + common.version()
-    files = [("lib/libpulleynavy.a", read(archive(machine)), 0o644), ("lib/" + full, read(os.path.join(place, "shared")), 0o755)]
-    files += [("include/pulleynavy.h", read(HEADER), 0o644)]
-    files += [("lib/pkgconfig/pulleynavy.pc", pkg_config("${pcfiledir}/../.."), 0o644)]
-    files += [("bin/" + name, read(prebuilt(name)), 0o755) for name in programs(machine)]
-    files += [("share/man/man1/" + name, text, 0o644) for name, text in manuals() if name.split(".")[0] in programs(machine)]
-    files += [("share/doc/pulleynavy/" + name, read(source(name)), 0o644) for name in (*LICENSES, "README.md", "CHANGELOG.md")]
-    links = [("lib/" + soname(), full), ("lib/libpulleynavy.so", soname())]
-    path = os.path.join(folder, top + ".tar.gz")
-    write_tarball(path, [("%s/%s" % (top, name), data, mode) for name, data, mode in files], [("%s/%s" % (top, name), to) for name, to in links])
+    place = os.path.join(place, machine)
+    run([source("install"), "--prebuilt", "/"], DESTDIR=place, MACHINE=machine, CC=needed(MACHINES[machine]["compiler"]))
+    shutil.rmtree(os.path.join(place, "share", "pulleynavy"))
+    with open(os.path.join(place, "lib", "pkgconfig", "pulleynavy.pc"), "r+", encoding="utf-8") as file:
+        text = file.read()
+        file.seek(0)
+        file.write(re.sub("^prefix=.*", "prefix=${pcfiledir}/../..", text, flags=re.M))
+    copy_all((*LICENSES, "README.md", "CHANGELOG.md"), os.path.join(place, "share", "doc", "pulleynavy"))
+    paths = sorted(os.path.join(at, name) for at, _, names in os.walk(place) for name in names)
+    named = [("%s/%s" % (top, os.path.relpath(path, place)), path) for path in paths]
+    files = [(name, read(path), os.stat(path).st_mode & 0o777) for name, path in named if not os.path.islink(path)]
+    links = [(name, os.readlink(path)) for name, path in named if os.path.islink(path)]
+    write_tarball(os.path.join(folder, top + ".tar.gz"), files, links)
+
+
+def tarballs(folder, place):
+    for machine in MACHINES:
+        tarball(machine, folder, place)
+    desktop_tarballs(folder)
+
+
+# ---- Debian
+
+
+def repository():
+    """The files of the repository, as git lists them; where there is no git, all that tools did not make."""
+    if os.path.exists(source(".git")) and shutil.which("git"):
+        listed = subprocess.run(["git", "ls-files", "-z"], cwd=common.TOP, stdout=subprocess.PIPE, check=True).stdout.decode().split("\0")
+        return sorted(name for name in listed if os.path.isfile(source(name)))
+    return sorted(name for name in tracked(".", {"out", "target", "dist", "node_modules", "__pycache__"}))
+
+
+def source_package(place):
+    """Writes the source package: the repository, and debian/ separately. Returns the path of the file that describes it."""
+    top, names = "pulleynavy-" + common.version(), repository()
+    files = [("%s/%s" % (top, name), read(source(name)), os.stat(source(name)).st_mode & 0o755) for name in names if not name.startswith("debian/")]
+    original = os.path.join(place, "pulleynavy_%s.orig.tar.gz" % common.version())
+    write_tarball(original, files)
+    shutil.unpack_archive(original, place)
+    for name in names:
+        if name.startswith("debian/"):
+            os.makedirs(os.path.dirname(os.path.join(place, top, name)), exist_ok=True)
+            shutil.copy(source(name), os.path.join(place, top, name))
+    run(["dpkg-source", "--build", top], place)
+    return glob.glob(os.path.join(place, "*.dsc"))[0]
+
+
+def debs(folder, place):
+    """The source package for Debian, and the packages that dpkg-buildpackage makes of it. Those of another processor need no build dependencies of it."""
+    for program in ("dpkg-buildpackage", "dh", "doxygen", *(MACHINES[machine]["compiler"] for machine in MACHINES)):
+        needed(program)
+    described = source_package(place)
+    for machine, names in MACHINES.items():
+        os.mkdir(os.path.join(place, machine))
+        at = os.path.join(place, machine, "pulleynavy")
+        run(["dpkg-source", "--no-check", "--extract", described, at], place)
+        run(["dpkg-buildpackage", "--build=binary", "--no-sign", "--no-check-builddeps", "--host-arch=" + names["debian"]], at)
+    for pattern in ("*.dsc", "*.tar.*", "*/*.deb"):
+        for path in glob.glob(os.path.join(place, pattern)):
+            shutil.copy(path, folder)
 
 
 # ---- Windows and macOS
@@ -291,13 +330,19 @@ def write_zip(path, files):
             made.writestr(entry, data)
 
 
+def cmake_version():
+    """What CMake asks of the version."""
+    text = read(source("crates", "wasm_c", "pulleynavyConfigVersion.cmake"))
+    return text.replace(b"@VERSION@", common.version().encode())
+
+
 def for_c(target):
     """What a package for C has, below a folder with its name: the libraries of a target, the header, and what CMake needs to find them."""
     cmake = "lib/cmake/pulleynavy/pulleynavy-config"
     files = [("bin/pulleynavy.dll", "pulleynavy.dll"), *(("lib/" + name, name) for name in (*desktops.LIBRARIES, "libpulleynavy.dylib"))]
     files = [(name, read(path)) for name, file in files for path in built(target, file)]
     files += [("include/pulleynavy.h", read(HEADER)), (cmake + ".cmake", read(source("crates", "wasm_c", "pulleynavy-config.cmake")))]
-    files += [(cmake + "-version.cmake", (CMAKE_VERSION % common.version()).encode())]
+    files += [(cmake + "-version.cmake", cmake_version())]
     files += [("doc/" + name, read(source(name))) for name in (*LICENSES, "README.md", "CHANGELOG.md")]
     top = "pulleynavy-%s-%s" % (common.version(), target)
     return top, [("%s/%s" % (top, name), data) for name, data in files]
@@ -305,6 +350,8 @@ def for_c(target):
 
 def zips(folder, place):
     """A zip for each processor that there is a DLL for."""
+    if not any(built(target, "pulleynavy.dll") for target in desktops.TARGETS):
+        raise Missing("--targets with a folder that has a DLL")
     for target in desktops.TARGETS:
         if built(target, "pulleynavy.dll"):
             top, files = for_c(target)
@@ -323,7 +370,10 @@ def desktop_tarballs(folder):
 
 
 def bill_of_materials():
-    """A bill of materials in the form of SPDX 2.3: the files of prebuilt/ and what they are made from."""
+    """A bill of materials in the form of SPDX 2.3: the files of prebuilt/ and what they are made from.
+
+    `reuse spdx` of Debian is not used: it lists the sources, not the release and its toolchain, and has the time and a random name in it.
+    """
     made = common.made_from()
     files = []
     for number, name in enumerate(sorted(os.listdir(common.PREBUILT))):

@@ -11,7 +11,7 @@
             print(event.kind.name, event.start, event.end)
 
 A malformed module raises `ParseError`, which has a kind and an offset. Offsets and sizes are in bytes; offsets count from the start of the stream.
-Nothing is validated, and function bodies are not decoded. The parser is the C library of Pulleynavy, `libpulleynavy.so.0`, which is proved to
+Nothing is validated, and function bodies are not decoded. The parser is the C library of Pulleynavy, which is proved to
 return what the binary grammar assigns; this package is tested.
 """
 # SPDX-License-Identifier: Apache-2.0 OR MIT

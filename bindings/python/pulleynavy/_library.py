@@ -16,6 +16,9 @@ MEMORY64 = 1
 COMPACT_IMPORTS = 2
 ALL_FEATURES = MEMORY64 | COMPACT_IMPORTS
 
+_PARTS = declared.VERSION.split(".")
+# Until version 1.0 each minor version of the library has a name of its own on Linux.
+NAME = "libpulleynavy.so." + ".".join(_PARTS[: 2 if _PARTS[0] == "0" else 1])
 # What the shared library is called where it isn't as on Linux, by `sys.platform`.
 NAMES = {"win32": "pulleynavy.dll", "darwin": "libpulleynavy.dylib"}
 
@@ -26,7 +29,7 @@ def name_on(system: str) -> str:
     >>> name_on("darwin")
     'libpulleynavy.dylib'
     """
-    return NAMES.get(system, "libpulleynavy.so.0")
+    return NAMES.get(system, NAME)
 
 
 def found(path: str | None) -> tuple[str, str]:

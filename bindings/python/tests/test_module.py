@@ -412,7 +412,8 @@ class Streams(unittest.TestCase):
         stream = HEADER + b"\1\5\1\x60\0\1\x7f\3\2\1\0\x0a\6\1\4\0\x41\0\x0b\0\5\2ab\1\2\x7f\2\0\0"
 
         def parts(size: int, skips: bool) -> tuple[list[tuple[object, ...]], int]:
-            parser, found, skipped = Parser(), [], 0
+            parser, skipped = Parser(), 0
+            found: list[tuple[object, ...]] = []
             for at in range(0, len(stream), size):
                 for event in parser.feed(stream[at : at + size]):
                     name = event.name if event.kind is EventKind.CUSTOM else ""

@@ -50,11 +50,13 @@ pub struct FuncType<'a> {
 
 impl<'a> FuncType<'a> {
     /// Returns the types of the parameters.
+    #[must_use]
     pub fn params(&self) -> List<'a, ValType> {
         self.params.clone()
     }
 
     /// Returns the types of the results.
+    #[must_use]
     pub fn results(&self) -> List<'a, ValType> {
         self.results.clone()
     }
@@ -143,6 +145,7 @@ impl<'a> CompositeType<'a> {
     /// # Panics
     ///
     /// If it is another type.
+    #[must_use]
     pub fn unwrap_func(&self) -> &FuncType<'a> {
         match &self.inner {
             CompositeInnerType::Func(ty) => ty,
@@ -155,6 +158,7 @@ impl<'a> CompositeType<'a> {
     /// # Panics
     ///
     /// If it is another type.
+    #[must_use]
     pub fn unwrap_array(&self) -> &ArrayType {
         match &self.inner {
             CompositeInnerType::Array(ty) => ty,
@@ -167,6 +171,7 @@ impl<'a> CompositeType<'a> {
     /// # Panics
     ///
     /// If it is another type.
+    #[must_use]
     pub fn unwrap_struct(&self) -> &StructType<'a> {
         match &self.inner {
             CompositeInnerType::Struct(ty) => ty,
@@ -205,6 +210,7 @@ impl<'a> SubType<'a> {
     /// # Panics
     ///
     /// If it is another type.
+    #[must_use]
     pub fn unwrap_func(&self) -> &FuncType<'a> {
         self.composite_type.unwrap_func()
     }
@@ -214,6 +220,7 @@ impl<'a> SubType<'a> {
     /// # Panics
     ///
     /// If it is another type.
+    #[must_use]
     pub fn unwrap_array(&self) -> &ArrayType {
         self.composite_type.unwrap_array()
     }
@@ -223,6 +230,7 @@ impl<'a> SubType<'a> {
     /// # Panics
     ///
     /// If it is another type.
+    #[must_use]
     pub fn unwrap_struct(&self) -> &StructType<'a> {
         self.composite_type.unwrap_struct()
     }
@@ -261,16 +269,19 @@ pub struct RecGroup<'a> {
 
 impl<'a> RecGroup<'a> {
     /// Returns whether the group is encoded as a group. Otherwise it is a single type.
+    #[must_use]
     pub fn is_explicit_rec_group(&self) -> bool {
         self.explicit
     }
 
     /// Returns an iterator over the types of the group, in order.
+    #[must_use]
     pub fn types(&self) -> List<'a, SubType<'a>> {
         self.types.clone()
     }
 
     /// Returns an iterator over the types of the group, in order, by value.
+    #[must_use]
     pub fn into_types(self) -> List<'a, SubType<'a>> {
         self.types
     }

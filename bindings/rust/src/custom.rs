@@ -54,31 +54,37 @@ impl<'a> CustomSectionReader<'a> {
     }
 
     /// Returns the name of the section.
+    #[must_use]
     pub fn name(&self) -> &'a str {
         self.name
     }
 
     /// Returns the data, which follows the name.
+    #[must_use]
     pub fn data(&self) -> &'a [u8] {
         self.data.bytes
     }
 
     /// Returns a reader over the data.
+    #[must_use]
     pub fn data_reader(&self) -> BinaryReader<'a> {
         BinaryReader::of(self.data)
     }
 
     /// Returns the offset of the data, in bytes from the start of the stream.
+    #[must_use]
     pub fn data_offset(&self) -> u64 {
         self.data.offset
     }
 
     /// Returns the offsets of the data, in bytes from the start of the stream.
+    #[must_use]
     pub fn data_range(&self) -> Range<u64> {
         self.data.range()
     }
 
     /// Returns the offsets of the content, including the name, in bytes from the start of the stream.
+    #[must_use]
     pub fn range(&self) -> Range<u64> {
         self.whole.range()
     }
@@ -152,16 +158,19 @@ impl<T> fmt::Debug for Subsections<'_, T> {
 
 impl<'a, T> Subsections<'a, T> {
     /// Takes the remaining bytes of a reader as subsections. Nothing is read yet.
+    #[must_use]
     pub fn new(reader: BinaryReader<'a>) -> Self {
         Subsections { start: reader.range().start, rest: reader.rest, item: PhantomData }
     }
 
     /// Returns the offset of the next subsection, in bytes from the start of the stream.
+    #[must_use]
     pub fn original_position(&self) -> u64 {
         self.rest.offset
     }
 
     /// Returns the offsets of all bytes, including those that were read, in bytes from the start of the stream.
+    #[must_use]
     pub fn range(&self) -> Range<u64> {
         self.start..self.rest.range().end
     }

@@ -1,6 +1,7 @@
 //! Errors.
 use crate::{Fault, Lead, library};
 use core::fmt;
+use core::num::NonZeroUsize;
 
 /// The result of a read, with [`Error`] as its error.
 pub type Result<T, E = Error> = core::result::Result<T, E>;
@@ -23,22 +24,24 @@ pub type BinaryReaderError = Error;
 /// ```
 #[derive(Clone, Copy)]
 pub struct Error {
-    fault: Fault,
     offset: u64,
-    number: Option<u64>,
-    needed_hint: Option<usize>,
-    text: Text,
+    number: u64,
+    needed_hint: Option<NonZeroUsize>,
+    fault: Fault,
+    has_number: bool,
 }
 
 impl Error {
     /// Returns an error with this fault and offset, without a number or a hint.
+    #[must_use]
     pub fn new(fault: Fault, offset: u64) -> Self {
-        Error { fault, offset, number: None, needed_hint: None, text: Text::EMPTY }
+        Error { offset, number: 0, needed_hint: None, fault, has_number: false }
     }
 
     /// Returns the error with this number, which its message then includes.
+    #[must_use]
     pub fn with_number(self, number: u64) -> Self {
-        Error { number: Some(number), text: Text::of(self.fault, number), ..self }
+        Error { number, has_number: true, ..self }
     }
 
     /// Returns the error of a fault, unless the library reports none.
@@ -61,42 +64,48 @@ impl Error {
 
     /// The same error with this hint, if it is that of missing bytes.
     pub(crate) fn with_hint(self, hint: usize) -> Self {
-        Error { needed_hint: (self.fault == Fault::UnexpectedEof).then_some(hint), ..self }
+        Error { needed_hint: NonZeroUsize::new(hint).filter(|_| self.fault == Fault::UnexpectedEof), ..self }
     }
 
     /// Returns the error without a hint.
+    #[must_use]
     pub fn without_needed_hint(self) -> Self {
         Error { needed_hint: None, ..self }
     }
 
     /// Returns the fault.
+    #[must_use]
     pub fn fault(&self) -> Fault {
         self.fault
     }
 
-    /// Returns the message, with the number if the error has one, without the offset.
-    pub fn message(&self) -> &str {
-        if self.number.is_some() { self.text.as_str() } else { self.fault.message() }
+    /// Returns the message of the fault, without the number and the offset, which `Display` adds.
+    #[must_use]
+    pub fn message(&self) -> &'static str {
+        self.fault.message()
     }
 
     /// Returns the offset, in bytes from the start of the stream.
+    #[must_use]
     pub fn offset(&self) -> u64 {
         self.offset
     }
 
     /// Returns the number of the fault, if it has one: a version, a length, or the byte that was read.
+    #[must_use]
     pub fn number(&self) -> Option<u64> {
-        self.number
+        self.has_number.then_some(self.number)
     }
 
     /// Returns how many bytes are missing, if a read of a [`BinaryReader`](crate::BinaryReader) failed at the end of its input.
     ///
     /// It is at least 1. Reads of whole items have no hint.
     pub fn needed_hint(&self) -> Option<usize> {
-        self.needed_hint
+        self.needed_hint.map(NonZeroUsize::get)
     }
 
     /// Returns the number of the fault in the C library: its kind in the lowest 8 bits, and its detail above them.
+    #[must_use]
     pub fn code(&self) -> u32 {
         self.fault.code()
     }
@@ -104,7 +113,7 @@ impl Error {
 
 impl PartialEq for Error {
     fn eq(&self, other: &Self) -> bool {
-        (self.fault, self.offset, self.number) == (other.fault, other.offset, other.number)
+        (self.fault, self.offset, self.number()) == (other.fault, other.offset, other.number())
     }
 }
 
@@ -112,52 +121,32 @@ impl Eq for Error {}
 
 impl fmt::Debug for Error {
     fn fmt(&self, f: &mut fmt::Formatter<'_>) -> fmt::Result {
-        f.debug_struct("Error").field("message", &self.message()).field("offset", &self.offset).finish()
+        f.debug_struct("Error").field("message", &format_args!("\"{}\"", Message(self))).field("offset", &self.offset).finish()
     }
 }
 
 impl fmt::Display for Error {
     fn fmt(&self, f: &mut fmt::Formatter<'_>) -> fmt::Result {
-        write!(f, "{} (at offset 0x{:x})", self.message(), self.offset)
+        write!(f, "{} (at offset 0x{:x})", Message(self), self.offset)
+    }
+}
+
+/// The message of an error with its number.
+struct Message<'a>(&'a Error);
+
+impl fmt::Display for Message<'_> {
+    fn fmt(&self, f: &mut fmt::Formatter<'_>) -> fmt::Result {
+        let (message, number) = (self.0.message(), self.0.number);
+        match self.0.fault {
+            _ if !self.0.has_number => f.write_str(message),
+            Fault::UnknownVersion => write!(f, "{message}: {number:#10x}"),
+            Fault::LeadingByte(_) => {
+                let kind = "invalid leading byte";
+                write!(f, "{kind} (0x{number:x}){}", message.strip_prefix(kind).unwrap_or_default())
+            }
+            _ => write!(f, "{message}: {number}"),
+        }
     }
 }
 
 impl core::error::Error for Error {}
-
-/// A message with a number, at most 72 bytes of it.
-#[derive(Clone, Copy)]
-struct Text {
-    bytes: [u8; 72],
-    size: u8,
-}
-
-impl Text {
-    const EMPTY: Text = Text { bytes: [0; 72], size: 0 };
-
-    /// The message of a fault with this number.
-    fn of(fault: Fault, number: u64) -> Self {
-        use fmt::Write;
-        let mut text = Text::EMPTY;
-        // No message is cut: the longest has 62 bytes.
-        let _ = match fault {
-            Fault::UnknownVersion => write!(text, "{}: {number:#10x}", fault.message()),
-            Fault::LeadingByte(_) => write!(text, "invalid leading byte (0x{number:x}){}", &fault.message()["invalid leading byte".len()..]),
-            _ => write!(text, "{}: {number}", fault.message()),
-        };
-        text
-    }
-
-    fn as_str(&self) -> &str {
-        core::str::from_utf8(&self.bytes[..self.size.into()]).unwrap_or_default()
-    }
-}
-
-impl fmt::Write for Text {
-    fn write_str(&mut self, text: &str) -> fmt::Result {
-        let start = usize::from(self.size);
-        let room = self.bytes.get_mut(start..start + text.len()).ok_or(fmt::Error)?;
-        room.copy_from_slice(text.as_bytes());
-        self.size += text.len() as u8;
-        Ok(())
-    }
-}

@@ -274,6 +274,7 @@ impl<'a> SectionLimited<'a, Imports<'a>> {
     }
 
     /// Returns an iterator over the imports, each with its offset in bytes from the start of the stream. Groups are flattened.
+    #[must_use]
     pub fn into_imports_with_offsets(self) -> IntoImportsWithOffsets<'a> {
         IntoImportsWithOffsets { groups: self.into_iter(), group: ImportsIter(Left::One(None)) }
     }

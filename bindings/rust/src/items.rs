@@ -27,26 +27,31 @@ pub struct ConstExpr<'a> {
 
 impl<'a> ConstExpr<'a> {
     /// Takes the remaining bytes of a reader as an expression, without reading or checking them.
+    #[must_use]
     pub fn new(reader: BinaryReader<'a>) -> Self {
         ConstExpr { window: reader.rest }
     }
 
     /// Returns a reader over the bytes of the expression.
+    #[must_use]
     pub fn get_binary_reader(&self) -> BinaryReader<'a> {
         BinaryReader::of(self.window)
     }
 
     /// Returns a reader over the instructions.
+    #[must_use]
     pub fn get_operators_reader(&self) -> OperatorsReader<'a> {
         OperatorsReader::new(self.get_binary_reader())
     }
 
     /// Returns the offsets of the expression, in bytes from the start of the stream.
+    #[must_use]
     pub fn range(&self) -> Range<u64> {
         self.window.range()
     }
 
     /// Returns the bytes of the expression.
+    #[must_use]
     pub fn as_bytes(&self) -> &'a [u8] {
         self.window.bytes
     }

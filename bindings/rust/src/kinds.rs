@@ -63,6 +63,7 @@ const fn index_type(is_64: bool) -> ValType {
 
 impl TableType {
     /// Returns the type of the table's indices: `i64` for a 64-bit table, otherwise `i32`.
+    #[must_use]
     pub fn index_type(&self) -> ValType {
         index_type(self.table64)
     }
@@ -70,6 +71,7 @@ impl TableType {
 
 impl MemoryType {
     /// Returns the type of the memory's addresses: `i64` for a 64-bit memory, otherwise `i32`.
+    #[must_use]
     pub fn index_type(&self) -> ValType {
         index_type(self.memory64)
     }

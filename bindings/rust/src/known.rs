@@ -51,6 +51,7 @@ impl<'a> CustomSectionReader<'a> {
     /// Returns a reader for the data, selected by the name of the section.
     ///
     /// The result is [`KnownCustom::Unknown`] if the name is not known, or if the `new` of the selected reader returns an error.
+    #[must_use]
     pub fn as_known(&self) -> KnownCustom<'a> {
         self.known().unwrap_or(KnownCustom::Unknown)
     }

@@ -64,6 +64,8 @@ mod payload;
 mod reader;
 mod relocations;
 mod section;
+#[cfg(feature = "serde")]
+mod serial;
 mod skipped;
 mod strip;
 mod types;

@@ -69,6 +69,7 @@ pub const DEFAULT_WASM_PAGE_SIZE: u64 = 1 << 16;
 /// assert_eq!(max_wasm_memory32_pages(65_536), 65_536);
 /// assert_eq!(max_wasm_memory32_pages(1), 4_294_967_295);
 /// ```
+#[must_use]
 pub fn max_wasm_memory32_pages(page_size: u64) -> u64 {
     assert!(is_page_size(page_size));
     ((1 << 32) / page_size).min(u32::MAX.into())
@@ -79,12 +80,14 @@ pub fn max_wasm_memory32_pages(page_size: u64) -> u64 {
 /// # Panics
 ///
 /// If the size is not a power of two of at most 65,536.
+#[must_use]
 pub fn max_wasm_memory64_pages(page_size: u64) -> u64 {
     assert!(is_page_size(page_size));
     u64::try_from((1_u128 << 64) / u128::from(page_size)).unwrap_or(u64::MAX)
 }
 
 /// Returns whether a page may have this size: a power of two of at most 65,536.
+#[must_use]
 pub fn is_page_size(size: u64) -> bool {
     size.is_power_of_two() && size <= DEFAULT_WASM_PAGE_SIZE
 }

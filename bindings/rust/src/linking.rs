@@ -41,21 +41,25 @@ impl<'a> LinkingSectionReader<'a> {
     }
 
     /// Returns the version, which is always 2.
+    #[must_use]
     pub fn version(&self) -> u32 {
         self.version
     }
 
     /// Returns the offset of the first subsection, in bytes from the start of the stream.
+    #[must_use]
     pub fn original_position(&self) -> u64 {
         self.subsections.original_position()
     }
 
     /// Returns the offsets of the data, including the version, in bytes from the start of the stream.
+    #[must_use]
     pub fn range(&self) -> Range<u64> {
         self.range.clone()
     }
 
     /// Returns an iterator over the subsections.
+    #[must_use]
     pub fn subsections(&self) -> Subsections<'a, Linking<'a>> {
         self.subsections.clone()
     }

@@ -194,16 +194,19 @@ pub struct NameSectionReader<'a> {
 
 impl<'a> NameSectionReader<'a> {
     /// Takes the remaining bytes of a reader as subsections. Nothing is read yet.
+    #[must_use]
     pub fn new(reader: BinaryReader<'a>) -> Self {
         NameSectionReader { sections: Subsections::new(reader), last: Last::default() }
     }
 
     /// Returns the offset of the next subsection, in bytes from the start of the stream.
+    #[must_use]
     pub fn original_position(&self) -> u64 {
         self.sections.original_position()
     }
 
     /// Returns the offsets of all bytes, including those that were read, in bytes from the start of the stream.
+    #[must_use]
     pub fn range(&self) -> Range<u64> {
         self.sections.range()
     }

@@ -17,6 +17,7 @@ pub struct Ieee32(pub(crate) u32);
 
 impl Ieee32 {
     /// Returns the bits.
+    #[must_use]
     pub fn bits(self) -> u32 {
         self.0
     }
@@ -50,6 +51,7 @@ pub struct Ieee64(pub(crate) u64);
 
 impl Ieee64 {
     /// Returns the bits.
+    #[must_use]
     pub fn bits(self) -> u64 {
         self.0
     }

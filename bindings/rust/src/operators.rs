@@ -27,11 +27,13 @@ pub struct V128([u8; 16]);
 
 impl V128 {
     /// Returns the bytes, in the order in which they are encoded.
+    #[must_use]
     pub fn bytes(&self) -> &[u8; 16] {
         &self.0
     }
 
     /// Returns the bits as a number, of which the first byte is the lowest.
+    #[must_use]
     pub fn i128(&self) -> i128 {
         i128::from_le_bytes(self.0)
     }
@@ -166,26 +168,31 @@ pub struct OperatorsReader<'a> {
 
 impl<'a> OperatorsReader<'a> {
     /// Takes the remaining bytes of a reader as instructions. Nothing is read yet.
+    #[must_use]
     pub fn new(reader: BinaryReader<'a>) -> Self {
         OperatorsReader { reader }
     }
 
     /// Returns whether no byte remains.
+    #[must_use]
     pub fn eof(&self) -> bool {
         self.reader.eof()
     }
 
     /// Returns the offset of the next instruction, in bytes from the start of the stream.
+    #[must_use]
     pub fn original_position(&self) -> u64 {
         self.reader.original_position()
     }
 
     /// Returns whether the next instruction is `end` and is the last one.
+    #[must_use]
     pub fn is_end_then_eof(&self) -> bool {
         self.reader.remaining_buffer() == [opcode::END as u8]
     }
 
     /// Returns a reader over the remaining bytes.
+    #[must_use]
     pub fn get_binary_reader(&self) -> BinaryReader<'a> {
         self.reader.clone()
     }
@@ -212,6 +219,7 @@ impl<'a> OperatorsReader<'a> {
     }
 
     /// Returns an iterator over the instructions, each with its offset in bytes from the start of the stream.
+    #[must_use]
     pub fn into_iter_with_offsets(self) -> OperatorsIteratorWithOffsets<'a> {
         OperatorsIteratorWithOffsets { reader: self, ended: false }
     }

@@ -79,11 +79,13 @@ impl FuncType {
     }
 
     /// Returns the types of the parameters.
+    #[must_use]
     pub fn params(&self) -> &[ValType] {
         &self.types[..self.params]
     }
 
     /// Returns the types of the results.
+    #[must_use]
     pub fn results(&self) -> &[ValType] {
         &self.types[self.params..]
     }
@@ -177,6 +179,7 @@ impl CompositeType {
     /// # Panics
     ///
     /// If it is another type.
+    #[must_use]
     pub fn unwrap_func(&self) -> &FuncType {
         match &self.inner {
             CompositeInnerType::Func(ty) => ty,
@@ -189,6 +192,7 @@ impl CompositeType {
     /// # Panics
     ///
     /// If it is another type.
+    #[must_use]
     pub fn unwrap_array(&self) -> &ArrayType {
         match &self.inner {
             CompositeInnerType::Array(ty) => ty,
@@ -201,6 +205,7 @@ impl CompositeType {
     /// # Panics
     ///
     /// If it is another type.
+    #[must_use]
     pub fn unwrap_struct(&self) -> &StructType {
         match &self.inner {
             CompositeInnerType::Struct(ty) => ty,
@@ -239,6 +244,7 @@ impl SubType {
     /// # Panics
     ///
     /// If it is another type.
+    #[must_use]
     pub fn unwrap_func(&self) -> &FuncType {
         self.composite_type.unwrap_func()
     }
@@ -248,6 +254,7 @@ impl SubType {
     /// # Panics
     ///
     /// If it is another type.
+    #[must_use]
     pub fn unwrap_array(&self) -> &ArrayType {
         self.composite_type.unwrap_array()
     }
@@ -257,6 +264,7 @@ impl SubType {
     /// # Panics
     ///
     /// If it is another type.
+    #[must_use]
     pub fn unwrap_struct(&self) -> &StructType {
         self.composite_type.unwrap_struct()
     }
@@ -295,6 +303,7 @@ pub struct RecGroup {
 
 impl RecGroup {
     /// Returns whether the group is encoded as a group. Otherwise it is a single type.
+    #[must_use]
     pub fn is_explicit_rec_group(&self) -> bool {
         self.explicit
     }
@@ -305,6 +314,7 @@ impl RecGroup {
     }
 
     /// Returns an iterator over the types of the group, in order, by value.
+    #[must_use]
     pub fn into_types(self) -> vec::IntoIter<SubType> {
         self.types.into_iter()
     }

@@ -64,16 +64,19 @@ impl Default for Parser {
 
 impl Parser {
     /// Returns a parser for a stream that begins at this offset, with all features.
+    #[must_use]
     pub fn new(offset: u64) -> Self {
         Parser(library::parser_init(offset, WasmFeatures::all().low_bits()))
     }
 
     /// Returns whether bytes begin with the 8 bytes of a module's header.
+    #[must_use]
     pub fn is_core_wasm(bytes: &[u8]) -> bool {
         bytes.starts_with(b"\0asm\x01\0\0\0")
     }
 
     /// Returns whether bytes begin with the 8 bytes of a component's header.
+    #[must_use]
     pub fn is_component(bytes: &[u8]) -> bool {
         bytes.starts_with(b"\0asm\x0d\0\x01\0")
     }
@@ -83,16 +86,19 @@ impl Parser {
     /// # Panics
     ///
     /// If the bytes end beyond the offset 2^64 - 1.
+    #[must_use]
     pub fn binary_reader<'a>(&self, bytes: &'a [u8], offset: u64) -> BinaryReader<'a> {
         BinaryReader::new_features(bytes, offset, self.features())
     }
 
     /// Returns the offset of the next payload, in bytes from the start of the stream.
+    #[must_use]
     pub fn offset(&self) -> u64 {
         self.0.offset
     }
 
     /// Returns the features that the next payloads are read with.
+    #[must_use]
     pub fn features(&self) -> WasmFeatures {
         WasmFeatures::of(self.0.features)
     }
@@ -137,6 +143,7 @@ impl Parser {
 
     /// Returns the number of remaining bytes of a code section, from its start until the next payload that is not a body;
     /// otherwise `None`.
+    #[must_use]
     pub fn skippable(&self) -> Option<u32> {
         (self.0.in_code != 0).then_some(self.0.code_bytes)
     }
@@ -198,6 +205,7 @@ impl Parser {
     }
 
     /// Returns an iterator over the payloads of a complete stream.
+    #[must_use]
     pub fn parse_all(self, data: &[u8]) -> ParseAll<'_> {
         ParseAll { parser: self, rest: data, ended: false }
     }

@@ -213,21 +213,25 @@ pub struct FunctionBody<'a> {
 
 impl<'a> FunctionBody<'a> {
     /// Takes the remaining bytes of a reader as a body, without reading them.
+    #[must_use]
     pub fn new(reader: BinaryReader<'a>) -> Self {
         FunctionBody { window: reader.rest }
     }
 
     /// Returns a reader over the bytes of the body.
+    #[must_use]
     pub fn get_binary_reader(&self) -> BinaryReader<'a> {
         BinaryReader::of(self.window)
     }
 
     /// Returns the offsets of the body, in bytes from the start of the stream.
+    #[must_use]
     pub fn range(&self) -> Range<u64> {
         self.window.range()
     }
 
     /// Returns the bytes of the body.
+    #[must_use]
     pub fn as_bytes(&self) -> &'a [u8] {
         self.window.bytes
     }
@@ -340,6 +344,7 @@ impl Payload<'_> {
     /// assert_eq!(payloads.next().unwrap()?.as_section(), Some((1, 10..11)));
     /// # Ok::<(), pulleynavy::Error>(())
     /// ```
+    #[must_use]
     pub fn as_section(&self) -> Option<(u8, Range<u64>)> {
         Some(match self {
             Payload::Version { .. } | Payload::CodeSectionEntry(_) | Payload::End(_) => return None,

@@ -33,6 +33,7 @@ impl<'a> BinaryReader<'a> {
     /// # Panics
     ///
     /// If the bytes end beyond the offset 2^64 - 1.
+    #[must_use]
     pub fn new(bytes: &'a [u8], offset: u64) -> Self {
         BinaryReader::new_features(bytes, offset, WasmFeatures::all())
     }
@@ -42,6 +43,7 @@ impl<'a> BinaryReader<'a> {
     /// # Panics
     ///
     /// If the bytes end beyond the offset 2^64 - 1.
+    #[must_use]
     pub fn new_features(bytes: &'a [u8], offset: u64, features: WasmFeatures) -> Self {
         assert!(offset.checked_add(bytes.len() as u64).is_some(), "data passes the offset range");
         BinaryReader::of(Window { bytes, offset, features: features.low_bits() })
@@ -53,51 +55,61 @@ impl<'a> BinaryReader<'a> {
     }
 
     /// Returns the enabled features.
+    #[must_use]
     pub fn features(&self) -> WasmFeatures {
         WasmFeatures::of(self.rest.features)
     }
 
     /// Returns whether limits of memories and tables are read as 64-bit numbers.
+    #[must_use]
     pub fn memory64(&self) -> bool {
         self.features().contains(WasmFeatures::MEMORY64)
     }
 
     /// Returns the offset of the next byte, in bytes from the start of the stream.
+    #[must_use]
     pub fn original_position(&self) -> u64 {
         self.rest.offset
     }
 
     /// Returns the number of bytes that were read.
+    #[must_use]
     pub fn current_position(&self) -> usize {
         (self.rest.offset - self.start) as usize
     }
 
     /// Returns the offsets of all bytes, including those that were read, in bytes from the start of the stream.
+    #[must_use]
     pub fn range(&self) -> Range<u64> {
         self.start..self.rest.range().end
     }
 
     /// Returns the offsets of the remaining bytes, in bytes from the start of the stream.
+    #[must_use]
     pub fn remaining_range(&self) -> Range<u64> {
         self.rest.range()
     }
 
     /// Returns the remaining bytes.
+    #[must_use]
     pub fn remaining_buffer(&self) -> &'a [u8] {
         self.rest.bytes
     }
 
     /// Returns the number of remaining bytes.
+    #[must_use]
     pub fn bytes_remaining(&self) -> usize {
         self.rest.bytes.len()
     }
 
     /// Returns whether no byte remains.
+    #[must_use]
     pub fn eof(&self) -> bool {
         self.rest.bytes.is_empty()
     }
 
     /// Returns a reader over the remaining bytes alone.
+    #[must_use]
     pub fn shrink(&self) -> Self {
         BinaryReader::of(self.rest)
     }

@@ -151,16 +151,19 @@ impl<'a> RelocSectionReader<'a> {
     }
 
     /// Returns the index of the relocated section among all sections of the module.
+    #[must_use]
     pub fn section_index(&self) -> u32 {
         self.section
     }
 
     /// Returns the offsets of the data, in bytes from the start of the stream.
+    #[must_use]
     pub fn range(&self) -> Range<u64> {
         self.range.clone()
     }
 
     /// Returns the list of relocations.
+    #[must_use]
     pub fn entries(&self) -> RelocationEntryReader<'a> {
         self.entries.clone()
     }

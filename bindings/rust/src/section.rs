@@ -169,16 +169,19 @@ impl<'a, T> SectionLimited<'a, T> {
     }
 
     /// Returns the announced number of items.
+    #[must_use]
     pub fn count(&self) -> u32 {
         self.count
     }
 
     /// Returns the offset of the first item, in bytes from the start of the stream.
+    #[must_use]
     pub fn original_position(&self) -> u64 {
         self.rest.offset
     }
 
     /// Returns the offsets of the section with its count, in bytes from the start of the stream.
+    #[must_use]
     pub fn range(&self) -> Range<u64> {
         self.whole.clone()
     }
@@ -195,6 +198,7 @@ impl<'a, T> SectionLimited<'a, T> {
     /// assert_eq!(items, [(101, 5), (103, 7)]);
     /// # Ok::<(), pulleynavy::Error>(())
     /// ```
+    #[must_use]
     pub fn into_iter_with_offsets(self) -> SectionLimitedIntoIterWithOffsets<'a, T> {
         SectionLimitedIntoIterWithOffsets { items: SectionLimitedIntoIter { left: self.count, section: self, ended: false } }
     }
@@ -243,6 +247,7 @@ impl<T> Clone for SectionLimitedIntoIter<'_, T> {
 
 impl<T> SectionLimitedIntoIter<'_, T> {
     /// Returns the offset of the next item, in bytes from the start of the stream.
+    #[must_use]
     pub fn original_position(&self) -> u64 {
         self.section.rest.offset
     }

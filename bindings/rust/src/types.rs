@@ -40,21 +40,25 @@ impl ValType {
     pub const EXNREF: ValType = ValType::Ref(RefType::EXNREF);
 
     /// Returns whether the type is a reference.
+    #[must_use]
     pub fn is_reference_type(&self) -> bool {
         matches!(self, ValType::Ref(_))
     }
 
     /// Returns whether the type is a vector.
+    #[must_use]
     pub fn is_vector_type(&self) -> bool {
         matches!(self, ValType::V128)
     }
 
     /// Returns whether the type has a default value. All types have one, except references that are not nullable.
+    #[must_use]
     pub fn is_defaultable(&self) -> bool {
         self.as_reference_type().is_none_or(|ty| ty.is_nullable())
     }
 
     /// Returns the reference type, if the type is a reference.
+    #[must_use]
     pub fn as_reference_type(&self) -> Option<RefType> {
         match self {
             ValType::Ref(ty) => Some(*ty),
@@ -190,36 +194,43 @@ abstract_types! {
 
 impl RefType {
     /// Returns a reference to a heap type. The result is never `None`.
+    #[must_use]
     pub fn new(nullable: bool, heap: HeapType) -> Option<Self> {
         Some(RefType { nullable, heap })
     }
 
     /// Returns a reference to the type with this index.
+    #[must_use]
     pub const fn concrete(nullable: bool, index: PackedIndex) -> Self {
         RefType { nullable, heap: HeapType::Concrete(index.unpack()) }
     }
 
     /// Whether the reference may be null.
+    #[must_use]
     pub const fn is_nullable(&self) -> bool {
         self.nullable
     }
 
     /// Returns the same reference, nullable.
+    #[must_use]
     pub const fn nullable(&self) -> Self {
         RefType { nullable: true, heap: self.heap }
     }
 
     /// Returns the same reference, not nullable.
+    #[must_use]
     pub const fn as_non_null(&self) -> Self {
         RefType { nullable: false, heap: self.heap }
     }
 
     /// Returns the type of what the reference refers to.
+    #[must_use]
     pub const fn heap_type(&self) -> HeapType {
         self.heap
     }
 
     /// Returns the index of the type that the reference refers to, if the module defines the type.
+    #[must_use]
     pub fn type_index(&self) -> Option<PackedIndex> {
         match self.heap {
             HeapType::Concrete(index) | HeapType::Exact(index) => index.pack(),
@@ -228,16 +239,19 @@ impl RefType {
     }
 
     /// Returns whether the module defines the type that the reference refers to.
+    #[must_use]
     pub const fn is_concrete_type_ref(&self) -> bool {
         matches!(self.heap, HeapType::Concrete(_) | HeapType::Exact(_))
     }
 
     /// Returns whether the reference refers to any function.
+    #[must_use]
     pub const fn is_func_ref(&self) -> bool {
         matches!(self.heap, HeapType::FUNC)
     }
 
     /// Returns whether the reference refers to any value of the host.
+    #[must_use]
     pub const fn is_extern_ref(&self) -> bool {
         matches!(self.heap, HeapType::EXTERN)
     }
@@ -312,6 +326,7 @@ pub enum UnpackedIndex {
 
 impl UnpackedIndex {
     /// Returns the packed form of an index in the module, otherwise `None`.
+    #[must_use]
     pub const fn pack(&self) -> Option<PackedIndex> {
         match self {
             UnpackedIndex::Module(index) => Some(PackedIndex(*index)),
@@ -320,6 +335,7 @@ impl UnpackedIndex {
     }
 
     /// Returns the index in the module, if it is one.
+    #[must_use]
     pub const fn as_module_index(&self) -> Option<u32> {
         match self {
             UnpackedIndex::Module(index) => Some(*index),
@@ -328,6 +344,7 @@ impl UnpackedIndex {
     }
 
     /// Returns the index in the recursion group, if it is one.
+    #[must_use]
     pub const fn as_rec_group_index(&self) -> Option<u32> {
         match self {
             UnpackedIndex::Module(_) => None,
@@ -360,16 +377,19 @@ pub struct PackedIndex(u32);
 
 impl PackedIndex {
     /// Returns an index in the module. The result is never `None`.
+    #[must_use]
     pub const fn from_module_index(index: u32) -> Option<Self> {
         Some(PackedIndex(index))
     }
 
     /// Returns the unpacked form of the index.
+    #[must_use]
     pub const fn unpack(&self) -> UnpackedIndex {
         UnpackedIndex::Module(self.0)
     }
 
     /// Returns the index in the module. The result is never `None`.
+    #[must_use]
     pub const fn as_module_index(&self) -> Option<u32> {
         Some(self.0)
     }
@@ -405,6 +425,7 @@ pub enum StorageType {
 
 impl StorageType {
     /// Returns the type of the value that reading the field yields: `i32` for packed integers.
+    #[must_use]
     pub fn unpack(&self) -> ValType {
         match self {
             StorageType::I8 | StorageType::I16 => ValType::I32,

@@ -58,8 +58,15 @@ fn numbered(rows: &[(Read, &str, u32, &str, u64, u64)]) {
             None if *code == 5 => format!("{text}: {number:#10x}"),
             None => format!("{text}: {number}"),
         };
-        assert_eq!((error.message(), error.to_string()), (message.as_str(), format!("{message} (at offset 0x{offset:x})")));
+        assert_eq!((error.message(), error.to_string()), (*text, format!("{message} (at offset 0x{offset:x})")));
+        assert_eq!(format!("{error:?}"), format!("Error {{ message: {message:?}, offset: {offset} }}"));
     }
+}
+
+#[test]
+fn an_error_is_small() {
+    assert_eq!(size_of::<Error>(), 32);
+    assert_eq!(size_of::<pulleynavy::Result<u64>>(), 32);
 }
 
 #[test]

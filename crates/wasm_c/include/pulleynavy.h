@@ -87,6 +87,11 @@
 #include <stdbool.h>
 #include <stddef.h>
 #include <stdint.h>
+#if defined(__clang__) && !defined(__cplusplus) && (!defined(__STDC_VERSION__) || __STDC_VERSION__ < 199901L)
+#pragma clang diagnostic push
+#pragma clang diagnostic ignored "-Wc99-extensions"
+#define PULLEYNAVY_POP
+#endif
 #ifdef __cplusplus
 extern "C" {
 #endif
@@ -2622,12 +2627,12 @@ typedef struct pulleynavy_stripped {
 pulleynavy_stripped pulleynavy_strip(uint8_t *bytes, size_t bytes_size, bool keep_names);
 
 /** For the checks of layouts below. */
-#ifdef __cplusplus
+#if defined(__cplusplus) && (__cplusplus >= 201103L || defined(_MSC_VER))
 #define PULLEYNAVY_ASSERT static_assert
-#else
+#elif !defined(__cplusplus) && defined(__STDC_VERSION__) && __STDC_VERSION__ >= 201112L
 #define PULLEYNAVY_ASSERT _Static_assert
 #endif
-#if defined(__cplusplus) || __STDC_VERSION__ >= 201112L
+#ifdef PULLEYNAVY_ASSERT
 PULLEYNAVY_ASSERT(sizeof(pulleynavy_fault) == 24 && offsetof(pulleynavy_fault, offset) == 16, "layout");
 PULLEYNAVY_ASSERT(sizeof(pulleynavy_event) == 96 && offsetof(pulleynavy_event, fault) == 72, "layout");
 PULLEYNAVY_ASSERT(sizeof(pulleynavy_parser) == 48 && offsetof(pulleynavy_parser, in_code) == 43, "layout");
@@ -2682,9 +2687,13 @@ PULLEYNAVY_ASSERT(sizeof(pulleynavy_core_thread) == 48 && offsetof(pulleynavy_co
 PULLEYNAVY_ASSERT(sizeof(pulleynavy_core_frame) == 48 && offsetof(pulleynavy_core_frame, code_offset) == 40, "layout");
 PULLEYNAVY_ASSERT(sizeof(pulleynavy_core_value) == 56 && offsetof(pulleynavy_core_value, bits) == 48, "layout");
 PULLEYNAVY_ASSERT(sizeof(pulleynavy_stripped) == 32 && offsetof(pulleynavy_stripped, size) == 24, "layout");
-#endif
 #undef PULLEYNAVY_ASSERT
+#endif
 #ifdef __cplusplus
 }
+#endif
+#ifdef PULLEYNAVY_POP
+#pragma clang diagnostic pop
+#undef PULLEYNAVY_POP
 #endif
 #endif

@@ -1,0 +1,89 @@
+"""How the tools call cargo without network: a local registry stands in for crates.io, and has what that says of the one optional dependency."""
+import json
+import os
+import re
+import shutil
+import subprocess
+
+import common
+
+CRATE = os.path.join(common.TOP, "bindings", "rust")
+# Where Debian's packages put the sources of crates, and the one with serde.
+DEBIAN, SERDE = "/usr/share/cargo/registry", "librust-serde-dev librust-serde-json-dev"
+# The row of crates.io for the version that Debian 12 has, as far as a resolver needs it.
+ROWS = {"serde": {"name": "serde", "vers": "1.0.152", "deps": [], "features": {"default": ["std"], "std": [], "alloc": []}, "yanked": False}}
+ROWS["serde"]["cksum"] = "bb7d1f0d3021d347a83e556fc4683dea2ea09d87bccdf88ff5c12545d89d5efb"
+SETTINGS = '[source.crates-io]\nreplace-with = "%s-crates"\n\n[source.%s-crates]\n%s = "%s"\n'
+
+
+def manifest():
+    with open(os.path.join(CRATE, "Cargo.toml"), encoding="utf-8") as file:
+        return file.read()
+
+
+def oldest():
+    """The oldest Rust that the crate needs, as numbers."""
+    return tuple(map(int, re.search(r'^rust-version = "([0-9.]+)"', manifest(), re.M)[1].split(".")))
+
+
+def version():
+    """The version of this machine's cargo, as numbers, or None."""
+    if not shutil.which("cargo"):
+        return None
+    said = subprocess.run(["cargo", "--version"], stdout=subprocess.PIPE, stderr=subprocess.DEVNULL).stdout.decode()
+    found = re.match(r"cargo (\d+)\.(\d+)", said)
+    return found and (int(found[1]), int(found[2]))
+
+
+def found():
+    """Whether this machine has a cargo that builds the crate. What needs it is skipped otherwise."""
+    if version() and version() >= oldest():
+        return True
+    common.skip("missing: cargo %d.%d or later" % oldest())
+    return False
+
+
+def own_row(digest):
+    """What crates.io would say of the crate, of which the package has this checksum."""
+    serde = {"name": "serde", "req": "^1", "features": [], "optional": True, "default_features": False, "target": None, "kind": "normal"}
+    row = {"name": "pulleynavy", "vers": common.version(), "deps": [serde], "cksum": digest, "yanked": False, "links": "wasm_c"}
+    return {**row, "features": {"default": ["alloc"], "alloc": [], "std": ["alloc"], "serde": ["dep:serde"]}}
+
+
+def write_registry(folder, digest=None):
+    """Writes a local registry, with the crate if the checksum of its package is given."""
+    rows = {**ROWS, **({"pulleynavy": own_row(digest)} if digest else {})}
+    for name, row in rows.items():
+        place = os.path.join(folder, "index", name[:2], name[2:4])
+        os.makedirs(place, exist_ok=True)
+        with open(os.path.join(place, name), "w", encoding="ascii") as file:
+            file.write(json.dumps(row) + "\n")
+
+
+def offline(folder, registry=None):
+    """Has cargo take crates from a local registry wherever it runs below this folder."""
+    if not registry:
+        registry = os.path.join(folder, ".cargo", "registry")
+        write_registry(registry)
+    write_settings(folder, "local-registry", registry)
+
+
+def with_debian(folder):
+    """Has cargo take crates from Debian's packages below this folder. Returns whether they are there."""
+    write_settings(folder, "directory", DEBIAN)
+    names = os.listdir(DEBIAN) if os.path.isdir(DEBIAN) else []
+    if all(any(re.match(r"%s-1\." % crate, name) for name in names) for crate in ("serde", "serde_json")):
+        return True
+    common.skip("missing: %s" % SERDE)
+    return False
+
+
+def settings(kind, path):
+    """What has cargo take crates from a folder of this kind."""
+    return SETTINGS % (kind, kind, kind, path)
+
+
+def write_settings(folder, kind, path):
+    os.makedirs(os.path.join(folder, ".cargo"), exist_ok=True)
+    with open(os.path.join(folder, ".cargo", "config.toml"), "w", encoding="utf-8") as file:
+        file.write(settings(kind, path))
