@@ -55,6 +55,14 @@ def runner(place, system):
     return script
 
 
+def without_serde(path):
+    """Removes the optional dependency from a manifest. Cargo looks for it too, and it isn't among the crates that the standard library needs."""
+    with open(path, encoding="utf-8") as file:
+        text = file.read()
+    with open(path, "w", encoding="utf-8") as file:
+        file.write(re.sub(r"^serde = .*\n", "", text, flags=re.M))
+
+
 def differences(library, system):
     """What is wrong with the tests of the crate, linked with the archive for Windows of this folder."""
     found = compiler() if common.found("cargo") else None
@@ -63,6 +71,7 @@ def differences(library, system):
     place, crate = os.path.join(system.folder, "rust"), os.path.join(system.folder, "rust", "crate")
     os.mkdir(place)
     shutil.copytree(os.path.join(common.TOP, "bindings", "rust"), crate)
+    without_serde(os.path.join(crate, "Cargo.toml"))
     settings = {"RUSTC": found[0], "RUSTC_BOOTSTRAP": "1", "PULLEYNAVY_LIB": library, "PULLEYNAVY_GOLDEN": common.GOLDEN}
     settings |= {"CARGO_TARGET_DIR": os.path.join(place, "target")}
     name = "CARGO_TARGET_%s_" % TARGET.upper().replace("-", "_")
