@@ -5,6 +5,7 @@ import re
 import shutil
 import subprocess
 
+import cargo
 import common
 import wine
 
@@ -65,7 +66,7 @@ def without_serde(path):
 
 def differences(library, system):
     """What is wrong with the tests of the crate, linked with the archive for Windows of this folder."""
-    found = compiler() if common.found("cargo") else None
+    found = compiler() if cargo.found() else None
     if not found:
         return []
     place, crate = os.path.join(system.folder, "rust"), os.path.join(system.folder, "rust", "crate")

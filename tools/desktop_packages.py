@@ -9,6 +9,7 @@ import sys
 import tempfile
 import zipfile
 
+import cargo
 import common
 import desktops
 import packages
@@ -113,9 +114,9 @@ def make(targets, folder):
     """Makes the packages for C, and the wheels if this machine has what makes them. Returns whether there are wheels."""
     os.environ.setdefault("SOURCE_DATE_EPOCH", "1")
     packages.targets = targets
-    packages.zips(folder, folder)
-    packages.desktop_tarballs(folder)
     try:
+        packages.zips(folder, folder)
+        packages.desktop_tarballs(folder)
         packages.desktop_wheels(folder, os.path.join(folder, "wheels"))
     except packages.Missing as program:
         common.skip("missing: %s, so there are no wheels for Windows and macOS" % program)
@@ -193,7 +194,7 @@ def target_of(triple):
 
 def wrong_crate(targets, folder):
     """The targets for which the build script of the crate links another library than that of the target."""
-    if not common.all_found(["cargo", "rustc"]):
+    if not cargo.found() or not common.found("rustc"):
         return
     place = os.path.join(folder, "crate")
     packages.crate(folder, place)
