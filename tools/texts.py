@@ -8,7 +8,7 @@ The models say nothing of where subsections and names begin: these offsets are c
 import re
 from collections import Counter
 
-import sections as S
+import standard as S
 from expressions import instructions, range_of
 
 # How many of some raw bytes the lines show, after their count.

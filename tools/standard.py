@@ -1,0 +1,33 @@
+"""The sections of a module as the standard has them, for the tools that judge what the programs write.
+
+They are copied from the text of the core specification, version 3.0. `sections.py` has the same names, but reads them from our source.
+`NAMES` has the word of each section by its id, as dumps write it, `ORDER` the ids in the order in which sections come, and the constants
+TYPE_SECTION and so on are the ids.
+"""
+
+# Binary Format, Modules, Sections: the table of ids.
+TABLE = """
+     0  custom section
+     1  type section
+     2  import section
+     3  function section
+     4  table section
+     5  memory section
+     6  global section
+     7  export section
+     8  start section
+     9  element section
+    10  code section
+    11  data section
+    12  data count section
+    13  tag section
+"""
+# Binary Format, Modules, Modules: the sections of a module in order. Custom sections come between any two.
+MODULE = "typesec importsec funcsec tablesec memsec tagsec globalsec exportsec startsec elemsec datacntsec codesec datasec".split()
+PRODUCTIONS = {"func": "function", "mem": "memory", "elem": "element", "datacnt": "data count"}
+
+IDS = {name.replace(" section", ""): int(number) for number, name in (line.split("  ") for line in map(str.strip, TABLE.split("\n")) if line)}
+NAMES = {number: name.replace(" ", "") for name, number in IDS.items()}
+CONSTANTS = {name.upper().replace(" ", "_") + "_SECTION": number for name, number in IDS.items()}
+ORDER = [IDS[PRODUCTIONS.get(name[:-3], name[:-3])] for name in MODULE]
+globals().update(CONSTANTS)
