@@ -6,7 +6,9 @@ import urllib.parse
 
 import api_listing
 import api_names
+import api_pages
 import api_source
+import api_standard
 
 VOID = frozenset("meta link input br wbr hr img".split())
 # What a paragraph may not have in it.
@@ -128,6 +130,7 @@ def faults(folder, site):
     yield from without_entry(pages)
     yield from without_clause(site)
     yield from sorted({*site.missing, *wrong_uses()})
+    yield from api_standard.faults(site, pages[api_pages.STANDARD].ids)
     yield from sorted("%s: nothing is known of %s in a clause" % pair for pair in site.unknown)
 
 

@@ -20,7 +20,7 @@ GROUPS = {
     "const": ("constant", "constants"),
     "law": ("law", "laws"),
 }
-DEFINITIONS = "definitions.html"
+DEFINITIONS, STANDARD = "definitions.html", "standard.html"
 ABOUT_LAWS = (
     "Laws state what follows from the contracts: properties of whole iterations, of several calls, of comparisons and copies. "
     "A law does nothing at run time; a program that calls one has its contract, and a proof may cite it."
@@ -424,7 +424,7 @@ def implementations(site, module, item):
 
 def page(title, main, side="", here=""):
     """A whole page."""
-    places = [("index.html", "Crates"), (DEFINITIONS, "Definitions")]
+    places = [("index.html", "Crates"), (DEFINITIONS, "Definitions"), (STANDARD, "Standard")]
     links = "".join('<a href="%s"%s>%s</a>' % (href, ' aria-current="page"' if href == here else "", text) for href, text in places)
     frame = '<nav class="side" aria-label="On this page">%s</nav>' % side if side else ""
     return PAGE % {"title": escaped(title), "version": escaped(common.version()), "links": links, "side": frame, "main": main}
@@ -514,13 +514,17 @@ def crate_page(site, crate):
     return page("%s - Pulleynavy" % crate, "\n".join(out), "\n".join(side))
 
 
-def cited_html(site, one):
-    """The items whose clauses name a definition."""
+def citing(site, one):
+    """The items whose clauses name a definition, as links."""
     keys = {}
     for name in (one.name, *one.parts):
         keys.update(site.cited_by.get(api_names.Target("definition", one.crate, (one.module, name)), {}))
     keys = [key for key in keys if key[:2] in site.places]
-    found = [link(site.places.get(key) or site.places[key[:2]], "<code>%s</code>" % escaped("::".join(key[1:]))) for key in keys]
+    return [link(site.places.get(key) or site.places[key[:2]], "<code>%s</code>" % escaped("::".join(key[1:]))) for key in keys]
+
+
+def cited_html(site, one):
+    found = citing(site, one)
     if not found:
         return ""
     head = "Cited by %d item%s" % (len(found), "" if len(found) == 1 else "s")
@@ -556,7 +560,8 @@ def definition_entry(site, one):
 ABOUT_DEFINITIONS = "The definitions of the crates: those that contracts cite, and those that these use in turn."
 ABOUT = (
     "The Rattle crates of Pulleynavy, a streaming parser for WebAssembly binaries. Each item has its signature, its documentation and its contract: "
-    "the <code>requires</code> and <code>ensures</code> clauses, which are proved. Open <em>Definitions</em> under a clause to see what it cites."
+    "the <code>requires</code> and <code>ensures</code> clauses, which are proved. Open <em>Definitions</em> under a clause to see what it cites. "
+    "If you know the standard, begin at <a href=\"standard.html\">its productions</a>, each beside our definition."
 )
 
 
@@ -612,12 +617,13 @@ def script(site):
     return "const INDEX = %s;\n%s" % (index, api_source.read("tools", "api.js"))
 
 
-def files():
-    """All files of the reference by their names, and the site that they show."""
+def files(more):
+    """All files of the reference by their names, and the site that they show. `more` has what writes further pages, by their names."""
     site = Site()
     place_implementations(site)
     found = {crate + ".html": crate_page(site, crate) for crate in api_source.LIBRARIES}
     found[DEFINITIONS] = definitions_page(site)
+    found.update((name, write(site)) for name, write in more.items())
     found["index.html"] = index_page(site)
     found["api.css"] = api_source.read("tools", "api.css")
     found["api.js"] = script(site)
