@@ -110,16 +110,22 @@ def without_entry(pages):
 
 
 def wrong_uses():
-    """The names that definitions and sources bring in of a file of definitions that has none of this name."""
+    """The names that definitions, sources and the page on a first proof bring in of a file of definitions that has none of this name."""
+    page = "docs/FIRST_PROOF.md"
+    yield from missing_names([(page, api_names.uses_of(api_source.read(*page.split("/")), 0)[0])])
     for crate in api_source.LIBRARIES:
         places = [("%s, %s" % (crate, name), specs.names) for name, specs in api_names.all_specs(crate).items()]
         for name in api_source.source_names(crate):
             text = "\n".join(api_source.source_of(crate, name).lines)
             places += [("%s, %s" % (crate, name), api_names.uses_of(text, indent)[0]) for indent in (0, 4)]
-        for place, names in places:
-            for target in names.values():
-                if target.kind == "definition" and not api_names.definition(target.crate, *target.path):
-                    yield "%s: no definition %s of %s" % (place, ".".join(target.path), target.crate)
+        yield from missing_names(places)
+
+
+def missing_names(places):
+    for place, names in places:
+        for target in names.values():
+            if target.kind == "definition" and not api_names.definition(target.crate, *target.path):
+                yield "%s: no definition %s of %s" % (place, ".".join(target.path), target.crate)
 
 
 def faults(folder, site):
