@@ -468,6 +468,9 @@ def is_from(section, one):
 def without_production():
     """The files of definitions that name a section of the binary chapter, and that no production has a definition of."""
     shown = {(crate, name.split(".")[0]) for section in sections() for one in section.productions for crate, name in one.cites}
+    for crate, module in sorted(OTHERS):
+        if (crate, module) in shown or module not in api_names.all_specs(crate):
+            yield "tools/api_standard.py: %s, %s is no longer one of OTHERS" % (crate, module)
     for crate in api_source.LIBRARIES:
         for module, specs in api_names.all_specs(crate).items():
             about = " ".join(specs.comment)
