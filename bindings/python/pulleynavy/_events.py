@@ -186,8 +186,6 @@ class Parser:
         """
         feed, offset = self._feed, self._feed.parser.offset
         held = feed.end - feed.mark
-        if self._skipping or not held:
-            return None
         first = ctypes.addressof(self._storage) + feed.mark
         event = self._library.pulleynavy_skip(feed.parser, first, held)
         kind = EventKind(event.kind)
