@@ -777,7 +777,7 @@ def corestack(r):
 
 KNOWN = {"name": names, "metadata.code.branch_hint": hints, "producers": producers, "dylink.0": dylink, "core": core,
          "coremodules": coremodules, "coreinstances": coreinstances, "corestack": corestack, "linking": linking}
-# A listing has the features too, which a caller of the parser has to ask for.
+# A dump has the features too, which other callers of the parser have to ask for.
 SHOWN = {**KNOWN, "target_features": features}
 
 
@@ -1039,7 +1039,7 @@ def rows():
 SECTION_ITEMS = {1: recgroup, 3: u32, 4: table, 5: memory, 6: globl, 7: export, 9: element, 11: data, 13: tag}
 
 
-def listing(s, feats=3):
+def listing(s, feats=3, readers=KNOWN):
     out = []
     for l in model.reading(s):
         out.append(l)
@@ -1066,8 +1066,13 @@ def listing(s, feats=3):
         elif w[0] == "custom":
             b, e, at = int(w[1]), int(w[2]), int(w[3])
             n = s[b + model.u32(s, b, e)[2]:at]
-            out.append("  %s %s" % (x(n), known(n.decode(), R(s, 0, feats, at, e), SHOWN)))
+            out.append("  %s %s" % (x(n), known(n.decode(), R(s, 0, feats, at, e), readers)))
     return out
+
+
+def dump(s):
+    """The lines of a dump, which shows target features too."""
+    return listing(s, readers=SHOWN)
 
 
 def main():
