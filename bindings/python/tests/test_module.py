@@ -439,6 +439,24 @@ class Streams(unittest.TestCase):
             list(parser.finish())
         self.assertEqual((caught.exception.kind, caught.exception.offset), (FaultKind.UNEXPECTED_EOF, 10))
 
+    def test_parts_that_are_skipped_after_the_end_of_input(self) -> None:
+        parser = Parser()
+        list(parser.feed(HEADER + b"\0\x64\1a"))
+        for skips in (False, True):
+            if skips:
+                self.assertIsNotNone(parser.skip_part())
+            with self.assertRaises(ParseError) as caught:
+                list(parser.finish())
+            self.assertEqual((caught.exception.kind, caught.exception.offset), (FaultKind.UNEXPECTED_EOF, 10))
+        self.assertIsNone(parser.skip_part())
+        ended = Parser()
+        self.assertEqual(len(list(ended.feed(HEADER))) + len(list(ended.finish())), 2)
+        self.assertIsNone(ended.skip_part())
+        wrong = Parser()
+        with self.assertRaises(ParseError):
+            list(wrong.feed(HEADER + b"\x80\1"))
+        self.assertIsNone(wrong.skip_part())
+
     def test_skipped_bytes_are_not_kept(self) -> None:
         size = 5_000_000
         content = b"\1" + bytes([size - 5 & 0x7F | 0x80, size - 5 >> 7 & 0x7F | 0x80, size - 5 >> 14 & 0x7F | 0x80, size - 5 >> 21])
