@@ -1,10 +1,10 @@
 // SPDX-License-Identifier: Apache-2.0 OR MIT
-// Compares streams with their lines in a browser: node tests/browser.js BROWSER STREAMS, where STREAMS is a file like tools/golden.jsonl.
+// Compares streams with their lines in Chromium or Firefox: node tests/browser.js BROWSER STREAMS, where STREAMS is a file like tools/golden.jsonl.
 import { spawn } from "node:child_process";
 import { mkdtempSync, readFileSync, rmSync } from "node:fs";
 import { createServer } from "node:http";
 import { tmpdir } from "node:os";
-import { extname, join } from "node:path";
+import { basename, extname, join } from "node:path";
 import { fileURLToPath } from "node:url";
 
 const PACKAGE = fileURLToPath(new URL("..", import.meta.url)), [browser, streams] = process.argv.slice(2);
@@ -79,7 +79,9 @@ async function removed(folder) {
 const server = createServer(), said = answer(server);
 await new Promise(resolve => server.listen(0, "127.0.0.1", resolve));
 const profile = mkdtempSync(join(tmpdir(), "pulleynavy-"));
-const flags = ["--headless=new", "--no-sandbox", "--disable-gpu", "--no-first-run", "--disable-dev-shm-usage", `--user-data-dir=${profile}`];
+const CHROMIUM = ["--headless=new", "--no-sandbox", "--disable-gpu", "--no-first-run", "--disable-dev-shm-usage", `--user-data-dir=${profile}`];
+const FIREFOX = ["--headless", "--no-remote", "--profile", profile];
+const flags = basename(browser).startsWith("firefox") ? FIREFOX : CHROMIUM;
 const child = spawn(browser, [...flags, `http://127.0.0.1:${server.address().port}/`], { stdio: "ignore" });
 try {
     const text = await said;
