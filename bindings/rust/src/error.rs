@@ -38,7 +38,7 @@ impl Error {
         Error { offset, number: 0, needed_hint: None, fault, has_number: false }
     }
 
-    /// Returns the error with this number, which its message then includes.
+    /// Returns the error with this number, which `Display` then adds to the message.
     #[must_use]
     pub fn with_number(self, number: u64) -> Self {
         Error { number, has_number: true, ..self }
