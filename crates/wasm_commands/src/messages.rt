@@ -1,0 +1,220 @@
+// What the program says on standard error.
+ghost use Rattle.std.specs.Prelude.{◌≡◌};
+ghost use Rattle.wasm_commands.specs.Messages.{Complains, Reports, failure_text, file_text, refusal_text};
+ghost use Rattle.wasm_console.specs.Endings.{status_of as status_for};
+ghost use Rattle.wasm_text.specs.Calls.{device_of};
+ghost use Rattle.wasm_text.specs.Messages.{Says};
+
+use crate::arguments::Refusal;
+use crate::options::Verb;
+use crate::reasons::{Cause, words_if_any};
+use wasm_console::{say, status_of};
+use wasm_feed::{Ended, ListError, Sink};
+
+/// Why the devices of a run failed, as far as they said so.
+#[derive(Clone, Copy)]
+pub struct Causes {
+    /// Why the input failed.
+    pub input: Option<Cause>,
+    /// Why the output failed.
+    pub output: Option<Cause>,
+}
+
+/// Returns the name of an input in messages.
+pub(crate) fn shown_name(name: &str) -> &str {
+    match name {
+        "-" => "standard input",
+        _ => name,
+    }
+}
+
+/// Says why a file can't be opened, read or written. Returns the exit status 3.
+pub(crate) fn refuse_file<E: Sink>(name: &str, cause: Cause, errors: &mut E) -> u8 {
+    say(
+        errors,
+        &[b"pulleynavy: ".as_slice(), name.as_bytes(), b": ", cause.words(), b"\n"],
+    );
+    3
+}
+
+/// Says why a run over the input with this name failed. Returns the exit status 3.
+pub(crate) fn refuse_run<E: Sink>(name: &str, why: ListError, causes: Causes, errors: &mut E) -> u8 {
+    match why {
+        ListError::Input => say(
+            errors,
+            &[
+                b"pulleynavy: ".as_slice(),
+                shown_name(name).as_bytes(),
+                b": ",
+                words_if_any(causes.input),
+                b"\n",
+            ],
+        ),
+        ListError::Output => say(
+            errors,
+            &[
+                b"pulleynavy: standard output: ".as_slice(),
+                words_if_any(causes.output),
+                b"\n",
+            ],
+        ),
+        ListError::Memory => say(errors, &[b"pulleynavy: out of memory\n".as_slice()]),
+    }
+    3
+}
+
+/// Says why a file could not be written. Returns the exit status 3.
+pub(crate) fn refuse_target<E: Sink>(name: &str, causes: Causes, errors: &mut E) -> u8 {
+    say(
+        errors,
+        &[
+            b"pulleynavy: ".as_slice(),
+            name.as_bytes(),
+            b": ",
+            words_if_any(causes.output),
+            b"\n",
+        ],
+    );
+    3
+}
+
+/// Warns that a value of `--section` chose nothing of a file.
+pub(crate) fn warn_of_missing<E: Sink>(name: &str, word: &str, errors: &mut E) {
+    say(
+        errors,
+        &[
+            b"pulleynavy dump: ".as_slice(),
+            shown_name(name).as_bytes(),
+            b": no section '",
+            word.as_bytes(),
+            b"'\n",
+        ],
+    );
+}
+
+/// Returns the exit status of a run over a stream. If it failed, says why.
+pub(crate) fn report<E: Sink>(
+    name: &str,
+    how: &Result<Ended, ListError>,
+    causes: Causes,
+    errors: &mut E,
+) -> u8 {
+    match how {
+        Ok(_) => status_of(how),
+        Err(why) => refuse_run(name, *why, causes, errors),
+    }
+}
+
+// The words before a message about the arguments of a command.
+fn command_words(verb: Verb) -> &'static [u8] {
+    match verb {
+        Verb::List => b"pulleynavy list",
+        Verb::Dump => b"pulleynavy dump",
+        Verb::Check => b"pulleynavy check",
+        Verb::Strip => b"pulleynavy strip",
+    }
+}
+
+/// What is wrong with the arguments.
+#[derive(Clone, Copy)]
+pub(crate) enum Complaint<'a> {
+    /// An argument of a command is wrong.
+    Argument(Verb, Refusal<'a>),
+    /// Two options of a command exclude each other.
+    Excluded(Verb, &'a str, &'a str),
+    /// A value is none of those that an option takes.
+    WrongValue(Verb, &'a str, &'a str),
+    /// A command has more operands than it takes: the first one of these.
+    Extra(Verb, &'a str),
+    /// There is no such command.
+    UnknownCommand(&'a str),
+    /// There is no such option before a command.
+    UnknownOption(&'a str),
+    /// There is no command.
+    NoCommand,
+    /// The names of standard input can't be shown.
+    NamesOfInput,
+    /// An argument is not valid UTF-8.
+    NotUtf8,
+}
+
+// Says what is wrong with an argument, and where to look.
+fn complain_of<E: Sink>(verb: Verb, parts: [&[u8]; 3], errors: &mut E) {
+    let [before, word, after] = parts;
+    let words = command_words(verb);
+    say(
+        errors,
+        &[words, b": ".as_slice(), before, word, after, b"\nTry '", words, b" --help'.\n"],
+    );
+}
+
+// Says what is wrong with an option.
+fn complain_of_option<E: Sink>(verb: Verb, refusal: Refusal<'_>, errors: &mut E) {
+    let parts: [&[u8]; 3] = match refusal {
+        Refusal::UnknownOption(word) => [b"unknown option '", word.as_bytes(), b"'"],
+        Refusal::NoValue(word) => [b"option '", word.as_bytes(), b"' needs a value"],
+        Refusal::UnwantedValue(word) => [b"option '", word.as_bytes(), b"' takes no value"],
+    };
+    complain_of(verb, parts, errors);
+}
+
+/// Says what is wrong with the arguments. Returns the exit status 2.
+pub(crate) fn complain<E: Sink>(complaint: Complaint<'_>, errors: &mut E) -> u8 {
+    match complaint {
+        Complaint::Argument(verb, refusal) => complain_of_option(verb, refusal, errors),
+        Complaint::Excluded(verb, first, second) => say(
+            errors,
+            &[
+                command_words(verb),
+                b": options '".as_slice(),
+                first.as_bytes(),
+                b"' and '",
+                second.as_bytes(),
+                b"' exclude each other\n",
+            ],
+        ),
+        Complaint::WrongValue(verb, option, value) => say(
+            errors,
+            &[
+                command_words(verb),
+                b": wrong value '".as_slice(),
+                value.as_bytes(),
+                b"' of option '",
+                option.as_bytes(),
+                b"'\n",
+            ],
+        ),
+        Complaint::Extra(verb, word) => {
+            complain_of(verb, [b"unexpected argument '", word.as_bytes(), b"'"], errors);
+        }
+        Complaint::UnknownCommand(word) => say(
+            errors,
+            &[
+                b"pulleynavy: unknown command '".as_slice(),
+                word.as_bytes(),
+                b"'\nTry 'pulleynavy --help'.\n",
+            ],
+        ),
+        Complaint::UnknownOption(word) => say(
+            errors,
+            &[
+                b"pulleynavy: unknown option '".as_slice(),
+                word.as_bytes(),
+                b"'\nTry 'pulleynavy --help'.\n",
+            ],
+        ),
+        Complaint::NoCommand => say(
+            errors,
+            &[b"usage: pulleynavy COMMAND [OPTION]... [FILE]...\nTry 'pulleynavy --help'.\n".as_slice()],
+        ),
+        Complaint::NamesOfInput => say(
+            errors,
+            &[b"pulleynavy dump: --names reads each file twice, and standard input can't be: name files\n".as_slice()],
+        ),
+        Complaint::NotUtf8 => say(
+            errors,
+            &[b"pulleynavy: an argument is not valid UTF-8\n".as_slice()],
+        ),
+    }
+    2
+}
