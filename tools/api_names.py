@@ -6,6 +6,7 @@ import re
 
 import api_source
 import common
+import documents
 
 # A definition: where it stands, the comment over it, and its text. `parts` are its constructors.
 Definition = collections.namedtuple("Definition", "crate module name comment text parts")
@@ -35,8 +36,15 @@ def split_names(text):
             yield name, other.strip() or name
 
 
+def row_as_comment(row):
+    """A comment that is a row of DEFINITIONS, in words."""
+    words, _, source = documents.parts_of_row(re.sub(r"\n--\s+", " ", row[1]))
+    return "-- %s%s.%s" % (words[0].upper(), words[1:], " (%s.)" % source if source else "")
+
+
 def comment_of(lines):
-    return tuple(line[2:].strip() for line in lines if line.startswith("--"))
+    text = re.sub(r"^-- \| (.*(?:\n--   .*)*)", row_as_comment, "\n".join(line for line in lines if line.startswith("--")), flags=re.M)
+    return tuple(line[2:].strip() for line in text.split("\n") if line)
 
 
 def definition_in(crate, module, block):

@@ -263,8 +263,8 @@ class Writer:
             if re.match(r"[^\W\d]", word) and word not in api_text.KEYWORDS and first not in known and not scope.target(word):
                 yield first
 
-    def clause(self, text, at, outer, owner):
-        """A clause of what is declared at a line, and under it the definitions that it cites."""
+    def clause(self, text, at, outer, owner, place=None):
+        """A clause of what is declared at a line, above it what it proves, and under it the definitions that it cites."""
         scope = self.scope(at, outer, text)
         targets = api_text.cited(api_text.unlabeled(text), scope)
         self.site.words.setdefault((self.module.crate, *owner.split("::")), set()).update(api_names.WORD.findall(text))
@@ -276,11 +276,12 @@ class Writer:
         known = [target for target in targets if api_names.definition(target.crate, *target.path)]
         shown = api_text.clause(text, scope, self.site.link_of)
         others = api_text.cited(api_text.unlabeled(text), scope, "std")
-        return '<div class="clause"><pre><code>%s</code></pre>%s</div>' % (shown, folded_definitions(self.site, known, others))
+        said = "".join("<p>%s</p>" % inline(words, lambda name: None) for words in api_source.proved(self.source, at if place is None else place))
+        return '<div class="clause">%s<pre><code>%s</code></pre>%s</div>' % (said, shown, folded_definitions(self.site, known, others))
 
     def clauses(self, at, outer, owner):
         found = api_source.clauses(self.source, at)
-        return '<div class="clauses">%s</div>' % "".join(self.clause(text, at, outer, owner) for text in found) if found else ""
+        return '<div class="clauses">%s</div>' % "".join(self.clause(text, at, outer, owner, place) for place, text in found) if found else ""
 
     def heading(self, level, kind, names, at):
         """The heading of an item, which links to itself."""

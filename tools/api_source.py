@@ -5,6 +5,7 @@ import os
 import re
 
 import common
+import documents
 
 LIBRARIES = ("wasm_base", "wasm_grammar", "wasm_items", "wasm_custom", "wasm_text", "wasm_parser", "wasm_lines", "wasm_feeder", "wasm_feed", "wasm_tree", "wasm_show",
              "wasm_dumper")
@@ -109,7 +110,7 @@ class Source:
         """The definitions of specs/ that the clauses from this line on name."""
         found = []
         while at < len(self.lines) and self.lines[at].strip() and not re.match(r"\s*\{$|\s*(pub |final )?fn |\}", self.lines[at]):
-            text = self.lines[at]
+            text = "" if COMMENT.match(self.lines[at]) else self.lines[at]
             for word in re.findall(r"[\w◌+≡<≤^]+", text):
                 if word in self.specs and word not in found and re.match(r"[A-Za-z]", word):
                     found.append(word)
@@ -272,15 +273,24 @@ def block_at(lines, at):
 
 
 def clauses(source, at):
-    """The clauses of the function that is declared from this line on, each as its lines."""
+    """The clauses of the function that is declared from this line on: of each the line that it begins at, and its lines."""
     found, at = [], source.signature(at)[1]
     while at < len(source.lines) and (CLAUSE.match(source.lines[at]) or COMMENT.match(source.lines[at])):
         if COMMENT.match(source.lines[at]):
             at += 1
             continue
-        lines, at = block_at(source.lines, at)
-        found.append(dedented(lines).rstrip(";"))
+        first, (lines, at) = at, block_at(source.lines, at)
+        found.append((first, dedented(lines).rstrip(";")))
     return found
+
+
+def proved(source, at):
+    """What comments say that the clause at a line proves, as sentences."""
+    first = at
+    while COMMENT.match(source.lines[first - 1]):
+        first -= 1
+    texts = (re.sub(r" \[[^\[]*\]$", "", text) for text, _ in documents.comments(source.lines[first : at + 1], "// Proved: "))
+    return ["%s%s." % (text[0].upper(), text[1:]) for text in texts]
 
 
 def declared(source, at):
@@ -326,7 +336,8 @@ def comment_before(source, at):
     while not doc_of(source, at) and at > 0 and re.match(r"\s*// ", source.lines[at - 1]):
         at -= 1
         found.insert(0, source.lines[at].strip()[3:])
-    return found
+    row = next((number for number, line in enumerate(found) if line.startswith("Proved: ")), len(found))
+    return found[:row]
 
 
 # ---- what a type has

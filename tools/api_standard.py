@@ -339,7 +339,7 @@ def private_functions(site):
                 if not head or "pub fn" in line and (crate, head[2]) in site.places:
                     continue
                 shown = "<code>%s</code> (%s/src/%s.rt:%d)" % (head[2], crate, name, at + 1)
-                for text in api_source.clauses(module.source, at):
+                for _, text in api_source.clauses(module.source, at):
                     scope = writer.scope(at, writer.outer_of(at) if head[1] else None, text)
                     for target in api_text.cited(api_text.unlabeled(text), scope):
                         found.setdefault(api_names.definition(target.crate, *target.path), {})[shown] = None
