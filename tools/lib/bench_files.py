@@ -19,6 +19,7 @@ import tempfile
 import benches
 import common
 import original
+import programs
 import standard as S
 from common import leb
 from made import custom, listed, module, section, text
@@ -114,7 +115,7 @@ MADE = [("a linked module, with names and relocations", linked), ("as Go links i
 
 def program(name):
     """The program of the release, or the one that was built."""
-    built, kept = common.path_of(name), os.path.join(common.TOP, "prebuilt", name)
+    built, kept = programs.path_of(name), os.path.join(common.TOP, "prebuilt", name)
     return built if os.access(built, os.X_OK) else kept
 
 
@@ -147,7 +148,7 @@ def row(path, task, commands, out):
         tried = [one[place] for one in rounds]
         failed = any(status for _, status in tried)
         cells.append("%s %s" % (os.path.basename(words[0]), "refuses the file" if failed else "%.0f" % (1000 * min(took for took, _ in tried))))
-    held = common.peak_memory([word for word in commands[0] if word != path], path)
+    held = programs.peak_memory([word for word in commands[0] if word != path], path)
     return [task, cells[0].split(" ", 1)[1], "%.1f" % (held / 1024), ", ".join(cells[1:])]
 
 

@@ -32,11 +32,12 @@ import benches
 import cargo
 import common
 import original
+import programs
 import standard as S
 from common import leb
 from made import custom, listed, module, section, text
 
-PROGRAM, LISTER, DUMPER = benches.PROGRAM, common.path_of("wasm_list"), common.path_of("wasm_dump")
+PROGRAM, LISTER, DUMPER = benches.PROGRAM, programs.path_of("wasm_list"), programs.path_of("wasm_dump")
 EVENT_WAYS = ["parse", "parse_all", "65536", "4096", "100", "16", "1"]
 RUNS = 5
 
@@ -304,7 +305,7 @@ def words_of(way, by_made):
 def build():
     """Builds the programs that are not built yet, or from older sources."""
     for name in ("wasm_list", "wasm_dump"):
-        if os.access(common.path_of(name), os.X_OK) and not common.is_older(name):
+        if os.access(programs.path_of(name), os.X_OK) and not programs.is_older(name):
             continue
         if subprocess.run([os.path.join(common.TOP, "tools", "run"), "--build", name]).returncode:
             common.stop(common.NO_PROGRAM, "%s could not be built" % name)
@@ -436,7 +437,7 @@ def process_row(path, folder):
     least = [min(took) for took in zip(*rounds)]
     to_list = statistics.median(took[0] / (took[1] + took[2]) for took in rounds)
     to_strip = statistics.median(took[3] / took[4] for took in rounds)
-    row = [milliseconds(least[0]), milliseconds(least[1] + least[2]), "%.2f" % to_list, str(common.peak_memory([LISTER], path))]
+    row = [milliseconds(least[0]), milliseconds(least[1] + least[2]), "%.2f" % to_list, str(programs.peak_memory([LISTER], path))]
     row += [milliseconds(least[3]), milliseconds(least[4]), "%.2f" % to_strip]
     return row + [milliseconds(took) for took in least[5:]]
 

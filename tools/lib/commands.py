@@ -1,4 +1,4 @@
-"""The subcommands of the tools that have some: of each the module with its `main`, and what it does."""
+"""The subcommands of the tools that have some: of each the module and its function, `main` if no other is named, and what it does."""
 import importlib
 import sys
 
@@ -6,15 +6,15 @@ import common
 
 COMMANDS = {
     "compare": {
-        "listings": ("compare_listings", "listings of random streams"),
-        "dump": ("compare_dump", "dumps of random streams and of modules"),
+        "listings": ("compare_streams:listings", "listings of random streams"),
+        "dump": ("compare_dumps:dump", "dumps of random streams and of modules"),
         "forms": ("compare_forms", "dumps as JSON, with names, bytes, colors and hexadecimal offsets, with those in lines"),
-        "golden": ("compare_golden", "listings and dumps with what wasmparser 0.263.0 says of the streams of tools/golden.jsonl"),
-        "items": ("compare_items", "items of random bytes and of modules"),
-        "pieces": ("compare_pieces", "chunked streams, and each step of a feeder"),
-        "pipe": ("compare_pipe", "a stream that comes byte by byte through a pipe, line by line"),
-        "strip": ("compare_strip", "stripped streams, also with wasm-strip of wabt"),
-        "soak": ("compare_soak", "random, mutated and spliced streams, for as long as you like"),
+        "golden": ("compare_dumps:golden", "listings and dumps with what wasmparser 0.263.0 says of the streams of tools/golden.jsonl"),
+        "items": ("compare_dumps:items", "items of random bytes and of modules"),
+        "pieces": ("compare_streams:chunks", "chunked streams, and each step of a feeder"),
+        "pipe": ("compare_streams:pipe", "a stream that comes byte by byte through a pipe, line by line"),
+        "strip": ("compare_streams:strip", "stripped streams, also with wasm-strip of wabt"),
+        "soak": ("compare_streams:soak", "random, mutated and spliced streams, for as long as you like"),
         "surface": ("compare_surface", "the public items of the crate for Rust with those of wasmparser 0.263.0"),
     },
     "try": {
@@ -33,7 +33,6 @@ COMMANDS = {
         "documents": ("documents", "the tables of docs/PROVED.md and docs/DEFINITIONS.md, from comments over clauses and definitions"),
         "header": ("generate_header", "the header of the C library, and the declarations of the bindings"),
         "codes": ("generate_codes", "the numbers of enumerations for the crate for Rust, from the header"),
-        "golden": ("generate_golden", "golden streams as tests, from tools/golden.jsonl"),
         "manuals": ("generate_manuals", "manual pages of ten calls of the C library, from the header"),
     },
     "bench": {
@@ -54,4 +53,5 @@ def run(tool, about):
     if words[0] not in known:
         common.stop(common.WRONG_USE, "there is no %s; there are %s" % (words[0], ", ".join(known)))
     sys.argv = ["tools/%s %s" % (tool, words[0]), *words[1:]]
-    return importlib.import_module(known[words[0]][0]).main()
+    module, _, name = known[words[0]][0].partition(":")
+    return getattr(importlib.import_module(module), name or "main")()

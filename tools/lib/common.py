@@ -12,7 +12,6 @@ import re
 import shutil
 import subprocess
 import sys
-import time
 
 sys.dont_write_bytecode = True
 TOP = os.path.dirname(os.path.dirname(os.path.dirname(os.path.abspath(__file__))))
@@ -39,6 +38,37 @@ def date_of_release():
         found = re.search(r"^## \[?%s\]? - (\S+)" % re.escape(version()), file.read(), re.M)
     day = datetime.datetime.fromisoformat(found[1] if found else "2026-01-01")
     return int(day.replace(tzinfo=datetime.timezone.utc).timestamp())
+
+
+def read(*parts):
+    """The text of a file, by its path below the top."""
+    with open(os.path.join(TOP, *parts), encoding="utf-8") as file:
+        return file.read()
+
+
+def read_bytes(path):
+    with open(path, "rb") as file:
+        return file.read()
+
+
+def write(path, data):
+    """Writes a text or bytes, and makes the folder. Returns the path."""
+    os.makedirs(os.path.dirname(path) or ".", exist_ok=True)
+    with open(path, "wb") as file:
+        file.write(data.encode() if isinstance(data, str) else data)
+    return path
+
+
+class Failed(Exception):
+    """A command failed, or something differs."""
+
+
+def must(words, folder=None, stream=b"", env=None, **options):
+    """What a command prints, its errors among it. Raises Failed if its status is not 0."""
+    done = subprocess.run(words, cwd=folder, input=stream, stdout=subprocess.PIPE, stderr=subprocess.STDOUT, env={**os.environ, **(env or {})}, **options)
+    if done.returncode:
+        raise Failed("%s: status %d\n%s" % (" ".join(map(str, words)), done.returncode, done.stdout.decode(errors="replace")[-4000:]))
+    return done.stdout.decode(errors="replace")
 
 
 def stop(status, message):
@@ -87,42 +117,45 @@ def whole(word):
     return int(word)
 
 
-def arguments(doc, numbers=(), files=False, program=None, model=None, show=None, more=()):
-    """The arguments of a tool that compares: first numbers, each with its name and what it is if left out, then files.
+def arguments(doc, numbers=(), files=False, show=None, more=()):
+    """The arguments of a tool: first numbers, each with its name and what it is if left out, then files.
 
-    `program` is the program that it runs, `model` the model it compares with, `show` how many differences it prints, and `more` has
-    other options, as `add_argument` takes them.
+    `show` is how many differences it prints, and `more` has other options, as `add_argument` takes them.
     """
     usage = "".join(" [%s]" % name.upper() for name, _ in numbers) + (" [FILE..]" if files else "")
     line = parser(doc, usage="%(prog)s" + usage + " [OPTION..]")
-    line.add_argument("words", nargs="*", metavar=usage.strip() or "nothing", help=argparse.SUPPRESS)
-    if program:
-        line.add_argument("--program", metavar="FILE", help="the program, instead of the built %s" % program)
-    if model:
-        line.add_argument("--model", metavar="FILE", default=model, help="a model, instead of tools/model/%s" % os.path.basename(model))
+    line.add_argument("files", nargs="*", metavar=usage.strip() or "nothing", help=argparse.SUPPRESS)
     if show is not None:
-        line.add_argument("--show", metavar="N", type=whole, default=show, help="how many differences are printed (%d if left out)" % show)
+        line.add_argument("--show", metavar="N", type=whole, default=show, help="how many differences are printed (%d)" % show)
     for flag, options in more:
         line.add_argument(flag, **options)
     given = line.parse_intermixed_args()
-    words = given.words
     for name, usual in numbers:
-        is_given = bool(words) and words[0].isdecimal()
-        setattr(given, name, int(words.pop(0)) if is_given else usual)
-    given.files = words
-    if words and not files:
-        line.error("%r is no argument" % words[0])
-    for path in words + [path for path in [getattr(given, "model", None), getattr(given, "program", None)] if path]:
+        setattr(given, name, int(given.files.pop(0)) if given.files and given.files[0].isdecimal() else usual)
+    if given.files and not files:
+        line.error("%r is no argument" % given.files[0])
+    for path in given.files:
         if not os.path.isfile(path):
             line.error("there is no file %s" % path)
-    if program:
-        if given.program and not os.access(given.program, os.X_OK):
-            line.error("%s is no program" % given.program)
-        given.program = given.program or built(program)
     return given
 
 
-# ---- programs
+def generate(doc, files):
+    """The main part of a tool that writes files, which are texts by their paths: with --check it says which differ. Returns its status."""
+    line = parser(doc, usage="%(prog)s [--check]")
+    line.add_argument("--check", action="store_true", help="write nothing; the status is 1 if a file differs")
+    given, status = line.parse_args(), 0
+    for path, text in files.items():
+        is_current = os.path.exists(path) and read(path) == text
+        if given.check and not is_current:
+            print("%s is not what %s writes" % (os.path.relpath(path, TOP), sys.argv[0]))
+            status = DIFFERS
+        elif not is_current:
+            write(path, text)
+    return status
+
+
+# ---- crates
 
 
 def crates():
@@ -153,61 +186,6 @@ def files_of(crate):
 def is_program(crate):
     """Whether a crate is a program."""
     return os.path.isfile(os.path.join(TOP, "crates", crate, "src", "main.rt"))
-
-
-def is_older(name):
-    """Whether a built program is older than what it is made of."""
-    built_at = os.path.getmtime(path_of(name))
-    return any(os.path.getmtime(path) > built_at for crate in crates_of(name) for path in files_of(crate))
-
-
-def peak_memory(command, path):
-    """The most memory that the process held, in KiB, once it was given all of the input and before it saw its end."""
-    with open(path, "rb") as data:
-        process = subprocess.Popen(command, stdin=subprocess.PIPE, stdout=subprocess.DEVNULL)
-        try:
-            shutil.copyfileobj(data, process.stdin, 1 << 16)
-            process.stdin.flush()
-        except BrokenPipeError:
-            pass
-        time.sleep(0.1)
-        with open("/proc/%d/status" % process.pid) as status:
-            peak = [int(line.split()[1]) for line in status if line.startswith("VmHWM")]
-        try:
-            process.stdin.close()
-        except BrokenPipeError:
-            pass
-        process.wait()
-    return peak[0] if peak else None
-
-
-def path_of(name):
-    """The path of a program once it is built."""
-    return os.path.join(TOP, "crates", name, "out", name)
-
-
-def built(name):
-    """The path of a built program; if it isn't built, the tool stops and says how to build it."""
-    path = path_of(name)
-    if not os.access(path, os.X_OK):
-        stop(NO_PROGRAM, "%s is not built: `tools/run --build %s` proves and builds it" % (name, name))
-    if is_older(name):
-        print("%s is older than the sources: `tools/run --build %s` builds it anew" % (name, name), file=sys.stderr)
-    return path
-
-
-def lines_of(program, words, stream):
-    """The lines that a program writes of a stream, its status, and what it says on standard error."""
-    done = subprocess.run([program, *words], input=stream, stdout=subprocess.PIPE, stderr=subprocess.PIPE, timeout=600)
-    return lines_in(done.stdout), done.returncode, done.stderr
-
-
-def lines_in(output):
-    """The lines of a program's output; where the last has no line feed, that is a line of its own."""
-    lines = output.decode("ascii", errors="backslashreplace").split("\n")
-    if lines[-1] == "":
-        return lines[:-1]
-    return lines + ["(no line feed)"]
 
 
 # ---- prebuilt artifacts
@@ -334,11 +312,6 @@ def leb(value):
         value >>= 7
     out.append(value)
     return bytes(out)
-
-
-def status(lines):
-    """The exit status of a program that writes these lines."""
-    return 0 if lines[-1].startswith("end ") else 1
 
 
 # ---- differences

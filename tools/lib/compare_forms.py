@@ -11,15 +11,14 @@ to the fault that ends it, and the rest must be the dump in lines. With --hex th
 and with --color the text must be the same. tools/compare dump compares the dump in lines with a model.
 """
 import json
-import os
 import random
 import re
-import subprocess
 import tempfile
-from concurrent.futures import ThreadPoolExecutor
 from itertools import zip_longest
 
 import common
+import comparing
+import programs
 import standard
 from made import module, named_module, other_names
 from modules import section, stream_of
@@ -213,13 +212,13 @@ def check_hexadecimal(output, hexadecimal):
 class Dumps:
     """The dumps of a stream, which is in a file. All have the same status."""
 
-    def __init__(self, program, path):
-        self.program, self.path, self.statuses = program, path, set()
+    def __init__(self, words, path):
+        self.words, self.path, self.statuses = words, path, set()
 
     def run(self, *words):
-        done = subprocess.run([self.program, *words, self.path], stdin=subprocess.DEVNULL, stdout=subprocess.PIPE, timeout=600)
-        self.statuses.add(done.returncode)
-        return done.stdout
+        output, status, _ = programs.run([*self.words, *words, self.path])
+        self.statuses.add(status)
+        return output
 
     def check(self, stream):
         text, rows, hexadecimal = self.run(), self.run("--bytes"), self.run("--hex")
@@ -241,29 +240,28 @@ class Dumps:
         assert objects == 2 * [{"file": self.path}, *alone_objects], "other objects of two files"
 
 
-def difference(program, path, stream, has_files):
-    with open(path, "wb") as file:
+def forms_differ(words, stream):
+    """What differs of the dumps of a stream; of each tenth two files are dumped too."""
+    with tempfile.NamedTemporaryFile(suffix=".wasm") as file:
         file.write(stream)
-    dumps = Dumps(program, path)
-    try:
-        dumps.check(stream)
-        if has_files:
-            dumps.check_files()
-    except (AssertionError, LookupError, ValueError) as error:
-        return "%s\n  %s" % (stream.hex()[:2000], str(error)[:400])
+        file.flush()
+        dumps = Dumps(words, file.name)
+        try:
+            dumps.check(stream)
+            if sum(stream) % 10 == 0:
+                dumps.check_files()
+        except (AssertionError, LookupError, ValueError) as error:
+            return str(error)[:400]
     return None
 
 
 def main():
-    given = common.arguments(__doc__, numbers=[("seed", 1), ("streams", 300)], files=True, program="wasm_dump", show=5)
+    given = comparing.arguments(__doc__, "dump", numbers=[("seed", 1), ("count", 300)], files=True, show=5)
     rng = random.Random(given.seed)
     # Two sections of names, a shared memory, and a section of a component with an id that modules have.
     streams = [named_module(), named_module() + other_names(), module(section(5, b"\1\3\1\2")), COMPONENT + section(1, b"\0")]
-    streams += [stream for stream, _ in common.golden()] + [(stream_of if number % 2 else some_stream)(rng) for number in range(given.streams)]
+    streams += [stream for stream, _ in common.golden()] + [(stream_of if number % 2 else some_stream)(rng) for number in range(given.count)]
     for path in given.files:
         with open(path, "rb") as file:
             streams.append(file.read())
-    with tempfile.TemporaryDirectory() as folder, ThreadPoolExecutor(len(os.sched_getaffinity(0))) as pool:
-        cases = [(given.program, os.path.join(folder, "%d.wasm" % number), stream, number % 10 == 0) for number, stream in enumerate(streams)]
-        found = [text for text in pool.map(lambda case: difference(*case), cases) if text]
-    return common.tell(found, given.show, "%d streams, %d differ" % (len(streams), len(found)))
+    return comparing.compare(given, streams, comparing.one_by_one(lambda stream: forms_differ(given.command, stream)))

@@ -22,8 +22,7 @@ NOT_SAID = {"Place", "place", "joined", "the_row"}
 
 
 def lines_of(path):
-    with open(path, encoding="utf-8") as file:
-        return file.read().split("\n")
+    return common.read(path).split("\n")
 
 
 def comments(lines, first):
@@ -135,23 +134,9 @@ def written(name):
     return "\n".join(made), left
 
 
-def write(check):
-    """Writes both documents, or yields what is wrong with them."""
-    for name in DOCUMENTS:
-        path, (text, left) = os.path.join(common.TOP, "docs", name), written(name)
-        if left:
-            yield "docs/%s: no table has the rows of %s" % (name, ", ".join(left))
-        if check and text != "\n".join(lines_of(path)):
-            yield "docs/%s: not what tools/generate documents writes" % name
-        elif not check:
-            with open(path, "w", encoding="utf-8") as file:
-                file.write(text)
-
-
 def main():
-    line = common.parser(__doc__)
-    line.add_argument("--check", action="store_true", help="say what differs, and write nothing")
-    found = list(write(line.parse_args().check))
-    for text in found:
-        print(text)
-    return common.DIFFERS if found else 0
+    texts = {name: written(name) for name in DOCUMENTS}
+    for name, (_, left) in texts.items():
+        if left:
+            common.stop(common.DIFFERS, "docs/%s: no table has the rows of %s" % (name, ", ".join(left)))
+    return common.generate(__doc__, {os.path.join(common.TOP, "docs", name): text for name, (text, _) in texts.items()})

@@ -35,16 +35,4 @@ def file_of(header):
 
 
 def main():
-    line = common.parser(__doc__)
-    line.add_argument("--check", action="store_true", help="write nothing; the status is 1 if the file differs")
-    given = line.parse_args()
-    with open(HEADER, encoding="utf-8") as file:
-        text = file_of(file.read())
-    if not given.check:
-        with open(TARGET, "w", encoding="utf-8") as file:
-            file.write(text)
-        return 0
-    with open(TARGET, encoding="utf-8") as file:
-        is_current = file.read() == text
-    print("codes.rs is current" if is_current else "codes.rs is not what tools/generate codes writes")
-    return 0 if is_current else common.DIFFERS
+    return common.generate(__doc__, {TARGET: file_of(common.read(HEADER))})

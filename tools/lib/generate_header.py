@@ -19,154 +19,8 @@ TYPES = {"u8": ("uint8_t", 1), "u32": ("uint32_t", 4), "u64": ("uint64_t", 8), "
 SOURCES = ["version", "faults", "messages", "events", "stored", "parsing", "event_batches", "feeding", "cursors", "spans", "numbers", "values", "types", "kinds"]
 SOURCES += ["imports", "flat_imports", "exports", "instructions", "segments", "names", "producers", "hints", "dylink", "linking", "symbols", "target_features", "relocations", "coredumps", "customs", "ends", "strip"]
 
-HEAD = """\
-/* SPDX-License-Identifier: Apache-2.0 OR MIT */
-/* Pulleynavy: a streaming parser for WebAssembly modules, for C and C++. Written by tools/generate header from the sources of wasm_c.
-
-   Link libpulleynavy.a, or the shared library, and nothing else: `pkg-config --cflags --libs pulleynavy` prints the options. No call
-   allocates, keeps a pointer, or fails to return. docs/C.md has a table of all calls.
-
-       pulleynavy_parser parser = pulleynavy_parser_init(0, PULLEYNAVY_ALL_FEATURES);
-       for (size_t at = 0;;) {
-           pulleynavy_event event = pulleynavy_parse(&parser, bytes + at, size - at, true);
-           if (event.kind >= PULLEYNAVY_EVENT_END) return event.kind == PULLEYNAVY_EVENT_FAULT;
-           printf("%u at %llu\\n", event.id, (unsigned long long)event.start);
-           if (event.kind == PULLEYNAVY_EVENT_SECTION && event.id == PULLEYNAVY_SECTION_EXPORT)
-               print_exports(&event, bytes + at + event.at);
-           at += event.consumed;
-       }
-
-   A cursor walks the items of a section, and each call stores as many as there is room for. It is passed the bytes of the section,
-   those from `start` to `end` of its event:
-
-       void print_exports(const pulleynavy_event *event, const uint8_t *section) {
-           pulleynavy_items items = pulleynavy_items_init(event, PULLEYNAVY_ALL_FEATURES);
-           pulleynavy_export out[64];
-           for (size_t n; (n = pulleynavy_next_exports(&items, section, event->end - event->start, out, 64)) > 0;)
-               for (size_t i = 0; i < n && !out[i].fault.kind; i++)
-                   printf("%.*s is %u\\n", (int)out[i].name.size, (const char *)section + out[i].name.at, out[i].index);
-       }
-
-   For chunked input, a feeder keeps the bytes that are not consumed yet in storage of yours, as in examples/list.c:
-
-       pulleynavy_feed feed = pulleynavy_feed_init(0, PULLEYNAVY_ALL_FEATURES);
-       pulleynavy_event event;
-       while ((event = pulleynavy_feed_step(&feed, storage, storage_size)).kind < PULLEYNAVY_EVENT_END) {
-           if (event.kind != PULLEYNAVY_EVENT_NEED_MORE) continue;
-           size_t size = fread(chunk, 1, sizeof chunk, file);
-           if (!size) pulleynavy_feed_finish(&feed);
-           else if (!pulleynavy_feed_push(&feed, storage, storage_size, chunk, size)) return 3;
-       }
-
-   Offsets are uint64_t and count bytes from the start of the stream; sizes and positions in memory are size_t and count bytes too. A
-   span is a place in the bytes that the call is passed. Features are bits: PULLEYNAVY_FEATURE_ numbers, added.
-
-   Faults. A struct that a call returns or stores has a field `fault`, whose kind is 0 if there is none. After a fault all other fields
-   of an item are 0, `consumed` included. The offset of a fault counts from the start of the stream. Each call names the faults that it
-   adds to these, which items have in common:
-
-     UNEXPECTED_EOF: the bytes end too early. Inside a number, the offset is their end; otherwise it is where the missing part, such as
-       the bytes of a name after its size, should have started.
-     NUMBER_TOO_LONG, NUMBER_TOO_LARGE: a LEB128 number is malformed. The offset is that of the last byte that it may take.
-     STRING_SIZE: a name is longer than 100,000 bytes. The offset is that of the last byte of its size.
-     MALFORMED_UTF8: a name is not UTF-8. The offset is that of its last byte.
-     OFFSET_RANGE: the bytes end beyond the offset 2^64 - 1. The offset is that of the first byte.
-
-   `pulleynavy_read_` calls read one item from the start of `bytes`. These are the remaining bytes of the item's section and begin at
-   `offset` of the stream; a read never looks beyond them. `consumed` is the size of the item in bytes.
-
-   `pulleynavy_next_` calls store the next items of a list in `out` and return their number: as many as there are, or `out_count` if
-   there are more, and 0 after the end. `bytes` are those of the whole list, the same in each call, and spans count from their start.
-   An item with a fault is stored too; the list ends after it, unless the call says otherwise. If bytes follow the last item of a list
-   with a count, an item with the fault SIZE_MISMATCH at the first of them is stored last.
-
-   What you owe each call: no pointer is null, not even with a size of 0; a pointer leads to as much as the size says; what a call
-   writes overlaps nothing else that it is given; nobody writes the bytes during a call; a `bool` is 0 or 1. Nothing else is asked:
-   any bytes are a parser, a feeder and a cursor.
-
-   A request for more bytes and a fault leave a parser and a feeder unchanged.
-
-   Threads: the library has no state of its own. Different threads may use different parsers, feeders and cursors at once; each of
-   them, with its storage, belongs to one thread at a time. Calls that read an item only read their arguments.
-
-   Structs never grow: a new field means a new struct with a new name.
-
-   For x86-64 (v2) and aarch64 on Linux, and WebAssembly with 32-bit and 64-bit memory. Each trusts clang besides the proof, and the
-   32-bit module binaryen too. Only x86-64 has a second compiler to compare with.
-
-   The numbers of kinds, faults and flags never change. */
-#ifndef PULLEYNAVY_H
-#define PULLEYNAVY_H
-#include <stdbool.h>
-#include <stddef.h>
-#include <stdint.h>
-#if defined(__clang__) && !defined(__cplusplus) && (!defined(__STDC_VERSION__) || __STDC_VERSION__ < 199901L)
-#pragma clang diagnostic push
-#pragma clang diagnostic ignored "-Wc99-extensions"
-#define PULLEYNAVY_POP
-#endif
-#ifdef __cplusplus
-extern "C" {
-#endif
-
-/* The version of this header. Before 1.0.0 a new minor version may change anything; from then on a new minor version only adds
-   declarations, and a new major version may change them. Enumerators keep their numbers. */
-#define PULLEYNAVY_VERSION_STRING "@VERSION@"
-/* Its major version. */
-#define PULLEYNAVY_VERSION_MAJOR @MAJOR@
-/* Its minor version. */
-#define PULLEYNAVY_VERSION_MINOR @MINOR@
-/* Its patch. */
-#define PULLEYNAVY_VERSION_PATCH @PATCH@
-/* The version as a number, as `pulleynavy_version` returns it. */
-#define PULLEYNAVY_VERSION_NUMBER (PULLEYNAVY_VERSION_MAJOR * 65536 + PULLEYNAVY_VERSION_MINOR * 256 + PULLEYNAVY_VERSION_PATCH)
-
-/* The kind of a fault, a `PULLEYNAVY_FAULT_` number, from the number of the fault. */
-#define PULLEYNAVY_FAULT_KIND(code) ((code) & 0xff)
-/* What the bits above the kind of a fault name: a `PULLEYNAVY_NUMBER_`, `PULLEYNAVY_LEAD_` or `PULLEYNAVY_CORE_START_` number. */
-#define PULLEYNAVY_FAULT_DETAIL(code) ((code) >> 8)
-
-/* The kind of an event. */
-typedef enum pulleynavy_event_kind {
-    PULLEYNAVY_EVENT_NEED_MORE = 0,
-    PULLEYNAVY_EVENT_VERSION = 1,
-    PULLEYNAVY_EVENT_SECTION = 2,
-    PULLEYNAVY_EVENT_START = 3,
-    PULLEYNAVY_EVENT_DATA_COUNT = 4,
-    PULLEYNAVY_EVENT_CODE = 5,
-    PULLEYNAVY_EVENT_BODY = 6,
-    PULLEYNAVY_EVENT_CUSTOM = 7,
-    PULLEYNAVY_EVENT_UNKNOWN = 8,
-    PULLEYNAVY_EVENT_END = 9,
-    PULLEYNAVY_EVENT_FAULT = 10
-} pulleynavy_event_kind;
-
-/* The features of a parser, a feeder, a cursor or a reader, as bits. */
-enum { PULLEYNAVY_FEATURE_MEMORY64 = 1, PULLEYNAVY_FEATURE_COMPACT_IMPORTS = 2, PULLEYNAVY_ALL_FEATURES = 3 };
-"""
-
-# How the assertions begin: compilers of older standards, of C or C++ before 2011, skip them.
-ASSERTIONS = """
-/* For the checks of layouts below. */
-#if defined(__cplusplus) && (__cplusplus >= 201103L || defined(_MSC_VER))
-#define PULLEYNAVY_ASSERT static_assert
-#elif !defined(__cplusplus) && defined(__STDC_VERSION__) && __STDC_VERSION__ >= 201112L
-#define PULLEYNAVY_ASSERT _Static_assert
-#endif
-#ifdef PULLEYNAVY_ASSERT
-"""
-TAIL = """\
-#ifdef __cplusplus
-}
-#endif
-#ifdef PULLEYNAVY_POP
-#pragma clang diagnostic pop
-#undef PULLEYNAVY_POP
-#endif
-#endif
-"""
-
-
+# The header without what is written from the sources. Compilers of older standards, of C or C++ before 2011, skip its assertions.
+TEMPLATE = common.read("tools", "lib", "header.h")
 FAULT_KINDS = """The kinds of faults: the lowest 8 bits of the number of a fault. 0 is no fault. No call returns OUT_OF_MEMORY, since none
     allocates, or INVALID_BOOL, since no item has such a byte. Only cursors return SIZE_MISMATCH, NAMES_ORDER, INDIRECT_ORDER and
     NAME_SECTION_ORDER; only the checks of an end return CUSTOM_TRAILING and NAME_TRAILING."""
@@ -182,13 +36,8 @@ DETAILS = [
 
 def source(name):
     """The structs and the calls of a module. The struct of a parser is the one that wasm_parser parses with."""
-    text = ""
-    for crate in (PARSER,) if name == "stored" else (STRUCTS, CRATE):
-        path = os.path.join(crate, "src", name + ".rt")
-        if os.path.exists(path):
-            with open(path, encoding="utf-8") as file:
-                text += file.read()
-    return text
+    paths = (os.path.join(crate, "src", name + ".rt") for crate in ((PARSER,) if name == "stored" else (STRUCTS, CRATE)))
+    return "".join(common.read(path) for path in paths if os.path.exists(path))
 
 
 def tag(name):
@@ -298,13 +147,6 @@ def enumeration(comment, tag, prefix, rows):
     return wrapped(comment, "") + "typedef enum %s {\n%s\n} %s;\n" % (tag, values, tag)
 
 
-def fault_numbers():
-    """The enumerations of the parts of a fault's number."""
-    yield enumeration(FAULT_KINDS, "pulleynavy_fault_kind", "PULLEYNAVY_FAULT", faults())
-    for comment, tag, prefix, name in DETAILS:
-        yield enumeration(comment, tag, prefix, details(name))
-
-
 # The numbers of coded fields: a comment, the enumeration, the prefix of its enumerators, its numbers by their names, and the enum of
 # the sources that a `match` turns into them, if there is one.
 CODED = [
@@ -364,8 +206,7 @@ def opcodes():
 
 
 def custom_source(name):
-    with open(os.path.join(common.TOP, "crates", "wasm_custom", "src", name + ".rt"), encoding="utf-8") as file:
-        return file.read()
+    return common.read("crates", "wasm_custom", "src", name + ".rt")
 
 
 def subsection_ids(file, of):
@@ -399,6 +240,17 @@ def coded_fields():
     yield "The opcode of an instruction of a constant expression. An opcode of two parts is 256 times the first plus the second.", "pulleynavy_opcode", "PULLEYNAVY_OP", opcodes()
     for comment, tag, prefix, of in FLAGS:
         yield comment, tag, prefix, flag_bits(of)
+
+
+def enumerations(has_events=False):
+    """All enumerations. The template has that of the kinds of events, which bindings need too, with shorter comments."""
+    if has_events:
+        rows = re.findall(r"PULLEYNAVY_EVENT_(\w+) = (\d+)", TEMPLATE)
+        yield "The kind of an event.", "pulleynavy_event_kind", "PULLEYNAVY_EVENT", [(name, int(number)) for name, number in rows]
+    yield "The kind of a fault." if has_events else FAULT_KINDS, "pulleynavy_fault_kind", "PULLEYNAVY_FAULT", faults()
+    for comment, tag, prefix, name in DETAILS:
+        yield comment, tag, prefix, details(name)
+    yield from coded_fields()
 
 
 def type_of(kind):
@@ -493,27 +345,23 @@ def doxygen(text):
 
 
 def header():
-    text, known, asserted = HEAD.replace("@VERSION@", common.version()), {}, []
-    parts = common.version().split(".")
-    for name, number in zip(("MAJOR", "MINOR", "PATCH"), parts):
-        text = text.replace("@%s@" % name, number)
+    text, known, layouts, parts = "", {}, "", common.version().split(".")
     if "result ≡ %d " % sum(int(part) << shift for part, shift in zip(parts, (16, 8, 0))) not in source("version"):
         common.stop(common.DIFFERS, "crates/wasm_c/src/version.rt is not of version %s" % common.version())
-    text += "".join("\n" + one for one in fault_numbers())
-    text += "".join("\n" + enumeration(comment, tag, prefix, rows) for comment, tag, prefix, rows in coded_fields())
+    text += "".join("\n" + enumeration(comment, tag, prefix, rows) for comment, tag, prefix, rows in enumerations())
     for name in SOURCES:
         for struct in structs_of(source(name)):
             known[struct.name] = layout(struct, known)
-            last = struct.fields[-1][0]
-            asserted.append((tag(struct.name), known[struct.name][0], last, known[struct.name][2][last]))
+            last, of = struct.fields[-1][0], tag(struct.name)
+            layouts += 'PULLEYNAVY_ASSERT(sizeof(%s) == %d && offsetof(%s, %s) == %d, "layout");\n' % (of, known[struct.name][0], of, last, known[struct.name][2][last])
             text += "\n" + declared(struct)
         for call, comment, arguments, result in calls_of(source(name)):
             text += "\n" + doc(comment)
             text += declared_call(call, type_of(result) if result else "void", [argument(*one) for one in arguments])
-    text += ASSERTIONS
-    for name, size, last, at in asserted:
-        text += 'PULLEYNAVY_ASSERT(sizeof(%s) == %d && offsetof(%s, %s) == %d, "layout");\n' % (name, size, name, last, at)
-    return doxygen(text + "#undef PULLEYNAVY_ASSERT\n#endif\n" + TAIL)
+    whole = TEMPLATE.replace("@DECLARATIONS@", text).replace("@LAYOUTS@", layouts).replace("@VERSION@", common.version())
+    for name, number in zip(("MAJOR", "MINOR", "PATCH"), parts):
+        whole = whole.replace("@%s@" % name, number)
+    return doxygen(whole)
 
 
 # ---- the bindings
@@ -572,21 +420,11 @@ def python_arguments(kind):
     return ["ctypes.POINTER(%s)" % python_type(kind.split()[-1].lstrip("&"))] if kind.startswith("&") else [python_type(kind)]
 
 
-def python_enumerations():
-    """The enumerations, with that of the kinds of events, whose numbers the head of the header has."""
-    rows = re.findall(r"PULLEYNAVY_EVENT_(\w+) = (\d+)", HEAD)
-    yield "The kind of an event.", "pulleynavy_event_kind", "PULLEYNAVY_EVENT", [(name, int(number)) for name, number in rows]
-    yield "The kind of a fault.", "pulleynavy_fault_kind", "PULLEYNAVY_FAULT", faults()
-    for comment, tag, prefix, name in DETAILS:
-        yield comment, tag, prefix, details(name)
-    yield from coded_fields()
-
-
 def python():
     """The declarations for Python's ctypes."""
     text = '"""The declarations of the library, written by tools/generate header from its sources."""\n# SPDX-License-Identifier: Apache-2.0 OR MIT\n'
     text += 'from __future__ import annotations\n\nimport ctypes\nimport enum\nfrom typing import Any\n\nVERSION = "%s"\n' % common.version()
-    for comment, tag, prefix, rows in python_enumerations():
+    for comment, tag, prefix, rows in enumerations(True):
         flags = tag.endswith("_flags")
         name = "".join(word.capitalize() for word in tag.split("_")[1:])
         text += '\n\nclass %s(enum.%s):\n    """%s"""\n\n' % (name, "IntFlag" if flags else "IntEnum", comment.split(": ")[0].rstrip(".") + ".")
@@ -635,7 +473,7 @@ def pascal(tag):
 def javascript():
     """The declarations for JavaScript: enumerations, layouts, and the names of the calls."""
     text = JAVASCRIPT_HEAD + '\nexport const VERSION = "%s";\n' % common.version()
-    for comment, tag, prefix, rows in python_enumerations():
+    for comment, tag, prefix, rows in enumerations(True):
         values = "".join("    %s: %d,\n" % row for row in rows)
         text += "\n// %s\nexport const %s = Object.freeze({\n%s});\n" % (comment.split(": ")[0].rstrip(".") + ".", pascal(tag), values)
     text += JAVASCRIPT_LAYOUTS
@@ -650,7 +488,7 @@ def javascript():
 def typescript():
     """The types of `javascript`."""
     text = JAVASCRIPT_HEAD + "\nexport declare const VERSION: string;\n"
-    for comment, tag, prefix, rows in python_enumerations():
+    for comment, tag, prefix, rows in enumerations(True):
         values = "".join("    readonly %s: %d;\n" % row for row in rows)
         text += "\n/** %s */\nexport declare const %s: {\n%s};\n" % (comment.split(": ")[0].rstrip(".") + ".", pascal(tag), values)
     for name, size, fields in structs():
@@ -661,8 +499,7 @@ def typescript():
 
 def undocumented():
     """The calls that docs/C.md doesn't name. A call that reads one item may be named by the one that stores many."""
-    with open(os.path.join(common.TOP, "docs", "C.md"), encoding="utf-8") as file:
-        page = file.read()
+    page = common.read("docs", "C.md")
     for name in SOURCES:
         for call, _, _, _ in calls_of(source(name)):
             word = call.replace("pulleynavy_", "")
@@ -677,24 +514,8 @@ TARGETS.update({os.path.join(BINDINGS, "js", "declared.js"): javascript, os.path
 
 
 def main():
-    line = common.parser(__doc__, usage="%(prog)s [OPTION..]")
-    line.add_argument("--check", action="store_true", help="write nothing; the status is 1 if a file is another")
-    given, status = line.parse_args(), 0
     for name in forgotten():
         common.stop(common.DIFFERS, "crates/wasm_c/src/%s is not in SOURCES" % name)
     for call in undocumented():
         common.stop(common.DIFFERS, "docs/C.md does not name %s" % call)
-    for path, write in TARGETS.items():
-        there = ""
-        if os.path.exists(path):
-            with open(path, encoding="utf-8") as file:
-                there = file.read()
-        text = write()
-        if given.check and there != text:
-            print("%s isn't what tools/generate header writes" % os.path.relpath(path, common.TOP))
-            status = common.DIFFERS
-        elif not given.check:
-            os.makedirs(os.path.dirname(path), exist_ok=True)
-            with open(path, "w", encoding="utf-8") as file:
-                file.write(text)
-    return status
+    return common.generate(__doc__, {path: write() for path, write in TARGETS.items()})

@@ -107,9 +107,9 @@ def with_empty(rng, pieces):
 # ---- the program
 
 
-def run(program, cases):
+def run(words, cases):
     """The line that it writes of each case."""
-    return [" / ".join(line[2:] for line in lines) for lines in rows.run(program, cases)]
+    return [" / ".join(line[2:] for line in lines) for lines in rows.run(words, cases)]
 
 
 def said_of(line):

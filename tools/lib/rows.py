@@ -68,9 +68,9 @@ def model_lines(model, case):
     return ["  " + line for line in lines]
 
 
-def run(program, rows):
+def run(words, rows):
     """The lines that the program writes of each of these rows, which are lines."""
-    done = subprocess.run([program], input="".join(rows).encode(), stdout=subprocess.PIPE, timeout=600, check=True)
+    done = subprocess.run(words, input="".join(rows).encode(), stdout=subprocess.PIPE, timeout=600, check=True)
     found = [lines for _, _, lines in results(done.stdout.decode("ascii").split("\n"))]
     assert len(found) == len(rows), (len(found), len(rows))
     return found

@@ -21,6 +21,7 @@ from concurrent.futures import ThreadPoolExecutor
 
 import cargo
 import common
+import programs
 import sequences as tables
 from modules import mutants, stream_of
 from streams import some_stream
@@ -97,7 +98,7 @@ def kinds_of_flags(folder, c):
             yield flags
 
 
-def programs(folder, made):
+def built_examples(folder, made):
     """Each example as each compiler makes it, with the sanitizers and without; the first of them is the one that valgrind runs."""
     built = {}
     for c, cpp in compilers():
@@ -128,9 +129,9 @@ def modelled(stream):
 
 def difference(command, stream, expected):
     done = run(command, stream, timeout=600)
-    lines = common.lines_in(done.stdout)
+    lines = programs.lines_in(done.stdout)
     found = common.first_difference(lines, expected)
-    if not found and done.returncode == common.status(expected):
+    if not found and done.returncode == programs.status(expected):
         return None
     return "%s on %s\n  status %d, %s" % (" ".join(command), stream.hex()[:400], done.returncode, found or "and no line differs")
 
@@ -173,7 +174,7 @@ def stripped(built, streams):
 
     def differing(row):
         number, (stream, lines) = row
-        status = common.status([line for line in lines if not line.startswith("  ")])
+        status = programs.status([line for line in lines if not line.startswith("  ")])
         wanted = (b"" if status else strip(stream), status)
         path = built["strip"][number % len(built["strip"])]
         done = subprocess.run([path], input=stream, stdout=subprocess.PIPE, timeout=600)
@@ -257,7 +258,7 @@ def imports(built, streams):
         rows = [re.match(r"  \d+ import\((x\w*) (x\w*) (\w+)", line) for line in lines]
         wanted = ["%s %s %s" % row.groups() for row in rows if row]
         path, batch = built["imports"][number % len(built["imports"])], BATCHES[number % len(BATCHES)]
-        found = common.lines_in(run([path, str(batch)], stream, timeout=600).stdout)
+        found = programs.lines_in(run([path, str(batch)], stream, timeout=600).stdout)
         if found == wanted:
             return None
         return "%s %d on %s\n  program %s\n  model   %s" % (path, batch, stream.hex()[:400], found, wanted)
@@ -417,7 +418,7 @@ def main():
     with tempfile.TemporaryDirectory() as folder:
         try:
             made = {"given%d" % number: path for number, path in enumerate(given.archive)} if given.archive else archives(folder)
-            built = programs(folder, made)
+            built = built_examples(folder, made)
             if not built:
                 return 0
             header_alone(folder)

@@ -17,6 +17,7 @@ import tempfile
 
 import common
 import packages
+import programs
 import try_c
 from modules import mutants, stream_of
 from streams import some_stream
@@ -41,7 +42,7 @@ def must(command, **options):
 
 def stripped(stream, lines):
     """The stripped stream in hexadecimal, or none of a malformed one."""
-    is_fault = common.status([line for line in lines if not line.startswith("  ")])
+    is_fault = programs.status([line for line in lines if not line.startswith("  ")])
     return None if is_fault else common.load(common.MODEL).strip(stream).hex()
 
 
