@@ -431,36 +431,7 @@ def page(title, main, side="", here=""):
     return PAGE % {"title": escaped(title), "version": escaped(common.version()), "links": links, "side": frame, "main": main}
 
 
-PAGE = """<!DOCTYPE html>
-<html lang="en">
-<head>
-<meta charset="utf-8">
-<meta name="viewport" content="width=device-width, initial-scale=1">
-<title>%(title)s</title>
-<link rel="icon" href="data:,">
-<link rel="stylesheet" href="api.css">
-<script src="api.js" defer></script>
-</head>
-<body>
-<a class="skip" href="#main">Skip to the content</a>
-<header>
-<a class="home" href="index.html">Pulleynavy <span>%(version)s</span></a>
-<nav aria-label="Pages">%(links)s</nav>
-<div id="search" role="search" hidden>
-<input type="text" id="words" placeholder="Search (press /)" autocomplete="off" autocapitalize="off" spellcheck="false" enterkeyhint="go"
- role="combobox" aria-label="Search items and definitions" aria-expanded="false" aria-controls="found" aria-autocomplete="list">
-<ul id="found" role="listbox" aria-label="Results" hidden></ul>
-</div>
-</header>
-<div class="frame">
-%(side)s
-<main id="main" tabindex="-1">
-%(main)s
-</main>
-</div>
-</body>
-</html>
-"""
+PAGE = common.read("tools", "lib", "templates", "page.html")
 
 
 def grouped(modules):

@@ -27,49 +27,12 @@ WHEELS = {
     "aarch64-macos": ("macosx_11_0_arm64", ["macosx_11_0_arm64", "macosx_15_0_arm64"], "macosx_11_0_x86_64", "darwin", 0x100000C),
 }
 # Loads the library of a wheel as `ctypes` does, with the calls that the package names, for a program that is linked with these calls.
-LOADER = """#include <stdio.h>
-#include <stdlib.h>
-#include <windows.h>
-
-FARPROC calls[%d];
-static const char *const names[] = {%s};
-
-__attribute__((constructor)) static void load(void) {
-    HMODULE library = LoadLibraryExA(getenv("PULLEYNAVY_LIB"), NULL, LOAD_LIBRARY_SEARCH_DEFAULT_DIRS | LOAD_LIBRARY_SEARCH_DLL_LOAD_DIR);
-    for (size_t i = 0; i < sizeof names / sizeof *names; i++) {
-        calls[i] = library ? GetProcAddress(library, names[i]) : NULL;
-        if (!calls[i]) {
-            fprintf(stderr, "the wheel's library has no %%s\\n", names[i]);
-            exit(4);
-        }
-    }
-}
-"""
+LOADER = common.read("tools", "lib", "templates", "wheel_loader.c")
 JUMP = '__asm__(".globl {0}\\n{0}: jmp *calls+{1}(%rip)");\n'
 # Two programs over a package: with the shared library, which is put beside it, and with the archive.
-CMAKE = """cmake_minimum_required(VERSION 3.10)
-project(names C)
-find_package(pulleynavy %s REQUIRED CONFIG)
-foreach(library pulleynavy static)
-  add_executable(names_${library} %s)
-  target_link_libraries(names_${library} PRIVATE pulleynavy::${library})
-endforeach()
-add_custom_command(TARGET names_pulleynavy POST_BUILD COMMAND
-  ${CMAKE_COMMAND} -E copy $<TARGET_FILE:pulleynavy::pulleynavy> $<TARGET_FILE_DIR:names_pulleynavy>)
-"""
+CMAKE = common.read("tools", "lib", "templates", "CMakeLists.txt")
 # A program that needs nothing of a system but the library, and has the two functions that the library calls.
-ALONE = """#include <pulleynavy.h>
-static void *copy(volatile unsigned char *to, const unsigned char *from, size_t size, int step, size_t at) {
-    for (size_t i = 0; i < size; i++, at += (size_t)step) to[at] = from[at];
-    return (void *)to;
-}
-void *memcpy(void *to, const void *from, size_t size) { return copy(to, from, size, 1, 0); }
-void *memmove(void *to, const void *from, size_t size) { return to < from ? copy(to, from, size, 1, 0) : copy(to, from, size, -1, size - 1); }
-int main(void) {
-    pulleynavy_parser parser = pulleynavy_parser_init(0, PULLEYNAVY_ALL_FEATURES);
-    return pulleynavy_version() != PULLEYNAVY_VERSION_NUMBER || parser.offset;
-}
-"""
+ALONE = common.read("tools", "lib", "templates", "alone.c")
 # The library that the crate links for each target of Rust, in a folder of targets.
 CRATE = {
     "x86_64-pc-windows-gnu": "x86_64-windows/libpulleynavy.a",

@@ -20,7 +20,7 @@ SOURCES = ["version", "faults", "messages", "events", "stored", "parsing", "even
 SOURCES += ["imports", "flat_imports", "exports", "instructions", "segments", "names", "producers", "hints", "dylink", "linking", "symbols", "target_features", "relocations", "coredumps", "customs", "ends", "strip"]
 
 # The header without what is written from the sources. Compilers of older standards, of C or C++ before 2011, skip its assertions.
-TEMPLATE = common.read("tools", "lib", "header.h")
+TEMPLATE = common.read("tools", "lib", "templates", "header.h")
 FAULT_KINDS = """The kinds of faults: the lowest 8 bits of the number of a fault. 0 is no fault. No call returns OUT_OF_MEMORY, since none
     allocates, or INVALID_BOOL, since no item has such a byte. Only cursors return SIZE_MISMATCH, NAMES_ORDER, INDIRECT_ORDER and
     NAME_SECTION_ORDER; only the checks of an end return CUSTOM_TRAILING and NAME_TRAILING."""

@@ -28,78 +28,15 @@ import packages
 import try_js
 from systems import Failed, System, one, run, this_release, write
 
-RUST = """use pulleynavy::{Parser, Payload};
-
-fn main() {
-    let bytes = std::fs::read(std::env::args().nth(1).unwrap()).unwrap();
-    for payload in Parser::new(0).parse_all(&bytes) {
-        let (id, range, count) = match payload.unwrap() {
-            Payload::ImportSection(imports) => (2, imports.range(), imports.count()),
-            Payload::ExportSection(exports) => (7, exports.range(), exports.count()),
-            _ => continue,
-        };
-        println!("section {id} {} {} {count}", range.start, range.end);
-    }
-}
-"""
-PYTHON = """import sys
-import pulleynavy
-
-with open(sys.argv[1], "rb") as file:
-    for event in pulleynavy.events(file):
-        if event.kind.name == "SECTION" and event.id in (2, 7):
-            print("section", event.id, event.start, event.end, event.count)
-"""
-JAVASCRIPT = """import { readFileSync } from "node:fs";
-import { load } from "pulleynavy";
-
-const { parse } = await load();
-for (const event of parse(readFileSync(process.argv[2])))
-    if (event.kind === "section" && (event.id === 2 || event.id === 7)) console.log("section", event.id, event.start, event.end, event.count);
-"""
-TYPESCRIPT = """import { load, type Event } from "pulleynavy";
-
-const { parse } = await load();
-const events: Event[] = [...parse(new Uint8Array(8))];
-export const names: string[] = [];
-for (const event of events) if (event.kind === "section") for (const item of event.items) if (item.kind === "export") names.push(item.name);
-"""
+RUST = common.read("tools", "lib", "templates", "package.rs")
+PYTHON = common.read("tools", "lib", "templates", "package.py")
+JAVASCRIPT = common.read("tools", "lib", "templates", "package.js")
+TYPESCRIPT = common.read("tools", "lib", "templates", "package.ts")
 # Whether each entry of the installed package leads to files that are there.
-EXPORTS = """import { existsSync, readFileSync } from "node:fs";
-import { createRequire } from "node:module";
-
-const require = createRequire(import.meta.url);
-const manifest = JSON.parse(readFileSync(require.resolve("pulleynavy/package.json"), "utf8"));
-for (const [entry, to] of Object.entries(manifest.exports)) {
-    if (!existsSync(require.resolve("pulleynavy" + entry.slice(1)))) throw new Error(entry);
-    for (const path of typeof to === "string" ? [to] : Object.values(to))
-        if (!existsSync("node_modules/pulleynavy/" + path)) throw new Error(`${entry}: ${path}`);
-}
-"""
+EXPORTS = common.read("tools", "lib", "templates", "exports.js")
 # Loads the library under a C library that is not glibc.
-LOADER = """#include <dlfcn.h>
-
-int main(int count, char **words) {
-    void *library = dlopen(words[count - 1], RTLD_NOW);
-    unsigned (*version)(void) = library ? (unsigned (*)(void))dlsym(library, "pulleynavy_version") : 0;
-    return !version || !version();
-}
-"""
-C = """#include <pulleynavy.h>
-#include <stdio.h>
-
-int main(void) {
-    static unsigned char bytes[1 << 16];
-    size_t size = fread(bytes, 1, sizeof bytes, stdin);
-    pulleynavy_parser parser = pulleynavy_parser_init(0, PULLEYNAVY_ALL_FEATURES);
-    pulleynavy_event event;
-    do {
-        event = pulleynavy_parse(&parser, bytes + parser.offset, size - parser.offset, 1);
-        if (event.kind == PULLEYNAVY_EVENT_SECTION && (event.id == 2 || event.id == 7))
-            printf("section %u %llu %llu %u\\n", event.id, (unsigned long long)event.start, (unsigned long long)event.end, event.count);
-    } while (event.kind != PULLEYNAVY_EVENT_END && event.kind != PULLEYNAVY_EVENT_FAULT);
-}
-"""
+LOADER = common.read("tools", "lib", "templates", "loader.c")
+C = common.read("tools", "lib", "templates", "package.c")
 CMAKE = """cmake_minimum_required(VERSION 3.13)
 project(t C)
 find_package(pulleynavy %s REQUIRED)

@@ -60,14 +60,7 @@ def becomes(find, wanted, what):
 
 # ---- scripts in the page
 
-HELPERS = """
-const $ = id => document.getElementById(id), pause = ms => new Promise(done => setTimeout(done, ms ?? 10));
-const until = async test => { for (let i = 0; i < 1000 && !test(); i++) await pause(); };
-const rows = () => [...document.querySelectorAll('#tree .row')].sort((a, b) => a.dataset.row - b.dataset.row).map(it => ({
-    row: Number(it.dataset.row), level: Number(it.ariaLevel), texts: [...it.children].map(one => one.textContent), isOpen: it.ariaExpanded,
-    isBad: it.classList.contains('bad'), size: Number(it.ariaSetSize), place: Number(it.ariaPosInSet), isChosen: it.ariaSelected === 'true',
-    stops: it.tabIndex === 0, offset: parseInt(it.querySelector('.at').textContent) }));
-"""
+HELPERS = common.read("tools", "lib", "templates", "page.js")
 OPEN_ALL = """for (let i = 0; i < 400; i++) {
     const row = document.querySelector('.row[aria-expanded=false]');
     if (!row) break;
@@ -76,29 +69,7 @@ OPEN_ALL = """for (let i = 0; i < 400; i++) {
 }
 return rows();"""
 # The lowest contrast of a visible text with what is behind it, and its place.
-CONTRAST = """
-const parse = color => { const n = color.match(/[\\d.]+/g).map(Number); return [n[0], n[1], n[2], n[3] ?? 1]; };
-const over = (top, below) => below.map((b, i) => i < 3 ? top[i] * top[3] + b * (1 - top[3]) : 1);
-const linear = c => c <= 0.03928 ? c / 12.92 : ((c + 0.055) / 1.055) ** 2.4;
-const luminance = c => [0.2126, 0.7152, 0.0722].reduce((sum, weight, i) => sum + weight * linear(c[i] / 255), 0);
-const behind = it => it ? over(parse(getComputedStyle(it).backgroundColor), behind(it.parentElement)) : [255, 255, 255, 1];
-let lowest = [99, ''];
-const look = (it, color, what) => {
-    const back = behind(it), front = over(parse(color), back), a = luminance(front), b = luminance(back);
-    const ratio = (Math.max(a, b) + 0.05) / (Math.min(a, b) + 0.05);
-    if (ratio < lowest[0]) lowest = [ratio, `${what} in ${it.outerHTML.slice(0, 120)}`];
-};
-const walker = document.createTreeWalker(document.body, NodeFilter.SHOW_TEXT);
-while (walker.nextNode()) {
-    const it = walker.currentNode.parentElement;
-    const data = walker.currentNode.data.trim();
-    if (data && it.checkVisibility() && !it.closest('script, style')) look(it, getComputedStyle(it).color, data);
-}
-for (const it of document.querySelectorAll('input, select')) {
-    look(it, getComputedStyle(it).color, 'value');
-    if (it.placeholder) look(it, getComputedStyle(it, '::placeholder').color, 'placeholder');
-}
-return lowest;"""
+CONTRAST = common.read("tools", "lib", "templates", "contrast.js")
 # Starts to measure how long the page does not react.
 MEASURE = """window.last = performance.now(); window.longest = 0;
 setInterval(() => {
