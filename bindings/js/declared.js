@@ -1,5 +1,5 @@
 // SPDX-License-Identifier: Apache-2.0 OR MIT
-// The declarations of the library, written by tools/c_header from its sources.
+// The declarations of the library, written by tools/generate header from its sources.
 
 export const VERSION = "0.14.0";
 

@@ -13,6 +13,7 @@ is refused as soon as its size has been read; without, once its bytes are there.
 As a module: reading(S, o, at_once), status(lines), feed(S, n, o, at_once, hints), prefix(S, o, at_once),
 state_of(C, o, at_once), short(state, d), ending(state, d), next_event(state, d), strip(S, keep).
 """
+import os
 import sys
 
 TOP = (1 << 64) - 1
@@ -427,175 +428,54 @@ M = b"\0asm\1\0\0\0"
 
 
 def H(text):
-    return bytes.fromhex(text)
+    """Bytes in hexadecimal, in which M is a module's header and - nothing."""
+    return b"" if text == "-" else M * text.startswith("M") + bytes.fromhex(text.lstrip("M"))
+
+
+def ask(front, d, eof=False, o=0, at_once=False):
+    """What a parser after a front says of some bytes."""
+    st = state_of(front, o, at_once)
+    s = None if eof else short(st, d)
+    if s is not None:
+        return "need %d" % s[0]
+    if st.at + len(d) > TOP:
+        return Fault("OffsetRange", st.at).line()
+    try:
+        return next_event(st, d)[0]
+    except Fault as f:
+        return f.line()
+
+
+def is_undecided(front, d, at_once):
+    """"need" if more bytes are asked for, and the ending of the model decides otherwise than the end of the stream."""
+    differs = ask(front, d, True, 0, at_once) != ask(front, d + ending(state_of(front, 0, at_once), d), True, 0, at_once)
+    return ask(front, d, False, 0, at_once)[:4] if differs else "decided"
+
+
+def said(kind, words, count):
+    """What the model says of a row: of lines, the last ones that the row has."""
+    o, at_once = sum(int(word[1:]) for word in words if word[0] == "@"), "once" in words
+    S = H(words[0])
+    if kind == "ask":
+        return ask(S, H(words[1]), "eof" in words, o, at_once)
+    if kind == "short":
+        return "/".join(sorted({is_undecided(S, H(words[1]), once) for once in (False, True)}))
+    if kind == "strip":
+        got = strip(S, "names" in words)
+        return got if isinstance(got, str) else "M" + got[8:].hex() if got.startswith(M) else got.hex()
+    if kind in ("feed", "requests"):
+        lines = [line for line in feed(S, int(words[1]), o, at_once, kind == "requests" or "hints" in words) if kind == "feed" or line.startswith("need")]
+        return " / ".join(lines if kind == "feed" else lines[:count])
+    lines = reading(S, o, at_once)
+    return " / ".join(lines[-count:] if kind == "last" else lines)
 
 
 def rows():
-    """Checks the worked rows: how many there are, and those that differ."""
-    bad = []
-    count = 0
-
-    def want(name, got, expected):
-        nonlocal count
-        count += 1
-        if got != expected:
-            bad.append((name, got, expected))
-
-    def ask(front, d, eof=False, o=0, at_once=False):
-        """parse on d behind a front given as bytes"""
-        st = state_of(front, o, at_once)
-        assert st is not None, front
-        if not eof:
-            s = short(st, d)
-            if s is not None:
-                return "need %d" % s[0]
-        if st.at + len(d) > TOP:
-            return Fault("OffsetRange", st.at).line()
-        try:
-            return next_event(st, d)[0]
-        except Fault as f:
-            return f.line()
-
-    eofl = lambda at: "fault %d %s" % (at, EOF)
-    # calls of the parser
-    want("no bytes", ask(b"", b""), "need 4")
-    want("no bytes, and no more", ask(b"", b"", True), eofl(0))
-    want("one byte", ask(b"", H("00")), "need 3")
-    want("the magic alone", ask(b"", H("0061736d")), "need 4")
-    want("a version that is not known", ask(b"", H("0061736d01010101"), True), "fault 4 unknown binary version: 16843009")
-    want("a header alone", ask(M, b"", True), "end 8")
-    want("the id of a custom section", ask(M, H("00")), "need 3")
-    want("a custom section", ask(M, H("000100")), "custom 10 11 11")
-    want("a section without a count", ask(M, H("0100")), eofl(10))
-    want("a count that is not whole", ask(M, H("000101")), eofl(11))
-    want("a count", ask(M, H("010101020304")), "section 1 10 11 1")
-    want("sections out of order", ask(M + H("010100"), H("0101")), "fault 13 section out of order")
-    want("three bytes of the magic", ask(M, H("006173")), "need 1")
-    want("the magic as a section", ask(M, H("0061736d")), "fault 8 expected section, got wasm magic number")
-    r8 = M + H("03020100" "0a040102000b")
-    l8 = ["version 0 8 1 module", "section 3 10 12 1", "code 14 18 1 3", "body 16 18", "end 18"]
-    for at_once in (False, True):
-        want("a body", reading(r8, 0, at_once), l8)
-        for n in range(1, 19):
-            want("a body in pieces", feed(r8, n, 0, at_once, False), l8)
-    want("a body past its section", ask(M + H("030201000a0101"), H("00")), eofl(15))
-    r10 = M + H("03020100")
-    want("functions without code", reading(r10)[-1],
-         "fault 12 function section has non-zero count but code section is absent")
-    want("counts of data that differ", reading(M + H("0c01010b020200")),
-         ["version 0 8 1 module", "datacount 10 11 1",
-          "fault 15 data count and data section have inconsistent lengths"])
-    big = 18446744073709551600
-    want("a length at the last offset", ask(M, H("0005"), False, big), "need 5")
-    want("a length past the last offset", ask(M, H("0006"), False, big), "fault 18446744073709551609 section too large: 6")
-    c = H("0061736d0d000100")
-    want("a component", reading(c + H("010100")), ["version 0 8 13 component", "unknown 1 10 11", "end 11"])
-    want("a custom section of a module", reading(M + H("00020161")), ["version 0 8 1 module", "custom 10 12 12", "end 12"])
-    want("a start section without bytes", ask(M, H("0802")), "need 2")
-    want("a start section", ask(M, H("080101")), "start 10 11 1")
-    want("bytes after a start section", ask(M, H("08020101")), "fault 11 unexpected content in the start section")
-    want("an empty start section", ask(M, H("0800")), eofl(10))
-    want("a code section without bodies", ask(M, H("0a0100")), "code 10 11 0 0")
-    want("the end after it", ask(M + H("0a0100"), b"", True), "end 11")
-    want("an empty code section", ask(M, H("0a00")), "need 1")
-    f22 = M + H("030201000a0301")
-    want("an empty body", ask(f22, H("00")), "body 16 16")
-    want("bytes after bodies", ask(f22 + b"\0", H("00")), "fault 16 trailing bytes at end of section")
-    want("bytes after bodies that are to come", ask(f22 + b"\0", b""), "fault 16 trailing bytes at end of section")
-    f23 = M + H("030202000a0202")
-    want("a first empty body", ask(f23, H("00")), "body 16 16")
-    want("a second body without bytes", ask(f23 + b"\0", b""), "need 1")
-    want("a second body past the section", ask(f23 + b"\0", b"\0"), eofl(16))
-    # listings of what is after a header
-    for text, last in [
-        ("", ["version 0 8 1 module", "end 8"]),
-        ("0e01ff", ["unknown 14 10 11", "end 11"]),
-        ("0082808080000161", ["custom 14 16 16", "end 16"]),
-        ("0000", ["fault 10 " + EOF]),
-        ("0003a18d06", ["fault 12 string size out of bounds"]),
-        ("0003a08d06", ["fault 13 " + EOF]),
-        ("008080808010", ["fault 13 invalid var_u32: integer too large"]),
-        ("008080808080", ["fault 13 invalid var_u32: integer representation too long"]),
-        ("8000", ["fault 8 malformed section id"]),
-        ("006173", ["fault 10 " + EOF]),
-        ("0061736d", ["fault 8 expected section, got wasm magic number"]),
-        ("030100", ["section 3 10 11 0", "end 11"]),
-        ("0c0100", ["datacount 10 11 0", "end 11"]),
-        ("0c0101", ["fault 11 data count is non-zero but data section is absent"]),
-        ("080101030100", ["version 0 8 1 module", "start 10 11 1", "fault 13 section out of order"]),
-        ("08020101", ["fault 11 unexpected content in the start section"]),
-        ("0101000101", ["fault 13 section out of order"]),
-        ("0a028000", ["code 10 12 0 0", "end 12"]),
-        ("0a0000", ["fault 10 " + EOF]),
-        ("0a020100", ["fault 10 function section is absent but code section has non-zero count"]),
-        ("030201000a0100", ["fault 14 function and code section have inconsistent lengths"]),
-        ("030201000a010100", ["fault 15 " + EOF]),
-        ("030201000a03010000", ["body 16 16", "fault 16 trailing bytes at end of section"]),
-        ("030202000a020200", ["body 16 16", "fault 16 " + EOF]),
-        ("0b0100", ["section 11 10 11 0", "end 11"]),
-    ]:
-        got = reading(M + H(text))
-        want("after a header: " + text, got[-len(last):], last)
-    # chunks
-    hints = [l for l in feed(r8[:12], 1)]
-    want("requests, byte by byte", [l for l in hints if l.startswith("need")][:12],
-         ["need %d" % n for n in (4, 3, 2, 1, 4, 3, 2, 1, 1, 1, 2, 1)])
-    f8 = r8[:15]
-    want("requests at the head of a code section", [ask(f8, x) for x in (b"", b"\2", b"\2\0")], ["need 1", "need 2", "need 1"])
-    want("pieces of 5 bytes", feed(r8, 5),
-         ["need 4", "need 3", "version 0 8 1 module", "need 2", "section 3 10 12 1",
-          "code 14 18 1 3", "need 1", "body 16 18", "need 1", "end 18"])
-    # the last offsets
-    e = 18446744073709551607
-    want("data past the offsets", ask(M, b"\0", True, e), "fault 18446744073709551615 data passes the offset range")
-    want("the end at the last offset", ask(M, b"", True, e), "end 18446744073709551615")
-    want("a code section past 2^32", ask(M + H("03020100"), H("0affffffff0f01")), "code 18 4294967313 1 4294967294")
-    # a body that passes its section
-    for d, eof, before, after in [
-        (("0a0201", "05"), False, "need 5", eofl(15)),
-        (("0a0201", "05"), True, eofl(16), eofl(15)),
-        (("0affffffff0f01", "ffffffff0f"), False, "need 4294967295", eofl(19)),
-        (("0a0401", "02"), False, "need 2", "need 2"),
-        (("0a0101", ""), False, "need 1", "need 1"),
-        (("0a0101", "00"), False, eofl(15), eofl(15)),
-    ]:
-        front = M + H("03020100") + H(d[0])
-        want("a body past its section, once its bytes are there", ask(front, H(d[1]), eof), before)
-        want("a body past its section, at once", ask(front, H(d[1]), eof, 0, True), after)
-    # data that is too short: two suffixes decide it otherwise
-    for front, d, x, ex, y, ey in [
-        ("", "", M.hex(), "version 0 8 1 module", "00000000", "fault 0 " + T["BadMagic"]),
-        ("", "0061736d", "01000000", "version 0 8 1 module", "", eofl(4)),
-        ("M", "", "", "end 8", "80", "fault 8 " + T["MalformedSectionId"]),
-        ("M", "00", "61736d", "fault 8 " + T["MagicAtSection"], "0100", "custom 10 11 11"),
-        ("M", "01", "", eofl(9), "0100", "section 1 10 11 0"),
-        ("M", "0102", "", eofl(10), "0000", "section 1 10 12 0"),
-        ("M", "0a01", "", eofl(10), "00", "code 10 11 0 0"),
-        ("8", "", "", eofl(15), "02000b", "body 16 18"),
-        ("8", "02", "", eofl(16), "000b", "body 16 18"),
-    ]:
-        C = {"": b"", "M": M, "8": f8}[front]
-        for at_once in (False, True):
-            want("too short", ask(C, H(d), False, 0, at_once)[:4], "need")
-            want("decided by one ending", ask(C, H(d + x), True, 0, at_once), ex)
-            want("decided by another ending", ask(C, H(d + y), True, 0, at_once), ey)
-            st = state_of(C, 0, at_once)
-            want("decided by the ending of the model", ask(C, H(d), True, 0, at_once) != ask(C, H(d) + ending(st, H(d)), True, 0, at_once), True)
-    # stripping
-    nm = "0005046e616d65"
-    for text, keep, expected in [
-        ("00010001010000020161", False, M + H("010100")),
-        (nm + "00020161", True, M + H(nm)),
-        (nm + "00020161", False, M),
-        ("00858000046e616d65", True, M + H("00858000046e616d65")),
-        ("03020100", False, "fault 12 " + T["FunctionWithoutCode"]),
-        ("03020100", True, "fault 12 " + T["FunctionWithoutCode"]),
-    ]:
-        want("stripped: " + text, strip(M + H(text), keep), expected)
-    want("a stripped component", strip(c + H("010100000100")), c + H("010100"))
-    want("stripped without custom sections", [strip(r8, k) for k in (False, True)], [r8, r8])
-    want("nothing to strip", [strip(b"", k) for k in (False, True)], [eofl(0)] * 2)
-    return count, bad
+    """Checks the worked rows of streams.txt: how many there are, and those that differ."""
+    with open(os.path.join(os.path.dirname(os.path.abspath(__file__)), "streams.txt"), encoding="ascii") as file:
+        known = [line.rstrip("\n").partition(" = ") for line in file if not line.startswith("#")]
+    got = [(row, said(*row.split(" ", 1)[:1], row.split()[1:], expected.count(" / ") + 1), expected) for row, _, expected in known]
+    return len(got), [row for row in got if row[1] != row[2]]
 
 
 # ------------------------------------------------------------------ the laws

@@ -939,100 +939,23 @@ def call_lines(reader, b, o=0, feats=3):
 
 
 # ------------------------------------------------------------------ checks
-H = bytes.fromhex
+
+def bytes_of(words):
+    """The bytes of words in hexadecimal, of which `00*31` is a byte that comes 31 times."""
+    return b"".join(bytes.fromhex(pairs) * int(times or 1) for pairs, _, times in (word.partition("*") for word in words))
 
 
 def rows():
+    """Checks the worked rows of items.txt: how many there are, and those that differ."""
     bad, n = [], 0
-
-    def want(reader, hexa, expected, o=0, feats=3):
-        nonlocal n
-        n += 1
-        got = outcome(reader, H(hexa.replace(" ", "")), o, feats)
-        if got != expected:
-            bad.append((reader, hexa, got, expected))
-
-    f = lambda at, t: "fault %d %s" % (at, t)
-    mism = "section size mismatch: unexpected data at the end of the section"
-    want("namemap", "03 05 01 61 03 01 62 04 01 63", "{name(5 x61 ) fault 4 names out of order fault 7 names out of order }")
-    two_imports = "01 01 6d 00 7f 02 01 61 00 03 01 62 00 04"
-    want("flatimports", two_imports, "6:import(x6d x61 func 3 ) 10:import(x6d x62 func 4 ) ")
-    want("flatimports", two_imports, f(4, "invalid leading byte 0x7F with compact imports proposal disabled") + " ", 0, 1)
-    want("u32s", "02 05 80 01 07", "100..105 #2[101:5 102:128 %s ]" % f(104, mism), 100)
-    want("coremodules", "01 00 04 74 65 73 74", "[x74657374 ]")
-    want("data", "80 00 41 00 0b 01 ff", "data(active 0 2..5 xff 0..7 ) used 7")
-    want("producers", "01 08 6c 61 6e 67 75 61 67 65 02 03 77 61 74 01 31 01 43 03 39 2e 30",
-         "0..23 #1[1:field(x6c616e6775616765 10..23 #2[11:value(x776174 x31 ) 17:value(x43 x392e30 ) ] ) ]")
-    want("corestack", "00 04 6d 61 69 6e 01 00 04 2a 33 01 7f 01 01 7f 02", "x6d61696e [frame(4 42 51 [i32:1 ] [i32:2 ] ) ]")
-    want("core", "00 09 74 65 73 74 2e 77 61 73 6d", "x746573742e7761736d")
-    want("memory", "00 ff ff ff ff 1f", "memory(false false 8589934591 - - ) used 6")
-    want("memory", "00 ff ff ff ff 1f", f(5, "invalid var_u32: integer too large"), 0, 2)
-    want("element", "00 41 00 0b 02 00 01", "element(active - 1..4 4..7 #2[5:0 6:1 ] 0..7 ) used 7")
-    want("dylink", "01 05 10 02 01 00 ff", "<1 meminfo(16 2 1 0 ) >")
-    want("bools", "03 01 00 01", "0..4 #3[1:true 2:false 3:true ]")
-    want("strings", "01 02 c3 28", "0..4 #1[%s ]" % f(3, "malformed UTF-8 encoding"))
-    want("flatimports", "01 01 6d 00 7e 00 05 02 01 61 01 62", "8:import(x6d x61 func 5 ) 10:import(x6d x62 func 5 ) ")
-    want("flatimports", "02 01 6d 00 7f 01 01 ff 00 00 01 6e 01 78 00 01",
-         f(7, "malformed UTF-8 encoding") + " 10:import(x6e x78 func 1 ) ")
-    want("table", "40 00 70 00 01 d0 70 0b", "table(table(null:func false 1 - false ) 5..8 ) used 8")
-    want("table", "40 01", f(1, "invalid table encoding"))
-    want("table", "70 08 00", f(1, "invalid table resizable limits flags"))
-    want("memory", "09 01 02 10", "memory(false false 1 2 16 ) used 4")
-    want("memory", "08 00 40", f(0, "invalid custom page size"))
-    want("memory", "10", f(0, "invalid memory limits flags"))
-    want("global", "7f 01 41 05 0b", "global(global(i32 true false ) 2..5 ) used 5")
-    want("global", "7f 04", f(1, "malformed global flags"))
-    want("export", "01 61 20 00", f(3, "Exact type is not allowed in the exports"))
-    want("export", "01 61 05", f(2, "invalid leading byte for external kind: 5"))
-    want("tag", "01 00", f(0, "invalid tag attributes"))
-    want("constexpr", "41 ff ff ff ff 7f 0b", "0..7 used 7")
-    want("constexpr", "41 80 80 80 80 10 0b", f(5, "invalid var_i32: integer too large"))
-    want("constexpr", "20 00 0b", f(0, "not a constant instruction"))
-    want("element", "04 41 00 0b 01 d0 70 0b", "element(active - 1..4 null:func 4..8 #1[5:5..8 ] 0..8 ) used 8")
-    want("element", "06 00 41 00 0b 6f 00", "element(active 0 2..5 null:extern 6..7 #0[] 0..7 ) used 7")
-    want("element", "07 70 00", "element(declared null:func 2..3 #0[] 0..3 ) used 3")
-    want("element", "01 01 00", f(1, "only the function external type is supported in elem segment"))
-    want("element", "08", f(0, "invalid flags byte in element segment"))
-    want("element", "88 00", f(1, "invalid flags byte in element segment"))
-    want("data", "01 01 aa", "data(passive xaa 0..3 ) used 3")
-    want("data", "03", f(0, "invalid flags byte in data segment"))
-    want("recgroup", "60 01 7f 01 7e", "rec(false [sub(true - func([i32 ] [i64 ] ) ) ] ) used 5")
-    want("recgroup", "4f 01 00 5f 00", "rec(false [sub(true 0 struct [] ) ] ) used 5")
-    want("recgroup", "4e 00", "rec(true [] ) used 2")
-    want("recgroup", "50 02 00 00", f(1, "more than one supertype"))
-    want("recgroup", "5f 01 7f 02", f(3, "invalid leading byte for field mutability: 2"))
-    want("recgroup", "40", f(0, "invalid leading byte for composite type: 64"))
-    want("names", "00 02 01 61 01 04 01 00 01 66 00 01 00 0e 00",
-         "<module x61 2..4 1{name(0 x66 ) } %s unknown 14 x 15..15 >" % f(10, "name subsection out of order"))
-    want("names", "01 00 02 01 00", "<%s 2{} >" % f(2, EOF))
-    want("names", "00 03 01 61 ff", "<%s >" % f(4, "trailing data at the end of a name"))
-    want("indirect", "02 01 01 00 01 61 00 00", "{names(1 {name(0 x61 ) } ) %s }" % f(6, "indirect names out of order"))
-    want("hints", "01 00 01 05 01 01", "0..6 #1[1:function(0 2..6 #1[3:hint(5 true ) ] ) ]")
-    want("hints", "01 00 01 05 02 01", "0..6 #1[%s ]" % f(4, "invalid leading byte for invalid branch hint byte: 2"))
-    want("producers", "01 01 78 00", "0..4 #1[%s ]" % f(1, "invalid producers field name"))
-    want("dylink", "02 03 01 01 61 03 04 01 01 66 02", "<2 [x61 ] 3 [export(x66 2 ) ] >")
-    want("linking", "02 06 03 01 05 07", "version 2 at 1 0..6 <6 3..6 #1[4:init(5 7 ) ] >")
-    want("linking", "03", f(0, "unsupported linking section version: 3"))
-    want("symbol", "00 10 03", "func 16 3 - used 3")
-    want("symbol", "00 50 03 01 66", "func 80 3 x66 used 5")
-    want("symbol", "01 00 01 64 02 00 04", "data 0 x64 defined(2 0 4 ) used 7")
-    want("symbol", "03 80 20 05", "section 4096 5 used 4")
-    want("symbol", "06 00", f(0, "invalid leading byte for symbol kind: 6"))
-    want("reloc", "03 01 03 06 00 7f", "section 3 0..6 1..6 #1[2:reloc(3 6 0 -1 ) ]")
-    want("relocation", "1b", f(0, "invalid leading byte for RelocEntryType: 27"))
-    want("corevalue", "7d 00 00 80 3f", "f32:1065353216 used 5")
-    want("corevalue", "02", f(0, "invalid CoreDumpValue type"))
-    want("coremodules", "02 00 01 61 01", f(0, "invalid start byte for coremodule"))
-    want("coreinstances", "01 00 02 01 00 01 03", "[instance(2 [0 ] [3 ] ) ]")
-    want("element", "01 00 21" + "00" * 31 + "80 01 05", "element(passive 2..37 #33[%s34:128 36:5 ] 0..37 ) used 37"
-         % "".join("%d:0 " % i for i in range(3, 34)))
-    want("element", "01 00 20" + "7f" * 32, "element(passive 2..35 #32[%s] 0..35 ) used 35" % "".join("%d:127 " % i for i in range(3, 35)))
-    want("element", "01 00 01 05" + "00" * 40, "element(passive 2..4 #1[3:5 ] 0..4 ) used 4")
-    want("element", "01 00 20" + "00" * 31, f(34, EOF))
-    want("element", "01 00 20" + "00" * 31 + "ff ff ff ff 10", f(38, "invalid var_u32: integer too large"))
-    want("bools", "ff ff ff ff 0f", "0..5 #4294967295[%s ]" % f(5, EOF))
-    want("recgroup", "4e ff ff ff ff 0f", f(6, EOF))
-    want("imports", "01 6d 00 7e 00 05 ff ff ff ff 0f", f(11, EOF))
+    with open(os.path.join(os.path.dirname(os.path.abspath(__file__)), "items.txt"), encoding="utf-8") as file:
+        for n, line in enumerate((line for line in file if not line.startswith("#")), 1):
+            row, _, expected = line.rstrip("\n").partition(" = ")
+            reader, *words = row.split()
+            marked = {word[0]: int(word[1:]) for word in words if word[0] in "@!"}
+            got = outcome(reader, bytes_of([word for word in words if word[0] not in "@!"]), marked.get("@", 0), marked.get("!", 3))
+            if got != expected:
+                bad.append((row, got, expected))
     return n, bad
 
 

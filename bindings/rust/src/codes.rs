@@ -1,4 +1,4 @@
-//! The numbers of enumerations in the C library, written by `tools/rust_codes` from its header.
+//! The numbers of enumerations in the C library, written by `tools/generate codes` from its header.
 
 pub(crate) mod event_kind {
     pub(crate) const NEED_MORE: u32 = 0;

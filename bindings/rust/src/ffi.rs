@@ -1,4 +1,4 @@
-//! The declarations of the library, written by `tools/c_header` from its sources.
+//! The declarations of the library, written by `tools/generate header` from its sources.
 
 #[repr(C)]
 #[derive(Clone, Copy, Debug)]

@@ -12,6 +12,7 @@ AreCounted (suc count) [] = ⊥
 AreCounted (suc count) (Ok x ∷ given) = AreCounted count given
 AreCounted (suc count) (Err e ∷ given) = ⊥
 
+-- | an iterator over a section yields as many items as announced, and no fault [`AreCounted`]
 -- Calls of `next` up to the first `None` return as many items as the section announces, and no fault.
 abbrev pub GivesAnnounced : {T : Type 0} → (Items → Option (Result T Error) → Items → Type 0) → Section → Type 0
 GivesAnnounced {T} next section = (given : List (Result T Error)) → Drains next (all_items section) given

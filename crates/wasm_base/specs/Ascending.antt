@@ -18,6 +18,8 @@ pub record Ascending (S : Type 0) : Type 0 where
 abbrev pub none_given : {S : Type 0} → S → Ascending S
 none_given entries = record { entries = entries; last = None }
 
+-- | whether an index is above the last one that was returned; an entry that was read, by that: returned, or the fault
+--   of the order at its start [`InOrder`] <Appendix, Name Section, Name Maps>
 -- whether an index is above the last one returned, if any
 abbrev pub is_above : Option ℕ → ℕ → Bool
 is_above None index = true
@@ -48,6 +50,9 @@ NextInOrder next start index fault s (Some (Err e)) t =
     (next s.entries (Some (Err e)) t.entries ⊎ Refuses next start index fault s (fault_at e) t.entries)
     × (t.last ≡ s.last)
 
+-- | one call of `next` over entries whose indices ascend; what entries result in, one returned exactly if its index
+--   is above each that was returned before; that what was returned ascends; all three, for whole runs [`in_order`,
+--   `AscendsFrom`, `GivesAscending`] <Appendix, Name Section, Name Maps; this project>
 -- one call of `next`, which never returns `OutOfMemory`
 pub record NextAscending {S T : Type 0} (next : S → Option (Result T Error) → S → Type 0) (start : S → ℕ)
     (index : T → ℕ) (fault : Fault) (s : Ascending S) (given : Option (Result T Error)) (t : Ascending S) : Type 0 where

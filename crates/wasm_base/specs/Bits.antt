@@ -6,6 +6,7 @@ use Rattle.std.specs.Int.RustNames.{bit_and}
 abbrev pub has_flag : (flags flag : ℕ) → Bool
 has_flag flags flag = bit_and flags flag == flag
 
+-- | whether a flag bit is set
 -- whether a bit of flags is set, where the lowest is bit 0
 abbrev pub has_bit : (flags bit : ℕ) → Bool
 has_bit flags bit = has_flag flags (2 ^ bit)

@@ -1,6 +1,8 @@
 -- What comparisons and copies say of values of any type.
 use Rattle.std.specs.Prelude.{◌≡◌, ◌↔◌, Bool, IsTrue}
 
+-- | a comparison decides whether a property holds, or whether two values are the same; a copy is the same, and can
+--   always be made [`DecidesSame`, `IsCopy`]
 -- The comparison is true of two values exactly if they are so.
 abbrev pub DecidesWhether : {A : Type 0} → (A → A → Type 0) → (A → A → Bool) → Type 0
 DecidesWhether {A = A} same compare = (one other : A) → IsTrue (compare one other) ↔ same one other

@@ -3,6 +3,7 @@ use Rattle.std.specs.Prelude.{ℕ, Option, Some, None, if◌then◌else◌}
 use Rattle.wasm_base.specs.declared.error.Error.{Error}
 use Rattle.wasm_base.specs.declared.fault.Fault.{Fault}
 
+-- | what an error says: fault, offset, number; not its hint [`fault_at`]
 pub record FaultAt : Type 0 where
   pub fault : Fault
   pub offset : ℕ

@@ -3,6 +3,8 @@ use Rattle.std.specs.Prelude.{ℕ, Bool, List, [], ◌∷◌, codes}
 use Rattle.wasm_base.specs.Bits.{has_bit}
 use Rattle.wasm_base.specs.declared.features.WasmFeatures.{WasmFeatures}
 
+-- | the bits of a set of features; whether 64-bit memories are enabled, and bundles of imports [`takes_wide_limits`,
+--   `takes_import_bundles`]
 -- the bits of a set of features
 abbrev pub feature_bits : WasmFeatures → ℕ
 feature_bits features = features.0

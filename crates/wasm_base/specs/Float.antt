@@ -6,6 +6,8 @@ use Rattle.wasm_base.specs.Window.{Place}
 use Rattle.wasm_base.specs.declared.float.Ieee32.{Ieee32}
 use Rattle.wasm_base.specs.declared.float.Ieee64.{Ieee64}
 
+-- | a float as its bits: four bytes, or eight, lowest first [`bits_of_64`, `of_bits_32`, `of_bits_64`, `u64_at`]
+--   <Values, Floating-Point>
 -- the bits of a float of 32 bits
 abbrev pub bits_of_32 : Ieee32 → ℕ
 bits_of_32 float = float.0

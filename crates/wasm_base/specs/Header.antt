@@ -6,6 +6,7 @@ use Rattle.wasm_base.specs.Outcome.{Outcome, ◌>>=◌}
 use Rattle.wasm_base.specs.Window.{Place}
 use Rattle.wasm_base.specs.declared.fault.Fault.TheVariants.{BadMagic}
 
+-- | the first eight bytes [`header_version_at`] <Modules>
 -- the four bytes that begin a stream
 abbrev pub magic : List ℕ
 magic = 0x00 ∷ 0x61 ∷ 0x73 ∷ 0x6d ∷ []

@@ -16,6 +16,8 @@ abbrev pub is_out_of_memory : Fault → Bool
 is_out_of_memory OutOfMemory = true
 is_out_of_memory fault = false
 
+-- | an error is not out of memory; it hints at *n* missing bytes if the input is truncated, and otherwise at nothing;
+--   or at nothing at all [`Hints`, `HintsNothing`]
 -- What a call returned is not out of memory.
 abbrev pub NotOutOfMemory : {X : Type 0} → Result X Error → Type 0
 NotOutOfMemory (Ok x) = Unit {0}
@@ -36,6 +38,8 @@ abbrev pub HintsNothing : {X : Type 0} → Result X Error → Type 0
 HintsNothing (Ok x) = Unit {0}
 HintsNothing (Err e) = hint_of e ≡ None
 
+-- | how many bytes are missing: of *n*, of a size and as many bytes, of a header [`missing_of_sized`,
+--   `missing_of_header`]
 -- how many of n bytes are missing at a place
 abbrev pub missing_at : ℕ → Place → ℕ
 missing_at n p = n - length p.rest

@@ -13,6 +13,9 @@ after_reading reading p = do
   item ← reading p
   Ok (tt, item.1)
 
+-- | *n* items that are skipped, one after the other; the section that a count and they are, whose window begins at
+--   the count; the place after a read [`section_between`, `inner_section_at`, `after_reading`] <Conventions, Lists;
+--   this project>
 -- the place after this many items, one after the other
 abbrev pub all_skipped_at : (Place → Outcome (Unit {0})) → (count : ℕ) → Place → Outcome (Unit {0})
 all_skipped_at pass zero p = Ok (tt, p)
@@ -40,6 +43,8 @@ abbrev pub SkipsIfSuch : {T : Type 0} → (T → Type 0) → (Place → Outcome 
     → Type 0
 SkipsIfSuch {T} Such meaning pass = (p q : Place) (x : T) → Such x → meaning p (Ok (x, q)) → pass p ≡ Ok (tt, q)
 
+-- | skipping an item consumes the bytes that reading it consumes, wherever it is read; or if it has a property
+--   [`SkipsIfSuch`]
 -- Wherever an item is read, skipping it consumes the same bytes as reading it.
 abbrev pub SkipsAsRead : {T : Type 0} → (Place → Outcome T → Type 0) → (Place → Outcome (Unit {0})) → Type 0
 SkipsAsRead meaning pass = SkipsIfSuch (λ x. Unit {0}) meaning pass

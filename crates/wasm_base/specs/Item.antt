@@ -7,6 +7,7 @@ use Rattle.wasm_base.specs.Window.{Place}
 use Rattle.wasm_base.specs.declared.error.Error.{Error}
 use Rattle.wasm_base.specs.declared.fault.Fault.TheVariants.{InvalidBool}
 
+-- | what an item type means: the outcomes that its bytes allow at a place
 -- What a call returned, and the place that it left, is an outcome that the meaning allows.
 abbrev pub Means : {X : Type 0} → (Place → Outcome X → Type 0) → Place → Result X Error → Place → Type 0
 Means meaning before (Ok x) after = meaning before (Ok (x, after))
@@ -38,6 +39,7 @@ truth_of byte zero = Ok (false, byte.1)
 truth_of byte (suc zero) = Ok (true, byte.1)
 truth_of byte (suc (suc n)) = Err (at_offset InvalidBool (byte.1.offset - 1))
 
+-- | `bool`: a byte, 0 or 1; a name; two items in order [`ReadsName`, `BothInTurn`] <Values; this project>
 -- a byte that is 0 or 1
 unfoldable pub bool_at : Place → Outcome Bool
 bool_at p = do
@@ -60,6 +62,7 @@ SameOutcome meaning (Ok x) (Err e) = ⊥
 SameOutcome meaning (Err e) (Ok y) = ⊥
 SameOutcome meaning (Err e) (Err f) = e ≡ f
 
+-- | a meaning that allows one outcome, as far as it can see a value; one that determines the value [`Determines`]
 -- A meaning allows one outcome at each place, as far as it knows a difference.
 pub record AllowsOne {T : Type 0} (meaning : Place → Outcome T → Type 0) : Type 0 where
   pub one : (p : Place) (a b : Outcome T) → meaning p a → meaning p b → SameOutcome meaning a b

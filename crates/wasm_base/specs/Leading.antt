@@ -14,6 +14,8 @@ use Rattle.wasm_base.specs.declared.fault.NumberKind.TheVariants.{VarU32}
 abbrev pub leading_byte : Lead → ℕ → ℕ → FaultAt
 leading_byte lead byte offset = record { fault = LeadingByte lead; offset = offset; number = Some byte }
 
+-- | what a table has for a byte; a byte that a table has something for, or the fault that it begins nothing of a
+--   kind: its offset, and the byte as its number [`lookup_or`, `in_table`, `leading_byte`]
 -- what a table has for a byte
 abbrev pub lookup : {A : Type 0} → List (ℕ × A) → ℕ → Option A
 lookup [] byte = None
@@ -35,11 +37,11 @@ in_table lead table p = do
   byte ← byte_at p
   or_leading lead byte.0 (byte.1.offset - 1) (lookup table byte.0) byte.1
 
--- a byte that is 0 for no, or 1 for yes
+-- | a flag byte: 0 for no, 1 for yes
 abbrev pub flag_at : Lead → Place → Outcome Bool
 flag_at lead = in_table lead ((0, false) ∷ (1, true) ∷ [])
 
--- the flags of a segment, a u32, if they are at most this
+-- | the flags of a segment, if they are at most a number
 unfoldable pub flags_at : (most : ℕ) → Place → Outcome (Option ℕ)
 flags_at most p = do
   flags ← unsigned_at VarU32 p

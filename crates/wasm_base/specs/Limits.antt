@@ -7,6 +7,8 @@ abbrev pub is_power_up_to : (k n : ℕ) → Bool
 is_power_up_to zero n = n == 1
 is_power_up_to (suc k) n = n == 2 ^ suc k || is_power_up_to k n
 
+-- | whether a page may have *n* bytes, and the most pages of a memory [`most_pages`] <Structure, Memory Types; a
+--   page's size is a proposal's>
 -- whether a page may have this size in bytes: a power of two of at most 65536
 abbrev pub is_page_size : ℕ → Bool
 is_page_size size = is_power_up_to 16 size

@@ -54,6 +54,7 @@ start_name starts.Instance = codes "core dump instance"
 start_name starts.StackName = codes "core dump stack name"
 start_name starts.Frame = codes "core dump stack frame"
 
+-- | the text of a fault, and of an error [`error_text`]
 -- the text of a fault
 abbrev pub message_of : Fault → List ℕ
 message_of OutOfMemory = codes "out of memory"

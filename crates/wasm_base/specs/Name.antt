@@ -10,6 +10,7 @@ use Rattle.wasm_base.specs.declared.fault.Fault.{Fault}
 use Rattle.wasm_base.specs.declared.fault.Fault.TheVariants.{UnexpectedEof, StringSize, MalformedUtf8, InvalidU7}
 use Rattle.wasm_base.specs.declared.fault.NumberKind.TheVariants.{VarU32}
 
+-- | raw bytes [`byte_at`, `u32_at`] <Values, Bytes>
 -- n raw bytes; if some are missing, the fault is at their start
 abbrev pub bytes_at : ℕ → Place → Outcome (List ℕ)
 bytes_at n p = if nat_lt (length p.rest) n then Err (at_offset UnexpectedEof p.offset) else
@@ -23,7 +24,7 @@ first_of p (b ∷ bs) = Ok (b, advanced 1 p)
 abbrev pub byte_at : Place → Outcome ℕ
 byte_at p = first_of p p.rest
 
--- a byte below 128
+-- | a byte below 128
 unfoldable pub u7_at : Place → Outcome ℕ
 u7_at p = do
   byte ← byte_at p
@@ -82,6 +83,8 @@ after_size limit bytes (read size used) =
     if is_above limit size then refused StringSize (used - 1) else
     text_after bytes size used
 
+-- | what bytes say of the name that begins with them: a size, within a limit if there is one, and as many bytes of
+--   UTF-8 [`text_at`] <Values, Names>
 -- what bytes say of the name that begins with them, where no bytes follow: a size of at most the limit, and that many
 -- bytes of UTF-8
 unfoldable pub name : Option ℕ → List ℕ → Name
@@ -95,7 +98,7 @@ name_in_window p (refused fault i) = Err (at_offset fault (p.offset + i))
 unfoldable pub text_at : Option ℕ → Place → Outcome (List ℕ)
 text_at limit p = name_in_window p (name limit p.rest)
 
--- reading a size and a window of that many bytes
+-- | a size and a window of as many bytes <Values, Integers>
 unfoldable pub window_at : Place → Outcome Window
 window_at p = do
   size ← unsigned_at VarU32 p

@@ -26,6 +26,7 @@ most_bytes VarS33 = 5
 most_bytes VarU64 = 10
 most_bytes VarI64 = 10
 
+-- | the width of a kind of number in bits; whether the kind is signed [`Widths.is_signed`] <Values, Integers>
 -- how many bits its value has
 abbrev pub bits_of : NumberKind → ℕ
 bits_of VarU32 = 32
@@ -62,6 +63,8 @@ ends_at kind bytes (Some i) =
     if is_unused_right kind (slice_index bytes i) then read (septets (take (suc i) bytes)) (suc i) else
     bad (NumberTooLarge kind) i
 
+-- | what bytes say of the number of a kind that begins with them: read, wrong at a byte, or short, if the bytes end
+--   first. Its seven-bit groups end at the first byte below 128, within the length of the kind <Values, Integers>
 -- what bytes say of the number of this kind that begins with them
 unfoldable pub number : NumberKind → List ℕ → Number
 number kind bytes = ends_at kind bytes (last_place bytes)
@@ -73,10 +76,13 @@ in_window p (read sum used) = Ok (sum, advanced used p)
 in_window p (bad fault i) = Err (at_offset fault (p.offset + i))
 in_window p short = Err (at_offset UnexpectedEof (p.offset + length p.rest))
 
+-- | the number read in a window, unsigned <Values, Integers>
 -- reading an unsigned number of this kind
 unfoldable pub unsigned_at : NumberKind → Place → Outcome ℕ
 unsigned_at kind p = in_window p (number kind p.rest)
 
+-- | how many bytes reading a number consumes: those of the number, those up to the wrong one, or all; the place after
+--   them; the place after a malformed id or size [`after_number`; `Subsections.after_refused`]
 -- how many of these bytes reading a number takes: those of the number, those up to the wrong one, or all
 abbrev pub bytes_read : List ℕ → Number → ℕ
 bytes_read bytes (read sum used) = used

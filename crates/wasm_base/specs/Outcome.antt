@@ -4,6 +4,7 @@ use Rattle.wasm_base.specs.FaultAt.{FaultAt, fault_at}
 use Rattle.wasm_base.specs.Window.{Window, Place, place}
 use Rattle.wasm_base.specs.declared.error.Error.{Error}
 
+-- | a value and the place after it, or a fault [`Gives`]
 -- a value and the place after its bytes, or the first fault
 abbrev pub Outcome : Type 0 → Type 0
 Outcome A = Result (A × Place) FaultAt

@@ -8,6 +8,8 @@ use Rattle.wasm_base.specs.declared.error.Error.{Error}
 use Rattle.wasm_base.specs.declared.fault.Fault.TheVariants.{OutOfMemory}
 use Rattle.wasm_base.specs.declared.fault.NumberKind.TheVariants.{VarU32}
 
+-- | what an error says if an allocation failed; an outcome that a meaning allows, or that [`UnlessMemory`,
+--   `GivesUnlessMemory`]
 -- what an error says when an allocation fails
 abbrev pub out_of_memory : FaultAt
 out_of_memory = at_offset OutOfMemory 0
@@ -34,6 +36,8 @@ abbrev pub GivesResultUnlessMemory : {X Y : Type 0} → (X → Y) → Result X E
 GivesResultUnlessMemory view (Ok x) outcome = outcome ≡ Ok (view x)
 GivesResultUnlessMemory view (Err e) outcome = (fault_at e ≡ out_of_memory) ⊎ (outcome ≡ Err (fault_at e))
 
+-- | a list: a count and as many items, one after the other, up to the first fault; by a meaning, or by a function of
+--   the place [`ListOf`; `in_turn`, `list_at`] <Conventions, Lists>
 -- this many items, one after the other, up to the first fault
 abbrev pub InTurn : {A : Type 0} → (Place → Outcome A → Type 0) → ℕ → Place → Outcome (List A) → Type 0
 InTurn meaning zero p (Ok (items, q)) = (items ≡ []) × (q ≡ p)

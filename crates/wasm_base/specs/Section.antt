@@ -23,12 +23,15 @@ abbrev pub ReadsSection : Place → Result Section Error → Type 0
 ReadsSection p (Ok section) = unsigned_at VarU32 p ≡ Ok (section.count, place section.reader)
 ReadsSection p (Err e) = unsigned_at VarU32 p ≡ Err (fault_at e)
 
+-- | the window that a section turns into its own, its count first [`Outcome.GivesResult`] <Modules, Sections>
 -- the section that is what a reader has before it: a count, a u32, and the reader after it
 unfoldable pub section_in : Window → Result Section FaultAt
 section_in w = do
   count ← unsigned_at VarU32 (place w)
   Ok (record { reader = record w { position = w.position + (count.1.offset - (place w).offset) }; count = count.0 })
 
+-- | the items of a window with a count: one after the other by their meaning, up to the count or the first fault;
+--   then `SizeMismatch` if there are trailing bytes [`NextItem`, `ItemsOf`, `GivesItems`] <Modules, Sections>
 -- the state of an iterator over items: how many were announced, how many of these remain, and whether it is over
 pub record Items : Type 0 where
   pub reader : Window
@@ -71,6 +74,8 @@ abbrev pub EndsAtFault : {T : Type 0} → Result T Error → Items → Type 0
 EndsAtFault (Ok x) t = t.ended ≡ false
 EndsAtFault (Err e) t = t.ended ≡ true
 
+-- | one call of `next` over items that own lists; two runs over them yield the same, up to an `OutOfMemory`
+--   [`SameUnlessMemory`] <Modules, Sections; this project>
 -- one call of `next` over items that own lists, for which an allocation may fail
 pub record NextItemIn {T : Type 0} (meaning : Place → Outcome T → Type 0) (s : Items) (given : Option (Result T Error))
     (t : Items) : Type 0 where

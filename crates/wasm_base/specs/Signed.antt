@@ -5,6 +5,8 @@ use Rattle.wasm_base.specs.Outcome.{Outcome, ◌>>=◌}
 use Rattle.wasm_base.specs.Window.{Place}
 use Rattle.wasm_base.specs.declared.fault.NumberKind.{NumberKind}
 
+-- | a signed number: its seven-bit groups, minus what all their bits can count if the highest bit of the last one is
+--   set; which values fit a number of bits [`signed_at`, `FitsBits`] <Values, Integers>
 -- the signed number whose `used` septets have this sum: the highest bit of its last septet is its sign
 abbrev pub signed_value : (sum used : ℕ) → ℤ
 signed_value sum used = if nat_lt (2 * sum) (2 ^ (7 * used)) then pos sum else pos sum -ℤ pos (2 ^ (7 * used))

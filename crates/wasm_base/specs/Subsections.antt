@@ -14,7 +14,8 @@ use Rattle.wasm_base.specs.Window.{Window, Place, place, advanced, KeepsWindow}
 use Rattle.wasm_base.specs.declared.error.Error.{Error}
 use Rattle.wasm_base.specs.declared.fault.NumberKind.TheVariants.{VarU32}
 
--- the id of a subsection and its window: a byte below 128, a size, and that many bytes
+-- | the id of a subsection and its window: a byte below 128, a size and as many bytes <Appendix, Name Section,
+--   Subsections; tool conventions, Linking>
 unfoldable pub subsection_at : Place → Outcome (ℕ × Window)
 subsection_at p = do
   id ← u7_at p
@@ -30,6 +31,8 @@ after_id p (Err fault) = advanced 1 p
 unfoldable pub after_refused : Place → Place
 after_refused p = after_id p (u7_at p)
 
+-- | what is returned for a subsection is what its id and its window mean, or out of memory if it allocates; one
+--   outcome, as far as a view goes [`MeansSubsection`, `ReadsWindowAs`]
 -- The result of a subsection is what its id and its window mean, or out of memory if it may allocate.
 abbrev pub UnlessTaken : {T : Type 0} → (ℕ → Window → Result T FaultAt → Type 0) → Bool → ℕ → Window → Result T FaultAt
     → Type 0
@@ -49,6 +52,8 @@ ReadsSubsection meaning takes p (Ok head) given after = MeansSubsection meaning 
     × (after ≡ head.1)
 ReadsSubsection meaning takes p (Err fault) given after = (item_or_fault given ≡ Err fault) × (after ≡ after_refused p)
 
+-- | what one call of `next` over subsections returns; what all calls together return [`GivesSubsections`] <Appendix,
+--   Name Section, Subsections; this project>
 -- one call of `next`: a subsection as long as bytes remain, and each consumes at least one of them; never out of memory
 -- if no subsection allocates
 abbrev pub NextSubsection : {T : Type 0} → (ℕ → Window → Result T FaultAt → Type 0) → Bool → Window
@@ -65,6 +70,8 @@ abbrev pub FirstSubsection : {T : Type 0} → (ℕ → Window → Result T Fault
 FirstSubsection meaning p (Ok head) given Others = meaning head.0.0 head.0.1 given × Others head.1
 FirstSubsection meaning p (Err fault) given Others = (given ≡ Err fault) × Others (after_refused p)
 
+-- | the subsections of a window, one after the other to its end. If an id or a size has a fault, the next subsection
+--   begins after the bytes that were consumed to read it <Appendix, Name Section, Subsections; this project>
 -- The subsections that a window has from a place on, one after the other to the end.
 abbrev pub SubsectionsOf : {T : Type 0} → (ℕ → Window → Result T FaultAt → Type 0) → Place → List (Result T FaultAt)
     → Type 0

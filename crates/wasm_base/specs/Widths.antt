@@ -25,6 +25,10 @@ last_bits kind = bits_of kind - 7 * (most_bytes kind - 1)
 abbrev pub unused_bit : NumberKind → ℕ → ℕ
 unused_bit kind b = if is_signed kind then bit (last_bits kind - 1) b else 0
 
+-- | at seven bits a byte, the longest number of a kind has just enough bytes for that width. The unused bits of the
+--   last one are 0, or for a signed kind copies of the sign. The seven-bit groups add up to less than 2 to the width,
+--   or for a signed kind to less than 2 to the number of all their bits [`ChecksUnused`, `BoundsSum`] <Values,
+--   Integers>
 -- A number takes as few bytes as have room for its value, seven bits each.
 abbrev pub IsLongEnough : NumberKind → Type 0
 IsLongEnough kind = (bits_of kind ≤ 7 * most_bytes kind) × (7 * (most_bytes kind - 1) < bits_of kind)

@@ -2,6 +2,7 @@
 use Rattle.std.specs.declared.ops.Range.{Range}
 use Rattle.std.specs.Prelude.{◌≡◌, ℕ, ◌+◌, ◌-◌, ◌≤◌, List, length, take, drop}
 
+-- | a reader: features, start offset, bytes, position
 -- what a reader is: the bytes of its window, the offset at which they begin in the whole stream, how many of
 -- them it has passed, and the features that it takes, as bits
 pub record Window : Type 0 where
@@ -10,6 +11,7 @@ pub record Window : Type 0 where
   pub bytes : List ℕ
   pub position : ℕ
 
+-- | where a reader is: features, offset, the bytes in front of it [`place`, `advanced`]
 -- what a reader has before it: its offset, and the bytes from there to the end of its window
 pub record Place : Type 0 where
   pub features : ℕ
@@ -32,7 +34,7 @@ whole_window p = record { features = p.features; start = p.offset; bytes = p.res
 abbrev pub window_over : (features offset : ℕ) → List ℕ → Window
 window_over features offset bytes = record { features = features; start = offset; bytes = bytes; position = 0 }
 
--- the window from one place to a later one
+-- | the window from one place to a later one
 abbrev pub window_between : (p q : Place) → Window
 window_between p q = record {
   features = p.features;

@@ -31,6 +31,9 @@ pub fn in_order<T: Drop>(
     start: u64,
 ) -> Result<T>
     requires { is_out_of_memory fault ≡ false }
+    // Proved: `in_order` returns an entry exactly if its index is above the last one, which it
+    //   replaces; otherwise the caller's fault at the start of the entry, and the last one stays
+    //   [`order` (`InOrder`), `memory`]
     ensures order { InOrder last.old index fault start entry result last.new }
     ensures memory { NotOutOfMemory result }
 {

@@ -18,6 +18,8 @@ use crate::reader::BinaryReader;
 #[inline(always)]
 pub fn expect_end(fault: Fault, reader: &BinaryReader<'_>) -> Result<()>
     requires { is_out_of_memory fault ≡ false }
+    // Proved: `expect_end` returns an error exactly if bytes remain: the caller's fault, at the
+    //   first of them [`gives` (`end_at`), `memory`]
     ensures gives { GivesResult (λ nothing. nothing) result (end_at fault (place reader.now)) }
     ensures memory { NotOutOfMemory result }
 {

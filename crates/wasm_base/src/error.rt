@@ -44,6 +44,9 @@ impl Error {
 
     /// Returns an error with this fault and this offset, without a number or a hint.
     pub fn new(fault: Fault, offset: u64) -> Self
+        // Proved: an `Error` keeps its fault, offset, number and hint; `Display` prints the text,
+        //   the number, and the offset in hexadecimal [`report` and `hint` of its constructors, the
+        //   clauses of its getters, `output` of `Display`]
         ensures report { fault_at result ≡ at_offset fault offset }
         ensures hint { hint_of result ≡ None }
     {
@@ -186,6 +189,8 @@ pub fn leading_byte_error(lead: Lead, byte: u8, offset: u64) -> Error
 ///
 /// `OutOfMemory` at offset 0, whatever the offset of the error.
 pub fn only_out_of_memory(error: Error) -> Result<()>
+    // Proved: `only_out_of_memory` returns an error exactly if the one that it is passed is out of
+    //   memory: `OutOfMemory` at offset 0, with no number and no hint [`other`, `refused`, `hint`]
     ensures other { is_out_of_memory (fault_at error).fault ≡ is_err result }
     ensures refused { IfErr result (λ e. fault_at e ≡ out_of_memory) }
     ensures hint { HintsNothing result }
@@ -217,6 +222,7 @@ impl<T: Drop> From<AllocFailed<T>> for Error {
     ghost use Rattle.wasm_base.specs.FaultAt.{fault_at, at_offset, hint_of};
     ghost use Rattle.wasm_base.specs.declared.fault.Fault.TheVariants.{OutOfMemory};
 
+    // Proved: a failed allocation becomes `OutOfMemory` at offset 0, with no number and no hint
     ghost from_gives = { λ _ e. (fault_at e ≡ at_offset OutOfMemory 0) × (hint_of e ≡ None) };
 
     fn from(_refused: AllocFailed<T>) -> Error {

@@ -92,6 +92,10 @@ fn skip_items<'a, T: SkipItem<'a>>(count: u32, reader: &mut BinaryReader<'a>) ->
 pub fn read_inner<'a, T: SkipItem<'a>>(
     reader: &mut BinaryReader<'a>,
 ) -> Result<SectionLimited<'a, T>>
+    // Proved: a list inside an item that the item does not own is skipped, and is a section of its
+    //   own from its count to its end. This holds for every item that can be skipped, and for `u32`
+    //   numbers [`gives` on `read_inner` and `read_inner_u32s` (`inner_section_at`), `gives` of
+    //   `SkipItem`]
     ensures gives { GivesBy (λ section. section) result reader.old reader.new
         (inner_section_at T.skipped_at) }
     ensures keeps { KeepsWindow reader.old reader.new }

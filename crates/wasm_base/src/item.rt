@@ -31,6 +31,9 @@ pub trait FromReader<'a>: Sized + Drop {
     /// Those of the type, as its `impl` says. The reader is then in its window, at or after its previous position. The
     /// fault is never `OutOfMemory`.
     fn from_reader(reader: &mut BinaryReader<'a>) -> Result<Self>
+        // Proved: `from_reader` of `bool`, `u32`, `&str` and pairs returns an outcome that the
+        //   meaning of the type allows, stays in the window and never goes back. Each
+        //   implementation of the trait has to prove this [`means`, `keeps` of `FromReader`]
         ensures means { Means meaning (place reader.old) result (place reader.new) }
         ensures keeps { KeepsWindow reader.old reader.new }
         ensures memory { NotOutOfMemory result };

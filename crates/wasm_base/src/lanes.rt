@@ -18,6 +18,7 @@ fn continuation_bytes(bytes: u8x32) -> u64
 /// Whether all bytes are below 128.
 #[inline(always)]
 pub(crate) fn are_below_128(bytes: u8x32) -> bool
+    // Proved: the test of 32 bytes at a time is true exactly if all are below 128
     ensures { IsTrue result ↔ All (λ b. b < 128) bytes }
 {
     continuation_bytes(bytes) == 0

@@ -45,6 +45,8 @@ use std::hash::Hash;
 /// `SectionLimitedIntoIterWithOffsets` yields each item with the offset at which its bytes begin. The items of a window
 /// are the announced ones, and then nothing, or one `SizeMismatch` if bytes remain; after an item's error, nothing.
 pub fn items_of_a_window<'a, T: FromReader<'a>>()
+    // Proved: whole runs: the items of a window, at most one more than announced; `size_hint`
+    //   bounds them [`laws::items_of_a_window`, the clauses of `size_hint`]
     ensures items { (s : Items) →
         GivesItems ⟦<SectionLimitedIntoIter<'a, T> as Iterator>⟧.next_gives T.meaning s }
     ensures with_offsets { (s : Items) →
@@ -66,6 +68,9 @@ pub fn owned_items_of_a_window<'a, T: FromReaderIn<'a>>()
 /// Each is what its id and its window mean, or its error, and the others follow it, to the end of the window. If an id
 /// or a size is malformed, the later subsections are those that begin at a later place.
 pub fn subsections_of_a_window<'a, T: Subsection<'a>>()
+    // Proved: whole runs: the subsections of a window, each after the one before, whatever fault
+    //   that had. There are at most as many as bytes remain [`laws::subsections_of_a_window`
+    //   (`GivesSubsections`)]
     ensures { (s : Window) →
         GivesSubsections ⟦<Subsections<'a, T> as Iterator>⟧.next_gives
         (UnlessTaken T.meaning T.Allocation.ALLOCATES) s }
@@ -76,6 +81,10 @@ pub fn subsections_of_a_window<'a, T: Subsection<'a>>()
 ///
 /// The items are equal if the meaning determines the value completely.
 pub fn both_iterators_give_the_same_items<'a, T: FromReader<'a>>()
+    // Proved: both iterators, a clone of a section and a clone of an iterator yield the same items,
+    //   if the meaning of an item allows one outcome [`laws::both_iterators_give_the_same_items`,
+    //   `a_clone_gives_the_same_items`, `a_cloned_iterator_gives_the_same_items`;
+    //   `these_allow_one_outcome`]
     ensures same { AllowsOne T.meaning → (s : Items) → GivesTheSame T.meaning
         (run_over ⟦<SectionLimitedIntoIter<'a, T> as Iterator>⟧.next_gives s)
         (run_with_offsets ⟦<SectionLimitedIntoIterWithOffsets<'a, T> as Iterator>⟧.next_gives s) }
@@ -134,6 +143,7 @@ pub fn these_allow_one_outcome<'a, T: FromReader<'a>, U: FromReader<'a>>()
 
 /// Wherever a name is read, skipping it as an item of an inner list consumes the same bytes as reading it.
 pub fn skipping_a_name_consumes_its_bytes<'a>()
+    // Proved: skipping a name consumes the bytes that reading it consumes, wherever it is read
     ensures { SkipsAsRead ⟦<&'a str as FromReader<'a>>⟧.meaning ⟦<&'a str as SkipItem<'a>>⟧.skipped_at }
 {}
 
@@ -142,6 +152,10 @@ pub fn skipping_a_name_consumes_its_bytes<'a>()
 /// These are how many bytes a number has at most, which unused bits its last byte may have, and how large the sum of
 /// its seven-bit groups is.
 pub fn widths_of_numbers()
+    // Proved: each kind of number takes as many bytes as its bits need
+    // Proved: the unused bits of the last byte that a number may have are 0, or equal the sign for
+    //   a signed kind. Its seven-bit groups are bounded by the bits of its value, or for a signed
+    //   kind by those of all its bytes [`laws::widths_of_numbers` (`ChecksUnused`, `BoundsSum`)]
     ensures bytes { (kind : NumberKind) → IsLongEnough kind }
     ensures unused { (kind : NumberKind) → ChecksUnused kind }
     ensures sum { (kind : NumberKind) → BoundsSum kind }
@@ -150,6 +164,8 @@ pub fn widths_of_numbers()
 /// `==` of two faults, kinds within faults, or sets of features returns true exactly if the two are the same:
 /// the same variant with the same values, or the same bits.
 pub fn equal_faults_are_the_same()
+    // Proved: two faults, what they name, and two sets of features are equal exactly if they are
+    //   the same
     ensures number_kind { DecidesSame ⟦<NumberKind as PartialEq>⟧.eq }
     ensures lead { DecidesSame ⟦<Lead as PartialEq>⟧.eq }
     ensures core_start { DecidesSame ⟦<CoreStart as PartialEq>⟧.eq }
@@ -159,6 +175,9 @@ pub fn equal_faults_are_the_same()
 
 /// A set of features is hashed as its bits.
 pub fn features_are_hashed_as_their_bits()
+    // Proved: a set of features is hashed as its bits, and so is a float; two floats are equal
+    //   exactly if their bits are [`laws::features_are_hashed_as_their_bits`,
+    //   `floats_are_hashed_as_their_bits`, `equal_floats_have_the_same_bits`]
     ensures { (features : WasmFeatures) → ⟦<WasmFeatures as Hash>⟧.hash_input features ≡ hashed.u32
         (feature_bits features) }
 {}
@@ -179,6 +198,7 @@ pub fn floats_are_hashed_as_their_bits()
 
 /// Two errors are equal exactly if their fault, offset and number are. The hint is not compared.
 pub fn equal_errors_are_the_same()
+    // Proved: two errors are equal exactly if fault, offset and number are, whatever they hint at
     ensures { DecidesWhether (λ one other. fault_at one ≡ fault_at other) ⟦<Error as PartialEq>⟧.eq }
 {}
 
@@ -187,6 +207,8 @@ pub fn equal_errors_are_the_same()
 /// This holds for a fault, an error with its hint, a set of features, a float, a reader, a section, an iterator over
 /// its items, and subsections.
 pub fn copies_are_the_same<'a, T, U: Clone>()
+    // Proved: a copy of an error, a fault, a set of features, a float, a reader, a section, its
+    //   iterator or subsections is the same, and can always be made
     ensures error { IsCopy ⟦<Error as Clone>⟧.is_clone ⟦<Error as Clone>⟧.is_infallible }
     ensures fault { IsCopy ⟦<Fault as Clone>⟧.is_clone ⟦<Fault as Clone>⟧.is_infallible }
     ensures number_kind { IsCopy
@@ -217,6 +239,7 @@ pub fn copies_are_the_same<'a, T, U: Clone>()
 
 /// The limits of modules have these values.
 pub fn limits_of_modules()
+    // Proved: each limit of modules has its number
     ensures types { MAX_WASM_TYPES ≡ 1000000 }
     ensures supertypes { MAX_WASM_SUPERTYPES ≡ 5 }
     ensures functions { MAX_WASM_FUNCTIONS ≡ 1000000 }

@@ -17,6 +17,8 @@ use crate::reader::BinaryReader;
 /// its number.
 #[tactic(auto, unfolding(crate::specs::Leading::in_table))]
 pub fn read_flag(lead: Lead, reader: &mut BinaryReader<'_>) -> Result<bool>
+    // Proved: `read_flag` reads a byte that is 0 or 1. Any other byte is the fault `LeadingByte` at
+    //   it, and the reader keeps its window [`gives` (`flag_at`), `keeps`, `memory`]
     ensures gives { GivesBy (λ flag. flag) result reader.old reader.new (flag_at lead) }
     ensures keeps { KeepsWindow reader.old reader.new }
     ensures memory { NotOutOfMemory result }
@@ -42,6 +44,8 @@ pub fn read_flag(lead: Lead, reader: &mut BinaryReader<'_>) -> Result<bool>
 #[tactic(auto, unfolding(crate::specs::Leading::flags_at))]
 #[inline(always)]
 pub fn read_flags(most: u8, reader: &mut BinaryReader<'_>) -> Result<Option<u8>>
+    // Proved: `read_flags` reads a LEB128 `u32` and returns it exactly if it is at most the
+    //   caller's bound [`gives` (`flags_at`), `keeps`, `memory`, `moves`]
     ensures gives { GivesBy (λ flags. flags) result reader.old reader.new (flags_at most) }
     ensures keeps { KeepsWindow reader.old reader.new }
     ensures memory { NotOutOfMemory result }

@@ -92,6 +92,8 @@ pub const DEFAULT_WASM_PAGE_SIZE: u64 = 65_536;
 ///
 /// No reader checks this. Use it before `max_wasm_memory32_pages` and `max_wasm_memory64_pages`.
 pub fn is_page_size(page_size: u64) -> bool
+    // Proved: `is_page_size` is true for the powers of two up to 65,536. For such a size a page
+    //   limit is the lesser of two numbers [the clauses of `is_page_size` and of each limit]
     ensures says { result ≡ is_page_size page_size }
     ensures power { IsTrue result ↔ (IsPowerOfTwo page_size × (page_size ≤ 65536)) }
 {

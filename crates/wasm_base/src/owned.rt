@@ -33,6 +33,9 @@ pub trait FromReaderIn<'a>: Sized + Drop {
     /// Those of the type, as its `impl` says, and `OutOfMemory` at offset 0 when an allocation fails. The reader is
     /// then in its window, at or after its previous position.
     fn from_reader(alloc: Global, reader: &mut BinaryReader<'a>) -> Result<Self>
+        // Proved: `from_reader` of an item type that owns lists returns an outcome that its meaning
+        //   allows, or `OutOfMemory`, stays in the window and never goes back. Each implementation
+        //   has to prove this [`means`, `keeps` of `FromReaderIn`]
         ensures means { Means (UnlessMemory meaning) (place reader.old) result (place reader.new) }
         ensures keeps { KeepsWindow reader.old reader.new };
 }
@@ -71,6 +74,8 @@ pub fn read_items<'a, T: FromReader<'a>, A: Allocator>(
     reader: &mut BinaryReader<'a>,
     count: u32,
 ) -> Result<Vec<T, A>>
+    // Proved: items whose count is known are as many items, each by its meaning, up to the first
+    //   fault, or `OutOfMemory` instead [`means` of `read_items` (`InTurn`)]
     ensures means { MeansAs (λ list. list.items) (UnlessMemory (InTurn T.meaning count))
         (place reader.old) result (place reader.new) }
     ensures keeps { KeepsWindow reader.old reader.new }
@@ -121,6 +126,8 @@ pub fn read_list<'a, T: FromReader<'a>, A: Allocator>(
     alloc: A,
     reader: &mut BinaryReader<'a>,
 ) -> Result<Vec<T, A>>
+    // Proved: a list is a count and as many items as it announces, each by its meaning, up to the
+    //   first fault, or `OutOfMemory` instead [`means` of `read_list`, `read_list_in` (`ListOf`)]
     ensures means { MeansAs (λ list. list.items) (UnlessMemory (ListOf T.meaning))
         (place reader.old) result (place reader.new) }
     ensures keeps { KeepsWindow reader.old reader.new }

@@ -108,6 +108,7 @@ impl<'a> Clone for BinaryReader<'a> {
 /// assert!(rt; !fits(18_446_744_073_709_551_615, 1));
 /// ```
 pub fn fits(offset: u64, len: usize) -> bool
+    // Proved: `fits` says exactly whether a reader of *n* bytes can be made at an offset
     ensures { IsTrue result ↔ (offset + len < 2 ^ 64) }
 {
     len as u64 <= u64::MAX - offset
@@ -141,6 +142,11 @@ impl<'a> BinaryReader<'a> {
 
     /// Returns the offset of the next byte, from the start of the stream.
     pub fn original_position(&self) -> u64
+        // Proved: the offset of a reader, its ranges, and the offsets of the windows made of it
+        //   count from the start of the stream; `current_position` counts from the start of the
+        //   reader's window. Windows have the reader's features [the clauses of
+        //   `original_position`, `current_position`, `range`, `remaining_range`,
+        //   `remaining_buffer`, `bytes_remaining`, `eof`, `shrink`, `features`]
         ensures offset { result ≡ (place self.now).offset }
         ensures fits { result + length (place self.now).rest < 2 ^ 64 }
     {
@@ -255,6 +261,10 @@ impl<'a> BinaryReader<'a> {
     ///
     /// `UnexpectedEof` at the current offset if no byte remains.
     pub fn peek(&self) -> Result<u8>
+        // Proved: each read of `BinaryReader` returns what its definition says of the bytes: a
+        //   value, or a fault with its offset and number [`gives` on each read]
+        // Proved: `peek` and `peek_bytes` return the bytes that follow and consume nothing [`gives`
+        //   on both]
         ensures gives { Gives (λ b. b) result (place self.now) (peeked_byte_at (place self.now)) }
         ensures hints { Hints 1 result }
         ensures memory { NotOutOfMemory result }
@@ -291,10 +301,20 @@ impl<'a> BinaryReader<'a> {
     pub fn read_bytes(&mut self, len: usize) -> Result<&'a [u8]>
         // On every outcome.
         ensures gives { GivesBy (λ bytes. bytes.now) result self.old self.new (bytes_at len) }
+        // Proved: after each read, also a failed one, the reader is in its window and not before
+        //   where it was [`keeps` on each read]
         ensures keeps { KeepsWindow self.old self.new }
+        // Proved: the error of a read hints at the number of missing bytes if the input is
+        //   truncated (1 inside a number), and otherwise at nothing [`hints` (`Hints`), also on
+        //   `bool`, `u32`, `&str` and `SectionLimited::new`]
         ensures hints { Hints (missing_at len (place self.old)) result }
+        // Proved: no read except `skip` returns `OutOfMemory`, no item that owns no lists does, and
+        //   no section of such items; `skip` returns the error of its closure [`memory`
+        //   (`NotOutOfMemory`), also on the trait `FromReader`; `memory` of `NextItem`]
         ensures memory { NotOutOfMemory result }
         // On an error.
+        // Proved: after a fault of `read_bytes`, `read_u8`, `read_u32`, of a LEB128 number or of a
+        //   float, the reader is where it was
         ensures unmoved { OnErr result (self.new ≡ self.old) }
     {
         let bytes = self.peek_bytes(len)?;
@@ -535,6 +555,9 @@ impl<'a> BinaryReader<'a> {
     /// previous position.
     #[tactic(auto, using(crate::proofs::PassedNumbers::passing))]
     pub fn skip_var_u32s(&mut self, count: u32) -> Result<()>
+        // Proved: `skip_var_u32s` skips *n* LEB128 `u32`s as reading them one after the other does:
+        //   to the place after them, or to the first fault [`gives` (`skipped_numbers_at`),
+        //   `keeps`, `hints`, `memory`]
         ensures gives { GivesBy (λ nothing. nothing) result self.old self.new
             (skipped_numbers_at count) }
         ensures keeps { KeepsWindow self.old self.new }
@@ -656,6 +679,8 @@ impl<'a> BinaryReader<'a> {
         ensures unmoved { OnErr result (self.new ≡ self.old) }
         // On success.
         ensures moves { OnOk result ((place self.old).offset < (place self.new).offset) }
+        // Proved: a signed number has as many bits as its kind allows [`fits` on `read_var_s33`;
+        //   elsewhere the type of the result]
         ensures fits { IfOk result (λ n. FitsBits (bits_of VarS33) n) }
     {
         self.read_signed(NumberKind::VarS33)
@@ -779,6 +804,10 @@ impl<'a> BinaryReader<'a> {
     ) -> Result<BinaryReader<'a>>
         requires callable { F.IsAlwaysCallable f }
         requires forward { NeverGoesBack (λ old given new. FnOnceReturnsAtMut F.FnOnce f old given new) }
+        // Proved: `skip` returns the window of the bytes that its closure skipped, or the closure's
+        //   error, and stays in its window. It has two preconditions: the closure can always be
+        //   called, and it stays in the window and never goes back [`passes`, `keeps` and the
+        //   preconditions `callable` and `forward` of `skip`]
         ensures passes { Skips (λ old given new. FnOnceReturnsAtMut F.FnOnce f old given new)
             self.old result self.new }
         ensures keeps { KeepsWindow self.old self.new }

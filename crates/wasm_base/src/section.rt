@@ -91,6 +91,9 @@ impl<'a, T> SectionLimited<'a, T> {
     /// Those of `read_var_u32`.
     #[tactic(auto, unfolding(crate::specs::Section::section_in))]
     pub fn new(mut reader: BinaryReader<'a>) -> Result<Self>
+        // Proved: a `SectionLimited` is a window after its count, whose getters return count,
+        //   offset and range. The window that it was made of determines it [`gives`, `whole`,
+        //   `keeps` of `new`, the clauses of the getters]
         ensures gives { ReadsSection (place reader.entry) result }
         ensures whole { GivesResult (λ section. section) result (section_in reader.entry) }
         ensures keeps { IfOk result (λ section. KeepsWindow reader.entry section.reader) }
@@ -282,6 +285,11 @@ impl<'a, T> SectionLimitedIntoIter<'a, T> {
 impl<'a, T: FromReader<'a>> Iterator for SectionLimitedIntoIter<'a, T> {
     type Item = Result<T>;
 
+    // Proved: `next` over a section returns its items, of any type, up to the first fault, and
+    //   after that always nothing. Over items that own lists, `OutOfMemory` may come first
+    //   [`next_gives` (`NextItem`, `NextItemIn`)]
+    // Proved: after the announced items `next` returns nothing, or one `SizeMismatch` if there are
+    //   trailing bytes
     ghost next_gives = { NextItem T.meaning };
 
     ghost remaining = { λ items. at_most (most_items items) };
@@ -339,6 +347,8 @@ impl<'a, T> Drop for SectionLimitedIntoIterWithOffsets<'a, T> {
 impl<'a, T: FromReader<'a>> Iterator for SectionLimitedIntoIterWithOffsets<'a, T> {
     type Item = Result<(u64, T)>;
 
+    // Proved: `next` of the iterator with offsets returns the same items, each with the offset of
+    //   its first byte [`next_gives` (`NextItem`, `AtItsOffset`)]
     ghost next_gives = { NextItem (AtItsOffset T.meaning) };
 
     ghost remaining = { λ items. at_most (most_items items) };
@@ -415,6 +425,10 @@ fn read_in<'a, T: FromReaderIn<'a>>(
 impl<'a, T: FromReaderIn<'a>> Iterator for SectionLimitedIntoIterIn<'a, T> {
     type Item = Result<T>;
 
+    // Proved: `next` over items that own lists works like the other iterators, or returns
+    //   `OutOfMemory` instead of an item, and then nothing. Whole runs too. A clone of the section
+    //   yields the same up to that, if the meaning of an item allows one outcome [`next_gives`
+    //   (`NextItemIn`); `laws::owned_items_of_a_window`, `a_clone_gives_the_same_owned_items`]
     ghost next_gives = { NextItemIn T.meaning };
 
     ghost remaining = { λ items. at_most (most_items items) };

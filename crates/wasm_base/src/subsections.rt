@@ -239,6 +239,14 @@ fn read_as<'a, T: Subsection<'a>>(alloc: Global, reader: &mut BinaryReader<'a>) 
 impl<'a, T: Subsection<'a>> Iterator for Subsections<'a, T> {
     type Item = Result<T>;
 
+    // Proved: `next` over subsections returns what the id and the window of the next one mean, or
+    //   the fault of its id or size, or `OutOfMemory` if the type may allocate
+    // Proved: after such a fault the next subsection begins after the bytes that were consumed: the
+    //   id, and all of a well-formed size, or a malformed one up to its wrong byte or its end [the
+    //   same (`after_refused`)]
+    // Proved: each call that returns a subsection or a fault consumes at least one byte, and a call
+    //   returns nothing only at the end of the window. If the type never allocates, no call returns
+    //   `OutOfMemory`
     ghost next_gives = { NextSubsection T.meaning T.Allocation.ALLOCATES };
 
     ghost remaining = { λ subsections. at_most (length (place subsections).rest) };

@@ -1,7 +1,7 @@
 /* SPDX-License-Identifier: Apache-2.0 OR MIT */
 /**
  * @file
- * @brief Pulleynavy: a streaming parser for WebAssembly modules, for C and C++. Written by tools/c_header from the sources of wasm_c.
+ * @brief Pulleynavy: a streaming parser for WebAssembly modules, for C and C++. Written by tools/generate header from the sources of wasm_c.
  *
  * Link libpulleynavy.a, or the shared library, and nothing else: `pkg-config --cflags --libs pulleynavy` prints the options. No call
  * allocates, keeps a pointer, or fails to return. docs/C.md has a table of all calls.

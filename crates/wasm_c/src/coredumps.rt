@@ -59,6 +59,9 @@ pub extern "C" fn pulleynavy_read_core_module(
     features: u32,
     data_offset: u64,
 ) -> PlainCoreModule
+    // Proved: `pulleynavy_read_core_module` reports a wrong start byte at the offset of the
+    //   section's data that it is passed, as the list of modules of `wasm_custom` does [the clause
+    //   of `pulleynavy_read_core_module` (`module_at`)]
     ensures { result ≡ item_over plain_core_module (module_at data_offset) features offset bytes.now }
 {
     read_at(CoreModules { data_offset }, bytes, offset, features)

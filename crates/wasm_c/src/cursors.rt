@@ -25,6 +25,8 @@ use wasm_plain::{PlainEvent, StoredItems, section_items, starting};
 /// ```
 #[unsafe(no_mangle)]
 pub extern "C" fn pulleynavy_items_init(event: &PlainEvent, features: u32) -> StoredItems
+    // Proved: `pulleynavy_items_init` returns a cursor at the first item of a section, and
+    //   `pulleynavy_list_init` one at an offset [their clauses (`starting`)]
     ensures { result ≡ starting event.now.data_offset
         (event.now.data_offset - event.now.start) event.now.count features }
 {

@@ -22,6 +22,7 @@ use wasm_plain::custom_kind;
 /// (Core specification, Appendix, Custom Sections; tool conventions.)
 #[unsafe(no_mangle)]
 pub extern "C" fn pulleynavy_classify_custom(name: &[u8]) -> u32
+    // Proved: `pulleynavy_classify_custom` returns which known section has a name
     ensures { result ≡ custom_kind name.now }
 {
     custom_kind(name)

@@ -17,6 +17,8 @@ use wasm_plain::{PlainFault, end_fault};
 /// (Tool conventions, Coredump.)
 #[unsafe(no_mangle)]
 pub extern "C" fn pulleynavy_check_custom_end(left: &[u8], offset: u64) -> PlainFault
+    // Proved: the checks of an end report trailing bytes at their offset [the clauses of
+    //   `pulleynavy_check_custom_end` and `check_name_end` (`end_fault`)]
     ensures { result ≡ end_fault CustomTrailing left.now offset }
 {
     end_fault(Fault::CustomTrailing, left, offset)

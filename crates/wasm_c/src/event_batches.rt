@@ -30,6 +30,10 @@ pub extern "C" fn pulleynavy_next_events(
     is_all: bool,
     out: &mut [PlainEvent],
 ) -> usize
+    // Proved: `pulleynavy_next_events` stores as many events as there is room for, or up to a
+    //   request, a fault or the end: each is what `pulleynavy_parse` returns on the bytes after
+    //   those before it, and the parser is where it then is [the clause of `pulleynavy_next_events`
+    //   (`StoresEvents`: `events`, `others`; `ParsesEach`)]
     ensures { StoresEvents is_all (parser_of parser.old) bytes.now out.old result
         (parser_of parser.new) out.new }
 {

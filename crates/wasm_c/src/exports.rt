@@ -26,6 +26,11 @@ use wasm_plain::{Counted, Exports, PlainExport, StoredItems, read_at, store_item
 /// (Core specification, Binary format, Modules, Export Section.)
 #[unsafe(no_mangle)]
 pub extern "C" fn pulleynavy_read_export(bytes: &[u8], offset: u64, features: u32) -> PlainExport
+    // Proved: a `pulleynavy_read_` call returns what the definition of the item, or of its head
+    //   before its lists, says at the place: value by value, with how many bytes it consumes and
+    //   where its texts and lists are; or the definition's fault, and `OffsetRange` if the bytes
+    //   pass the largest offset. After a fault all other values are 0 [the clause of each
+    //   (`item_over plain_export export_at` and so on)]
     ensures { result ≡ item_over plain_export export_at features offset bytes.now }
 {
     read_at(Exports, bytes, offset, features)
@@ -42,6 +47,13 @@ pub extern "C" fn pulleynavy_next_exports(
     bytes: &[u8],
     out: &mut [PlainExport],
 ) -> usize
+    // Proved: a `pulleynavy_next_` call with room for *n* items stores what *n* calls for one
+    //   return, up to the end of the list, leaves the rest of the array as it was, returns how many
+    //   it stored, and leaves the cursor where those calls do [the clause of each (`StoresItems`)]
+    // Proved: one such call returns the next item and moves past it, or its fault, which ends the
+    //   list; after the announced items it returns `SizeMismatch` if bytes remain, and nothing
+    //   after that or after a fault. This holds for every bit pattern of a cursor [the same
+    //   (`next_by`: `item_by`, `end_by`)]
     ensures { StoresItems (next_by plain_export export_at bytes.now)
         items.old out.old result items.new out.new }
 {

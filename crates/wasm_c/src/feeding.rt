@@ -8,6 +8,8 @@ use wasm_plain::{PlainEvent, StoredFeed, finish_feed, new_feed, push_to_feed, st
 /// storage will do.
 #[unsafe(no_mangle)]
 pub extern "C" fn pulleynavy_feed_init(offset: u64, features: u32) -> StoredFeed
+    // Proved: `pulleynavy_feed_init` holds nothing, and `pulleynavy_feed_finish` signals the end of
+    //   input [their clauses (`IsNewFeed`, `IsFinished`)]
     ensures { IsNewFeed result (initial_state offset features) }
 {
     new_feed(offset, features)
@@ -35,6 +37,8 @@ pub extern "C" fn pulleynavy_feed_init(offset: u64, features: u32) -> StoredFeed
 /// ```
 #[unsafe(no_mangle)]
 pub extern "C" fn pulleynavy_feed_step(feed: &mut StoredFeed, storage: &[u8]) -> PlainEvent
+    // Proved: `pulleynavy_feed_step` is `pulleynavy_parse` on what is held, and then holds what
+    //   follows the consumed bytes
     ensures { StepsPlain feed.old storage.now result feed.new }
 {
     step_feed(feed, storage)
@@ -64,6 +68,8 @@ pub extern "C" fn pulleynavy_feed_push(
     storage: &mut [u8],
     piece: &[u8],
 ) -> bool
+    // Proved: `pulleynavy_feed_push` appends a chunk to what is held, or, exactly if there is no
+    //   room for both, changes nothing
     ensures { PushesPlain feed.old storage.old piece.now result feed.new storage.new }
 {
     push_to_feed(feed, storage, piece)

@@ -45,6 +45,10 @@ pub extern "C" fn pulleynavy_next_flat_imports(
     bytes: &[u8],
     out: &mut [PlainImport],
 ) -> usize
+    // Proved: `pulleynavy_next_flat_imports` stores the imports of a section one by one, those of
+    //   bundles too, as calls with room for one would; a malformed import of a bundle is its fault,
+    //   and the list continues after the bundle. `pulleynavy_imports_init` begins at the first
+    //   [their clauses (`StoresItems`, `next_flat`; `imports_from`)]
     ensures { StoresItems (next_flat bytes.now)
         imports.old out.old result imports.new out.new }
 {

@@ -144,6 +144,8 @@ pub extern "C" fn pulleynavy_read_bundled_import(
     offset: u64,
     features: u32,
 ) -> PlainImportItem
+    // Proved: `pulleynavy_read_bundled_import` reads the next import of a bundle of either kind; if
+    //   the bundle has one type, that is the import's
     ensures { result ≡ bundled_over bundle.now features offset bytes.now }
 {
     if bundle.kind == OF_TYPE {

@@ -20,6 +20,8 @@ use wasm_plain::write_message_of;
 #[unsafe(no_mangle)]
 pub extern "C" fn pulleynavy_format_message(kind: u32, out: &mut [u8]) -> usize
     // By the faults, not by the list: a fault missing from the list would have no message, and no clause would notice.
+    // Proved: `pulleynavy_format_message` writes the text of the fault with a given number, or
+    //   nothing if no fault has it
     ensures { SaysMessage kind out.old result out.new }
 {
     write_message_of(kind, out)

@@ -57,6 +57,10 @@ pub extern "C" fn pulleynavy_next_namings(
     bytes: &[u8],
     out: &mut [PlainNaming],
 ) -> usize
+    // Proved: a name with an index that doesn't ascend is a fault at its start, and the list
+    //   continues after it; so is a subsection of `name` whose id doesn't ascend [the clauses of
+    //   `pulleynavy_next_namings`, `next_indirect_namings` and `next_name_subsections` (`in_order`,
+    //   `takes`)]
     ensures { StoresItems (next_namings bytes.now)
         items.old out.old result items.new out.new }
 {
@@ -116,6 +120,10 @@ pub extern "C" fn pulleynavy_next_subsections(
     bytes: &[u8],
     out: &mut [PlainSubsection],
 ) -> usize
+    // Proved: after a malformed subsection the list continues after its id and size; contents are
+    //   not read, so an id out of order is reported before a fault in the contents, which
+    //   `wasm_custom` reports first [the clause of `pulleynavy_next_subsections`
+    //   (`next_subsection`, `after_refused`)]
     ensures { StoresItems (next_subsection bytes.now) items.old out.old result items.new out.new }
 {
     store_items(Subsections, items, bytes, out)

@@ -12,6 +12,8 @@ use wasm_plain::{PlainEvent, new_parser, parse, skip, write_next_fault};
 /// Returns a parser for a stream that begins at this offset and is read with these features.
 #[unsafe(no_mangle)]
 pub extern "C" fn pulleynavy_parser_init(offset: u64, features: u32) -> StoredParser
+    // Proved: `pulleynavy_parser_init` is a new parser; `pulleynavy_skip_section` skips the rest of
+    //   a code section, and elsewhere nothing [the clauses of both (`initial_state`, `skipped_of`)]
     ensures { parser_of result ≡ initial_state offset features }
 {
     new_parser(offset, features)
@@ -57,6 +59,11 @@ pub extern "C" fn pulleynavy_parse(
     bytes: &[u8],
     is_all: bool,
 ) -> PlainEvent
+    // Proved: `pulleynavy_parse` returns as plain numbers what a parser returns: the next event of
+    //   every stream that continues this way, a fault, or a request. It says where in the bytes the
+    //   event's contents are and consumes bytes of the input. If the bytes don't decide, it asks
+    //   for at least one more. Afterwards it is where that parser is: after a fault or a request,
+    //   where it was [the clause of `pulleynavy_parse` (`ParsesPlain`: `asks`, `waits`, `answers`)]
     ensures { ParsesPlain 0 (parser_of parser.old) is_all bytes.now result (parser_of parser.new) }
 {
     parse(parser, bytes, is_all)
@@ -93,6 +100,11 @@ pub extern "C" fn pulleynavy_parse(
 /// ```
 #[unsafe(no_mangle)]
 pub extern "C" fn pulleynavy_skip(parser: &mut StoredParser, bytes: &[u8]) -> PlainEvent
+    // Proved: `pulleynavy_skip` skips what `skip_next` of a parser does, and returns it as an
+    //   event: its first fields, the offsets of its content, and all bytes that were passed as
+    //   consumed. If it skips nothing, it returns a request with the hint 0, and the parser is
+    //   unchanged [the clause of `pulleynavy_skip` (`SkipsPlain`: `skip_event`, `state_after_skip`,
+    //   `SkipsNext`)]
     ensures { SkipsPlain (parser_of parser.old) bytes.now result (parser_of parser.new) }
 {
     skip(parser, bytes)
@@ -134,6 +146,8 @@ pub extern "C" fn pulleynavy_format_fault(
     is_all: bool,
     out: &mut [u8],
 ) -> usize
+    // Proved: `pulleynavy_format_fault` writes the text of the fault that `pulleynavy_parse`
+    //   returns there, as far as there is room, and nothing else
     ensures { SaysFault (parser_of parser.now) is_all bytes.now out.old result out.new }
 {
     write_next_fault(parser, bytes, is_all, out)

@@ -22,6 +22,10 @@ use wasm_plain::{PlainStripped, strip_bytes};
 /// (Core specification, Binary format, Modules, Custom Section.)
 #[unsafe(no_mangle)]
 pub extern "C" fn pulleynavy_strip(bytes: &mut [u8], keep_names: bool) -> PlainStripped
+    // Proved: `pulleynavy_strip` leaves the header and the remaining sections at the front of the
+    //   caller's bytes, and returns how many bytes these are; for a stream that isn't accepted it
+    //   returns the fault and leaves the bytes unchanged [the clause of `pulleynavy_strip`
+    //   (`StripsPlain`, `StripsToFront`)]
     ensures { StripsPlain keep_names bytes.old result bytes.new }
 {
     strip_bytes(bytes, keep_names)

@@ -18,6 +18,8 @@ hint_size_at = in_table Leads.BranchHint ((1, tt) ∷ [])
 abbrev pub taken_at : Place → Outcome Bool
 taken_at = flag_at Leads.BranchTaken
 
+-- | a branch hint: an offset, the size of its value, which is 1, and the value, 0 or 1; the hints of a function
+--   [`function_hints_at`] <tool conventions, Code Metadata, Branch Hints>
 -- a hint: the offset of its instruction in the function's body, the size of its value, its value
 unfoldable pub branch_hint_at : Place → Outcome BranchHint
 branch_hint_at p = do

@@ -22,12 +22,16 @@ use Rattle.wasm_custom.specs.declared.coredumps.CoreDumpStackSection.{CoreDumpSt
 use Rattle.wasm_custom.specs.declared.coredumps.CoreDumpValue.{CoreDumpValue}
 use Rattle.wasm_custom.specs.declared.coredumps.CoreDumpValue.TheVariants as Values
 
+-- | the byte 0 with which parts of a core dump begin; the end of its data [; `wasm_base`: `Ending.end_at`] <tool
+--   conventions, Coredump; this project>
 -- the byte 0 at the start of an item; any other byte is a fault at this offset
 unfoldable pub start_at : CoreStart → (offset : ℕ) → Place → Outcome (Unit {0})
 start_at what offset p = do
   byte ← byte_at p
   if byte.0 == 0 then Ok (tt, byte.1) else Err (at_offset (CoreStartByte what) offset)
 
+-- | the sections of a core dump: a process's name, modules, instances, a thread with its frames [`modules_in`,
+--   `instances_in`, `stack_in`] <tool conventions, Coredump>
 -- the process that was dumped: its name (Process Information)
 unfoldable pub name_section_in : Place → Result (List ℕ) FaultAt
 name_section_in p = do
@@ -65,6 +69,7 @@ instance_parts instance = record {
   globals = instance.globals.items;
 }
 
+-- | an instance, a frame and a value of a core dump [`frame_at`, `value_at`] <tool conventions, Coredump>
 -- an instance: the index of its module, and those of its memories and globals (Modules and Instances)
 unfoldable pub instance_at : Place → Outcome InstanceParts
 instance_at p = do

@@ -10,6 +10,7 @@ pub record Custom : Type 0 where
   pub name : List ℕ
   pub reader : Window
 
+-- | a custom section is its name and the window after it [`ReadsCustom`] <Custom Section>
 -- The custom section begins with its name at the window's place, and its reader is after the name.
 pub record IsCustom (w : Window) (section : Custom) : Type 0 where
   pub named : text_at (Some name_limit) (place w) ≡ Ok (section.name, place section.reader)

@@ -16,6 +16,8 @@ use Rattle.wasm_custom.specs.declared.dylink0.ExportInfo.{ExportInfo}
 use Rattle.wasm_custom.specs.declared.dylink0.ImportInfo.{ImportInfo}
 use Rattle.wasm_custom.specs.declared.dylink0.MemInfo.{MemInfo}
 
+-- | what a dynamic linker reads of memory, exports and imports; a subsection, by its id, whose trailing bytes are
+--   ignored [`export_info_at`, `import_info_at`, `dylink_subsection_in`] <tool conventions, Dynamic Linking>
 -- how much memory and table a library needs, and their alignments
 unfoldable pub mem_info_at : Place → Outcome MemInfo
 mem_info_at p = do

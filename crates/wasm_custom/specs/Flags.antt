@@ -3,6 +3,7 @@ use Rattle.std.specs.Prelude.{ℕ}
 use Rattle.wasm_custom.specs.declared.flags.SegmentFlags.{SegmentFlags}
 use Rattle.wasm_custom.specs.declared.flags.SymbolFlags.{SymbolFlags}
 
+-- | the bits of flags [`segment_bits`] <tool conventions, Linking>
 -- the bits of a set of flags
 abbrev pub symbol_bits : SymbolFlags → ℕ
 symbol_bits flags = flags.0

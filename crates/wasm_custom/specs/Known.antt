@@ -74,6 +74,9 @@ linking_section_in w = or_unknown linking (linking_in w)
 abbrev pub relocations_in : Window → Known
 relocations_in w = or_unknown relocations (reloc_section_in w)
 
+-- | which known section has a name; what a window is as its data: the reader of that section, or unknown if it has a
+--   fault; what a custom section is [`read_by_name`, `or_unknown`, `known_of`] <Appendix, Custom Sections; tool
+--   conventions; this project>
 -- the known names, and what a window is as the data of a section with each name
 abbrev pub readings : List (List ℕ × (Window → Known))
 readings =
@@ -91,6 +94,7 @@ read_by_name (row ∷ rows) name w = if bytes_eq name row.0 then row.1 w else re
 abbrev pub known_of : Custom → Known
 known_of section = read_by_name readings section.name (whole_window (place section.reader))
 
+-- | which known sections own lists
 -- whether reading a section with this name may allocate: the lists of core dumps are owned
 abbrev pub owns_lists : (name : List ℕ) → Bool
 owns_lists name =

@@ -40,6 +40,8 @@ segment_parts segment = record {
   flags = segment_bits segment.flags;
 }
 
+-- | a segment, an init function, a comdat and its symbols [`init_function_at`, `comdat_at`, `comdat_symbol_at`,
+--   `comdat_kinds`] <tool conventions, Linking>
 -- a segment: a name, an alignment as a power of two, and flags (Segment Info Subsection)
 unfoldable pub segment_at : Place → Outcome SegmentParts
 segment_at p = do
@@ -89,6 +91,9 @@ comdat_at p = do
   symbols ← inner_section_at (after_reading comdat_symbol_at) flags.1
   Ok (record { name = name.0; flags = flags.0; symbols = symbols.0 }, symbols.1)
 
+-- | whether a symbol is defined elsewhere, and whether its name is present; where the data of a symbol is; a symbol,
+--   by its kind and flags [`has_explicit_name`, `is_named`, `defined_data_at`, `symbol_at`] <tool conventions,
+--   Linking, Symbol Table Subsection>
 -- whether a symbol is not defined here
 abbrev pub is_undefined : (flags : ℕ) → Bool
 is_undefined flags = has_bit flags 4
@@ -209,6 +214,8 @@ arch_in w = do
   name ← text_at (Some name_limit) (place w)
   Ok (arch name.0)
 
+-- | a subsection of `linking`, by its id; the section: version 2, and subsections [`linking_in`] <tool conventions,
+--   Linking, Linking Metadata Section>
 -- a subsection for linkers, by its id; bytes after the name of an architecture are ignored
 unfoldable pub linking_subsection_in : (id : ℕ) → Window → Result LinkingParts FaultAt
 linking_subsection_in id = lookup_or (λ w. Ok (unknown id (place w).rest (rest_range w)))

@@ -35,6 +35,9 @@ index_of_indirect naming = naming.index
 abbrev pub naming_parts : Naming → NamingParts
 naming_parts naming = record { index = naming.index; name = naming.name.now }
 
+-- | an index and its name; an index and the names below it; the entries of a window, of which none was returned yet;
+--   a name no longer than what may be skipped [`indirect_naming_at`, `entries_in`, `IsShortNaming`] <Appendix, Name
+--   Section, Name Maps, Indirect Name Maps>
 -- an index and its name (Name Maps)
 unfoldable pub naming_at : Place → Outcome NamingParts
 naming_at p = do
@@ -106,6 +109,8 @@ id_of_parts (unknown id contents range) = id
 abbrev pub id_of : Name → ℕ
 id_of name = id_of_parts (name_parts name)
 
+-- | the name of the module, and nothing after it; a subsection of names, by its id; the id of a subsection
+--   [`name_in`, `id_of`] <Appendix, Name Section; extended name section; this project>
 -- the name of the module, without trailing bytes (Module Names)
 unfoldable pub module_name_in : Window → Result NameParts FaultAt
 module_name_in w = do

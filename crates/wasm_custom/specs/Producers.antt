@@ -55,6 +55,9 @@ pub record FieldParts : Type 0 where
 abbrev pub field_parts : ProducersField → FieldParts
 field_parts field = record { name = field.name.now; values = field.values }
 
+-- | a field of the producers section: one of three names, and a list of values; a value: two texts; neither longer
+--   than what may be skipped [`is_field_name`, `field_value_at`, `IsShortValue`] <tool conventions, Producers
+--   Section>
 -- a field: its name, and a list of values
 unfoldable pub field_at : Place → Outcome FieldParts
 field_at p = do

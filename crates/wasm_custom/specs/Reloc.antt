@@ -39,6 +39,8 @@ pub record Row : Type 0 where
 abbrev pub listed : (number : ℕ) → RelocAddendKind → (extent : ℕ) → Row
 listed number addend extent = record { number = number; addend = addend; extent = extent }
 
+-- | a type of relocations: its number, its addend, the bytes that it patches; the types in the order of their numbers
+--   [`types`, `IsTypeOf`] <tool conventions, Linking, Relocation Sections>
 -- the table of types
 abbrev pub row_of : RelocationType → Row
 row_of FunctionIndexLeb = listed 0 Addends.None 5
@@ -105,6 +107,8 @@ addend_at Addends.None p = Ok (pos 0, p)
 addend_at Addends.Addend32 p = signed_at VarI32 p
 addend_at Addends.Addend64 p = signed_at VarI64 p
 
+-- | a relocation: a type, an offset, an index, the addend of its type; the bytes that it patches; a section of
+--   relocations [`relocated_range`, `reloc_section_in`] <tool conventions, Linking, Relocation Sections>
 -- a relocation: its type, an offset, an index, the addend that its type has
 unfoldable pub relocation_at : Place → Outcome RelocationEntry
 relocation_at p = do

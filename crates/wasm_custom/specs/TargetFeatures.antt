@@ -13,6 +13,8 @@ pub record FeatureParts : Type 0 where
 abbrev pub feature_parts : TargetFeature → FeatureParts
 feature_parts feature = record { prefix = feature.prefix; name = feature.name.now }
 
+-- | a feature of the target features section: a byte and a text of any length [`feature_parts`] <tool conventions,
+--   Target Features Section>
 -- a feature: a byte that says how it is used, and its name
 unfoldable pub target_feature_at : Place → Outcome FeatureParts
 target_feature_at p = do

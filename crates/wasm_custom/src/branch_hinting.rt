@@ -87,6 +87,9 @@ fn read_hint_size(reader: &mut BinaryReader<'_>) -> Result<()>
 /// `LeadingByte(BranchHint)` at another size, `LeadingByte(BranchTaken)` at another value, with the byte as the number
 /// of the error; `UnexpectedEof` if a byte is missing; and the errors of `read_var_u32`.
 impl<'a> FromReader<'a> for BranchHint {
+    // Proved: branch hints, a function's hints, producers fields and values, target features,
+    //   relocations and their types, and the values of a core dump are read by their definitions
+    //   [`meaning` on each (`ReadsAs`), `means`, `keeps`, `memory` of `FromReader`]
     ghost meaning = { ReadsAs (λ hint. hint) branch_hint_at };
 
     #[tactic(auto, unfolding(crate::specs::BranchHinting::branch_hint_at))]

@@ -331,6 +331,8 @@ impl<'a> FromReader<'a> for CoreDumpValue {
 /// `CoreStartByte(Instance)` at another first byte; `UnexpectedEof` if it is missing; the errors of `read_var_u32`; and
 /// `OutOfMemory`, at offset 0, when an allocation fails.
 impl<'a> FromReaderIn<'a> for CoreDumpInstance {
+    // Proved: the instances and frames of a core dump are read by their definitions; they may
+    //   return `OutOfMemory` instead [`meaning` on each (`instance_at`, `frame_at`)]
     ghost meaning = { ReadsAs instance_parts instance_at };
 
     fn from_reader(alloc: Global, reader: &mut BinaryReader<'a>) -> Result<Self> {
@@ -363,6 +365,9 @@ impl<'a> CoreDumpSection<'a> {
     /// * `CustomTrailing` at the first byte after the name.
     #[tactic(auto, unfolding(crate::specs::Coredumps::name_section_in))]
     pub fn new(mut reader: BinaryReader<'a>) -> Result<CoreDumpSection<'a>>
+        // Proved: `new` of a section of relocations, and of the four sections of a core dump,
+        //   returns what its definition says of the window, or the first fault [`gives` on each
+        //   (`reloc_section_in`, `name_section_in`, `modules_in`, `instances_in`, `stack_in`)]
         ensures gives { GivesResult (λ section. section.name.now)
             result (name_section_in (place reader.entry)) }
         ensures memory { NotOutOfMemory result }
@@ -437,6 +442,8 @@ impl<'a, A: Allocator + Copy> CoreDumpModulesSection<'a, A> {
     /// Those of `new`.
     #[tactic(auto, unfolding(crate::specs::Coredumps::modules_in))]
     pub fn new_in(alloc: A, mut reader: BinaryReader<'a>) -> Result<Self>
+        // Proved: of these, those that own lists may return `OutOfMemory` instead, and have
+        //   `new_in` for any allocator [`gives` on each; `memory` on the others]
         ensures gives { GivesResultUnlessMemory modules_parts result (modules_in (place reader.entry)) }
     {
         let start = reader.original_position();

@@ -62,7 +62,11 @@ impl<'a> CustomSectionReader<'a> {
     /// * `UnexpectedEof` after the size if the window ends before the name does.
     /// * `MalformedUtf8` at the last byte of the name.
     pub fn new(mut reader: BinaryReader<'a>) -> Result<Self>
+        // Proved: `CustomSectionReader::new` returns the name at the start of the window and the
+        //   window after it, or the fault of the name
         ensures reads { ReadsCustom reader.entry result }
+        // Proved: its error hints at the missing bytes, and is never `OutOfMemory` [`hints`,
+        //   `memory`]
         ensures hints { Hints (missing_of_sized (place reader.entry)) result }
         ensures memory { NotOutOfMemory result }
     {
@@ -72,6 +76,8 @@ impl<'a> CustomSectionReader<'a> {
 
     /// Returns the name of the section.
     pub fn name(&self) -> &'a str
+        // Proved: name, data, offsets and ranges are those of that window [the clauses of the
+        //   getters]
         ensures { result.now ≡ self.now.name }
     {
         self.name

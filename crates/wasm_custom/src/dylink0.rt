@@ -255,6 +255,9 @@ impl<'a, A: Allocator> Dylink0Subsection<'a, A> {
     /// 0, when an allocation fails. An unknown id is no error.
     #[tactic(auto, unfolding(crate::specs::Dylink0::dylink_subsection_in))]
     pub fn from_reader_in(alloc: A, id: u8, mut reader: BinaryReader<'a>) -> Result<Self>
+        // Proved: a subsection of `dylink.0` may return `OutOfMemory` instead, with any allocator
+        //   too; those of names and of `linking` never do [`Allocation` on each; `gives` on
+        //   `from_reader_in`]
         ensures gives { GivesResultUnlessMemory dylink_parts result
             (dylink_subsection_in id reader.entry) }
     {

@@ -177,8 +177,13 @@ impl<'a> CustomSectionReader<'a> {
     /// assert!(rt; matches!(known, KnownCustom::Unknown));
     /// ```
     pub fn as_known(&self, alloc: Global) -> Result<KnownCustom<'a>>
+        // Proved: `as_known` returns what a custom section is by its name and data; its only error
+        //   is `OutOfMemory` [`known` (`known_of`), `refused`]
+        // Proved: `as_known` returns the reader for the section's name, on its data; `Unknown` for
+        //   another name, or if `new` of that reader has a fault [`known` (`known_of`)]
         ensures known { IfOk result (λ known. known_parts known ≡ known_of self.now) }
         ensures refused { IfErr result (λ e. fault_at e ≡ out_of_memory) }
+        // Proved: only `coremodules`, `coreinstances` and `corestack` may return `OutOfMemory`
         ensures memory { owns_lists self.now.name ≡ false → NotOutOfMemory result }
     {
         self.as_known_in(alloc, alloc)
@@ -196,6 +201,7 @@ impl<'a> CustomSectionReader<'a> {
         kept: Global,
         alloc: A,
     ) -> Result<KnownCustom<'a, A>>
+        // Proved: `as_known_in` does the same with any allocator [`known`, `refused`, `memory`]
         ensures known { IfOk result (λ known. known_parts known ≡ known_of self.now) }
         ensures refused { IfErr result (λ e. fault_at e ≡ out_of_memory) }
         ensures memory { owns_lists self.now.name ≡ false → NotOutOfMemory result }

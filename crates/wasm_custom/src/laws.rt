@@ -37,6 +37,9 @@ use wasm_base::{
 
 /// Two relocations, types of relocations or kinds of addends are equal exactly if they are the same.
 pub fn equal_relocations_are_the_same()
+    // Proved: relocations, their types and kinds of addends, sets of flags and kinds of symbols are
+    //   equal exactly if they are the same [`laws::equal_relocations_are_the_same`,
+    //   `equal_flags_are_the_same`]
     ensures relocation { DecidesSame ⟦<RelocationEntry as PartialEq>⟧.eq }
     ensures relocation_type { DecidesSame ⟦<RelocationType as PartialEq>⟧.eq }
     ensures addend_kind { DecidesSame ⟦<RelocAddendKind as PartialEq>⟧.eq }
@@ -44,6 +47,9 @@ pub fn equal_relocations_are_the_same()
 
 /// A relocation is hashed as its fields, one after the other, and its type as its number.
 pub fn relocations_are_hashed_as_their_fields()
+    // Proved: a relocation is hashed as its fields, its type as its number, a set of flags as its
+    //   bits, and a kind as the number of its case [`laws::relocations_are_hashed_as_their_fields`,
+    //   `flags_are_hashed_as_their_bits`]
     ensures relocation { (entry : RelocationEntry) →
         ⟦<RelocationEntry as Hash>⟧.hash_input entry ≡ hash_of_relocation entry }
     ensures relocation_type { (ty : RelocationType) →
@@ -71,6 +77,8 @@ pub fn flags_are_hashed_as_their_bits()
 
 /// Sets of symbol flags are in the order of the numbers that their bits are.
 pub fn symbol_flags_are_in_the_order_of_their_bits()
+    // Proved: sets of symbol flags are ordered by their bits; a default set is empty
+    //   [`laws::symbol_flags_are_in_the_order_of_their_bits`, `default_flags_are_none`]
     ensures order { (one other : SymbolFlags) →
         ⟦<SymbolFlags as Ord>⟧.cmp one other ≡ nat_cmp (symbol_bits one) (symbol_bits other) }
     ensures partial { (one other : SymbolFlags) →
@@ -89,6 +97,8 @@ pub fn default_flags_are_none()
 /// A clone of a custom section or of one of its items is identical to it, its name as a text and its window. Cloning
 /// never fails, since it never allocates.
 pub fn copies_are_the_same<'a>()
+    // Proved: a copy is the same, and can always be made [`laws::copies_are_the_same`,
+    //   `copies_of_names_and_symbols_are_the_same`]
     ensures section { IsCopy
         ⟦<CustomSectionReader<'a> as Clone>⟧.is_clone
         ⟦<CustomSectionReader<'a> as Clone>⟧.is_infallible }
@@ -171,6 +181,8 @@ pub fn copies_of_names_and_symbols_are_the_same<'a>()
 
 /// An iterator over the hints of a function that was read yields as many as announced, and no error.
 pub fn hints_that_were_read_are_given<'a>()
+    // Proved: an iterator over the hints of a function that was read yields as many as announced
+    //   and no fault
     ensures { (before after : Place) (function : BranchHintFunction) →
         ⟦<BranchHintFunction<'a> as FromReader<'a>>⟧.meaning before (Ok (function, after)) →
         GivesAnnounced
@@ -179,6 +191,8 @@ pub fn hints_that_were_read_are_given<'a>()
 
 /// An iterator over the symbols of a comdat that was read yields as many as announced, and no error.
 pub fn symbols_that_were_read_are_given<'a>()
+    // Proved: an iterator over the symbols of a comdat that was read yields as many as announced
+    //   and no fault
     ensures { (before after : Place) (comdat : Comdat) →
         ⟦<Comdat<'a> as FromReader<'a>>⟧.meaning before (Ok (comdat, after)) →
         GivesAnnounced
@@ -188,6 +202,9 @@ pub fn symbols_that_were_read_are_given<'a>()
 /// Each of these items allows one outcome at each place, so the iterators over a section of them, and clones of these,
 /// yield the same items.
 pub fn items_allow_one_outcome<'a>()
+    // Proved: each item of these custom sections allows one outcome at each place, and hints and
+    //   relocations are determined by it [`laws::items_allow_one_outcome`,
+    //   `names_and_symbols_allow_one_outcome`, `items_are_determined`]
     ensures function_hints { AllowsOne ⟦<BranchHintFunction<'a> as FromReader<'a>>⟧.meaning }
     ensures hint { AllowsOne ⟦<BranchHint as FromReader<'a>>⟧.meaning }
     ensures field { AllowsOne ⟦<ProducersField<'a> as FromReader<'a>>⟧.meaning }
@@ -213,6 +230,9 @@ pub fn items_are_determined<'a>()
 /// Any other one is the order fault at its start, and one with a fault of its own is that fault. The returned indices
 /// or ids ascend strictly, also across faults. After the first `None`, every call returns `None`.
 pub fn names_ascend<'a>()
+    // Proved: whole runs: what both maps of names and the name section return ascends strictly,
+    //   also after faults, and nothing comes after the end [`laws::names_ascend` (`GivesAscending`,
+    //   `in_order`, `AscendsFrom`)]
     ensures names { GivesAscending
         ⟦<SectionLimitedIntoIter<'a, Naming<'a>> as Iterator>⟧.next_gives
         offset_of_entry index_of NamesOrder
@@ -230,6 +250,8 @@ pub fn names_ascend<'a>()
 /// `next` returns the subsections of a section for linkers, one after the other to its end, and then only `None`. Each
 /// is what its id and its window mean, or its fault.
 pub fn subsections_for_linkers<'a>()
+    // Proved: whole runs: the subsections of `linking` come as those of `Subsections`
+    //   [`laws::subsections_for_linkers` (`GivesSubsections`)]
     ensures { (s : Window) →
         GivesSubsections ⟦<LinkingIntoIter<'a> as Iterator>⟧.next_gives
         (UnlessTaken ⟦<Linking<'a> as Subsection<'a>>⟧.meaning false) s }
@@ -237,6 +259,9 @@ pub fn subsections_for_linkers<'a>()
 
 /// Casting a relocation type returns its number, and converting this number returns the type.
 pub fn a_relocation_type_is_its_number(ty: RelocationType) -> (u8, Result<RelocationType, ()>)
+    // Proved: `addend_kind`, `extent` and `relocation_range` are those of the table; a type that is
+    //   cast is its number [the clauses of each (`row_of`);
+    //   `laws::a_relocation_type_is_its_number`]
     ensures number { result.0 ≡ number_of ty }
     ensures back { result.1 ≡ Ok ty }
 {
@@ -255,6 +280,10 @@ fn cast(ty: RelocationType) -> u8
 /// with a name, and for a producer's value, this holds if each text has at most 100,000 bytes, the limit of skipped
 /// names.
 pub fn skipping_consumes_what_reading_consumes<'a>()
+    // Proved: skipping a hint or a symbol of a comdat consumes the bytes that reading it consumes,
+    //   wherever it is read
+    // Proved: for an index with a name and for a producer's value this holds if no text has more
+    //   than 100,000 bytes [the same (`SkipsIfSuch`)]
     ensures hint { SkipsAsRead
         ⟦<BranchHint as FromReader<'a>>⟧.meaning
         ⟦<BranchHint as SkipItem<'a>>⟧.skipped_at }

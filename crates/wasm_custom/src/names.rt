@@ -39,6 +39,12 @@ pub struct Naming<'a> {
 
 /// Reads an index, a u32, and a name of any length, with the errors of `read_var_u32` and `read_unlimited_string`.
 impl<'a> FromReader<'a> for Naming<'a> {
+    // Proved: names and named items, the symbols, segments, functions and comdats of linkers, and
+    //   the memory, exports and imports of dynamic linkers are read by their definitions [`meaning`
+    //   on each (`naming_at`, `indirect_naming_at`, `symbol_at`, `segment_at`, `init_function_at`,
+    //   `comdat_at`, `mem_info_at`, `export_info_at`, `import_info_at`)]
+    // Proved: reading these is never `OutOfMemory`, and unknown flags are kept [`memory`;
+    //   `meaning`]
     ghost meaning = { ReadsAs naming_parts naming_at };
 
     #[tactic(auto, unfolding(crate::specs::Names::naming_at))]
@@ -227,6 +233,9 @@ impl<'a, T: FromReader<'a>> IndexedMap<'a, T> {
     /// Those of `read_var_u32` for the count.
     #[tactic(auto, unfolding(crate::specs::Names::entries_in))]
     pub fn new(reader: BinaryReader<'a>) -> Result<Self>
+        // Proved: `new` of the maps of names and of the `linking` section returns what its
+        //   definition says of the window, or the first fault [`gives` on each (`entries_in`,
+        //   `linking_in`)]
         ensures gives { GivesResult (λ names. names) result (entries_in reader.entry) }
         ensures hints { Hints 1 result }
         ensures memory { NotOutOfMemory result }
@@ -248,6 +257,8 @@ impl<'a, T: FromReader<'a>> IndexedMap<'a, T> {
 impl<'a, T: MapEntry<'a>> Iterator for IndexedMap<'a, T> {
     type Item = Result<T>;
 
+    // Proved: names come in ascending order, also after faults [`next_gives` (`NextAscending`),
+    //   `laws::names_ascend`]
     ghost next_gives = { NextAscending (NextItem T.meaning) offset_of_entry T.index_of T.order_fault };
 
     ghost remaining = { λ names. at_most (most_items names.entries) };
@@ -461,6 +472,11 @@ fn later_name<'a>(id: u8, reader: BinaryReader<'a>) -> Result<Name<'a>>
 /// For the name of the module, those of `read_string`, and `NameTrailing` at the first byte after the name. For a name
 /// map, those of `read_var_u32` for the count.
 impl<'a> Subsection<'a> for Name<'a> {
+    // Proved: a subsection of names, of `linking` or of `dylink.0` is what its id and its window
+    //   say, or the first fault [`meaning` (`name_in`, `linking_subsection_in`,
+    //   `dylink_subsection_in`)]
+    // Proved: the range of an unknown one, and of the module's name, is that of the remaining bytes
+    //   of the window
     ghost meaning = { ReadsWindowAs name_parts name_in };
 
     type Allocation = NeverAllocates;
@@ -576,6 +592,10 @@ impl<'a> Iterator for NameSectionReader<'a> {
 
     type Item = Result<Name<'a>>;
 
+    // Proved: `next` of both maps of names and of the name section returns an entry exactly if its
+    //   index or id is above the last one that it returned [`next_gives` on each (`NextAscending`)]
+    // Proved: otherwise it returns the fault of the order, at the start of the entry; an entry with
+    //   a fault of its own is that fault
     ghost next_gives = { NextAscending (NextSubsection (ReadsWindowAs name_parts name_in) false)
         offset_of_subsection id_of NameSectionOrder };
 

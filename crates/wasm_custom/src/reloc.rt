@@ -194,6 +194,8 @@ impl TryFrom<u8> for RelocationType {
 
     type Error = ();
 
+    // Proved: `RelocationType::try_from` returns a type exactly for 0 to 26, and the type has that
+    //   number
     ghost try_from_gives = { IsTypeOf };
 
     fn try_from(number: u8) -> std::result::Result<Self, ()> {

@@ -1,4 +1,5 @@
 -- Meanings that say little.
+-- | item types whose meaning says little
 use Rattle.std.specs.Prelude.{◌≡◌, ◌<◌, length, Ok, Err}
 use Rattle.wasm_base.specs.FaultAt.{at_offset}
 use Rattle.wasm_base.specs.Outcome.{Outcome}

@@ -25,6 +25,8 @@ pub record HandsOnBodies {C : Type 0} (compiles : C → Window → C → Type 0)
   pub reading : Reading stream 0 features (events ++ last_event end ∷ [])
   pub passes_on : Visits compiles before (flat_map bodies_of events) after
 
+-- | what a compiler receives of a stream; its custom sections with their sizes [`Customs.ListsCustoms`,
+--   `Collecting.Collects`] <Code Section; Custom Section>
 -- It was passed all bodies of the stream in these chunks, wherever it is cut, and the result is bounded as that
 -- of a visit; or those before the fault at which the stream stops; or an allocation failed.
 abbrev pub CompilesStream : {C : Type 0} (compiles : C → Window → C → Type 0) (pieces : List (Bor (List ℕ)))

@@ -12,6 +12,7 @@ abbrev pub unless_refused : {A S R : Type 0} → Result A R → (A → Result S 
 unless_refused (Ok a) later = later a
 unless_refused (Err r) later = Err r
 
+-- | what the parts of a stream make of a starting value, one after the other [`ReadsTo`]
 -- what parts make of this, in order, up to the first that is refused
 abbrev pub after_all : {S R : Type 0} → (S → Report → Result S R) → S → List Report → Result S R
 after_all step s [] = Ok s

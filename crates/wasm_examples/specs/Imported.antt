@@ -13,6 +13,7 @@ abbrev pub or_memory : TypeRef → Result Bool FaultAt → Result Bool FaultAt
 or_memory (Memory ty) later = Ok true
 or_memory other later = later
 
+-- | whether a module imports a memory [`imports_of`] <Import Section>
 -- whether there is a memory among imports before their first fault, or that fault
 abbrev pub memory_in : List (Result ImportParts FaultAt) → Result Bool FaultAt
 memory_in [] = Ok false

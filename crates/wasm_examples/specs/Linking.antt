@@ -141,6 +141,8 @@ with_if_custom m (custom_section name data_offset window) =
 with_if_custom m (stream_end (fault f)) = Err f
 with_if_custom m other = Ok m
 
+-- | the relocations of a module, with the symbols that they name and the bytes that they patch [`fixup_of`,
+--   `IsLinked`] <tool conventions, Linking>
 -- what a part of the module adds: a section, and what it has for linkers
 abbrev pub linked : LinkedParts → Report → Result LinkedParts FaultAt
 linked m report = with_if_custom (with_section m (section_of report)) report

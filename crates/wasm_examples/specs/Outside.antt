@@ -120,6 +120,8 @@ items_place w = after_number (unsigned_at VarU32 (place w)) (place w)
 abbrev pub with_section : OutsideParts → ExternalKind → ℕ → Result OutsideParts Refused
 with_section o kind count = Ok (record o { spans = with_more o.spans kind count })
 
+-- | the imports and exports of a module, in order, and how many there are of each kind; each export is an index of
+--   these [`IsOutside`] <Import Section to Export Section>
 -- what a part of the module adds: imports, functions, tables, memories, globals, exports and tags
 abbrev pub noted : OutsideParts → Report → Result OutsideParts Refused
 noted o (counted id count window) =

@@ -113,6 +113,8 @@ with_imports names (Err f ∷ later) = Err f
 abbrev pub with_custom : Names → (name : List ℕ) → Place → Names
 with_custom names name p = if bytes_eq name (codes "name") then names_of_section names p else names
 
+-- | the name of each function of a module, by its name sections [`names_of_section`, `AreNames`] <Appendix, Custom
+--   Sections, Name Section>
 -- what a part of the module adds: functions that are imported, a body, names
 abbrev pub named : Names → Report → Result Names FaultAt
 named names (counted id count window) = if nat_eq id import_id then

@@ -14,6 +14,7 @@ abbrev pub ending_of : Result ℕ Error → Ending
 ending_of (Ok offset) = ended offset
 ending_of (Err e) = fault (fault_at e)
 
+-- | how a stream's reading ends, and which function it names as the start [`IsStartOf`]
 -- The stream's reading ends at this offset, with no fault; or at this fault.
 abbrev pub IsEndOf : List ℕ → Result ℕ Error → Type 0
 IsEndOf stream result = (before : List Event) × Reading stream 0 all_features

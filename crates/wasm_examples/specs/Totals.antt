@@ -1,4 +1,5 @@
 -- The sum of counted numbers.
+-- | the sum of a section's numbers
 use Rattle.std.specs.Prelude.{ℕ, zero, suc, ◌+◌, length, Result, Ok, Err, nat_lt, if◌then◌else◌}
 use Rattle.wasm_base.specs.FaultAt.{FaultAt, at_offset}
 use Rattle.wasm_base.specs.Number.{unsigned_at}

@@ -23,6 +23,8 @@ use Rattle.wasm_feeder.specs.declared.turns.Turn.TheVariants.{Advance, Read, End
 abbrev pub part : (bytes : List ℕ) → Payload → Event
 part bytes payload = record { report = report_of payload; consumed = bytes }
 
+-- | the visitor that receives the parts of a chunked stream, one after the other; a bound on the number that the
+--   visit returns [`VisitsStream`, `StoresLittle`]
 -- Reporting these to a visitor, one after the other, turns it into another.
 abbrev pub Visits : {V X : Type 0} (takes : V → X → V → Type 0) → V → List X → V → Type 0
 Visits takes v [] w = v ≡ w

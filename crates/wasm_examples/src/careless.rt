@@ -9,6 +9,8 @@ use wasm_base::{BinaryReader, FromReader, Result};
 pub struct Nothing;
 
 impl<'a> FromReader<'a> for Nothing {
+    // Proved: two item types whose meaning says little satisfy what sections require: one reads
+    //   nothing, one allows any byte for the byte that is there [`Nothing`, `AnyByte`]
     ghost meaning = { ReadsAs (λ nothing. nothing) nothing_at };
 
     fn from_reader(_reader: &mut BinaryReader<'a>) -> Result<Self> {

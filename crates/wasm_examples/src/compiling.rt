@@ -63,6 +63,8 @@ pub fn compile_pieces<C: Compiler>(
     compiler: &mut Compiling<C>,
 ) -> Result<usize>
     requires { length (joined pieces.now) < 2 ^ 64 }
+    // Proved: a streaming compiler, `compile_pieces`, receives the bodies of the reading, in order,
+    //   up to the end or the fault, and nothing else; if an allocation failed, nothing is stated
     ensures { CompilesStream C.compiles pieces.now (feature_bits features)
         compiler.old.0 result compiler.new.0 }
 {

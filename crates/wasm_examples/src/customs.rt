@@ -81,6 +81,8 @@ pub fn custom_sizes(
     pieces: &[&[u8]],
 ) -> Result<Vec<CustomSize>>
     requires { length (joined pieces.now) < 2 ^ 64 }
+    // Proved: the first half of a stripper, `custom_sizes`, lists the custom sections with their
+    //   sizes in bytes, or returns the fault of the stream, or an allocation failed
     ensures { ListsCustoms pieces.now (feature_bits features) result }
 {
     let mut sizes = CustomSizes {

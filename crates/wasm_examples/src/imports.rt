@@ -19,6 +19,9 @@ use wasm_parser::{Parser, Payload};
 ///
 /// The fault of the stream or of an import, or `OutOfMemory`.
 pub fn imports_text(alloc: Global, bytes: &[u8]) -> Result<String>
+    // Proved: `imports_text` writes a line for each import of the stream's reading, or returns the
+    //   first fault of the stream or of an import, or an allocation failed [`IsImportsText`
+    //   (`with_part`)]
     ensures { IsImportsText bytes.now result }
 {
     let mut text = String::new(alloc);

@@ -194,6 +194,12 @@ impl<'a> Linked<'a> {
 ///
 /// The first fault of the stream, a symbol or a relocation, or `OutOfMemory`.
 pub fn linked_of<'a>(alloc: Global, bytes: &'a [u8]) -> Result<Linked<'a>>
+    // Proved: the first half of a linker, `linked_of`, has all relocations in order, each with the
+    //   symbol of its index, if that is not the index of a type and a table before it has one
+    //   [`IsLinked` (`linked`)]
+    // Proved: it has the offsets of the bytes that each relocation patches, if its section has
+    //   them; or it returns the first fault of the stream, of a `linking` section or of
+    //   relocations, or an allocation failed
     ensures { IsLinked bytes.now result }
 {
     let mut linked = Linked {

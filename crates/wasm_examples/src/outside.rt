@@ -189,6 +189,10 @@ impl<'a> Outside<'a> {
 ///
 /// `Misfit` says why it can't be loaded: a fault, an export whose index no imported or defined item has, or `OutOfMemory`.
 pub fn outside_of<'a>(alloc: Global, bytes: &'a [u8]) -> Result<Outside<'a>, Misfit>
+    // Proved: a loader's check, `outside_of`, has a module's imports and exports in order, each
+    //   export an index of what imports and sections before it span, or says which isn't; or it
+    //   returns the first fault of the stream, an import or an export, or an allocation failed
+    //   [`IsOutside` (`noted`)]
     ensures { IsOutside bytes.now result }
 {
     let mut outside = Outside {

@@ -130,6 +130,11 @@ impl<'a> Names<'a> {
 ///
 /// The fault of the stream or of an import, or `OutOfMemory`.
 pub fn function_names<'a>(alloc: Global, bytes: &'a [u8]) -> Result<Vec<Option<&'a str>>>
+    // Proved: a printer, `function_names`, has the name of every function of a module, imported or
+    //   its own, that the name sections after it give it, or none; or it returns the first fault of
+    //   the stream or of an import, or an allocation failed [`AreNames` (`named`)]
+    // Proved: names out of order or past the functions are ignored, and a fault in a name section
+    //   ends only its list
     ensures { AreNames bytes.now result }
 {
     let mut names = Names {

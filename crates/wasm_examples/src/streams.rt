@@ -8,6 +8,9 @@ use wasm_parser::{Chunk, Parser, Payload};
 
 /// Returns the offset of the end of a stream, or its fault.
 pub fn end_of(bytes: &[u8]) -> Result<u64>
+    // Proved: `end_of`, by `parse`, returns how the stream's reading ends; `start_of`, by
+    //   `parse_all`, which function it names as the start, or the fault at which it stops
+    //   [`IsEndOf`, `IsStartOf`]
     ensures { IsEndOf bytes.now result }
 {
     let mut parser = Parser::new(0);

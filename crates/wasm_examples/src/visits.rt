@@ -74,6 +74,13 @@ pub fn visit_pieces<V: Visitor>(
     visitor: &mut V,
 ) -> Result<usize>
     requires { length (joined pieces.now) < 2 ^ 64 }
+    // Proved: `visit_pieces` passes the parts of the reading of chunked input to a visitor, in
+    //   order and wherever it is cut, up to the end or the fault; if an allocation failed, nothing
+    //   is stated
+    // Proved: for a stream without a fault, the number that `visit_pieces` and `compile_pieces`
+    //   return is 0, or less than the bound of an undecided part and some bytes that come next
+    //   together. That these bytes are one chunk, and that the number is the most that was stored,
+    //   is not stated [`StoresLittle`]
     ensures { VisitsStream V.takes pieces.now (feature_bits features)
         visitor.old result visitor.new }
 {

@@ -13,6 +13,7 @@ use wasm_items::{ImportSection, ImportSectionReader, TypeRef};
 
 /// Returns the sum of the numbers of a section, or the first fault.
 pub fn total(numbers: SectionLimited<'_, u32>) -> Result<u64>
+    // Proved: `total` adds up a section of numbers
     ensures { let sum = total_at numbers.entry.count (place numbers.entry.reader) in
         MatchResult result (λ n. sum ≡ Ok n) (λ e. sum ≡ Err (fault_at e)) }
 {
@@ -25,6 +26,8 @@ pub fn total(numbers: SectionLimited<'_, u32>) -> Result<u64>
 
 /// Checks that all announced items can be read and that no bytes follow them. Returns the first fault otherwise.
 pub fn check<'a, T: FromReader<'a>>(section: SectionLimited<'a, T>) -> Result<()>
+    // Proved: `check` and `check_in` read any section to its end, the second one with items that
+    //   own lists
     ensures { Walks T.meaning section.entry.count (place section.entry.reader) result }
 {
     for item in section {
@@ -48,6 +51,8 @@ pub fn check_in<'a, T: FromReaderIn<'a>>(
 
 /// Returns whether a module imports a memory, separately or in a bundle, or the first fault before such an import.
 pub fn imports_memory(section: ImportSectionReader<'_>) -> Result<bool>
+    // Proved: `imports_memory` returns whether an import section has a memory, alone or in a
+    //   bundle, before its first fault, or that fault
     ensures { let found = memory_in (imports_of section.entry) in
         MatchResult result (λ some. found ≡ Ok some) (λ e. found ≡ Err (fault_at e)) }
 {

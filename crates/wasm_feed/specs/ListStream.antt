@@ -15,6 +15,8 @@ use Rattle.wasm_text.specs.declared.devices.ListError.{ListError}
 abbrev pub line_after : Result Step Error → List ℕ
 line_after answer = text_after line_of answer
 
+-- | what a listing does after a result of the parser, and what one read did; how it reads on, past a part that it
+--   skips [`Lists.Refills`; `Progress.ReadsOn`, `Dropping.DropsHere`]
 -- The line of the result was appended to the pending ones.
 abbrev pub TakesTurn : (taken written : Option (List ℕ)) (waiting new : List ℕ) → Result Step Error
     → Result Turn ListError → Type 0
@@ -26,6 +28,9 @@ TakesTurn taken written waiting new answer (Err e) = IsCut taken written waiting
 abbrev pub Lists : (input output : Change) → Result Ended ListError → Type 0
 Lists input output how = ListsBy line_of input output how
 
+-- | what a listing has written: all lines of the reading of what the source returned, which is that of its whole
+--   input; all but the last if the source failed; otherwise a prefix. A listing by any text of what is reported
+--   [`Lists`; `Lists.ListsBy`, `IsListed`, `IsWhole`, `IsAllButLast`, `IsHead`; `listing_by`]
 -- A whole listing: what it wrote of what the source gave, and whether each device has failed.
 pub record ListsSource (input output : Device) (how : Result Ended ListError) : Type 0 where
   pub lists : Lists (bytes_of input) (bytes_of output) how

@@ -153,6 +153,9 @@ abbrev pub StripsBy : (keeps : List ℕ → Bool) (input output : Change) → Re
 StripsBy keeps input output (Ok how) = IsStreamed keeps input output how
 StripsBy keeps input output (Err e) = StripsHead keeps input output
 
+-- | what a call that strips a source has read and written. It wrote the bytes of the events that stay. After a fault
+--   it may also have written first bytes of the part that the fault cuts, if that part stays. If a device or an
+--   allocation failed, it wrote a prefix of such bytes [`IsStreamed`, `StripsHead`, `NextStays`]
 -- what a call that strips a source does, and whether each device has failed
 pub record StripsSource (keeps : List ℕ → Bool) (input output : Device) (how : Result Ended ListError) : Type 0 where
   pub strips : StripsBy keeps (bytes_of input) (bytes_of output) how

@@ -26,6 +26,8 @@ name_stays keeps (refused f place) = false
 abbrev pub frame_stays : (keeps : List ℕ → Bool) → SectionFrame → Bool
 frame_stays keeps f = not (nat_eq f.id custom_id) || name_stays keeps (name (Some name_limit) f.sized.content)
 
+-- | what remains of a stream: its header and the sections that stay, which are those that aren't custom and the
+--   custom ones whose names are chosen [`frame_stays`] <Custom Section, Name Section>
 -- a header and these sections after stripping: the header, and the sections that stay, each with all its bytes; that
 -- these are the bytes of the events that stay follows, because sections determine events
 abbrev pub stripped : (keeps : List ℕ → Bool) → Encoding → List SectionFrame → List ℕ
@@ -50,11 +52,13 @@ staying keeps dropped (e ∷ events) =
 abbrev pub IsMovedBack : ℕ × Event → Event → Type 0
 IsMovedBack s e = s.1 ≡ shifted_event s.0 e
 
--- The events on the right are those on the left that stay, each at offsets that are less by the bytes dropped before
--- it.
+-- | the events that remain of others: those that stay, each at offsets that are less by the bytes dropped before it
 abbrev pub AreKept : (keeps : List ℕ → Bool) → List Event → List Event → Type 0
 AreKept keeps events kept = AllZip IsMovedBack (staying keeps 0 events) kept
 
+-- | these bytes remain of an accepted stream, are accepted, and are read this way; for another stream the fault is
+--   reported; in the stream's own bytes, at their front, or in separate memory, it is then left unchanged
+--   [`RefusesToStrip`, `Strips`; `LeavesStream`, `StripsToFront`, `StripsInPlace`]
 -- The stream is accepted, and these are its bytes after stripping: they are accepted too, and are read like the stream,
 -- except for the events that were dropped. This holds for every set of features, though stripping reads with all.
 pub record IsStripped (keeps : List ℕ → Bool) (stream kept : List ℕ) : Type 0 where

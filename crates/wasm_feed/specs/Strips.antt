@@ -49,6 +49,9 @@ abbrev pub GoesOn : (old : Feed) → Result Part Error → (new : Feed) → Type
 GoesOn old (Ok part) new = IsFewer part.fate old new
 GoesOn old (Err e) new = Unit {0}
 
+-- | the parts so far of a stream that is stripped, and what becomes of the next one; the next one that stays, and
+--   where it ends; the number of the bytes that are kept, their copy, and these moved to the front [`Fates.IsFateOf`,
+--   `Strips.TakesPart`; `TakesKept`, `PassesKept`; `CountsKept`, `CopiesKept`, `MovesKept`]
 -- A stream was read so far, and these are the bytes of the events that stay.
 abbrev pub HasKept : (keeps : List ℕ → Bool) (stream : List ℕ) → Feed → (kept : List ℕ) → Type 0
 HasKept keeps stream feed kept =

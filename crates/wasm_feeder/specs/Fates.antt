@@ -37,6 +37,8 @@ report_stays keeps other = true
 abbrev pub custom_fate : (stays : Bool) → Fate
 custom_fate stays = if stays then Stays else Goes
 
+-- | what becomes of a part of a stream that is stripped, also if it is skipped [`report_stays`, `head_stays`] <Custom
+--   Section>
 -- This becomes of what is reported.
 abbrev pub IsFateOf : (keeps : List ℕ → Bool) → Report → Fate → Type 0
 IsFateOf keeps report Stays = (is_end report ≡ false) × (report_stays keeps report ≡ true)

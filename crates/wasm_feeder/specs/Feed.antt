@@ -6,6 +6,9 @@ use Rattle.wasm_base.specs.declared.error.Error.{Error}
 use Rattle.wasm_base.specs.declared.fault.Fault.TheVariants.{OffsetRange}
 use Rattle.wasm_parser.specs.ParserState.{ParserState, initial_state}
 
+-- | a feeder that is passed chunks: where its parser is, what it holds and stores, what a push and a step make of it;
+--   what holds for every feeder [`pushed`, `RefusesPush`, `Step.Steps`, `GivesStep`, `Cursors.feed_of`,
+--   `FeedersLaws.WaitsUndecided`, `FeedersWait`]
 -- its parser's state; the bytes that were pushed and not consumed; how many it stores; whether the input has ended; and
 -- whether it wants more
 pub record Feed : Type 0 where

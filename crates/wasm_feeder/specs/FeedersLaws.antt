@@ -18,6 +18,8 @@ use Rattle.wasm_feeder.specs.Step.{answer_of, Stepped, Steps}
 use Rattle.wasm_feeder.specs.declared.feeder.Step.{Step}
 use Rattle.wasm_feeder.specs.declared.feeder.Step.TheVariants.{NeedMoreData, Parsed}
 
+-- | where a feeder is along a stream, whatever calls came before; what a step says of each stream that continues this
+--   way [`SteppedOver`, `FeedersGoAlong`, `Step.Stepped`]
 -- The feeder received these bytes of a stream: those that its parser consumed are read as these events, and it holds
 -- the others.
 abbrev pub IsAlong : (start features : ℕ) (given : List ℕ) (f : Feed) (events : List Event) → Type 0

@@ -33,6 +33,7 @@ pub record IsWhole (source : Option (List ℕ)) (given : List ℕ) (events : Lis
   pub reading : Reading given 0 all_features events
   pub all : IfSome source (λ input. Reading input 0 all_features events)
 
+-- | what a listing has written if the input passes the largest offset
 -- The bytes that the source gave pass the top of the offsets, which is the fault after these events of theirs, at the
 -- offset where these end: the parser's.
 pub record PassesTop (given : List ℕ) (first : List Event) (end : Ending) : Type 0 where

@@ -24,6 +24,8 @@ PutsAll taken written waiting bytes new (Err e) = IsCut taken written (waiting +
 abbrev pub if_stays : Bool → List ℕ → List ℕ
 if_stays stays bytes = if stays then bytes else []
 
+-- | the bytes of a part that is skipped, which are forwarded or dropped chunk by chunk, and how far that came when a
+--   device failed [`PassesPart`, `GivesUp`]
 -- The parser skipped a part, of which the bytes from the cursor on are the first. Its first fields say whether it
 -- stays.
 pub record SkipsHere (stays_if : Head → Bool) (old : Cursor) (bytes : List ℕ) (passing : Passing) (new : Cursor) : Type

@@ -11,6 +11,8 @@ use Rattle.wasm_feeder.specs.Events.{AreEvents}
 use Rattle.wasm_feeder.specs.Feed.{Feed}
 use Rattle.wasm_feeder.specs.declared.events.Event.{Event}
 
+-- | chunks joined; the values are the events of a stream's reading, or an allocation failed [`IsReading`,
+--   `ReadsUnlessMemory`]
 -- the chunks joined
 abbrev pub joined : List (Bor (List ℕ)) → List ℕ
 joined pieces = flat_map (λ piece. piece.now) pieces

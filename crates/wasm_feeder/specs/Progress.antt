@@ -18,6 +18,8 @@ use Rattle.wasm_base.specs.Features.{all_features}
 abbrev pub weight : Feed → ℕ
 weight f = (2 ^ 64 - f.state.offset) + ((2 ^ 64 - (f.state.offset + length f.held)) + (if f.eof then 0 else 1))
 
+-- | where a feeder is along what a source gave, and where it asks for more; what a caller that writes a text of the
+--   events has written [`Asks`; `Progress.Progress`, `Wants`]
 -- Where a feeder is along what a source gave, after these events.
 pub record Reached (source rest : Option (List ℕ)) (f : Feed) (events : List Event) : Type 0 where
   pub given : List ℕ

@@ -88,6 +88,9 @@ impl<A: Allocator> Ahead<A> {
     /// Consumes the first `count` of them, which must not be more than there are.
     pub fn pass(&mut self, count: usize)
         requires { count ≤ length self.old }
+        // Proved: `pass` drops bytes from the front of a chunk; `fetch` replaces the chunk by what
+        //   one read returned, and leaves none if the source failed [the clauses of both
+        //   (`Fetches`)]
         ensures { self.new ≡ drop count self.old }
     {
         self.start += count;
@@ -132,12 +135,18 @@ impl<A: Allocator> Ahead<A> {
         stored: &mut Vec<u8, A>,
     ) -> Result<(), ListError>
         // On success.
+        // Proved: a cursor, stored bytes and `Ahead` are a feeder next to the chunk that was read
+        //   last [the clauses of `make_ready`, `pass_borrowed` and `refill` (`beside`, `lending`)]
         ensures same { OnOk result (lending stored.new.items self.new cursor.new
             ≡ beside (feed_of stored.old.items cursor.old) self.old) }
+        // Proved: after `make_ready`, a `parse_next` on what is `seen` is a step on all of it [the
+        //   clauses of each (`ReadsEnough`)]
         ensures enough { OnOk result (ReadsEnough stored.new.items self.new cursor.new) }
         ensures room { OnOk result (vec_len stored.new + length self.new
             ≤ vec_capacity stored.new) }
         // On an error.
+        // Proved: after an error of `make_ready` or `refill` the feeder is where it was
+        //   [`unchanged` of both]
         ensures unchanged { OnErr result (beside (feed_of stored.new.items cursor.new) self.new
             ≡ beside (feed_of stored.old.items cursor.old) self.old) }
         ensures memory { IfErr result (λ e. e ≡ Memory) }
@@ -149,6 +158,8 @@ impl<A: Allocator> Ahead<A> {
 
     /// Removes from the chunk the bytes that a step consumed in place.
     pub fn pass_borrowed(&mut self, cursor: &mut Cursor, stored: &[u8])
+        // Proved: `pass_borrowed` leaves the bytes after that step [the clause of
+        //   `Ahead::pass_borrowed` (`lending`)]
         ensures { beside (feed_of stored.now cursor.new) self.new
             ≡ lending stored.now self.old cursor.old }
     {
@@ -170,6 +181,7 @@ impl<A: Allocator> Ahead<A> {
         input: &mut R,
     ) -> Result<(), ListError>
         requires { vec_len stored.old + length self.old ≤ vec_capacity stored.old }
+        // Proved: `refill` adds the next chunk or records the end of input
         ensures refills { RefillsAlike (R.remaining input.old) (R.remaining input.new)
             (lending stored.old.items self.old cursor.old)
             (beside (feed_of stored.new.items cursor.new) self.new) result }

@@ -77,6 +77,9 @@ fn is_other(name: &str, removed: &[&str]) -> bool
 
 /// Returns whether a custom section with this name stays.
 pub fn stays(name: &str, keep: Keep<'_>) -> bool
+    // Proved: a custom section stays if its name is chosen, the end is the end, and every other
+    //   part stays; a part that is skipped stays like its payload [the clauses of `stays`
+    //   (`stays_by`), `fate_of` (`IsFateOf`) and `head_stays`]
     ensures { result ≡ stays_by keep.entry name.now }
 {
     is_among(name, keep.kept) || is_other(name, keep.removed) || keep.names && name == "name"

@@ -82,6 +82,8 @@ impl Drop for Cursor {
 }
 
 impl Clone for Cursor {
+    // Proved: a clone of a cursor is that cursor, and can always be made [the clause of `clone`
+    //   (`is_clone`, `is_infallible`)]
     ghost is_clone = { λ cursor copy. copy ≡ cursor };
 
     ghost is_infallible = { λ _. ⊤ };
@@ -111,6 +113,10 @@ impl Cursor {
 
     /// Creates a cursor at the start of a buffer that holds the whole stream, so that a step never requests input.
     pub fn over_all(parser: Parser) -> Cursor
+        // Proved: a cursor `over_all` is at the start of a finished buffer; `offset`, `mark` and
+        //   `remaining` are what their names say, `rewind` moves the mark to 0 and nothing else;
+        //   `skip_next` is that of the parser on the remaining bytes [the clause of each
+        //   (`SkipsNext`)]
         ensures parser { result.parser ≡ parser }
         ensures mark { result.mark ≡ 0 }
         ensures finished { result.is_finished ≡ true }
@@ -245,6 +251,7 @@ impl Feeder {
 
     /// Creates a feeder for a stream that begins at this offset and is read with these features. Allocates nothing yet.
     pub fn new(alloc: Global, offset: u64, features: WasmFeatures) -> Feeder
+        // Proved: a new feeder holds nothing and wants more
         ensures { result ≡ new_feed offset (feature_bits features) }
     {
         Feeder::new_in(alloc, offset, features)
@@ -259,7 +266,13 @@ impl Feeder {
     ///
     /// The fault at which the stream stops, as `Parser::parse` returns it. Each later step returns it again.
     pub fn step(&mut self) -> Result<Step<'_>>
+        // Proved: after a step the feeder holds what follows the bytes that it consumed, and stores
+        //   as much as before [`after` on `step`; the clauses of `open`, `Opened::step` and
+        //   `step_with` (`Steps`, `LendsCursor`)]
+        // Proved: after a step the feeder wants more exactly if the step asked for it
         ensures* after { sem 𝓛 (Rests the_row self.entry (Steps self.old result)) }
+        // Proved: `step` returns what `parse` returns for the held bytes, and provides the bytes
+        //   that it consumed
         ensures gives { GivesStep self.old.state self.old.eof self.old.held result }
     {
         self.open().step()
@@ -283,6 +296,9 @@ impl<A: Allocator> Feeder<A> {
 
     /// Creates a feeder like `new`, with any allocator for the stored bytes.
     pub fn new_in(alloc: A, offset: u64, features: WasmFeatures) -> Feeder<A>
+        // Proved: `new_in` of a feeder and of a `BoundedSink`, `read_pieces_in`, `list_in` and
+        //   `strip_in` do what the calls without `_in` do, with memory from any allocator [the same
+        //   clauses on each]
         ensures { result ≡ new_feed offset (feature_bits features) }
     {
         let mut parser = Parser::new(offset);
@@ -304,6 +320,8 @@ impl<A: Allocator> Feeder<A> {
 
     /// Returns the number of bytes that were pushed and not consumed.
     pub fn held(&self) -> usize
+        // Proved: `held`, `stored`, `wants_more`, `is_finished` and `finish` are what their names
+        //   say [the clause of each]
         ensures { result ≡ length self.now.held }
     {
         after(&self.bytes, self.cursor.mark).len()
@@ -352,8 +370,14 @@ impl<A: Allocator> Feeder<A> {
     /// ```
     pub fn push(&mut self, piece: &[u8]) -> Result<()>
         requires { self.old.wants_more ≡ true }
+        // Proved: `push` appends a chunk to the held bytes, and no other byte is stored then
+        // Proved: `push` and `read_from` require that the feeder wants more, and `read_from` a
+        //   buffer that isn't empty [the preconditions of each]
         ensures ok { OnOk result (self.new ≡ pushed self.old piece.now) }
+        // Proved: a refused push leaves the feeder unchanged
         ensures unchanged { OnErr result (self.new ≡ self.old) }
+        // Proved: a refused push is `OffsetRange` if the stream would pass its offsets, and
+        //   otherwise out of memory
         ensures refuses { RefusesPush self.old piece.now result }
     {
         let offset = self.cursor.parser.offset();
@@ -392,8 +416,11 @@ impl<A: Allocator> Feeder<A> {
     ) -> std::result::Result<(), ListError>
         requires wants { self.old.wants_more ≡ true }
         requires buffer { 0 < length buffer.old }
+        // Proved: `read_from` appends what the source returned to the held bytes, or records the
+        //   end of input if the source had no more [`refills`, `failed` on `read_from` (`Refills`)]
         ensures refills { Refills (R.remaining input.old) (R.remaining input.new) self.old self.new result }
         ensures failed { R.has_failed input.new ≡ input_failed result (R.has_failed input.old) }
+        // Proved: a failed `read_from` leaves the feeder unchanged
         ensures unchanged { OnErr result (self.new ≡ self.old) }
     {
         // Bytes beyond the largest offset are not refused here, as `push` does: a `ListError` has no fault. The next step reports it.
@@ -450,10 +477,26 @@ impl<A: Allocator> Feeder<A> {
         requires may_come { MayCome self.old piece.now }
         requires callable { F.IsAlwaysCallable look }
         // On success.
+        // Proved: `step_over` requires that no bytes come after the end of input [its precondition
+        //   (`MayCome`)]
+        // Proved: `step_over` passes on the step that a push of the chunk and then a step would
+        // Proved: it leaves what these would leave: what the feeder then holds, and the bytes of
+        //   the chunk after those it took [the same (`beside`)]
+        // Proved: if it asks for more, it took all bytes of the chunk [`steps`, `within` on
+        //   `step_over`]
+        // Proved: it stores at most what was held and the chunk, and without a chunk no more than
+        //   before [`bounded` of `StepsOver` (`Bounds`)]
+        // Proved: below the largest offset, if the held bytes decide what comes next, it takes
+        //   nothing of the chunk and stores no more than before [`idle` of `StepsOver`
+        //   (`HasDecided`)]
+        // Proved: after the end or a fault it holds the bytes that decided this [`stays` of
+        //   `StepsOver`]
         ensures steps { IfOk result (λ out. (s : _) × F.post look s out.1
             × StepsOver self.old piece.now s out.0 self.new) }
         ensures within { IfOk result (λ out. out.0 ≤ length piece.now) }
         // On an error.
+        // Proved: a failed allocation in `step_over` leaves the feeder unchanged [`unchanged`,
+        //   `memory` on `step_over`]
         ensures unchanged { OnErr result (self.new ≡ self.old) }
         ensures memory { IfErr result (λ e. fault_at e ≡ out_of_memory) }
     {

@@ -60,6 +60,8 @@ pub fn put_all<A: Allocator, W: Sink>(
     bytes: &[u8],
     output: &mut W,
 ) -> Result<(), ListError>
+    // Proved: `put_all` puts all bytes on a page or behind it; at an error a prefix of what waited
+    //   and of these was written, and the page is empty
     ensures puts { PutsAll (W.taken output.old) (W.taken output.new)
         page.old bytes.now page.new result }
     ensures failed { W.has_failed output.new ≡ output_failed result (W.has_failed output.old) }
@@ -214,11 +216,20 @@ pub fn pass_part<A: Allocator, R: Source, W: Sink>(
     output: &mut W,
 ) -> Result<Option<Error>, ListError>
     requires { length (drop cursor.old.mark (seen stored.old.items ahead.old)) < passing.size }
+    // Proved: `pass_part` forwards a skipped part or drops it: what was held and then read is the
+    //   part and what follows it; or the source ended within the part, which is `UnexpectedEof` at
+    //   its content. No byte is stored then [`passes`, `none`, `cursor` on `pass_part`
+    //   (`PassesPart`)]
     ensures passes { IfOk result (λ fault. PassesPart (R.remaining input.old) (R.remaining input.new)
         (W.taken output.old) (W.taken output.new) passing cursor.old stored.old.items ahead.old page.old
         fault ahead.new page.new) }
     ensures none { stored.new.items ≡ [] }
     ensures cursor { cursor.new ≡ record cursor.old { mark = 0 } }
+    // Proved: if the source fails within `pass_part`, the bytes so far were forwarded or dropped,
+    //   and none of the chunk remain; if they could not be forwarded, a prefix of the page and of
+    //   the part was written, the page is empty, and the rest of the chunk follows the bytes that
+    //   were tried. No byte is stored then either [`cut`, `none`, `cursor`, `source`, `sink` on
+    //   `pass_part` (`GivesUp`, `EndsBefore`)]
     ensures cut { IfErr result (λ e. GivesUp (R.remaining input.old) (R.remaining input.new)
         (W.taken output.old) (W.taken output.new) passing.stays passing.size
         (held_by cursor.old stored.old.items ahead.old) page.old e ahead.new page.new) }

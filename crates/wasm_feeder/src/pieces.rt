@@ -19,6 +19,7 @@ use wasm_parser::{Parser, Result, fits};
 /// assert!(rt; !fits_pieces(18446744073709551610, &chunks));
 /// ```
 pub fn fits_pieces(offset: u64, pieces: &[&[u8]]) -> bool
+    // Proved: `fits_pieces` says exactly whether chunks may be read at an offset
     ensures { IsTrue result ↔ (offset + length (joined pieces.now) < 2 ^ 64) }
 {
     let mut end = offset;
@@ -102,6 +103,13 @@ pub fn read_pieces_in<A: Allocator + Copy>(
 /// ```
 pub fn read_pieces(alloc: Global, offset: u64, pieces: &[&[u8]]) -> Result<Vec<Event>>
     requires { offset + length (joined pieces.now) < 2 ^ 64 }
+    // Proved: `read_pieces` returns the reading of the joined chunks, wherever they are cut, unless
+    //   an allocation fails
+    // Proved: each event of `read_pieces` has its kind and numbers, its offsets and a copy of the
+    //   bytes that it consumed [the clause of `read_pieces` (`IsEvent`)]
+    // Proved: the end or the first fault is the last event of `read_pieces` [the clause of
+    //   `read_pieces` (`IsReading`)]
+    // Proved: the only error of `read_pieces` is out of memory
     ensures { ReadsUnlessMemory (joined pieces.now) offset all_features result }
 {
     read_pieces_in(alloc, offset, pieces)

@@ -93,6 +93,9 @@ abbrev pub IsMatched : Encoding → (id other : ℕ) → List SectionFrame → T
 IsMatched encoding id other frames = All (λ f. IsSection encoding id f → 0 < frame_count f
     → Any (IsSection encoding other) frames) frames
 
+-- | an accepted stream, as the standard has it: a header, and then sections of an id, a length and content that fits
+--   its kind. Their ranks ascend and their counts agree; code is divided into its bodies and nothing else <Modules,
+--   Sections; Code Section>
 -- The stream is accepted: it is a header and well-formed sections in their order. Functions have a code section, and
 -- announced data segments a data section.
 pub record IsAccepted (stream : List ℕ) : Type 0 where
@@ -105,6 +108,6 @@ pub record IsAccepted (stream : List ℕ) : Type 0 where
   pub functions : IsMatched encoding function_id code_id frames
   pub segments : IsMatched encoding data_count_id data_id frames
 
--- whether these bytes begin with a header of this encoding
+-- | whether bytes begin with a header <Modules>
 abbrev pub begins_with_header : Encoding → List ℕ → Bool
 begins_with_header encoding bytes = starts_with nat_eq bytes (header_bytes encoding)

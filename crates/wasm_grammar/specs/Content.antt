@@ -25,6 +25,8 @@ pub data Form : Type 0 where
   -- any bytes
   unknown : Form
 
+-- | what a section is: one that is read whole (name and bytes, counted items, one index, one count, or unknown), or a
+--   code section [`Form`] <Modules, Sections>
 -- A section is one part of the stream. The parts of a code section are its start, up to the count, and each body.
 pub data Kind : Type 0 where
   whole : Form → Kind
@@ -36,11 +38,13 @@ kinds =
     whole custom ∷ whole items ∷ whole items ∷ whole items ∷ whole items ∷ whole items ∷ whole items ∷ whole items ∷
     whole index ∷ whole items ∷ code ∷ whole items ∷ whole data_count ∷ whole items ∷ []
 
+-- | the kind of an id in a module or component <Modules, Sections>
 -- the kind of the section with this id. In a module ids 0 to 13 are known, in a component only 0.
 abbrev pub kind_of : Encoding → ℕ → Kind
 kind_of Module id = slice_index_or kinds id (whole unknown)
 kind_of Component id = slice_index_or (whole custom ∷ []) id (whole unknown)
 
+-- | the rank of a section, by its kind <Modules>
 -- the rank of a section of this kind, or 0 if it may come anywhere
 abbrev pub rank_of : Kind → ℕ → ℕ
 rank_of (whole custom) id = 0
@@ -78,6 +82,7 @@ abbrev pub wrong_name : (offset : ℕ) → Name → Option FaultAt
 wrong_name offset (named text used) = None
 wrong_name offset (refused f place) = Some (at_offset f (offset + place))
 
+-- | what is wrong with content: its name, its count, or bytes after its one number <Modules, each section>
 -- the fault of the first fields of a section's content at this offset, if they have one
 unfoldable pub wrong_content : Form → (offset : ℕ) (content : List ℕ) → Option FaultAt
 wrong_content custom offset content = wrong_name offset (name (Some name_limit) content)
@@ -92,6 +97,7 @@ value_of (read value used) = value
 value_of (bad f place) = 0
 value_of short = 0
 
+-- | the count or index that content begins with <Modules, each section>
 -- the count or index at the start of content
 abbrev pub count_of : List ℕ → ℕ
 count_of content = value_of (number VarU32 content)

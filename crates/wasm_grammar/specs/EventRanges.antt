@@ -42,11 +42,12 @@ LiesBetween stream start features low high (unknown_section id contents from to)
 LiesBetween stream start features low high (stream_end (fault f)) = Unit {0}
 LiesBetween stream start features low high (stream_end (ended offset)) = (offset ≡ low) × (offset ≡ high)
 
--- This holds of each event, at the offset where the ones before it end.
+-- | something holds for each event, at the offset where the ones before it end
 abbrev pub AtOffsets : (ℕ → Event → Type 0) → (at : ℕ) → List Event → Type 0
 AtOffsets P at [] = Unit {0}
 AtOffsets P at (e ∷ events) = P at e × AtOffsets P (at + length e.consumed) events
 
+-- | events end to end, their windows parts of the stream with the enabled features [`IsPart`]
 -- Each event is at the bytes that it consumed, and begins where the one before ended; windows have these features.
 abbrev pub EndToEnd : (stream : List ℕ) (start features at : ℕ) → List Event → Type 0
 EndToEnd stream start features at events = AtOffsets (λ low e.

@@ -72,6 +72,8 @@ FramesEvents features encoding at (f ∷ frames) events =
     × FrameEvents features encoding at f first × FramesEvents features encoding (at + length (frame_bytes f)) frames
     more
 
+-- | the events of an accepted stream by its sections: its header's, one of each section that is read whole, the start
+--   and the bodies of a code section, its end [`FramesEvents`, `FrameEvents`] <Modules, Sections, Code Section>
 -- These are the events of a stream that starts at this offset: its header's, those of its sections in their order, and
 -- its end.
 pub record TellsFrames (start features : ℕ) (encoding : Encoding) (frames : List SectionFrame)
@@ -85,6 +87,7 @@ pub record TellsFrames (start features : ℕ) (encoding : Encoding) (frames : Li
 abbrev pub has_rank : Encoding → SectionFrame → Bool
 has_rank encoding f = nat_lt 0 (frame_rank encoding f)
 
+-- | these sections imply the same for later ones: those that have a rank are the same <Modules>
 -- These sections say the same to later ones as the others: those of them that have a rank are the same.
 abbrev pub SayTheSame : Encoding → List SectionFrame → List SectionFrame → Type 0
 SayTheSame encoding earlier others = filter (has_rank encoding) earlier ≡ filter (has_rank encoding) others

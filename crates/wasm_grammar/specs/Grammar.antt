@@ -19,6 +19,8 @@ use Rattle.wasm_grammar.specs.declared.encoding.Encoding.{Encoding}
 use Rattle.wasm_grammar.specs.declared.encoding.Encoding.TheVariants.{Module, Component}
 use Rattle.wasm_grammar.specs.Ids.{data_id}
 
+-- | a part of a stream with its bytes: a header, a whole section, the start of a code section, a body [`Tile`]
+--   <Modules; Code Section>
 -- the parts of a stream, its tiles: the header, a section other than a code section, the start of a code section up to
 -- its count, and a body
 pub data Shape : Type 0 where
@@ -38,6 +40,7 @@ pub data Verdict : Type 0 where
   tile : Tile → Verdict
   final : Ending → Verdict
 
+-- | what may come at a place, field by field, with the offsets of its faults
 -- What may come at a place, field by field. Offsets are those at which faults are reported.
 pub data Grammar : Type 0 where
   -- the tile is complete
@@ -78,6 +81,7 @@ after_number offset rest (read value used) next = after (take used rest) (next v
 after_number offset rest (bad kind place) next = final (fault (at_offset kind (offset + place)))
 after_number offset rest short next = final (fault (at_offset UnexpectedEof (offset + length rest)))
 
+-- | what the rest of a stream is if that may come: a tile, or how the stream ends [`Verdict`]
 -- the verdict of a grammar over the rest of a stream: the tile at its start, or the first fault, or the end
 unfoldable pub verdict : Grammar → (rest : List ℕ) → Verdict
 verdict (accept shape) rest = tile (record { shape = shape; bytes = [] })
@@ -120,6 +124,7 @@ header_of offset bits None = reject (record { fault = UnknownVersion; offset = o
 abbrev pub version_of : (offset bits : ℕ) → Grammar
 version_of offset bits = header_of offset bits (encoding_named (bits % 65536) (bits / 65536))
 
+-- | a header: magic, a version and a kind; only two are known [`encoding_named`] <Modules>
 -- a header at this offset
 unfoldable pub header_grammar : (offset : ℕ) → Grammar
 header_grammar offset = do
@@ -128,6 +133,7 @@ header_grammar offset = do
   four ← bytes 4 (offset + 4)
   version_of offset (of_four four)
 
+-- | how a stream ends where a section may start: a count above 0 needs its other section <Modules>
 -- how a stream ends where a section may start: functions need a code section, and announced segments a data section
 abbrev pub end_at_section : SectionContext → (offset : ℕ) → Ending
 end_at_section context offset =
@@ -143,6 +149,8 @@ wrong_count context offset count =
     if not (list_all (nat_eq count) context.functions) then Some (at_offset FunctionCodeDiffer offset) else
     when (nat_lt 0 count && nat_eq (length context.functions) 0) (at_offset CodeWithoutFunction offset)
 
+-- | the start of a code section: its count field fits and agrees with the functions [`wrong_count`] <Modules; Code
+--   Section>
 -- the start of a code section with this length, whose content begins at this offset
 abbrev pub code_grammar : SectionContext → (offset length : ℕ) → Grammar
 code_grammar context offset size = do
@@ -151,6 +159,7 @@ code_grammar context offset size = do
   check (wrong_count context offset count.0)
   accept (code_start count.0 count.1 (size - count.1))
 
+-- | a data section has as many segments as announced <Modules; Data Count Section>
 -- the fault of a data section that ends at this offset, if its count differs from the announced one
 abbrev pub wrong_data : SectionContext → Form → (id offset : ℕ) → List ℕ → Option FaultAt
 wrong_data context items id offset content =
@@ -190,6 +199,8 @@ after_id context offset id = do
   size ← sized_u32 (offset + 1)
   after_length context (kind_of context.encoding id) id (offset + 1) (offset + 1 + size.1) size.0
 
+-- | a section: no magic here, an id below 128, its length, an end within the offsets, its rank, its content
+--   [`after_id`, `after_length`, `content_grammar`] <Modules, Sections>
 -- a section at this offset. Core specification, Binary format, Modules, Sections
 unfoldable pub section_grammar : SectionContext → (offset : ℕ) → Grammar
 section_grammar context offset = section_start offset (end_at_section context offset) (after_id context offset)
@@ -202,6 +213,8 @@ body_of offset code_bytes size width = do
   content ← bytes size (offset + width)
   accept (code_entry content)
 
+-- | a body: a size, which alone says whether the body overruns its section, and as many bytes; no byte after the last
+--   body [`body_of`] <Code Section>
 -- what may come in a code section with these numbers of remaining bodies and bytes
 unfoldable pub body_grammar : (bodies code_bytes offset : ℕ) → Grammar
 body_grammar zero code_bytes offset = reject (at_offset TrailingCode offset)

@@ -45,6 +45,8 @@ data_count_id = 12
 abbrev pub tag_id : ℕ
 tag_id = 13
 
+-- | the ids of sections with their names; the order in which sections come; the place of an id in that order, or none
+--   [`order`, `place_of`, `name_of`, `id_named`] <Modules, Sections>
 -- their words in a listing, by id: the standard's names without "section", but for the data count section
 abbrev pub names : List (List ℕ)
 names =

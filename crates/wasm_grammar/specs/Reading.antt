@@ -8,11 +8,13 @@ use Rattle.wasm_grammar.specs.Grammar.{Shape, section, Tile, final, verdict}
 use Rattle.wasm_grammar.specs.Tiling.{bytes_of, grammar, Faultless}
 use Rattle.wasm_grammar.specs.declared.encoding.Encoding.{Encoding}
 
+-- | a stream: bytes, and the offset at which they begin <Conventions>
 -- The bytes, from this start offset on, are a stream: they are bytes, and end within 64-bit offsets.
 pub record Stream (bytes : List ℕ) (start : ℕ) : Type 0 where
   pub each : All (λ b. b < 256) bytes
   pub fits : start + length bytes < 2 ^ 64
 
+-- | what is reported of a tile, with offsets and windows [`tile_report`, `Event`]
 -- the report of a tile, with offsets in the stream
 pub data Report : Type 0 where
   version : (num : ℕ) (encoding : Encoding) (from to : ℕ) → Report
@@ -70,6 +72,7 @@ events_of start features [] = []
 events_of start features (t ∷ earlier) =
     events_of start features earlier ++ event_of features (start + length (bytes_of earlier)) t ∷ []
 
+-- | the stream is faultless tiles and a rest at which it stops
 -- The stream is these faultless tiles and a rest, whose verdict is this end.
 pub record Reads (stream : List ℕ) (start : ℕ) (tiles : List Tile) (end : Ending) : Type 0 where
   pub rest : List ℕ
@@ -77,6 +80,7 @@ pub record Reads (stream : List ℕ) (start : ℕ) (tiles : List Tile) (end : En
   pub faultless : Faultless start tiles
   pub stops : verdict (grammar start tiles) rest ≡ final end
 
+-- | the reading: the events of those tiles, and last the fault or the end
 -- These are all events of the stream: those of its longest faultless tiling, and last the fault after it, or the end.
 pub record Reading (stream : List ℕ) (start features : ℕ) (events : List Event) : Type 0 where
   pub tiles : List Tile

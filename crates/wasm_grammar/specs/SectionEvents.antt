@@ -57,6 +57,9 @@ pub record IsBodyEvent (features at : ℕ) (window : Window) (e : Event) : Type 
   pub sized : IsNumber field (length content)
   pub over : window ≡ window_over features (at + length field) content
 
+-- | the event of a section states what its bytes are: an id, a length field and the content, which is the bytes of
+--   the range and begins with the count, index or name that is reported. That of a body states a size field and a
+--   window [`IsSectionEvent`, `SaysContent`, `IsBodyEvent`] <Modules, Sections; Code Section>
 -- What the event at this offset says of a section or a body is what its bytes are.
 pub record SaysItsBytes (features at : ℕ) (e : Event) : Type 0 where
   pub section : (id : ℕ) (range : Range ℕ) → section_of e.report ≡ Some (id, range)

@@ -30,6 +30,8 @@ abbrev pub without_count : Option (ℕ × Range ℕ × Option ℕ) → Option (�
 without_count None = None
 without_count (Some s) = Some (s.0, s.1)
 
+-- | the sections that events report: the id of each, and the offsets of its content [`sections_of`] <Modules,
+--   Sections>
 -- its id, and the offsets of its content
 abbrev pub section_of : Report → Option (ℕ × Range ℕ)
 section_of report = without_count (parts_of report)
@@ -65,6 +67,8 @@ places_of offset (f ∷ frames) =
     (f.id, record { start = offset + 1 + length f.sized.field; end = offset + length (frame_bytes f) })
     ∷ places_of (offset + length (frame_bytes f)) frames
 
+-- | a stream is a header and the sections that are reported, of each its id, its length and the bytes of its range
+--   <Modules, Sections>
 -- The stream is a header and then these sections, and nothing between them or after: of each its id, its length, and
 -- the bytes of its range.
 pub record TiledBySections (stream : List ℕ) (start : ℕ) (sections : List (ℕ × Range ℕ)) (encoding : Encoding)
@@ -91,6 +95,7 @@ pub record BeginsAs (encoding : Encoding) (events : List Event) : Type 0 where
 abbrev pub rank_in : Encoding → ℕ → ℕ
 rank_in encoding id = rank_of (kind_of encoding id) id
 
+-- | of two sections the first has the lower rank <Modules>
 -- If both sections have a rank, the first has the lower one.
 abbrev pub RanksBelow : Encoding → (ℕ × Range ℕ) → (ℕ × Range ℕ) → Type 0
 RanksBelow encoding s t = 0 < rank_in encoding s.0 → 0 < rank_in encoding t.0
@@ -104,6 +109,7 @@ ReportsBody e = (window : Window) × (e.report ≡ code_entry window)
 abbrev pub ReportsFault : Event → Type 0
 ReportsFault e = (f : FaultAt) × (e.report ≡ stream_end (fault f))
 
+-- | after the start of a code section: its bodies and then another event, or fewer and then a fault <Code Section>
 -- These events follow the start of a code section of `count` bodies: all its bodies, and then another event; or fewer,
 -- and then a fault, which is reported last.
 pub record BodiesFollow (count : ℕ) (after : List Event) : Type 0 where

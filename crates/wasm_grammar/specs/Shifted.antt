@@ -33,6 +33,7 @@ shifted_report by (stream_end (ended offset)) = stream_end (ended (offset + by))
 abbrev pub shifted_event : (by : ℕ) → Event → Event
 shifted_event by e = record e { report = shifted_report by e.report }
 
+-- | events with every offset moved
 abbrev pub shifted_events : (by : ℕ) → List Event → List Event
 shifted_events by events = map (shifted_event by) events
 

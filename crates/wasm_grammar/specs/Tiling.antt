@@ -67,6 +67,8 @@ abbrev pub bytes_left : List Tile → ℕ
 bytes_left [] = 0
 bytes_left (t ∷ earlier) = bytes_after t t.shape (bytes_left earlier)
 
+-- | what the tiles before a section imply for it: it ranks above each, and the counts agree
+--   [`Grammar.SectionContext`] <Modules>
 -- what these tiles imply for a section after them
 abbrev pub context_of : List Tile → SectionContext
 context_of tiles = record {
@@ -83,6 +85,7 @@ abbrev pub inside : SectionContext → (bodies code_bytes offset : ℕ) → Gram
 inside before bodies code_bytes offset =
     if nat_eq (bodies + code_bytes) 0 then section_grammar before offset else body_grammar bodies code_bytes offset
 
+-- | what may come after tiles <Modules>
 -- what may come after these tiles of a stream that starts at this offset
 abbrev pub grammar : (start : ℕ) → List Tile → Grammar
 grammar start [] = header_grammar start
@@ -90,6 +93,7 @@ grammar start (t ∷ earlier) =
     inside (context_of (t ∷ earlier)) (bodies_left (t ∷ earlier)) (bytes_left (t ∷ earlier))
     (start + length (bytes_of (t ∷ earlier)))
 
+-- | each tile is what its bytes are, after the earlier ones
 -- Each tile is the verdict over its bytes, after the earlier tiles.
 abbrev pub Faultless : (start : ℕ) → List Tile → Type 0
 Faultless start [] = Unit {0}

@@ -17,6 +17,9 @@ ending_of_number (read value used) next = next value used
 ending_of_number (bad fault place) next = []
 ending_of_number short next = replicate 5 0x80
 
+-- | if bytes don't decide what is there, a suffix that does. It is 00 for each missing byte of a header, a content or
+--   a body. It is five bytes 80 after an unfinished number, and where a section may start; after the first bytes of
+--   the magic it is the rest of the magic
 unfoldable pub deciding_ending : Grammar → (prefix : List ℕ) → List ℕ
 deciding_ending (accept shape) prefix = []
 deciding_ending (reject e) prefix = []
@@ -31,6 +34,8 @@ deciding_ending (section_start offset e next) [] = replicate 5 0x80
 deciding_ending (section_start offset e next) (id ∷ prefix) =
     if agree (id ∷ prefix) magic then drop (length (id ∷ prefix)) magic else deciding_ending (next id) prefix
 
+-- | a front is the prefix of a stream, of faultless tiles. After it an event comes next in a stream; one does, and no
+--   other; the same one in two streams, or different ones [`HasOneNext`, `SameNext`, `OtherNext`]
 -- In the stream that is `front ++ rest`, this event comes next after `front`.
 pub record ComesNext (start features : ℕ) (front rest : List ℕ) (event : Event) : Type 0 where
   pub events : List Event
@@ -79,6 +84,7 @@ ShortIsUndecided start front came = (tiles : List Tile) → IsTiledBy start fron
     × (Stream (front ++ came) start → start + length (front ++ came) + 2 ^ 33 < 2 ^ 64
     → Stream (front ++ (came ++ deciding_ending (grammar start tiles) came)) start)
 
+-- | two streams that begin with a front and bytes after it, in which different events come next after the front
 -- Two streams begin with this front and these bytes, and have different next events.
 pub record TwoStreams (start features : ℕ) (front came : List ℕ) : Type 0 where
   pub one : List ℕ

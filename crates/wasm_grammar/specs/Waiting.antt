@@ -28,6 +28,8 @@ later_number (read value used) next = later used (next value used)
 later_number (bad f place) next = enough
 later_number short next = wants 5 1
 
+-- | whether the bytes so far decide what is there; how many more are requested, where a section may start also before
+--   its id is looked at [`asked`, `asked_at_section`]
 -- whether a prefix decides what comes here: its last field is complete or malformed. Within the magic of a header the
 -- bound is 4 and not 8, because its fourth byte shows whether it is wrong.
 unfoldable pub waiting : Grammar → (prefix : List ℕ) → Waiting

@@ -30,16 +30,19 @@ pub fn accepted_ends()
 
 /// The reading of a stream ends with a fault exactly if the stream is not accepted.
 pub fn fault_ends()
+    // Proved: a reading ends with a fault exactly if the stream is not accepted
     ensures { FaultEnds }
 {}
 
 /// A fault lies in the stream after the tiles before it, or at its end.
 pub fn fault_lies_within()
+    // Proved: a fault lies in the stream or at its end
     ensures { FaultLiesWithin }
 {}
 
 /// The tiles of a reading are the longest faultless tiling of its stream: every other is a prefix of it.
 pub fn longest_tiling()
+    // Proved: the tiles of a reading are the longest faultless tiling of its stream
     ensures { LongestTiling }
 {}
 
@@ -47,6 +50,9 @@ pub fn longest_tiling()
 ///
 /// The bytes that they consumed, joined, are the stream up to where the reading stops.
 pub fn events_lie_end_to_end()
+    // Proved: the events of a reading lie end to end, and those of sections and bodies state what
+    //   their bytes are [`laws::events_lie_end_to_end`, `laws::events_say_their_bytes`]
+    // Proved: the windows of events are parts of the stream, with the enabled features
     ensures { EventsLieEndToEnd }
 {}
 
@@ -55,6 +61,7 @@ pub fn events_lie_end_to_end()
 /// The reading of a stream that starts later has the same events with every offset moved, unless a section overruns the
 /// largest offset there.
 pub fn start_only_moves()
+    // Proved: the start offset only moves offsets, unless a section passes the largest offset there
     ensures { StartOnlyMoves }
 {}
 
@@ -62,11 +69,14 @@ pub fn start_only_moves()
 ///
 /// It comes after the same tiles in every stream that has its bytes there.
 pub fn tiles_stand_alone()
+    // Proved: what a tile is depends on its own bytes alone
     ensures { TilesStandAlone }
 {}
 
 /// Worked streams have the readings that were computed by hand.
 pub fn worked_streams()
+    // Proved: worked streams have the readings, or the ends of readings, that were computed by hand
+    //   [`laws::worked_streams` and four more]
     ensures { WorkedStreams }
 {}
 
@@ -74,6 +84,8 @@ pub fn worked_streams()
 ///
 /// There is one prefix for each kind of waiting.
 pub fn worked_endings()
+    // Proved: after worked prefixes, one for each kind of waiting, the computed number of bytes is
+    //   requested, and the computed suffix decides
     ensures { WorkedEndings }
 {}
 
@@ -87,11 +99,14 @@ pub fn edges_of_rules()
 ///
 /// Each section is its id, its length, and its content, which is the bytes of the reported range.
 pub fn sections_tile_an_accepted_stream()
+    // Proved: an accepted stream is its header and then the sections of its reading: of each the
+    //   id, a length, the bytes of its range
     ensures { SectionsTile }
 {}
 
 /// An accepted stream is divided into a header and sections in one way.
 pub fn one_division()
+    // Proved: an accepted stream is divided into sections in one way
     ensures { OneDivision }
 {}
 
@@ -100,6 +115,9 @@ pub fn one_division()
 ///
 /// A code section has events for its start and for each body. Every other section has one event.
 pub fn frames_give_events()
+    // Proved: the events of an accepted stream are that of its header, those of its sections in
+    //   order, and its end. Those of a code section are its start and its bodies; every other
+    //   section has one [`laws::frames_give_events` (`TellsFrames`)]
     ensures { FramesGiveEvents }
 {}
 
@@ -107,11 +125,16 @@ pub fn frames_give_events()
 ///
 /// Its events at another offset are its events moved. Sections without a rank, such as custom ones, imply nothing.
 pub fn frames_read_the_same()
+    // Proved: a section that fits after some sections fits after others that imply the same for it,
+    //   and its events at another offset are its events moved [`laws::frames_read_the_same`
+    //   (`SayTheSame`)]
     ensures { FramesReadTheSame }
 {}
 
 /// An accepted stream stays accepted without some of its sections that have no rank, such as custom sections.
 pub fn rankless_may_go()
+    // Proved: sections without a rank imply nothing for others, so an accepted stream without some
+    //   of them is accepted
     ensures { RanklessMayGo }
 {}
 
@@ -119,6 +142,7 @@ pub fn rankless_may_go()
 ///
 /// Ranks are those of the encoding that the stream's header names.
 pub fn ranks_ascend()
+    // Proved: of two sections of a reading the later one has the higher rank, if both have one
     ensures { RanksAscend }
 {}
 
@@ -126,11 +150,15 @@ pub fn ranks_ascend()
 ///
 /// After all bodies another event follows. If there are fewer bodies, a fault comes next, which is the last event.
 pub fn bodies_follow_their_count()
+    // Proved: the start of a code section is followed by as many bodies as it counts, or by fewer
+    //   and a fault [`laws::bodies_follow_their_count`]
     ensures { BodiesFollowTheirCount }
 {}
 
 /// Two encodings are equal exactly if they are the same. A copy of an encoding is the same, and can always be made.
 pub fn equal_encodings_are_the_same()
+    // Proved: two encodings are equal exactly if they are the same; a copy of one is the same, and
+    //   can always be made
     ensures equal { DecidesSame ⟦<Encoding as PartialEq>⟧.eq }
     ensures copy { IsCopy ⟦<Encoding as Clone>⟧.is_clone ⟦<Encoding as Clone>⟧.is_infallible }
 {}
@@ -142,11 +170,17 @@ pub fn equal_encodings_are_the_same()
 /// the reported count, index or name. Those of a code section are only the content up to its count. Those of a body are
 /// a size field and its window.
 pub fn events_say_their_bytes()
+    // Proved: the event of a section states its id, its length field, and its content in the range,
+    //   with the count, index or name that begins it. That of a body states a size field and a
+    //   window [`laws::events_say_their_bytes`]
     ensures { EventsSayTheirBytes }
 {}
 
 /// Streams that start elsewhere, with other features, names and all ids, have the readings that were computed by hand.
 pub fn whole_readings()
+    // Proved: whole readings are as computed by hand; streams at the edges of the rules, with long
+    //   fields and with two faults end as computed by hand [`laws::whole_readings`,
+    //   `edges_of_rules`, `long_fields`, `two_faults`]
     ensures { WholeReadings }
 {}
 

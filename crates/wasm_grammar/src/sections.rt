@@ -79,6 +79,9 @@ pub enum SectionKind {
 ///
 /// (Core specification, Binary format, Modules, Sections.)
 pub fn section_name(id: u8) -> Option<&'static str>
+    // Proved: each call of the table of sections returns what the standard's table defines: a name,
+    //   an id, a form, a place or a rank [the clauses of `section_name`, `section_named`,
+    //   `section_kind`, `section_place`, `section_rank`]
     ensures { option_map (λ name. name.now) result ≡ name_of id }
 {
     match id {

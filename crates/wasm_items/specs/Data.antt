@@ -49,6 +49,8 @@ data_kind_after start (Some flags) p =
     else if flags == 1 then Ok (Passive, p)
     else indexed_data_at p
 
+-- | a data segment: flags 0, 1 or 2, a memory's index after flag 2, the expression of an active segment's offset, a
+--   size and as many bytes [`data_at`] <Data Section>
 -- flags, and the kind of the segment
 unfoldable pub data_kind_at : Place → Outcome DataKind
 data_kind_at p = do

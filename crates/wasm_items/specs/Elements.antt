@@ -27,6 +27,8 @@ abbrev pub or_element_flags : Option ℕ → Place → Outcome ℕ
 or_element_flags None p = Err (at_offset ElementFlags (p.offset - 1))
 or_element_flags (Some flags) p = Ok (flags, p)
 
+-- | the flags of an element segment, which are below 8: the bits of passive or declared, of a table's index or
+--   declared, of expressions [`element_kind_at`, `is_typed`] <Element Section>
 -- flags below 8; other flags are a fault at their last byte
 unfoldable pub element_flags_at : Place → Outcome ℕ
 element_flags_at p = do
@@ -72,6 +74,8 @@ abbrev pub only_functions : ExternalKind → (offset : ℕ) → Place → Outcom
 only_functions Func offset p = Ok (tt, p)
 only_functions kind offset p = Err (at_offset ElementFunctionOnly offset)
 
+-- | the kind of the elements, which has to be that of functions, or their type; without either it is `funcref`
+--   [`element_type_at`] <Element Section>
 -- the kind of the elements: an external kind, which must be that of functions
 unfoldable pub skipped_element_kind_at : Place → Outcome (Unit {0})
 skipped_element_kind_at p = do
@@ -82,6 +86,8 @@ skipped_element_kind_at p = do
 abbrev pub after_element_kind : (flags : ℕ) → Place → Outcome (Unit {0})
 after_element_kind flags p = if is_typed flags then skipped_element_kind_at p else Ok (tt, p)
 
+-- | the elements: a list of indices, or of expressions, as the section that they are [`expression_elements_at`]
+--   <Element Section>
 -- elements that are functions: their kind, and a list of their indices
 unfoldable pub function_elements_at : (flags : ℕ) → Place → Outcome ElementItems
 function_elements_at flags p = do
@@ -108,6 +114,7 @@ expression_elements_at flags p = do
 abbrev pub elements_at : (flags : ℕ) → Place → Outcome ElementItems
 elements_at flags p = if has_expressions flags then expression_elements_at flags p else function_elements_at flags p
 
+-- | an element segment <Element Section>
 -- an element segment: flags, its kind, its elements
 unfoldable pub element_at : Place → Outcome Element
 element_at p = do

@@ -26,6 +26,7 @@ abbrev pub export_index_at : ExternalKind → Place → Outcome ℕ
 export_index_at FuncExact p = Err (at_offset ExactExport p.offset)
 export_index_at kind p = unsigned_at VarU32 p
 
+-- | an export: a name, a kind, an index; a kind of exact functions is refused [`export_index_at`] <Export Section>
 -- an export: a name, a kind and an index
 unfoldable pub export_at : Place → Outcome ExportParts
 export_at p = do

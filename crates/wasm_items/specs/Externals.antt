@@ -8,6 +8,8 @@ use Rattle.wasm_base.specs.Leading.{in_table}
 use Rattle.wasm_items.specs.declared.exports.ExternalKind.{ExternalKind}
 use Rattle.wasm_items.specs.declared.exports.ExternalKind.TheVariants.{Func, Table, Memory, Global, Tag, FuncExact}
 
+-- | the external kind of each byte; a kind [`kind_at`] <Export Section; Types, External Types; 0x20 custom
+--   descriptors>
 -- the kind that each byte encodes
 abbrev pub external_kinds : List (ℕ × ExternalKind)
 external_kinds =

@@ -45,6 +45,8 @@ abbrev pub imports_of_names : (from : List ℕ) → TypeRef → Items → List (
 imports_of_names from ty s = if s.ended then [] else imports_from (text_at (Some name_limit)) (import_of_name from ty)
     s.left (place s.reader)
 
+-- | the imports of an item of an import section, each with its offset, up to the first fault; for a bundle that of
+--   each import, for a single import that of the item [`imports_from`]
 -- the imports of an item of an import section: the single import, or those of the bundle
 abbrev pub bundle_imports : Bundle → List (Result (ℕ × ImportParts) FaultAt)
 bundle_imports (single offset one) = Ok (offset, one) ∷ []
@@ -58,6 +60,8 @@ abbrev pub bundle_and_more : (Place → List (Result (ℕ × ImportParts) FaultA
 bundle_and_more more (Ok x) = bundle_imports x.0 ++ more x.1
 bundle_and_more more (Err e) = Err e ∷ []
 
+-- | the imports of a section: those of its items in order; after a fault in a bundle the next one follows, after the
+--   fault of an item nothing
 -- the imports of the `left` remaining bundles from a place on, in order
 abbrev pub flattened : (left : ℕ) → Place → List (Result (ℕ × ImportParts) FaultAt)
 flattened zero p = at_the_end p
@@ -82,6 +86,8 @@ abbrev pub found : Result Import Error → Result ImportParts FaultAt
 found (Ok x) = Ok (import_parts x)
 found (Err e) = Err (fault_at e)
 
+-- | of the remaining results the first was returned and the others remain; one call of `next`, which does not
+--   allocate; calls of `next` return all that remain [`NextImport`, `GivesAll`]
 -- The first of the remaining items is returned and the others remain, or nothing is returned and nothing remains.
 abbrev pub GivesFirst : {A B : Type 0} → (A → B) → List B → Option A → List B → Type 0
 GivesFirst view before (Some given) after = before ≡ view given ∷ after

@@ -12,6 +12,8 @@ use Rattle.wasm_items.specs.Values.{val_type_at}
 use Rattle.wasm_items.specs.declared.globals.Global.{Global}
 use Rattle.wasm_items.specs.declared.types.GlobalType.{GlobalType}
 
+-- | a global type: the type of its value, flags below 4; a global: its type and an expression [`global_at`] <Types,
+--   Global Types; Global Section; shared-everything threads>
 -- a global type: the type of its value, and flags below 4: bit 0 of a mutable one, bit 1 of a shared one
 unfoldable pub global_type_at : Place → Outcome GlobalType
 global_type_at p = do

@@ -35,6 +35,8 @@ hash_of_heap (Heaps.Concrete index) = isize (pos 12) ++ u32 index
 abbrev pub hash_of_reference : RefType → HashWrites
 hash_of_reference ty = bool ty.nullable ++ hash_of_heap ty.heap
 
+-- | what is hashed of a type: its fields in order, or the number of its case and its contents [and so on;
+--   `wasm_custom`: `Hashed.hash_of_relocation` and so on]
 abbrev pub hash_of_value : ValType → HashWrites
 hash_of_value Values.I32 = isize (pos 0)
 hash_of_value Values.I64 = isize (pos 1)

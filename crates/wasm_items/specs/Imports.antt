@@ -42,6 +42,8 @@ type_of_kind_at Kinds.Global p = as_type Types.Global (global_type_at p)
 type_of_kind_at Kinds.Tag p = as_type Types.Tag (tag_type_at p)
 type_of_kind_at Kinds.FuncExact p = as_type Types.FuncExact (unsigned_at VarU32 p)
 
+-- | what is imported: a kind and its type; an import: two names and what it is; an import of a bundle: a name and
+--   what it is [`import_at`, `item_at`] <Types, External Types; Import Section; compact imports>
 -- what is imported: a kind, and its type
 unfoldable pub type_ref_at : Place → Outcome TypeRef
 type_ref_at p = do
@@ -54,6 +56,7 @@ pub record ImportParts : Type 0 where
   pub name : List ℕ
   pub ty : TypeRef
 
+-- | what of an item counts: its fields, names as their bytes [`item_parts`, `bundle_parts`; `Exports.export_parts`]
 abbrev pub import_parts : Import → ImportParts
 import_parts i = record { from = i.module.now; name = i.name.now; ty = i.ty }
 
@@ -87,6 +90,8 @@ skipped_item_at p = do
   ty ← type_ref_at name.1
   Ok (tt, ty.1)
 
+-- | an item of an import section: one import, with its offset; imports of one module; names of imports of one module
+--   and one type [`bundle_at`] <Import Section; compact imports>
 -- an item of an import section: one import and its offset, imports of one module, or names of imports of one module
 -- and one type
 pub data Bundle : Type 0 where
@@ -99,6 +104,7 @@ bundle_parts (Single offset one) = single offset (import_parts one)
 bundle_parts (Compact1 from items) = of_module from.now items
 bundle_parts (Compact2 from ty names) = of_type from.now ty names
 
+-- | after the byte of a bundle, if bundles are enabled; without the feature the fault is at that byte
 -- the byte of a bundle; this fault at the byte if bundles aren't accepted
 abbrev pub bundle_byte_at : Fault → Place → Outcome (Unit {0})
 bundle_byte_at fault p =
@@ -125,6 +131,8 @@ single_at start from name p = do
   ty ← type_ref_at p
   Ok (single start (record { from = from; name = name; ty = ty.0 }), ty.1)
 
+-- | how an item of an import section continues: a bundle has an empty second name and the byte 0x7F or 0x7E after it
+--   <compact imports>
 -- An item of an import section after its two names, by the next byte: a bundle has an empty second name, and a byte
 -- that isn't an external kind.
 abbrev pub bundle_after_names : (start : ℕ) (from name : List ℕ) → (byte : ℕ) → Place → Outcome Bundle

@@ -27,6 +27,9 @@ use Rattle.wasm_items.specs.declared.init.ConstOperator.TheVariants.{ArrayNewFix
 use Rattle.wasm_items.specs.declared.init.ConstOperator.TheVariants.{RefI31}
 use Rattle.wasm_items.specs.declared.types.HeapType.{HeapType}
 
+-- | what an instruction has after its opcode, and the operator that it then is; the constant instruction with each
+--   opcode, and with each number after the two opcodes that have one [`operands_of`, `aggregate_operands_of`,
+--   `vector_operands_of`] <Instructions; Validation, Constant Expressions>
 -- The operands of an instruction after its opcode, in order, and the operator made of them.
 pub data Operands : Type 0 where
   -- no more operands
@@ -68,6 +71,8 @@ aggregate_operands_of = lookup (
 abbrev pub vector_operands_of : ℕ → Option Operands
 vector_operands_of = lookup ((12, raw 16 (λ bytes. done (V128Const (record { 0 = bytes })))) ∷ [])
 
+-- | the operator after operands, after an opcode, or the fault that it is not constant, at its opcode
+--   [`after_opcode`] <Instructions>
 -- the operator with these operands, read at a place
 abbrev pub operands_at : Operands → Place → Outcome ConstOperator
 operands_at (done operator) p = Ok (operator, p)
@@ -108,6 +113,8 @@ after_opcode start opcode p =
     else if opcode == 0xFD then numbered_operands_at start vector_operands_of p
     else constant_operands_at start (operands_of opcode) p
 
+-- | a constant expression: instructions and the end, as the window of them all; it is the end, or an instruction and
+--   then an expression [`end_of_expression`, `expression_at`, `IsEndOrInstruction`] <Instructions, Expressions>
 -- The place after at most `most` instructions, the last of which is `end`, the byte 0x0B. At the end of the window, the
 -- next opcode is missing. The bound makes the recursion end; that it is no limit is a law.
 abbrev pub instructions_at : (most : ℕ) → Place → Outcome (Unit {0})

@@ -26,6 +26,8 @@ is_end other = false
 abbrev pub operator_at : (start : ℕ) → (opcode : ℕ) → Place → Outcome ConstOperator
 operator_at start opcode p = if opcode == 0x0B then Ok (End, p) else after_opcode start opcode p
 
+-- | an instruction, with the offset of its opcode; those of an expression, up to the end or the first fault; one call
+--   of `next` [`instructions_in`, `NextInstruction`] <Instructions, Expressions>
 -- the instruction at a place, whose offset is that of its opcode
 unfoldable pub instruction_at : Place → Outcome ConstInstruction
 instruction_at p = do
@@ -82,6 +84,8 @@ pub record TileTheirWindow (window : Window) (given : List (Result ConstInstruct
   pub only_last : list_any (λ x. is_end x.operator) first ≡ false
   pub is_the_end : last.operator ≡ End
 
+-- | the instructions of an expression that was read: no fault, they tile its window, and the last one alone is the
+--   end [`TileTheirWindow`] <Instructions, Expressions>
 -- What `next` returns up to the first `None`, from the start of an expression.
 abbrev pub GivesItsInstructions : (next : List (Result ConstInstruction FaultAt)
     → Option (Result ConstInstruction Error) → List (Result ConstInstruction FaultAt) → Type 0) → ConstExpr → Type 0

@@ -8,6 +8,9 @@ use Rattle.wasm_base.specs.Outcome.{Outcome, ◌>>=◌}
 use Rattle.wasm_base.specs.Window.{Place}
 use Rattle.wasm_base.specs.declared.fault.NumberKind.TheVariants.{VarU32, VarU64}
 
+-- | what the flags of limits say; one limit, of 64 bits with the feature of 64-bit memories; a minimum, and a maximum
+--   if a flag says so [`is_shared`, `is_wide`, `has_page_size`, `limit_at`, `maximum_at`, `limits_at`] <Types,
+--   Limits; threads>
 -- whether a maximum is present
 abbrev pub has_maximum : (flags : ℕ) → Bool
 has_maximum flags = has_bit flags 0

@@ -36,6 +36,8 @@ memory_after_flags start flags p = do
     page.1,
   )
 
+-- | a memory type: flags below 16, limits, the size of a page as a power of two below 2^64 if a flag says so
+--   [`page_size_at`] <Types, Memory Types; Memory Section; custom page sizes>
 -- a memory type: flags below 16, limits, the size of a page
 unfoldable pub memory_type_at : Place → Outcome MemoryType
 memory_type_at p = do

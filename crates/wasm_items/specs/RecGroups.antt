@@ -29,6 +29,8 @@ value_storage_at p = do
   value ← val_type_at p
   Ok (Val value.0, value.1)
 
+-- | a storage type: 0x78, 0x77 or a value type; a field: that, and 0 or 1 [`mutability_at`, `field_type_at`] <Types,
+--   Composite Types>
 -- what a field holds: 0x78 for 8 bits, 0x77 for 16, or a value type (Composite Types)
 unfoldable pub storage_type_at : Place → Outcome StorageType
 storage_type_at p = do
@@ -56,6 +58,8 @@ pub record FunctionParts : Type 0 where
 abbrev pub function_parts : FuncType → FunctionParts
 function_parts function = record { params = function.params; results = function.results }
 
+-- | a function type: the lists of its parameters and results; a composite type: 0x60 and that, 0x5F and a list of
+--   fields, 0x5E and a field [`composite_type_at`] <Types, Composite Types>
 -- the type of a function: the list of its parameters, and that of its results (Composite Types)
 unfoldable pub func_type_at : Place → Outcome FunctionParts
 func_type_at p = do
@@ -122,6 +126,8 @@ supertypes_after zero offset p = Ok (None, p)
 supertypes_after (suc zero) offset p = one_supertype_at p
 supertypes_after (suc (suc n)) offset p = Err (at_offset Supertypes offset)
 
+-- | a subtype: 0x50 or 0x4F, no supertype or one, and a composite type; or a composite type alone [`extending_at`,
+--   `subtype_at`] <Types, Recursive Types>
 -- the list of the types that a type extends, at most one
 unfoldable pub supertypes_at : Place → Outcome (Option ℕ)
 supertypes_at p = do
@@ -169,7 +175,7 @@ single_group_at p = do
   one ← subtype_at p
   Ok (record { explicit = false; types = one.0 ∷ [] }, one.1)
 
--- an item of a type section: 0x4E and a list of subtypes, or one subtype (Recursive Types)
+-- | an item of a type section: 0x4E and a list of subtypes, or one subtype <Types, Recursive Types; Type Section>
 unfoldable pub rec_group_at : Place → Outcome RecGroupParts
 rec_group_at p = do
   first ← peeked_byte_at p

@@ -45,6 +45,8 @@ pub record IsSameSubtype (one other : SubType) : Type 0 where
   pub supertype : one.supertype ≡ other.supertype
   pub composite : IsSameComposite one.composite other.composite
 
+-- | two items have the same contents, lists by their items and names as texts [`IsSameImport`, `IsSameExport`]
+--   <Types; Import Section; Export Section>
 -- Two groups are both explicit or both not, and have the same types.
 pub record IsSameGroup (one other : RecGroup) : Type 0 where
   pub explicit : one.explicit ≡ other.explicit

@@ -29,6 +29,9 @@ table_after_flags element flags p = do
     limits.1,
   )
 
+-- | a table type: the type of its elements, flags below 8, limits; a table: 0x40, 0x00, a table type and an
+--   expression, or a table type [`filled_table_at`, `table_at`] <Types, Table Types; Table Section; shared-everything
+--   threads>
 -- a table type: the type of its elements, flags below 8, limits
 unfoldable pub table_type_at : Place → Outcome TableType
 table_type_at p = do

@@ -16,7 +16,7 @@ exception_at p = do
   index ← unsigned_at VarU32 p
   Ok (record { kind = Exception; func_type_idx = index.0 }, index.1)
 
--- a tag type: a byte that is 0, and the index of a type
+-- | a tag type: 0x00 and the index of a type <Types, Tag Types; Tag Section>
 unfoldable pub tag_type_at : Place → Outcome TagType
 tag_type_at p = do
   attribute ← byte_at p

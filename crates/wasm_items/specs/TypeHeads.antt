@@ -20,6 +20,8 @@ counted_group_at p = do
   count ← unsigned_at VarU32 p
   Ok (record { explicit = true; count = count.0 }, count.1)
 
+-- | the head of a group of types, and of a subtype, before their lists [`subtype_head_at`] <Types, Recursive Types,
+--   Composite Types>
 -- the head of an item of a type section: 0x4E and a count, or nothing before a single subtype
 unfoldable pub group_head_at : Place → Outcome RecGroupHead
 group_head_at p = do

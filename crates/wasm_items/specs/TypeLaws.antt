@@ -36,6 +36,8 @@ group_after head p = do
   types ← in_turn subtype_at head.count p
   Ok (record { explicit = head.explicit; types = types.0 }, types.1)
 
+-- | a group, and a subtype, is its head and what comes after it [`SubtypesHaveHeads`] <Types, Recursive Types,
+--   Composite Types>
 -- A group is its head and this many subtypes; a subtype its head, and what its kind has.
 abbrev pub GroupsHaveHeads : Type 0
 GroupsHaveHeads = (p : Place) → rec_group_at p ≡ (group_head_at p >>= λ head. group_after head.0 head.1)

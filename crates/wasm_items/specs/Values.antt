@@ -16,6 +16,8 @@ use Rattle.wasm_items.specs.declared.types.RefType.{RefType}
 use Rattle.wasm_items.specs.declared.types.ValType.{ValType}
 use Rattle.wasm_items.specs.declared.types.ValType.TheVariants as Values
 
+-- | an abstract heap type of each byte; a heap type: such a byte, or the index of a type, a signed 33-bit number that
+--   is not negative [`type_index`, `heap_type_at`] <Types, Heap Types>
 -- the abstract heap type that each byte encodes (Heap Types)
 abbrev pub abstract_heap_of : ℕ → Option HeapType
 abstract_heap_of = lookup (
@@ -42,6 +44,8 @@ heap_type_at p = do
   first ← peeked_byte_at p
   heap_type_from first.0 p (abstract_heap_of first.0)
 
+-- | a reference type: an abstract heap type alone for a nullable one, or a byte that says whether it is nullable, and
+--   a heap type [`ref_type_in`, `ref_type_at`] <Types, Reference Types>
 -- a reference to the heap type at a place
 abbrev pub reference_to : (nullable : Bool) → Place → Outcome RefType
 reference_to nullable p = do
@@ -66,6 +70,8 @@ ref_type_in lead p = do
 abbrev pub ref_type_at : Place → Outcome RefType
 ref_type_at = ref_type_in Leads.Reference
 
+-- | a value type: a number or vector type of one byte, or a reference type [`val_type_at`] <Types, Number Types,
+--   Vector Types, Value Types>
 -- the number type or vector type that each byte encodes (Number Types, Vector Types)
 abbrev pub plain_type_of : ℕ → Option ValType
 plain_type_of = lookup (

@@ -5,6 +5,8 @@ use Rattle.wasm_items.specs.declared.code.FunctionBody.{FunctionBody}
 use Rattle.wasm_items.specs.declared.init.ConstExpr.{ConstExpr}
 use Rattle.wasm_items.specs.declared.init.V128.{V128}
 
+-- | a body, or a constant expression, is a window; the bytes of a vector [`expression_window`, `bytes_of_vector`]
+--   <Code Section; Expressions; Vector Instructions>
 -- the window of a body
 abbrev pub body_window : FunctionBody → Window
 body_window body = body.reader

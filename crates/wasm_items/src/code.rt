@@ -28,6 +28,8 @@ impl<'a> FunctionBody<'a> {
 
     /// Creates a body from a window, without reading it.
     pub fn new(reader: BinaryReader<'a>) -> Self
+        // Proved: a `FunctionBody` and a `ConstExpr` are the window that they were made of: its
+        //   reader and its offsets [the clauses of `new`, `get_binary_reader` and `range`]
         ensures { body_window result ≡ reader.entry }
     {
         FunctionBody { reader }

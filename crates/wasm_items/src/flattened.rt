@@ -138,6 +138,9 @@ impl<'a> IntoIterator for Imports<'a> {
 
     type IntoIter = ImportsIter<'a>;
 
+    // Proved: `into_iter` of an item of an import section yields its imports, each with its offset;
+    //   no call of `next` returns `OutOfMemory` [`into_iter_gives` of `Imports` (`bundle_imports`),
+    //   `next_gives` of `ImportsIter` (`NextImport`, `GivesFirst`)]
     ghost into_iter_gives = { λ bundle imports. imports ≡ bundle_imports (bundle_parts bundle) };
 
     fn into_iter(self) -> ImportsIter<'a> {
@@ -316,6 +319,8 @@ pub trait ImportSection<'a> {
 // The clauses are here, because the trait can't see the count and the window of the section.
 impl<'a> ImportSection<'a> for ImportSectionReader<'a> {
     fn into_imports(self) -> IntoImports<'a>
+        // Proved: `into_imports` yields all imports of a section in order, including those in
+        //   bundles [the clause of `ImportSectionReader::into_imports` (`flattened`)]
         ensures { result ≡ map import_alone (flattened self.entry.count (place self.entry.reader)) }
     {
         IntoImports {
@@ -324,6 +329,11 @@ impl<'a> ImportSection<'a> for ImportSectionReader<'a> {
     }
 
     fn into_imports_with_offsets(self) -> IntoImportsWithOffsets<'a>
+        // Proved: `into_imports_with_offsets` yields the same imports as `into_imports`, each with
+        //   its offset
+        // Proved: after a fault in a bundle the next bundle follows, after the fault of an item
+        //   nothing; neither call returns `OutOfMemory` [the clauses of both (`flattened`),
+        //   `next_gives` (`NextImport`) of their iterators]
         ensures { result ≡ flattened self.entry.count (place self.entry.reader) }
     {
         IntoImportsWithOffsets {

@@ -321,6 +321,9 @@ fn read_single<'a>(
 impl<'a> FromReader<'a> for Imports<'a> {
     ghost use Rattle.wasm_items.specs.Imports.{bundle_parts, bundle_at};
 
+    // Proved: the items of a bundle of imports are a section of their own, whose window begins at
+    //   its count, at the stream's offsets and with the reader's features [`meaning` on `Imports`
+    //   (`bundle_at`, `inner_section_at`)]
     ghost meaning = { ReadsAs bundle_parts bundle_at };
 
     #[tactic(auto, unfolding(crate::specs::Imports::bundle_at))]

@@ -349,6 +349,8 @@ impl<'a> FromReader<'a> for ConstExpr<'a> {
     ghost use Rattle.wasm_items.specs.Init.{expression_at};
     ghost use Rattle.wasm_items.specs.Windows.{expression_window};
 
+    // Proved: a constant expression that was read is the window of its instructions, including the
+    //   end [`meaning` on `ConstExpr` (`expression_at`)]
     ghost meaning = { ReadsAs expression_window expression_at };
 
     #[tactic(auto, unfolding(crate::specs::Init::expression_at))]

@@ -68,6 +68,10 @@ impl<'a> Model for ConstInstructions<'a> {
 impl<'a> ConstExpr<'a> {
     /// Returns an iterator over the instructions of the expression, in order.
     pub fn instructions(&self) -> ConstInstructions<'a>
+        // Proved: `instructions` yields the instructions of its window, each with its offset and
+        //   operands, up to the end or the first fault; no call of `next` returns `OutOfMemory`
+        //   [the clause of `ConstExpr::instructions` (`instructions_in`), `next_gives` of
+        //   `ConstInstructions` (`NextInstruction`)]
         ensures { result ≡ instructions_in (place (expression_window self.now)) }
     {
         ConstInstructions {

@@ -32,6 +32,9 @@ use wasm_base::{FromReader, FromReaderIn, SectionLimitedIntoIter, SkipItem};
 
 /// Two types, kinds or externals, which own no list, are equal exactly if they are the same.
 pub fn equal_types_are_the_same()
+    // Proved: types, groups of types, imports and exports are equal exactly if all their parts are
+    //   the same: lists by their items, names as texts [`laws::equal_types_are_the_same`,
+    //   `equal_groups_are_the_same`, `equal_imports_and_exports_are_the_same`]
     ensures value { DecidesSame ⟦<ValType as PartialEq>⟧.eq }
     ensures reference { DecidesSame ⟦<RefType as PartialEq>⟧.eq }
     ensures heap { DecidesSame ⟦<HeapType as PartialEq>⟧.eq }
@@ -52,6 +55,8 @@ pub fn equal_types_are_the_same()
 /// A type is hashed as its fields, one after the other, and one of several cases as the number of the case and what it
 /// holds.
 pub fn types_are_hashed_as_their_fields()
+    // Proved: a type is hashed as its fields in order, and a type with several cases as the number
+    //   of the case and its contents [`laws::types_are_hashed_as_their_fields`]
     ensures value { (ty : ValType) → ⟦<ValType as Hash>⟧.hash_input ty ≡ hash_of_value ty }
     ensures reference { (ty : RefType) → ⟦<RefType as Hash>⟧.hash_input ty ≡ hash_of_reference ty }
     ensures heap { (ty : HeapType) → ⟦<HeapType as Hash>⟧.hash_input ty ≡ hash_of_heap ty }
@@ -81,6 +86,7 @@ pub fn equal_imports_and_exports_are_the_same<'a>()
 
 /// A clone of an item is identical to it. Cloning never fails, since it never allocates.
 pub fn copies_are_the_same<'a>()
+    // Proved: a copy of any item except an instruction is the item, and can always be made
     ensures expression { IsCopy
         ⟦<ConstExpr<'a> as Clone>⟧.is_clone
         ⟦<ConstExpr<'a> as Clone>⟧.is_infallible }
@@ -147,6 +153,7 @@ pub fn copies_are_the_same<'a>()
 /// `next` returns all remaining imports in order, and then only `None`: those of an item of an import section, and
 /// those of a section, with offsets or without.
 pub fn all_imports_come<'a>()
+    // Proved: whole runs: all imports of a section come, and nothing after them
     ensures of_an_item { GivesAll found_at ⟦<ImportsIter<'a> as Iterator>⟧.next_gives }
     ensures with_offsets { GivesAll found_at ⟦<IntoImportsWithOffsets<'a> as Iterator>⟧.next_gives }
     ensures alone { GivesAll found ⟦<IntoImports<'a> as Iterator>⟧.next_gives }
@@ -154,6 +161,8 @@ pub fn all_imports_come<'a>()
 
 /// If an import of a bundle or a constant expression can be read, skipping it consumes the same bytes as reading it.
 pub fn skipping_consumes_what_reading_consumes<'a>()
+    // Proved: skipping an import of a bundle or a constant expression consumes the bytes that
+    //   reading it consumes, wherever it is read
     ensures item { SkipsAsRead
         ⟦<ImportItemCompact<'a> as FromReader<'a>>⟧.meaning
         ⟦<ImportItemCompact<'a> as SkipItem<'a>>⟧.skipped_at }
@@ -165,6 +174,9 @@ pub fn skipping_consumes_what_reading_consumes<'a>()
 /// Each of these items allows one outcome at each place, so the iterators over a section of them, and clones of these,
 /// yield the same items.
 pub fn items_allow_one_outcome<'a>()
+    // Proved: an item of these sections allows one outcome at each place, so what is proved of both
+    //   iterators over a section and of clones holds for it [`laws::items_allow_one_outcome`
+    //   (`AllowsOne`), `items_are_determined` (`Determines`)]
     ensures kind { AllowsOne ⟦<ExternalKind as FromReader<'a>>⟧.meaning }
     ensures external { AllowsOne ⟦<TypeRef as FromReader<'a>>⟧.meaning }
     ensures import { AllowsOne ⟦<Import<'a> as FromReader<'a>>⟧.meaning }
@@ -201,6 +213,8 @@ pub fn items_are_determined<'a>()
 
 /// An iterator over the elements of a segment that was read yields as many as announced, and no error.
 pub fn elements_that_were_read_are_given<'a>()
+    // Proved: an iterator over the elements of a segment that was read yields as many as announced
+    //   and no fault
     ensures { (before after : Place) (element : Element) →
         ⟦<Element<'a> as FromReader<'a>>⟧.meaning before (Ok (element, after)) →
         ElementsAreGiven
@@ -210,6 +224,7 @@ pub fn elements_that_were_read_are_given<'a>()
 
 /// Segments and types allow one outcome. An element segment and a field are determined by it.
 pub fn segments_and_types_allow_one_outcome<'a>()
+    // Proved: segments and types allow one outcome at each place
     ensures element { AllowsOne ⟦<Element<'a> as FromReader<'a>>⟧.meaning ×
         Determines ⟦<Element<'a> as FromReader<'a>>⟧.meaning }
     ensures segment { AllowsOne ⟦<Data<'a> as FromReader<'a>>⟧.meaning }
@@ -230,12 +245,17 @@ pub fn segments_and_types_allow_one_outcome<'a>()
 /// A constant expression is `end`, or an instruction followed by an expression: its definition counts instructions, but
 /// sets no limit on their number.
 pub fn expressions_are_instructions_and_the_end()
+    // Proved: a constant expression is the end, or an instruction followed by an expression, so its
+    //   definition does not limit their number
     ensures { (p : Place) → IsEndOrInstruction p }
 {}
 
 /// The instructions of an expression that was read have no errors. They tile its window, each beginning where the
 /// previous one ends, and only the last one is `end`.
 pub fn instructions_tile_their_expression<'a>()
+    // Proved: the instructions of an expression that was read come without a fault and tile its
+    //   window, and the last one, and no other, is the end
+    //   [`laws::instructions_tile_their_expression` (`GivesItsInstructions`)]
     ensures { (before after : Place) (expression : ConstExpr) →
         ⟦<ConstExpr<'a> as FromReader<'a>>⟧.meaning before (Ok (expression, after)) →
         GivesItsInstructions ⟦<ConstInstructions<'a> as Iterator>⟧.next_gives expression }

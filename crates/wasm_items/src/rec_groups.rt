@@ -197,6 +197,10 @@ impl<'a> FromReaderIn<'a> for SubType {
 impl<'a> FromReaderIn<'a> for RecGroup {
     ghost use Rattle.wasm_items.specs.RecGroups.{rec_group_parts, rec_group_at};
 
+    // Proved: groups of types, subtypes, composite, function, field and storage types are read by
+    //   their definitions; those that own lists may return `OutOfMemory` instead [`meaning` on each
+    //   (`rec_group_at`, `subtype_at`, `composite_type_at`, `func_type_at`, `field_type_at`,
+    //   `storage_type_at`)]
     ghost meaning = { ReadsAs rec_group_parts rec_group_at };
 
     #[tactic(auto, unfolding(crate::specs::RecGroups::rec_group_at))]

@@ -70,6 +70,10 @@ pub struct SubTypeHead {
 impl<'a> FromReader<'a> for RecGroupHead {
     ghost use Rattle.wasm_items.specs.TypeHeads.{group_head_at};
 
+    // Proved: the head of a group, and of a subtype, is read without allocating; a group is its
+    //   head and as many subtypes as announced, and a subtype is its head and what its kind has
+    //   [`meaning` on `RecGroupHead` and `SubTypeHead` (`group_head_at`, `subtype_head_at`);
+    //   `laws::types_have_heads` (`GroupsHaveHeads`, `SubtypesHaveHeads`)]
     ghost meaning = { ReadsAs (λ head. head) group_head_at };
 
     #[tactic(auto, unfolding(crate::specs::TypeHeads::group_head_at))]

@@ -100,6 +100,9 @@ impl<T, P: AsSlice<T>> TypeList<T, P> {
     /// Returns the items as a slice.
     #[inline(always)]
     pub fn as_slice(&self) -> &[T]
+        // Proved: a list of types is its items, wherever they are in memory: as a slice, for `len`
+        //   and `is_empty`, for iterating over it and for comparing it [the clauses of `as_slice`,
+        //   `len` and `is_empty`; `deref_gives`, `into_iter_gives` and `eq` of `TypeList`]
         ensures { result.now ≡ self.now }
     {
         match &self.items {

@@ -125,6 +125,14 @@ fn plain_type(byte: u8) -> Option<ValType>
 impl<'a> FromReader<'a> for ValType {
     ghost use Rattle.wasm_items.specs.Values.{val_type_at};
 
+    // Proved: `from_reader` of each item returns what its definition says at the place, or the
+    //   first fault; an item that owns lists may return `OutOfMemory` instead [`meaning` of each
+    //   type]
+    // Proved: these items are read this way: value, reference and heap types, constant expressions,
+    //   external kinds and types, imports and their bundles, tables, memories, tags, globals,
+    //   exports, element and data segments [`meaning` on each (`ReadsAs`)]
+    // Proved: reading one of these items is never `OutOfMemory`, and keeps the window [`memory`,
+    //   `keeps` of `FromReader`]
     ghost meaning = { ReadsAs (λ ty. ty) val_type_at };
 
     #[tactic(auto, unfolding(crate::specs::Values::val_type_at))]

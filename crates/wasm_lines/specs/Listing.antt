@@ -33,6 +33,8 @@ abbrev pub fault_number : Option ℕ → List ℕ
 fault_number None = []
 fault_number (Some n) = codes ": " ++ decimal n
 
+-- | the text of each event, and its line; the text of a part that was skipped; the last digits of a number
+--   [`line_of`; `skip_text`; `Digits.last_digits`]
 -- the text of what is reported, with offsets in this base
 unfoldable pub report_text : Base → Report → List ℕ
 report_text base (version num encoding from to) = codes "version"

@@ -18,6 +18,8 @@ use Rattle.wasm_parser.specs.declared.payload.Chunk.{Chunk}
 use Rattle.wasm_parser.specs.declared.payload.Chunk.TheVariants.{NeedMoreData, Parsed}
 use Rattle.wasm_parser.specs.declared.payload.Payload.{Payload}
 
+-- | where a caller is along a stream that it passes in chunks: the input so far is what the parser consumed, read as
+--   the events so far, and what is held [`ReadingBegins`]
 -- The bytes so far, `given`, are those that the parser has consumed, read as these events, and those that are `held`.
 pub record Along (start features : ℕ) (given : List ℕ) (p : ParserState) (held : List ℕ) (events : List Event) : Type
     0 where
@@ -56,6 +58,8 @@ pub record Came (start features : ℕ) (eof : Bool) (given : List ℕ) (events :
   pub ends : is_end (report_of payload) ≡ true → ReadsEach start features eof given (events ++ event ∷ [])
   pub last : is_end (report_of payload) ≡ true → (offset : ℕ) × (event ≡ last_event (ended offset))
 
+-- | what a result then says of each stream that continues this way: more is requested, the next event came, or the
+--   fault is its last [`Came`, `ReadsEach`, `BeginsEach`]
 -- what a result that consumed these bytes means for each such stream: more bytes are needed, the payload is the next
 -- event, or the fault is the last event
 abbrev pub GoesAlong : (start features : ℕ) (eof : Bool) (given : List ℕ) (events : List Event) → Result Chunk Error

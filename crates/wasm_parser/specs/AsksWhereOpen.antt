@@ -7,6 +7,8 @@ use Rattle.wasm_grammar.specs.Reading.{Stream}
 use Rattle.wasm_parser.specs.declared.payload.Chunk.{Chunk}
 use Rattle.wasm_grammar.specs.Undecided.{TwoStreams}
 
+-- | if more bytes may come, `parse` requests them exactly if two streams that begin with the bytes so far have
+--   different next events
 -- If more bytes may come, the result is a request exactly if two streams that begin with the bytes so far have
 -- different next events. Offsets must remain for 2^33 bytes, so that both are streams.
 abbrev pub AsksWhereOpen : ParserState → (eof : Bool) (came : List ℕ) → Result Chunk Error → Type 0

@@ -3,6 +3,7 @@ use Rattle.wasm_base.specs.Features.{feature_bits}
 use Rattle.wasm_parser.specs.ParserState.{ParserState}
 use Rattle.wasm_parser.specs.declared.checkpoint.Checkpoint.{Checkpoint}
 
+-- | what a parser knows, as the code's plain values
 -- where a parser with this checkpoint is
 abbrev pub state_of : Checkpoint → ParserState
 state_of c = record {

@@ -44,6 +44,8 @@ pub record StreamAround (p : ParserState) (eof : Bool) (bytes : List ℕ) : Type
   pub below : start + length prefix + length rest < 2 ^ 64
   pub reading : Reading (prefix ++ rest) start p.features events
 
+-- | wherever the parser is in a stream: the next event of the stream's reading is reported, its bytes are consumed,
+--   and the parser is after it with the same features; a fault changes nothing [`GivesEvent`]
 -- In every stream around the parser, the result reports the next event of the reading, the first one after the events
 -- that consume the prefix, or is a request for more bytes.
 abbrev pub GivesNextEvent : ParserState → (eof : Bool) (bytes : List ℕ) → Result Chunk Error → ParserState → Type 0

@@ -41,6 +41,7 @@ GivesAnswer s (Some (Ok payload)) t =
 GivesAnswer s (Some (Err e)) t =
     ParseAnswer s.state true s.bytes (Err e) t.state × (t.bytes ≡ s.bytes) × (t.ended ≡ true)
 
+-- | one step of a walk over all payloads
 -- one call of `next`
 pub record NextPayload (s : Walk) (given : Option (Result Payload Error)) (t : Walk) : Type 0 where
   pub over : s.ended ≡ true → (given ≡ None) × (t ≡ s)
@@ -69,6 +70,8 @@ abbrev pub HoldsItems : Result Payload Error → Type 0
 HoldsItems (Ok payload) = ItemsBegin payload
 HoldsItems (Err e) = Unit {0}
 
+-- | a walk yields the reading, each payload's reader at its first item, and its last is the end exactly if the stream
+--   is accepted [`HoldsItems`]
 -- What a walk yields up to its first `None` is the reading of this stream, which starts at this offset. Its last is the
 -- end exactly if the stream is accepted, which then is a header and the sections that the payloads are.
 pub record GivesReading (start features : ℕ) (bytes : List ℕ) (walk : Walk) : Type 0 where

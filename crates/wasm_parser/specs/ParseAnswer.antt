@@ -38,6 +38,7 @@ unread w = record w { position = 0 }
 abbrev pub counted_by : ℕ → Section → Report
 counted_by id s = counted id s.count (unread s.reader)
 
+-- | what a payload reports, and that its items begin after its count [`ItemsBegin`, `IsPayload`]
 -- the report of a payload
 abbrev pub report_of : Payload → Report
 report_of (Version encoding num range) = version num encoding range.start range.end
@@ -112,6 +113,8 @@ abbrev pub MatchesGrammar : (start : ℕ) (before : Place) → Grammar → Resul
 MatchesGrammar start before g result after =
     MatchesVerdict start before (verdict g before.rest) result after × HintsAs (waiting g before.rest) result
 
+-- | what was read at a place is what may come there by a grammar, a tile or a fault, and the reader is after the tile
+--   [`MatchesVerdict`]
 -- The result of a read is the tile or the fault that this grammar assigns, and the reader is after the tile.
 abbrev pub ReadsByGrammar : Grammar → (before : Place) → Result Payload Error → (after : Place) → Type 0
 ReadsByGrammar g before result after = (start : ℕ) → MatchesGrammar start before g result after
@@ -121,6 +124,7 @@ abbrev pub is_end : Report → Bool
 is_end (stream_end (ended offset)) = true
 is_end other = false
 
+-- | what `parse` consumes: bytes of the input, and some except at the end
 -- A payload consumes bytes that are there. The end consumes none, and any other payload at least one.
 abbrev pub Consumes : List ℕ → Result Chunk Error → Type 0
 Consumes rest (Ok (Parsed consumed payload)) = (consumed ≤ length rest)
@@ -166,6 +170,7 @@ answer_to p eof rest =
     answer_in_time eof (waiting (grammar_of p) rest) (answer_by p (verdict (grammar_of p) rest)) else
     refuses (at_offset OffsetRange p.offset)
 
+-- | the parser after a result; the last result; results that say the same [`Along.is_last`, `SaysTheSame`]
 -- the state after a call: after the reported part, or at the end; unchanged after a request or a fault
 abbrev pub state_after_answer : ParserState → Result Chunk Error → ParserState
 state_after_answer p (Ok (NeedMoreData hint)) = p
@@ -179,6 +184,8 @@ AnswerBegins (Ok (NeedMoreData hint)) = Unit {0}
 AnswerBegins (Ok (Parsed consumed payload)) = ItemsBegin payload
 AnswerBegins (Err e) = Unit {0}
 
+-- | what `parse` returns for all the rest of a stream, or for bytes after which more may come, by what the parser
+--   knows [`answer_to`, `answer_by`, `answer_in_time`, `state_after_answer`; `HintsAs` for each part]
 -- The result of a call, and the state after it, by the state before it.
 pub record ParseAnswer (old : ParserState) (eof : Bool) (rest : List ℕ) (result : Result Chunk Error)
     (new : ParserState) : Type 0 where
@@ -186,12 +193,13 @@ pub record ParseAnswer (old : ParserState) (eof : Bool) (rest : List ℕ) (resul
   pub items : AnswerBegins result
   pub state : new ≡ state_after_answer old result
 
+-- | a fault lies between the parser and the end of the bytes, wherever the parser is
 -- The offset of a fault is between the parser's offset and the end of the bytes.
 abbrev pub FaultsWithin : ParserState → List ℕ → Result Chunk Error → Type 0
 FaultsWithin p rest (Ok chunk) = Unit {0}
 FaultsWithin p rest (Err e) = (p.offset ≤ (fault_at e).offset) × ((fault_at e).offset ≤ p.offset + length rest)
 
--- After a fault or a request, the parser is unchanged.
+-- | after a fault or a request for more bytes the parser is unchanged
 abbrev pub IsUnchanged : (old : ParserState) → Result Chunk Error → (new : ParserState) → Type 0
 IsUnchanged old (Ok (Parsed consumed payload)) new = Unit {0}
 IsUnchanged old (Ok (NeedMoreData hint)) new = new ≡ old

@@ -24,6 +24,7 @@ abbrev pub ends_in_code : List Tile → Bool
 ends_in_code [] = false
 ends_in_code (t ∷ earlier) = is_of_code t.shape
 
+-- | what a parser knows of a prefix; that it is after one [`IsStateAfter`]
 -- what a parser knows of the parts before its offset
 pub record ParserState : Type 0 where
   pub offset : ℕ

@@ -47,6 +47,8 @@ abbrev pub GivesWindow : {T : Type 0} → NextOf T → (Place → Outcome T → 
 GivesWindow {T} next meaning count w s = (given : List (Result T Error)) → Drains next (all_items s) given
     → (q : Place) × (unsigned_at VarU32 (place w) ≡ Ok (count, q)) × ItemsOf meaning count q (map item_or_fault given)
 
+-- | the items of a payload are those of its window, after its count, each at its offset in the stream [`GivesWindow`,
+--   and one for each kind, from `GivesTypes` to `GivesData`] <Modules, Type Section to Tag Section>
 -- A payload of this kind, for which a count and a window are reported, yields the items of that window, by the grammar
 -- of its kind of section.
 abbrev pub GivesItsItems : {T : Type 0} → (Section → Payload) → NextOf T → (Place → Outcome T → Type 0) → Type 0

@@ -30,6 +30,9 @@ abbrev pub HintsUnlessBegun : ParserState → (before : Place) → Result Payloa
 HintsUnlessBegun p before result =
     (is_at_section p ≡ true → is_magic_begun before.rest ≡ false) → HintsAs (waiting (grammar_of p) before.rest) result
 
+-- | what is read of each part, by what the parser knows: a header, a section, what comes after its id and its length,
+--   contents, a body [`ReadsHeader`, `ReadsNextSection`, `ReadsAfterId`, `ReadsAfterLength`, `ReadsContent`,
+--   `ReadsAnywhere`, `ReadsItems`, `ReadsCodeStart`, `ReadsBody`]
 -- what comes where the parser is
 abbrev pub ReadsNext : ParserState → (before : Place) → Result Payload Error → (after : Place) → Type 0
 ReadsNext p before result after =
@@ -108,6 +111,8 @@ ReadsCodeStart functions size before result after = (context : SectionContext) �
 abbrev pub ReadsBody : ParserState → (before : Place) → Result Payload Error → (after : Place) → Type 0
 ReadsBody p before result after = ReadsByGrammar (body_grammar p.bodies p.code_bytes before.offset) before result after
 
+-- | *n* bytes as a window; a window that is one number; a section made of a window whose count was read, with its id
+--   [`ReadsSingleNumber`, `IsCounted`, `ReadsCounted`] <Modules, each section>
 -- this many bytes as a window of their own
 unfoldable pub content_at : ℕ → Place → Outcome Window
 content_at size p = do
@@ -140,7 +145,7 @@ abbrev pub ReadsCounted : ℕ → Window → Result Payload Error → Type 0
 ReadsCounted id w (Ok payload) = IsCountedAs id w (items_in payload)
 ReadsCounted id w (Err e) = unsigned_at VarU32 (place w) ≡ Err (fault_at e)
 
--- A data section has another count than these.
+-- | a data section has another count than announced <Data Count Section>
 abbrev pub is_miscounted_by : List ℕ → Report → Bool
 is_miscounted_by counts (counted id count window) = id == data_id && not (list_all (nat_eq count) counts)
 is_miscounted_by counts other = false

@@ -31,6 +31,9 @@ pub data Head : Type 0 where
   unknown : (id : ℕ) → Head
   body : Head
 
+-- | a part by its first fields, and when it is skipped; the parser afterwards; whatever bytes follow, the part is the
+--   next tile or the stream has a fault at its content [`skip_of`, `state_after_skip`, `SkipsNext`, `PassesTile`,
+--   `skip_in`] <Sections, Code Section; this project>
 -- a section or body by its first fields, and the offsets between which its content is
 pub record Skip : Type 0 where
   pub from : ℕ
@@ -171,6 +174,7 @@ pub record SkipCame (start features : ℕ) (given : List ℕ) (events : List Eve
   pub consumed : event.consumed ≡ bytes
   pub is_along : Along start features given new rest (events ++ event ∷ [])
 
+-- | a caller that skips parts continues the reading after them [`SkipCame`]
 -- What a caller relies on that receives a stream bit by bit, and lets the parser skip a part.
 pub record SkippingGoesAlong : Type 0 where
   -- once all bytes of the part have come, the caller is after it

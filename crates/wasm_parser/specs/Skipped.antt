@@ -15,6 +15,7 @@ pub record CompletesCode (start : ℕ) (prefix bodies : List ℕ) : Type 0 where
   pub whole : bytes_of tiles ≡ prefix ++ bodies
   pub no_body_left : bodies_left tiles ≡ 0
 
+-- | skipping the rest of a code section [`ParserState.skippable_of`, `skipped_state`]
 -- Wherever the parser is in a code section, it is then after as many bytes as the section has left, whatever they are,
 -- as long as some such bytes complete it.
 abbrev pub SkipsSection : ParserState → ParserState → Type 0
@@ -23,6 +24,8 @@ SkipsSection old new = (start : ℕ) (prefix bodies : List ℕ) → IsStateAfter
     → CompletesCode start prefix bodies
     → IsStateAfter new start (prefix ++ bodies)
 
+-- | a caller that skips the rest of a code section continues with the reading without its bodies <Code Section; this
+--   project>
 -- The events of these bodies are those that come after the ones that a caller had, and the caller is after them without
 -- having read them.
 pub record LeavesOut (start features : ℕ) (prefix bodies : List ℕ) (events : List Event) (p : ParserState) : Type

@@ -77,6 +77,7 @@ state_after_section p to = record p {
   in_code = false;
 }
 
+-- | what a parser knows after what it reported [`ParseAnswer.Advances`]
 -- the state after a report of a part that ends at this offset
 abbrev pub state_after : ParserState → (to : ℕ) → Report → ParserState
 state_after p to report = record (knowing p report) {

@@ -33,6 +33,8 @@ numbers_of s = record {
   in_code = is_set s.in_code;
 }
 
+-- | the parser that 48 bytes are; what their numbers say if a code section ends within the offsets; what skipping
+--   passes [`numbers_of`, `skipped_of`]
 -- The stored parser. The remaining bytes of a code section end below the top of the offsets.
 abbrev pub parser_of : StoredParser → ParserState
 parser_of s = record {

@@ -23,12 +23,15 @@ use wasm_items::{Data, Element, Export, Global, Imports, MemoryType, RecGroup, T
 /// What may come after a prefix of a stream depends only on the state of a parser there. When a parser consumes
 /// the next part, its state is that which the reading of the longer prefix determines.
 pub fn parser_suffices()
+    // Proved: what a parser knows after a prefix suffices for what may follow
     ensures { ParserSuffices }
 {}
 
 /// A result of `parse` other than a request is final: more bytes, whether they complete the stream or not, do not
 /// change it.
 pub fn answers_last()
+    // Proved: what `parse` returns without `eof`, except a request, it also returns with more
+    //   bytes, as long as these fit the offsets, with `eof` and without
     ensures { AnswersLast }
 {}
 
@@ -38,6 +41,13 @@ pub fn answers_last()
 /// next event of every stream with this prefix. Each payload except the end consumes some bytes, and the parser's state
 /// follows from the result. Equal bytes have equal results; an error, or the end, is returned again.
 pub fn answers_go_along()
+    // Proved: a caller that passes a stream in chunks, and passes again what was not consumed, is
+    //   along it: below the largest offset each result except a request is the next event of every
+    //   stream that continues this way [`laws::answers_go_along` (`Along`, `GoesAlong`)]
+    // Proved: a new parser is along at the start, and more bytes change nothing. A payload except
+    //   the end consumes some bytes, and the parser afterwards follows from the result
+    // Proved: the same bytes yield the same result again, and so does a fault or the end that was
+    //   returned before
     ensures { AnswersGoAlong }
 {}
 
@@ -45,6 +55,8 @@ pub fn answers_go_along()
 ///
 /// This needs that some bytes of that length complete the section; the actual bytes are not looked at.
 pub fn skipping_leaves_out_bodies()
+    // Proved: a caller that holds no bytes and skips the rest of a code section continues with the
+    //   reading without its bodies, if the skipped bytes complete the section
     ensures { SkippingLeavesOutBodies }
 {}
 
@@ -53,6 +65,7 @@ pub fn skipping_leaves_out_bodies()
 /// The next event is that part, with its first fields and all its bytes, whatever these are. If the stream ends before
 /// the part does, the next event is the fault `UnexpectedEof` at the start of its content.
 pub fn skipping_goes_along()
+    // Proved: a caller that skips parts by `skip_next` continues the reading after them
     ensures { SkippingGoesAlong }
 {}
 
@@ -68,6 +81,13 @@ pub fn skipping_goes_along()
 ///
 /// (Core specification, Binary format, Modules.)
 pub fn short_is_undecided(offset: u64, front: &[u8], data: &[u8])
+    // Proved: one event comes next after a front, however the stream continues
+    // Proved: if the bytes after a front suffice, it is the same in every stream that begins with
+    //   both [`laws::short_is_undecided` (`EnoughIsDecided`)]
+    // Proved: if the bytes after a front don't suffice, the next event differs between the stream
+    //   that ends after the bytes and one that continues with a suffix that the definitions name;
+    //   both are streams if the offsets continue for 2^33 bytes [`laws::short_is_undecided`
+    //   (`ShortIsUndecided`)]
     ensures next { OneComesNext offset front.now }
     ensures decided { EnoughIsDecided offset front.now «data».now }
     ensures undecided { ShortIsUndecided offset front.now «data».now }
@@ -75,11 +95,14 @@ pub fn short_is_undecided(offset: u64, front: &[u8], data: &[u8])
 
 /// The reading of a stream has a next event wherever a parser is in the stream.
 pub fn some_next_event()
+    // Proved: wherever a parser is in a stream, the reading of that stream has a next event
     ensures { SomeNextEvent }
 {}
 
 /// The events of a reading that ends at the stream's end consume all of the stream.
 pub fn end_consumes_all()
+    // Proved: the events of a reading that ends at the stream's end consumed all of the stream
+    //   [`laws::end_consumes_all`]
     ensures { EndConsumesAll }
 {}
 
@@ -88,6 +111,10 @@ pub fn end_consumes_all()
 /// They are as many as announced, each at its offset in the stream, up to the first error, and then nothing or one
 /// `SizeMismatch`. Types own lists, so `OutOfMemory` may come in place of a type, as the last item.
 pub fn items_of_payloads<'a>()
+    // Proved: the items of a payload that begins with a count are those of its window, for every
+    //   kind of section: each at its offset in the stream, except that for types `OutOfMemory` may
+    //   come instead of any [`laws::items_of_payloads` (`GivesTypes` to `GivesData`,
+    //   `NoOthersAreCounted`)]
     ensures types { GivesTypes
         ⟦<SectionLimitedIntoIterIn<'a, RecGroup> as Iterator>⟧.next_gives }
     ensures imports { GivesImports

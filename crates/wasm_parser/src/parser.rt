@@ -137,16 +137,31 @@ impl Parser {
     /// ```
     pub fn parse<'a>(&mut self, bytes: &'a [u8], eof: bool) -> Result<Chunk<'a>>
         // On every outcome.
+        // Proved: what `parse` returns, in terms of what the parser knows alone; data past the
+        //   offsets of a stream is `OffsetRange`
+        // Proved: the reader of a payload's section is at the first item, after the count
+        //   [`answers` and `gives` on `parse` (`IsPayload`); `items` of `GivesReading`]
         ensures answers { ParseAnswer self.old eof bytes.now result self.new }
+        // Proved: `parse` consumes the bytes of its event, and the parser is then after them, with
+        //   the same features [`gives` (`GivesEvent`)]
         ensures gives { GivesNextEvent self.old eof bytes.now result self.new }
         // On a part.
+        // Proved: consumed bytes are part of the input, and there are some except at the end
         ensures consumes { Consumes bytes.now result }
         // On a request.
+        // Proved: without `eof`, `parse` asks for as many bytes as the first unfinished field is
+        //   known to lack, and at least one. If the bytes where a section may start may begin a
+        //   second header, it asks for the rest of the magic, though a short custom section may end
+        //   before. With `eof` it never asks [`answers`, `gives` (`answer_in_time`, `IsUndecided`),
+        //   `asks` (`AsksForSome`)]
         ensures asks { AsksForSome result }
         ensures waits { AsksWhereOpen self.old eof bytes.now result }
         // On an error.
+        // Proved: the offset of a fault lies between the parser's and the end of the bytes,
+        //   wherever the parser is
         ensures faults { FaultsWithin self.old bytes.now result }
         // On a request or an error.
+        // Proved: after a fault or a request the parser is unchanged
         ensures unchanged { IsUnchanged self.old result self.new }
     {
         self.stored.answer(bytes, eof)
@@ -168,6 +183,12 @@ impl Parser {
     /// ```
     pub fn parse_all<'a>(self, bytes: &'a [u8]) -> ParseAll<'a>
         ensures walks { result ≡ walk_over self bytes.now }
+        // Proved: `parse_all` of a parser that has read nothing yields the reading, if the input
+        //   fits the offsets
+        // Proved: `parse_all` of a parser that has read nothing, over input that fits the offsets,
+        //   ends with `End` exactly if the stream is accepted; then the stream is a header and the
+        //   sections that the payloads are [`reading` on `parse_all` (`WalksWhole`:
+        //   `GivesReading`)]
         ensures reading { WalksWhole self bytes.now result }
     {
         ParseAll::over(self, bytes)
@@ -177,6 +198,8 @@ impl Parser {
     ///
     /// It is `Some` from `CodeSectionStart` until a payload that is not a body.
     pub fn skippable(&self) -> Option<u32>
+        // Proved: `skippable` is the number of remaining bytes of a code section, from its start
+        //   until a payload that is not a body
         ensures { result ≡ skippable_of self.now }
     {
         if self.stored.in_code != 0 {
@@ -204,6 +227,8 @@ impl Parser {
     pub fn skip_section(&mut self)
         requires { IsSome (skippable_of self.old) }
         ensures state { self.new ≡ skipped_state self.old }
+        // Proved: after `skip_section` the parser is after that many bytes, whatever they are, if
+        //   some such bytes complete the section
         ensures skips { SkipsSection self.old self.new }
     {
         // The parser's invariant says that this does not overflow.
@@ -215,6 +240,9 @@ impl Parser {
     /// Returns the state of the parser as plain values. `resume` makes a parser from them that continues as this one
     /// does.
     pub fn checkpoint(&self) -> Checkpoint
+        // Proved: `checkpoint` is all that a parser knows, and `resume` the parser that knows
+        //   exactly that; its precondition is that the remaining bytes of a code section end below
+        //   the largest offset [the clauses of both (`state_of`)]
         ensures state { state_of result ≡ self.now }
         ensures fits { result.offset + result.code_bytes < 2 ^ 64 }
     {
@@ -271,6 +299,10 @@ impl Parser {
     /// Returns the parser as numbers, which a program in another language can keep.
     #[tactic(auto, using(crate::proofs::Settled::settled))]
     pub fn stored(&self) -> StoredParser
+        // Proved: `stored` is a parser as numbers. Any such numbers are a parser, whose `parse` has
+        //   the clauses of `Parser::parse`, and its `skip_next` those of `Parser::skip_next`; its
+        //   `skip_section` skips the rest of a code section, and elsewhere nothing [the clauses of
+        //   each (`parser_of`, `skipped_of`)]
         ensures { parser_of result ≡ self.now }
     {
         self.stored
@@ -314,6 +346,9 @@ impl Parser {
     /// assert!(rt; !Parser::is_core_wasm(b"\0asm\x01"));
     /// ```
     pub fn is_core_wasm(bytes: &[u8]) -> bool
+        // Proved: `is_core_wasm`, `is_component`, `binary_reader`, the features, the offset, a
+        //   default and a copy are what their names say [the clauses of each; `is_default`,
+        //   `is_clone`]
         ensures { result ≡ begins_with_header Module bytes.now }
     {
         bytes.starts_with(CORE_HEADER.as_slice())

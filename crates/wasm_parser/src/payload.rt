@@ -180,6 +180,9 @@ impl<'a> Payload<'a> {
     /// The content is what follows the section's length, up to the end of the section. `CodeSectionStart` stands for the
     /// whole code section.
     pub fn as_section(&self) -> Option<(u8, Range<u64>)>
+        // Proved: `as_section` is the id and the offsets of the content, `section_parts` these and
+        //   the count; `as_counted` is the same for a section that begins with a count of items
+        //   [the clause of each]
         ensures { result ≡ section_of (report_of self.now) }
     {
         match self.section_parts() {

@@ -125,6 +125,9 @@ impl StoredParser {
     /// ```
     #[inline(always)]
     pub fn parse<'a>(&mut self, bytes: &'a [u8], eof: bool) -> Result<Chunk<'a>>
+        // Proved: every bit pattern of the 48 bytes of a stored parser is a parser, and each parser
+        //   can be stored [`parse` of `StoredParser` and `stored` of `Parser` in `wasm_parser`
+        //   (`parser_of`)]
         ensures answers { ParseAnswer (parser_of self.old) eof bytes.now result (parser_of self.new) }
         ensures gives { GivesNextEvent (parser_of self.old) eof bytes.now result
             (parser_of self.new) }

@@ -27,6 +27,8 @@ pub record FrameHead : Type 0 where
   pub func : ℕ
   pub code_offset : ℕ
 
+-- | the heads of frames and instances of a core dump, before their lists; a text after a byte 0 [`instance_head_at`,
+--   `started_text_at`] <tool conventions, Coredump>
 unfoldable pub frame_head_at : Place → Outcome FrameHead
 frame_head_at p = do
   begin ← start_at Frame p.offset p

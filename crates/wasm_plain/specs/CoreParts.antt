@@ -2,5 +2,6 @@
 use Rattle.wasm_plain.specs.CoreHeads as Heads
 use Rattle.wasm_plain.specs.declared.coredumps.FrameHead.{FrameHead}
 
+-- | the heads of frames and instances as the code has them
 abbrev pub frame_parts : FrameHead → Heads.FrameHead
 frame_parts f = record { instance = f.instance; func = f.func; code_offset = f.code_offset }

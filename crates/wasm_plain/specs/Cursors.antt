@@ -18,6 +18,8 @@ use Rattle.wasm_plain.specs.declared.names.PlainNaming.{PlainNaming}
 use Rattle.wasm_plain.specs.declared.names.PlainSubsection.{PlainSubsection}
 use Rattle.wasm_custom.specs.Names.{indirect_naming_at, naming_at}
 
+-- | a cursor at the first item of a list; the next item, the end of a list, and the cursor after both [`next_by`,
+--   `item_by`, `end_by`]
 -- a cursor at the first of this many items, which is at this offset of the stream
 abbrev pub starting : (offset position count features : ℕ) → StoredItems
 starting offset position count features = record {
@@ -92,6 +94,7 @@ abbrev pub unless_refused : {T : Type 0} → (item refused : T) → Bool × Stor
 unless_refused item refused (true, c) = (Some item, c)
 unless_refused item refused (false, c) = (Some refused, c)
 
+-- | an entry whose index or id has to be above the last one [`takes`] <Appendix, Custom Sections>
 -- what a call returns whose items have to be in order
 abbrev pub in_order : {T : Type 0} → (index : T → Option ℕ) → (refused : FaultAt → T) → FaultAt → Option T × StoredItems
     → Option T × StoredItems
@@ -136,6 +139,8 @@ abbrev pub subsection_or_end : StoredItems → List ℕ → Option PlainSubsecti
 subsection_or_end c [] = (None, ended c)
 subsection_or_end c (b ∷ bs) = (Some (subsection_by c (b ∷ bs)).0, (subsection_by c (b ∷ bs)).1)
 
+-- | the next subsection, and the cursor after it or after its id and size [`next_name_subsection`] <Appendix, Custom
+--   Sections; tool conventions>
 -- what one call returns for the subsections of a section
 abbrev pub next_subsection : List ℕ → StoredItems → Option PlainSubsection × StoredItems
 next_subsection bytes c =
@@ -163,6 +168,7 @@ abbrev pub items_by : {C T : Type 0} → (next : C → Option T × C) → ℕ �
 items_by next zero c = ([], c)
 items_by next (suc n) c = first_then (λ d. items_by next n d) (next c)
 
+-- | a call stored as many items as single calls return [`items_by`]
 -- One call stored as many items as this many calls for one return, and returned how many.
 pub record StoresItems {C T : Type 0} (next : C → Option T × C) (old : C) (before : List T)
     (count : ℕ) (new : C) (after : List T) : Type 0 where

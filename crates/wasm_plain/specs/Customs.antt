@@ -3,6 +3,7 @@
 use Rattle.std.specs.Prelude.{ℕ, List, codes, bytes_eq, nat_eq, if◌then◌else◌}
 use Rattle.std.specs.List.{starts_with}
 
+-- | which known section has a name <Appendix, Custom Sections; tool conventions>
 abbrev pub custom_kind : List ℕ → ℕ
 custom_kind name =
     if bytes_eq name (codes "name") then 1

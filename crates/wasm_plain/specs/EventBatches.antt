@@ -18,6 +18,8 @@ abbrev pub GoesOn : (is_last : Bool) (events : List PlainEvent) (new : ParserSta
 GoesOn true events new Others p = (events ≡ []) × (new ≡ p)
 GoesOn false events new Others p = Others p
 
+-- | events were returned one after the other, up to one that consumed nothing; their number was stored
+--   [`StoresEvents`]
 -- These are the next events of a parser that was at `old` and is then at `new`: as many as there is room for, or up to
 -- one that consumed nothing. The first of the bytes is at `base` in memory.
 abbrev pub ParsesEach : (eof : Bool) → (room base : ℕ) → (old : ParserState) → (bytes : List ℕ)

@@ -105,12 +105,14 @@ parsed_event base offset consumed payload = placed_event base offset consumed (p
 abbrev pub request_event : (base hint : ℕ) → PlainEvent
 request_event base hint = record silent { at = base; hint = hint }
 
+-- | what a parser returned, as plain numbers [`report_event`]
 -- what a parser returned at this offset, whose byte is at `base` in memory
 abbrev pub answer_event : (base offset : ℕ) → Result Chunk Error → PlainEvent
 answer_event base offset (Ok (NeedMoreData hint)) = request_event base hint
 answer_event base offset (Ok (Parsed consumed payload)) = parsed_event base offset consumed payload
 answer_event base offset (Err e) = fault_event base (fault_at e)
 
+-- | a parser returned this, and is then here: all that `parse` says
 -- The parser returned this for these bytes, which are all of the rest of the stream or a prefix of it and begin at
 -- `base` in memory, and is then in this state.
 pub record ParsesPlain (base : ℕ) (old : ParserState) (eof : Bool) (bytes : List ℕ) (event : PlainEvent)

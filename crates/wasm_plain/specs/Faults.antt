@@ -53,6 +53,7 @@ start_code starts.Instance = 2
 start_code starts.StackName = 3
 start_code starts.Frame = 4
 
+-- | the number of each fault, and a fault as plain numbers [`plain_fault`]
 -- the number of a fault: that of its kind, and 256 times that of what it names
 abbrev pub fault_code : Fault → ℕ
 fault_code OutOfMemory = 1
@@ -129,6 +130,7 @@ plain_fault f = record {
 abbrev pub no_fault : PlainFault
 no_fault = record { kind = 0; has_number = 0; number = 0; offset = 0 }
 
+-- | the fault of trailing bytes at an end <tool conventions, Coredump; Appendix, Custom Sections>
 -- the fault of bytes that are left at an offset, or none
 abbrev pub end_fault : Fault → (left : List ℕ) → (offset : ℕ) → PlainFault
 end_fault fault [] offset = no_fault

@@ -6,6 +6,7 @@ use Rattle.wasm_parser.specs.Stored.{is_set, parser_of}
 use Rattle.wasm_plain.specs.declared.events.PlainEvent.{PlainEvent}
 use Rattle.wasm_plain.specs.declared.feeding.StoredFeed.{StoredFeed}
 
+-- | what a feeder holds in a storage; a step, and a push, of it [`StepsPlain`, `PushesPlain`]
 -- the bytes of the storage that were pushed and not consumed
 abbrev pub held_in : StoredFeed → (storage : List ℕ) → List ℕ
 held_in f storage = drop f.mark (take f.end storage)

@@ -69,6 +69,8 @@ flat_by zero bytes c = (None, c)
 flat_by (suc n) bytes c = if is_within c then within bytes c else
     of_section (λ d. flat_by n bytes d) c (next_by plain_import bundle_at bytes c.items)
 
+-- | the imports of a section one by one; a cursor within a bundle [`within`, `entered`] <the proposal for compact
+--   imports>
 -- what one call returns: it can't pass more bundles than are left
 abbrev pub next_flat : List ℕ → StoredImports → Option PlainImport × StoredImports
 next_flat bytes c = flat_by (c.items.remaining + 1) bytes c

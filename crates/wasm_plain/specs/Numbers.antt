@@ -1,4 +1,6 @@
 -- Numbers in LEB128.
+-- | items as plain numbers [`Instructions`, `Values`, `Kinds`, `Imports`, `Exports`, `Segments`, `Names`,
+--   `Producers`, `Hints`, `Dylink`, `Linking`, `Symbols`, `Relocations`, `Coredumps`]
 use Rattle.std.specs.Prelude.{ℕ, ◌-◌, ℤ, pos, Ok, Err}
 use Rattle.wasm_base.specs.Outcome.{Outcome}
 use Rattle.wasm_base.specs.Window.{Place}

@@ -13,6 +13,7 @@ made plain (Err f) = Err f
 abbrev pub plainly : {X T : Type 0} → (Place → Outcome X → T) → (Place → Outcome X) → Place → Outcome T
 plainly plain reading p = made (plain p) (reading p)
 
+-- | an item where the caller's bytes begin, or its fault
 -- the item at the start of these bytes, or its fault
 abbrev pub item_over : {X T : Type 0} → ((from : ℕ) → Place → Outcome X → T) → (Place → Outcome X)
     → (features offset : ℕ) → List ℕ → T

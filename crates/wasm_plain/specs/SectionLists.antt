@@ -9,6 +9,8 @@ use Rattle.wasm_parser.specs.Stored.{is_set}
 use Rattle.wasm_plain.specs.Cursors.{next_by, place_of, start_of}
 use Rattle.wasm_plain.specs.declared.cursors.StoredItems.{StoredItems}
 
+-- | a cursor that is where an iterator over a section is; a call that returns the same as its `next`
+--   [`ReturnsTheSame`, `ListsAreSections`] <Modules, Sections>
 -- A cursor over a list of these bytes is where an iterator is, with as many remaining items; or both are over.
 pub record IsBeside (bytes : List ℕ) (c : StoredItems) (s : Items) : Type 0 where
   pub over : is_set c.is_ended ≡ s.ended

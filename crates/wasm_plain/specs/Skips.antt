@@ -9,6 +9,7 @@ use Rattle.wasm_plain.specs.declared.events.PlainEvent.{PlainEvent}
 abbrev pub part_event : Skip → PlainEvent
 part_event skip = record (report_event (report_with skip.head)) { start = skip.from; end = skip.to }
 
+-- | what a parser skipped, as an event; a parser skipped this, and is then here [`SkipsPlain`] <Modules, Sections>
 -- what was skipped at this offset, of which this many bytes are held, or a request that asks for nothing
 abbrev pub skip_event : (offset held : ℕ) → Option Skip → PlainEvent
 skip_event offset held (Some skip) = placed_event 0 offset held (part_event skip)

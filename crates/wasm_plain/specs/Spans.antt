@@ -13,6 +13,8 @@ use Rattle.wasm_plain.specs.declared.spans.PlainSpan.{PlainSpan}
 abbrev pub place_over : (features offset : ℕ) → List ℕ → Place
 place_over features offset bytes = place (window_over features offset bytes)
 
+-- | what is read where the caller's bytes begin; the places in them of a window, a list and a text [`window_span`,
+--   `items_span`, `text_span`]
 -- what is read where these bytes begin; bytes that pass the greatest offset are refused
 abbrev pub read_over : {X : Type 0} → (Place → Outcome X) → (features offset : ℕ) → List ℕ → Outcome X
 read_over reading features offset bytes =

@@ -7,6 +7,7 @@ use Rattle.wasm_feed.specs.Stripped.{StripsToFront}
 use Rattle.wasm_plain.specs.Faults.{no_fault, plain_fault}
 use Rattle.wasm_plain.specs.declared.strip.PlainStripped.{PlainStripped}
 
+-- | a stream that was stripped, or refused, as plain numbers [`StripsPlain`]
 -- how many bytes are left, or the fault
 abbrev pub plain_strip : Result ℕ Error → PlainStripped
 plain_strip (Ok size) = record { fault = no_fault; size = size }

@@ -13,6 +13,7 @@ use Rattle.wasm_plain.specs.Spans.{no_span, span_before, text_after}
 use Rattle.wasm_plain.specs.declared.spans.PlainSpan.{PlainSpan}
 use Rattle.wasm_plain.specs.declared.symbols.PlainSymbol.{PlainSymbol}
 
+-- | the version of a `linking` section <tool conventions, Linking>
 -- the version of a section for linkers, which has to be 2; another is a fault at it, with it
 unfoldable pub linking_version_at : Place → Outcome ℕ
 linking_version_at p = do

@@ -9,6 +9,8 @@ use Rattle.wasm_parser.specs.ParserState.{ParserState}
 use Rattle.wasm_parser.specs.declared.payload.Chunk.{Chunk}
 use Rattle.wasm_plain.specs.Faults.{fault_code}
 
+-- | the first bytes of a text over others; the text of a fault, and of the fault that has a number [`SaysText`,
+--   `Says`, `SaysMessage`]
 -- these bytes, the first of them overwritten with a prefix of a text
 abbrev pub written_over : (text old : List ℕ) → List ℕ
 written_over text old = take (length old) text ++ drop (length text) old

@@ -18,6 +18,7 @@ composite_number Func = 0
 composite_number Array = 1
 composite_number Struct = 2
 
+-- | the heads of groups of types and of subtypes, as plain numbers [`plain_subtype`]
 -- the head of a group
 abbrev pub plain_type_group : (from : ℕ) → Place → Outcome RecGroupHead → PlainTypeGroup
 plain_type_group from p (Ok x) = record {

@@ -2,6 +2,6 @@
 use Rattle.std.specs.Prelude.{ℕ, ◌-◌, vec_len}
 use Rattle.wasm_text.specs.declared.devices.sink.BoundedSink.{BoundedSink}
 
--- how many bytes a sink of bounded size still has room for
+-- | how many bytes a sink of bounded size has room for
 abbrev pub room_left : {A : Type 0} → BoundedSink A → ℕ
 room_left sink = sink.size - vec_len sink.bytes

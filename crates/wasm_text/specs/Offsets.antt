@@ -4,6 +4,7 @@ use Rattle.std.specs.Fmt.{digits}
 use Rattle.wasm_text.specs.declared.digits.Base.{Base}
 use Rattle.wasm_text.specs.declared.digits.Base.TheVariants.{Decimal, Hexadecimal}
 
+-- | an offset in decimal, or in hexadecimal
 -- an offset in this base, as `{}` or `{:#x}` writes it
 abbrev pub offset_text : Base → ℕ → List ℕ
 offset_text Decimal offset = decimal offset

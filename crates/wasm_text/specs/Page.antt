@@ -17,6 +17,8 @@ IsCut taken written waiting Output = WritesHead taken written waiting
 IsCut taken written waiting Memory = WritesHead taken written waiting
 IsCut taken written waiting Input = ⊥
 
+-- | bytes that wait to be written: all were, or the sink failed at some; others were put after them, or the sink or
+--   an allocation failed; a sink received a prefix of bytes [`Puts`, `IsCut`, `WritesHead`]
 -- All bytes that waited were written; or the sink failed, and no growth was asked for.
 abbrev pub WritesOut : (taken written : Option (List ℕ)) (waiting new : List ℕ) → Result (Unit {0}) ListError → Type 0
 WritesOut taken written waiting new (Ok done) = Appends taken written waiting × (new ≡ [])

@@ -125,6 +125,8 @@ fn write_long(bytes: &mut [u8], at: usize, number: u64) -> usize
 pub fn write_number(bytes: &mut [u8], at: usize, number: u64) -> usize
     requires { at + 20 ≤ length bytes.old }
     ensures short { result ≤ at + 20 }
+    // Proved: a number is its decimal digits [`written` of `write_number` and of `ShortText` of
+    //   `u64` (`decimal`)]
     ensures written { take result bytes.new ≡ take at bytes.old ++ decimal number }
 {
     if number < 100_000_000 {
@@ -193,6 +195,8 @@ fn write_hexadecimal(bytes: &mut [u8], at: usize, offset: u64) -> usize
 pub fn write_offset(bytes: &mut [u8], at: usize, base: Base, offset: u64) -> usize
     requires { at + 20 ≤ length bytes.old }
     ensures short { result ≤ at + 20 }
+    // Proved: an offset is its decimal digits, or `0x` and its hexadecimal digits as `{:x}` writes
+    //   them
     ensures written { take result bytes.new ≡ take at bytes.old ++ offset_text base offset }
 {
     match base {

@@ -162,6 +162,7 @@ impl<A: Allocator> Page<A> {
 
     /// Empties the page. The buffered bytes are not written.
     pub fn clear(&mut self)
+        // Proved: `clear` empties a page
         ensures { self.new ≡ [] }
     {
         self.len = 0;
@@ -178,6 +179,11 @@ impl<A: Allocator> Page<A> {
     #[inline(always)]
     pub fn put<W: Sink>(&mut self, bytes: &[u8], output: &mut W) -> Result<(), ListError>
         requires { length bytes.now ≤ 65536 }
+        // Proved: what is put on a `Page`, at most 65,536 bytes, a text or a line, comes after what
+        //   waits; a prefix of both may be written, and the remaining bytes wait [`puts`, `failed`
+        //   of `put`, `put_text` and `put_line` (`Puts`)]
+        // Proved: if the sink fails or an allocation does, a prefix of what waited was written, and
+        //   the page still holds all of it [the same; `kept` on each, `writes` of `write_out`]
         ensures puts { Puts (W.taken output.old) (W.taken output.new)
             self.old bytes.now self.new result }
         ensures kept { OnErr result (self.new ≡ self.old) }

@@ -84,8 +84,17 @@ impl Parser {
     ///
     /// (Core specification, Binary format, Modules, Sections and Code Section.)
     pub fn skip_next<'a>(&mut self, bytes: &'a [u8]) -> Option<SkippedPart<'a>>
+        // Proved: `skip_next` skips the next part exactly if it is a body, a custom section, an
+        //   unknown one or one of counted items, its first fields are in the bytes, in order and
+        //   right, its end is not, and it ends below the largest offset. It never skips a header,
+        //   bytes that may begin one, or a start, data count or code section. If it skips nothing,
+        //   the parser is unchanged [`gives`, `state` on `skip_next` (`skip_of`,
+        //   `state_after_skip`)]
         ensures gives { option_map skip_is result ≡ skip_of self.old bytes.now }
         ensures state { self.new ≡ state_after_skip self.old (skip_of self.old bytes.now) }
+        // Proved: whatever bytes follow, the skipped part is the next tile of the stream, with the
+        //   same first fields and offsets, and the parser is after it; if too few follow, the
+        //   stream has the fault `UnexpectedEof` at its content
         ensures skips { SkipsNext self.old bytes.now (option_map skip_is result) self.new }
     {
         self.stored.skip_settled(bytes)

@@ -33,6 +33,8 @@ pub trait Sink {
     fn write(&mut self, buf: &[u8]) -> Result<usize, Failed>
         ensures bound { IfOk result (λ n. n ≤ length buf.now) }
         ensures some { IfOk result (λ n. 0 < length buf.now → 0 < n) }
+        // Proved: the sources and sinks move the bytes that they say. A write of some bytes that
+        //   succeeds takes at least one [`bound`, `bytes` of `Source` and `Sink`; `some` of `Sink`]
         ensures bytes { WriteAppends (taken self.old) (taken self.new) result buf.now }
         ensures failed { has_failed self.new
             ≡ (if is_ok result then has_failed self.old else true) };
@@ -56,6 +58,8 @@ pub trait Sink {
 /// assert_eq!(rt; sink.written(), b"abc".as_slice());
 /// ```
 pub fn write_all<W: Sink>(output: &mut W, bytes: &[u8]) -> Result<(), Failed>
+    // Proved: `write_all` writes all bytes, or if the sink fails a prefix of them [`ok`, `err`,
+    //   `failed` on `write_all`]
     ensures ok { OnOk result (Appends (W.taken output.old) (W.taken output.new) bytes.now) }
     ensures err { OnErr result
         ((n : ℕ) × Appends (W.taken output.old) (W.taken output.new) (take n bytes.now)) }
@@ -153,6 +157,8 @@ impl<A: Allocator> Sink for BoundedSink<A> {
             result buf.now }
         ensures failed { self.new.failed ≡ (if is_ok result then self.old.failed else true) }
         ensures size { self.new.size ≡ self.old.size }
+        // Proved: a `BoundedSink` takes as much as it has room for, and fails only if it is full
+        //   [`fits`, `full` on its `write`]
         ensures fits { IfOk result (λ n. n ≡ min (length buf.now) (room_left self.old)) }
         ensures full { OnErr result ((0 < length buf.now) × (room_left self.old ≡ 0)) }
     {
@@ -179,6 +185,7 @@ impl Sink for io::Sink {
         ensures some { IfOk result (λ n. 0 < length buf.now → 0 < n) }
         ensures bytes { WriteAppends None None result buf.now }
         ensures failed { is_ok result ≡ true }
+        // Proved: `std`'s `io::Sink` takes all bytes and never fails
         ensures all { result ≡ Ok (length buf.now) }
     {
         Ok(buf.len())
@@ -249,6 +256,8 @@ impl<W: Write> WriteSink<W> {
 }
 
 impl<W: Write> Sink for WriteSink<W> {
+    // Proved: for a writer or a reader the bytes that move are those of which `std`'s `Read` and
+    //   `Write` speak
     ghost taken = { λ s. W.contents s.writer };
 
     ghost has_failed = { λ s. s.failed };

@@ -38,6 +38,8 @@ pub trait Source {
 
     /// Returns whether a read has failed.
     fn failed(&self) -> bool
+        // Proved: the sources and sinks know whether they have failed [`failed` of `Source` and
+        //   `Sink`]
         ensures { result ≡ has_failed self.now };
 }
 
@@ -66,6 +68,8 @@ impl Source for SliceSource<'_> {
         ensures bytes { ReadConsumes (Some self.old.rest.now) (Some self.new.rest.now)
             result buf.new }
         ensures failed { false ≡ (if is_ok result then false else true) }
+        // Proved: a `SliceSource` returns as much as there is room for, and never fails [`fits`,
+        //   `failed` on its `read`]
         ensures fits { result ≡ Ok (min (length buf.new) (length self.old.rest.now)) }
     {
         let count = buf.len().min(self.rest.len());

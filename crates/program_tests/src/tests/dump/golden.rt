@@ -1,4 +1,4 @@
-// Streams, and what wasmparser 0.263.0 says of them: tools/golden_rows writes this file from tools/golden.jsonl.
+// Streams, and what wasmparser 0.263.0 says of them: tools/check golden compares them with tools/golden.jsonl.
 use super::dumps::dumps;
 use std::alloc::Global;
 use std::process::Abort;

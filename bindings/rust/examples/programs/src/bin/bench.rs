@@ -1,7 +1,7 @@
 //! Reads the module on standard input as the benchmark `benches/` does. Each argument is a way: `parse`, `parse_all`, `items` or `indices`. Prints its
 //! name, how many events or items there were, a checksum, and the nanoseconds of the fastest of the rounds of a second.
 //!
-//! `tools/bench --original FOLDER` builds it over the source of `wasmparser`, with link-time optimization, and counts its instructions.
+//! `tools/bench tables --original FOLDER` builds it over the source of `wasmparser`, with link-time optimization, and counts its instructions.
 #![allow(clippy::unnecessary_cast)]
 use std::io::Read;
 use std::time::{Duration, Instant};

@@ -1,4 +1,4 @@
-// Worked dumps as objects of JSON, whole: each value is that of its line in the worked dump, as tools/compare_forms compares them.
+// Worked dumps as objects of JSON, whole: each value is that of its line in the worked dump, as tools/compare forms compares them.
 use super::worked::{core, linking, names, sections};
 use crate::tests::dump::named::{Form, dumped};
 use std::alloc::Global;

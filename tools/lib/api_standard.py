@@ -1,0 +1,286 @@
+"""Writes the page of an HTML reference for readers of the standard: its productions in its order, each beside our definitions.
+
+`TABLE` follows the core specification, version 3.0: chapters (`#`), sections (`##`), and productions as the standard has them, each with
+the definitions that say the same (`:`), or with the reason why nothing reads it (`!`). Behind `<` are the sections whose rows test this one.
+"""
+import functools
+import re
+
+import api_names
+import api_pages
+import api_source
+import api_text
+import common
+from api_text import anchor, escaped, link, span
+
+TABLE = common.read("tools", "lib", "templates", "productions.txt")
+# Files of definitions that cite the chapter and define no production.
+OTHERS = {
+    ("wasm_items", "TypeHeads"): "the heads of groups of types and of subtypes, for callers that read their lists one by one",
+    ("wasm_items", "TypeLaws"): "that these are the heads of RecGroups",
+    ("wasm_parser", "SkipNext"): "skipping a part by its first fields",
+    ("wasm_feeder", "Fates"): "what stripping does to a part",
+    ("wasm_feed", "Stripped"): "what remains of a stripped stream",
+}
+# What names more than one section of a chapter.
+WIDE = ("Binary format, Modules.", "Modules, Sections", "each section", "from Type Section to Tag Section", "Appendix, Custom Sections")
+SPEC = "https://webassembly.github.io/spec/core/"
+ABOUT = (
+    "For readers of the WebAssembly core specification: the productions of its chapter on the binary format, in its order and in a short form of its notation, "
+    "and those of its appendix on the <code>name</code> section. Beside each are the definitions that say the same for this parser, the items whose proved "
+    "contracts cite them, and the rows of tests with their results. An offset is part of each definition, and so is the fault where bytes fit no production. "
+    "Of instructions only those of constant expressions are read, and function bodies are windows of bytes."
+)
+# The tables of tests with their results, and the comment over the rows of some sections of the standard.
+ROWS = ("crates", "wasm_rows", "stdout")
+FUNCTION = re.compile(r"(    )?(?:pub(?:\(\w+\))? )?(?:final |const |unsafe )*fn (\w+)")
+TITLE = re.compile(r"# [^()]+ \((core specification|tool conventions|a proposal)[,;] (.+)\)\.?$")
+
+
+class Section:
+    """A section of the standard, and where its rows are: by its own title unless the table names others."""
+
+    def __init__(self, chapter, title, tested_by):
+        self.chapter, self.title, self.productions = chapter, title, []
+        self.tested_by = tested_by.split("; ") if tested_by else [title]
+        self.place = anchor(chapter.lower(), title.lower().replace(" ", "-"))
+
+
+class Production:
+    """A production, with its definitions as pairs of a crate and a name, or why nothing reads it."""
+
+    def __init__(self, text):
+        self.name, self.text = (part.strip() for part in text.split("::=", 1))
+        self.cites, self.reason = [], ""
+
+
+@functools.lru_cache(maxsize=None)
+def chapters():
+    """The chapters of the table: of each its title, its page of the standard, and its sections."""
+    found = []
+    for line in filter(None, TABLE.split("\n")):
+        mark, _, rest = line.partition(" ")
+        if mark == "#":
+            title, _, page = rest.partition(" | ")
+            found.append((title, page, []))
+        elif mark == "##":
+            title, _, tested_by = rest.partition(" < ")
+            found[-1][2].append(Section(found[-1][0], title, tested_by))
+        elif mark == ":":
+            crate, *names = rest.split(" ")
+            found[-1][2][-1].productions[-1].cites += [(crate, name) for name in names]
+        elif mark == "!":
+            found[-1][2][-1].productions[-1].reason = rest
+        else:
+            found[-1][2][-1].productions.append(Production(line))
+    return found
+
+
+def sections():
+    return [section for _, _, several in chapters() for section in several]
+
+
+def place_of(section, production):
+    return anchor(section.place, re.sub(r"\W+", "-", production.name).strip("-"))
+
+
+# ---- definitions and what reads them
+
+
+def definition(crate, name):
+    return api_names.definition(crate, *name.split("."))
+
+
+@functools.lru_cache(maxsize=None)
+def users():
+    """The definitions that use a definition, each by the other."""
+    found = {}
+    for crate in api_source.LIBRARIES:
+        for specs in api_names.all_specs(crate).values():
+            for one in specs.definitions:
+                scope = api_names.Scope(specs.names, specs.aliases, {}, api_names.bound_in(one.text))
+                for target in api_text.cited(one.text, scope):
+                    used = api_names.definition(target.crate, *target.path)
+                    if used and used != one:
+                        found.setdefault(used, {})[one] = None
+    return found
+
+
+@functools.lru_cache(maxsize=None)
+def private_functions(site):
+    """The functions that have no entry in the reference, by the definitions that their contracts cite."""
+    found = {}
+    for crate in api_source.LIBRARIES:
+        for name in api_source.source_names(crate):
+            module = api_source.Module(crate, name, api_source.source_of(crate, name), [])
+            writer = api_pages.Writer(site, module)
+            for at, line in enumerate(module.source.lines):
+                head = FUNCTION.match(line)
+                if not head or "pub fn" in line and (crate, head[2]) in site.places:
+                    continue
+                shown = "<code>%s</code> (%s/src/%s.rt:%d)" % (head[2], crate, name, at + 1)
+                for _, text in api_source.clauses(module.source, at):
+                    scope = writer.scope(at, writer.outer_of(at) if head[1] else None, text)
+                    for target in api_text.cited(api_text.unlabeled(text), scope):
+                        found.setdefault(api_names.definition(target.crate, *target.path), {})[shown] = None
+    return found
+
+
+def readers(site, one):
+    """What has a contract that cites a definition; if nothing does, what cites the nearest definitions that use it, with these. Laws
+    count only if no code does."""
+    level, seen, laws = [one], {one}, []
+    while level:
+        citing = [(other, api_pages.citing(site, other)) for other in level]
+        laws = laws or [(other, links) for other, links in citing if links]
+        code = [(other, [href for href in links if "#law." not in href] or list(private_functions(site).get(other, ()))) for other, links in citing]
+        if any(found for _, found in code):
+            return [(other, found) for other, found in code if found]
+        level = list(dict.fromkeys(user for other in level for user in users().get(other, ()) if user not in seen))
+        seen.update(level)
+    return laws
+
+
+def readers_html(site, one):
+    out = []
+    for other, found in readers(site, one):
+        through = "" if other == one else " through %s" % link(api_pages.definition_link(other), "<code>%s</code>" % escaped(other.name))
+        out.append("<p>Cited%s by %s.</p>" % (through, ", ".join(found)))
+    return '<details class="cited"><summary>Code that reads it</summary>%s</details>' % "".join(out)
+
+
+def definition_html(site, crate, name):
+    one = definition(crate, name)
+    if not one:
+        return "<p>%s</p>" % escaped("%s %s" % (crate, name))
+    head = link(api_pages.definition_link(one), "<code>%s</code>" % escaped(one.name))
+    where = span("where", "%s/specs/%s.antt" % (one.crate, one.module))
+    return '<div class="def"><p class="head">%s %s</p>%s%s%s</div>' % (
+        head, where, api_pages.comment_html(one.comment), api_pages.definition_html(site, one), readers_html(site, one))
+
+
+# ---- rows
+
+
+@functools.lru_cache(maxsize=None)
+def blocks():
+    """The blocks of rows, each with the line that it begins at, the sections of the standard that its comment names, and its lines."""
+    found, last = [], ""
+    for number, line in enumerate(api_source.read(*ROWS).split("\n"), 1):
+        title = TITLE.match(line) if not last else None
+        if title:
+            of_standard = title[1] == "core specification"
+            found.append((number, title[2].split(";")[0].split(", ")[-1].split(" and ") if of_standard else [], []))
+        if found:
+            found[-1][2].append(line)
+        last = line
+    return found
+
+
+def blocks_of(title):
+    return [block for block in blocks() if title in block[1]]
+
+
+def rows_html(section):
+    """The rows of a section, or links to the sections whose rows test it."""
+    if section.tested_by != [section.title]:
+        others = [other for other in sections() if other.title in section.tested_by]
+        return "<p>Rows: see %s.</p>" % ", ".join(link("#" + other.place, escaped(other.title)) for other in others)
+    out = []
+    for number, _, lines in blocks_of(section.title):
+        count = sum(bool(re.match(r"[a-z]", line)) for line in lines)
+        head = "%d rows, %s:%d" % (count, "/".join(ROWS), number)
+        out.append("<details><summary>%s</summary><pre><code>%s</code></pre></details>" % (head, escaped("\n".join(lines).strip())))
+    return "".join(out)
+
+
+# ---- the page
+
+
+def production_html(site, section, production):
+    said = '<p>Not read: %s.</p>' % escaped(production.reason) if production.reason else ""
+    defined = "".join(definition_html(site, *cite) for cite in production.cites)
+    text = "%s ::= %s" % (production.name, production.text)
+    lines = re.sub(r" (\|) | (::=) ", lambda found: "\n  | " if found[1] else " ::=\n    ", text)
+    return '<div class="pair" id="%s"><pre><code>%s</code></pre><div>%s%s</div></div>' % (place_of(section, production), escaped(lines), said, defined)
+
+
+def section_html(site, section):
+    head = '<h3 id="%s"><a href="#%s">%s</a></h3>' % (section.place, section.place, escaped(section.title))
+    for production in section.productions:
+        site.index.append((production.name, "production", "%s#%s" % (api_pages.STANDARD, place_of(section, production)), section.title))
+    return head + "".join(production_html(site, section, one) for one in section.productions) + rows_html(section)
+
+
+def page(site):
+    """The page of the standard. The pages of crates are written before it, since they note what cites each definition."""
+    out, side = ["<h1>The standard</h1><p>%s</p>" % ABOUT], []
+    for title, address, several in chapters():
+        names = "".join("<li>%s</li>" % link("#" + one.place, escaped(one.title)) for one in several)
+        side.append("<details open><summary>%s</summary><ul>%s</ul></details>" % (title, names))
+        place = anchor("chapter", title.lower().replace(" ", "-"))
+        out.append('<h2 id="%s"><a href="#%s">%s</a></h2><p>%s</p>' % (place, place, title, link(SPEC + address, "The chapter in the standard")))
+        out += [section_html(site, section) for section in several]
+    return api_pages.page("The standard - Pulleynavy", "\n".join(out), "\n".join(side), api_pages.STANDARD)
+
+
+# ---- checks
+
+
+@functools.lru_cache(maxsize=None)
+def sources():
+    """The sources of definitions in the tables of DEFINITIONS, by the file and the name of each."""
+    found = {}
+    for names, source in re.findall(r"^\| .* \| (`.*`) \| (.*) \|$", api_source.read("docs", "DEFINITIONS.md"), re.M):
+        module = ""
+        for name in re.findall(r"`([\w.]+)`", names):
+            module, name = name.split(".", 1) if "." in name else (module, name)
+            found[module, name] = "%s; %s" % (found.get((module, name), ""), source)
+    return found
+
+
+def is_from(section, one):
+    """Whether DEFINITIONS, or a comment on a definition or its file, says that it is from this section, or from all of a chapter."""
+    about = (*api_names.all_specs(one.crate)[one.module].comment, *one.comment, sources().get((one.module, one.name), ""))
+    return any(words in " ".join(about) for words in (section.title, *section.tested_by, *WIDE))
+
+
+def without_production():
+    """The files of definitions that name a section of the binary chapter, and that no production has a definition of."""
+    shown = {(crate, name.split(".")[0]) for section in sections() for one in section.productions for crate, name in one.cites}
+    for crate, module in sorted(OTHERS):
+        if (crate, module) in shown or module not in api_names.all_specs(crate):
+            yield "tools/lib/api_standard.py: %s, %s is no longer one of OTHERS" % (crate, module)
+    for crate in api_source.LIBRARIES:
+        for module, specs in api_names.all_specs(crate).items():
+            about = " ".join(specs.comment)
+            if re.search(r"Core specification, (Binary format|Appendix), ", about, re.I) and (crate, module) not in {*shown, *OTHERS}:
+                yield "%s, %s: no production of tools/lib/api_standard.py has a definition of it" % (crate, module)
+
+
+def faults(site, ids):
+    """What is wrong with the table: productions without definitions or readers, sections without rows, and rows without a section."""
+    titles = {section.title for section in sections()}
+    for section in sections():
+        place = "%s, %s" % (api_pages.STANDARD, section.title)
+        if not section.productions:
+            yield "%s: no production" % place
+        for title in section.tested_by:
+            if title not in titles or not blocks_of(title):
+                yield "%s: no rows of %s" % (place, title)
+        for one in section.productions:
+            if place_of(section, one) not in ids:
+                yield "%s: no entry of %s" % (place, one.name)
+            if not one.cites and not one.reason:
+                yield "%s: %s needs a definition, or a reason why it is not read" % (place, one.name)
+            for crate, name in one.cites:
+                found = definition(crate, name)
+                wrong = "is no definition" if not found else "is of another section" if not is_from(section, found) else ""
+                wrong = wrong or ("" if readers(site, found) else "is cited by no contract")
+                if wrong:
+                    yield "%s: %s: %s of %s %s" % (place, one.name, name, crate, wrong)
+    shown = {number for title in titles for number, _, _ in blocks_of(title)}
+    for number, of_standard, _ in blocks():
+        if of_standard and number not in shown:
+            yield "%s:%d: no section of %s shows these rows" % ("/".join(ROWS), number, api_pages.STANDARD)
+    yield from without_production()

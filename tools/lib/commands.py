@@ -1,0 +1,57 @@
+"""The subcommands of the tools that have some: of each the module and its function, `main` if no other is named, and what it does."""
+import importlib
+import sys
+
+import common
+
+COMMANDS = {
+    "compare": {
+        "listings": ("compare_streams:listings", "listings of random streams"),
+        "dump": ("compare_dumps:dump", "dumps of random streams and of modules"),
+        "forms": ("compare_forms", "dumps as JSON, with names, bytes, colors and hexadecimal offsets, with those in lines"),
+        "golden": ("compare_dumps:golden", "listings and dumps with what wasmparser 0.263.0 says of the streams of tools/golden.jsonl"),
+        "items": ("compare_dumps:items", "items of random bytes and of modules"),
+        "pieces": ("compare_streams:chunks", "chunked streams, and each step of a feeder"),
+        "pipe": ("compare_streams:pipe", "a stream that comes byte by byte through a pipe, line by line"),
+        "strip": ("compare_streams:strip", "stripped streams, also with wasm-strip of wabt"),
+        "soak": ("compare_streams:soak", "random, mutated and spliced streams, for as long as you like"),
+        "surface": ("compare_surface", "the public items of the crate for Rust with those of wasmparser 0.263.0"),
+    },
+    "try": {
+        "tests": ("try_tests", "the tests of tests/ and the benchmark, without proofs"),
+        "examples": ("try_examples", "the examples of the doc comments, without proofs"),
+        "c": ("try_c", "the C library, its examples, and the bindings for Rust and Python"),
+        "cross": ("try_cross", "the C library for aarch64, under qemu"),
+        "desktops": ("try_desktops", "the C library for Windows, macOS, FreeBSD and riscv64, and its packages"),
+        "js": ("try_js", "the JavaScript package in Node and browsers, and bundles of it"),
+        "documents": ("try_documents", "the programs of docs/CALLING.md, in each language"),
+        "page": ("try_page", "the page, in Chromium and Firefox"),
+        "packages": ("try_packages", "each package as its user would, and a clone in a system without the toolchain"),
+        "readme": ("try_readme", "every command and program of README.md, in a new clone"),
+    },
+    "generate": {
+        "documents": ("documents", "the tables of docs/PROVED.md and docs/DEFINITIONS.md, from comments over clauses and definitions"),
+        "header": ("generate_header", "the header of the C library, and the declarations of the bindings"),
+        "codes": ("generate_codes", "the numbers of enumerations for the crate for Rust, from the header"),
+        "manuals": ("generate_manuals", "manual pages of ten calls of the C library, from the header"),
+    },
+    "bench": {
+        "tables": ("bench_tables", "instructions and times on made files"),
+        "files": ("bench_files", "times of the programs on whole files, next to other tools"),
+        "inlining": ("bench_inlining", "instructions if functions are inlined otherwise, without proofs"),
+    },
+}
+
+
+def run(tool, about):
+    """Runs the subcommand that the first argument names. Without one, it says which there are."""
+    known, words = COMMANDS[tool], sys.argv[1:]
+    if not words or words[0] in ("-h", "--help"):
+        rows = "".join("    tools/%s %-10s %s\n" % (tool, name, said) for name, (_, said) in known.items())
+        print("%s\n\n%s\n`tools/%s NAME --help` says more." % (about.strip(), rows, tool))
+        return 0 if words else common.WRONG_USE
+    if words[0] not in known:
+        common.stop(common.WRONG_USE, "there is no %s; there are %s" % (words[0], ", ".join(known)))
+    sys.argv = ["tools/%s %s" % (tool, words[0]), *words[1:]]
+    module, _, name = known[words[0]][0].partition(":")
+    return getattr(importlib.import_module(module), name or "main")()

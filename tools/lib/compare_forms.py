@@ -1,0 +1,267 @@
+"""Compares dumps as JSON, with names, with bytes, and with hexadecimal offsets, by the built program wasm_dump, with its dump in lines.
+
+    tools/compare forms               the golden streams and 300 random ones, from seed 1
+    tools/compare forms 7 0 a.wasm    the golden streams and the files
+
+Each line of a dump as JSON must be an object as Python reads it, with no name twice, in UTF-8; there are as many as lines. The line that an
+object has by docs/DUMP.md is the line of the dump: each value is the same, and a field that the line leaves out is false or null. With --names
+the lines are the same but for the names that the model reads in the custom sections `name`, also as JSON. Of two files each object follows
+that of its file. Of a dump with bytes the rows must go on where the one before ends, show sixteen bytes at most and together the stream, up
+to the fault that ends it, and the rest must be the dump in lines. With --hex the offsets of lines and rows must be the same in hexadecimal,
+and with --color the text must be the same. tools/compare dump compares the dump in lines with a model.
+"""
+import json
+import random
+import re
+import tempfile
+from itertools import zip_longest
+
+import common
+import comparing
+import programs
+import standard
+from made import module, named_module, other_names
+from modules import section, stream_of
+from streams import COMPONENT, some_stream
+from texts import in_decimal, value_end
+
+# The line of an object of the first level. A section has the form of its name, if that is here.
+EVENTS = {
+    "version": "version {range} {num} {encoding}", "body": "body {range} {number}", "end": "end {offset}", "fault": "fault {offset} {fault}",
+    "start": "start {range} {func}", "datacount": "datacount {range} {count}", "code": "code {range} {count} {size}",
+    "custom": "custom {range} {data_offset}", "section": "section {id} {range} {count} {name}", "unknown": "unknown {id} {range}",
+}
+# The members of an object that are the start of its line, and the fields that a line has as a word, without a name.
+START, WORDS = {"level", "at", "line", "space", "number", "item_name"}, {"kind", "known", "prefix", "symbol", "value"}
+ROW = re.compile(r"(\d+) \|((?: [0-9a-f]{2}){1,16})\Z")
+# What sets a color. No dump has such bytes of its own: texts in quotes escape them.
+COLOR = re.compile(rb"\x1b\[[0-9;]*m")
+# The number of an item in its line.
+NUMBER = re.compile(r"((?:  \d+|   |body \d+ \d+) (type|func|table|memory|tag|global|elem|data)\[(\d+)\])(.*)\Z")
+# The index spaces that subsections of names are for, and what a model writes of such a section: subsections in braces, and lists in them.
+SPACES = {1: "func", 4: "type", 5: "table", 6: "memory", 7: "global", 8: "elem", 9: "data", 11: "tag"}
+NAME = re.compile(r"(\d*)([{}])|name\((\d+) x([0-9a-f]*) |(fault)")
+
+
+def once(pairs):
+    names = [name for name, _ in pairs]
+    assert len(names) == len(set(names)), "a name twice in %s" % pairs
+    return dict(pairs)
+
+
+def quoted(text):
+    """A text as lines have it."""
+    return '"%s"' % "".join(chr(byte) if 32 <= byte < 127 and chr(byte) not in '"\\' else "\\%02x" % byte for byte in text.encode())
+
+
+def plain(value):
+    """A value as lines have it without quotes."""
+    if isinstance(value, list):
+        return "%d..%d" % tuple(value)
+    return str(value).lower() if isinstance(value, bool) else str(value)
+
+
+# ---- objects
+
+
+def numbered(said):
+    """The number of an item or a body, and its name."""
+    if "space" not in said:
+        assert "number" not in said and "item_name" not in said, said
+        return ""
+    return "%s[%d]" % (said["space"], said["number"]) + (" " + quoted(said["item_name"]) if "item_name" in said else "")
+
+
+def kind_of(said):
+    """Which of EVENTS an object is."""
+    if said["event"] != "section":
+        return said["event"]
+    if said["name"] is None:
+        assert said["id"] not in standard.NAMES or set(said) == {"event", "range", "id", "name"}, said
+        return "unknown"
+    assert standard.NAMES[said["id"]] == said["name"], said
+    return said["name"] if said["name"] in EVENTS else "section"
+
+
+def fault_of(said):
+    """The message of a fault, with its number."""
+    return said["fault"] + ("" if said["number"] is None else ": %d" % said["number"])
+
+
+def check_event(line, said):
+    """An object of the first level has what its line has, and no more."""
+    form, known = EVENTS[kind_of(said)], {"event", "name", "id", "space", "number", "item_name", "custom_name"}
+    values = {**said, "range": " ".join(map(str, said.get("range", ())))}
+    values["number"] = numbered(said) if said["event"] == "body" else None
+    values["fault"] = said["event"] == "fault" and fault_of(said)
+    assert form.format(**values).strip() == line, line
+    assert set(said) - known == set(re.findall(r"\w+(?=\})", form)) - known, line
+
+
+def fields_of(text):
+    """The fields of a line, in order. An expression is several parentheses."""
+    place = 0
+    while place < len(text):
+        start = place + len(re.match(r"(?:\w+=)?", text[place:])[0])
+        end = value_end(text, start)
+        while text.startswith("(", start) and text.startswith(" (", end):
+            end = value_end(text, end + 1)
+        yield text[place:end]
+        place = end + 1
+
+
+def check_item(line, said):
+    """An object of another level has the fields of its line in their order, and those that are left out as false or null."""
+    indent = "  " * said["level"]
+    if "fault" in said:
+        assert line == "%sfault %d %s" % (indent, said["offset"], fault_of(said)), line
+        return
+    words = [str(said["at"])] if "at" in said else []
+    start = indent + " ".join(filter(None, words + [said.get("line", ""), numbered(said)]))
+    assert line.startswith(start) and line[len(start) :][:1] in ("", " ") or start == indent, line
+    shown = list(fields_of(line[len(start) :].lstrip(" ")))
+    for name, value in said.items():
+        if name in START:
+            continue
+        texts = {plain(value), quoted(value)} if isinstance(value, str) else {plain(value)}
+        forms = {"%s=%s" % (name, text) for text in texts} | (texts if name in WORDS else set())
+        if value is not None and shown and shown[0] in forms:
+            shown.pop(0)
+        else:
+            assert value is None or value is False, "%s is %s in the object of %s" % (name, value, line)
+    assert not shown, "%s is not in the object of %s" % (shown, line)
+
+
+def objects_in(output):
+    return [json.loads(text, object_pairs_hook=once) for text in output.decode().splitlines()]
+
+
+def check_objects(lines, objects):
+    assert len(objects) == len(lines), "%d objects of %d lines" % (len(objects), len(lines))
+    custom = None
+    for line, said in zip(lines, objects):
+        if "event" in said:
+            check_event(line, said)
+            custom = said.get("custom_name")
+        else:
+            assert said["level"] > 1 or custom is None or said["name"] == custom, "%s is custom_name of %s" % (custom, line)
+            check_item(line, said)
+
+
+# ---- names
+
+
+def names_in(stream):
+    """The names of items, each by its index space and its number: the first of each. They end at the first fault of such a section, or of a
+    list of these names: faults of others, as of locals, don't matter."""
+    names, space, depth = {}, None, 0
+    sections_of_names = [line for line in common.load(common.MODEL_OF_ITEMS).listing(stream) if line.startswith("  x6e616d65 ")]
+    for ident, brace, number, name, fault in NAME.findall(" ".join(sections_of_names)):
+        if fault and (space or depth == 0):
+            break
+        if brace:
+            space = SPACES.get(int(ident)) if ident else space if depth > 1 else None
+            depth += 1 if brace == "{" else -1
+        elif space and not fault:
+            names.setdefault((space, int(number)), bytes.fromhex(name).decode())
+    return names
+
+
+def with_names(lines, names):
+    """The lines of a dump, with the name of each numbered item."""
+    for line in lines:
+        found = NUMBER.match(line)
+        name = names.get((found[2], int(found[3]))) if found else None
+        yield line if name is None else "%s %s%s" % (found[1], quoted(name), found[4])
+
+
+def check_names(lines, named, stream):
+    for line, wanted in zip_longest(named, with_names(lines, names_in(stream)), fillvalue=""):
+        assert line == wanted, "%s in place of %s" % (line, wanted)
+
+
+# ---- bytes, offsets and files
+
+def check_rows_before(line, start, end):
+    """The rows before the line of an item, which show these bytes, begin with its first byte."""
+    item = re.match(r" +(\d+) ", line)
+    assert not item or int(item[1]) == start < end, "the bytes %d..%d before %s" % (start, end, line)
+
+
+def check_bytes(lines, output, stream):
+    others, shown, start = [], b"", 0
+    for line in output.decode().splitlines():
+        row = ROW.match(line)
+        if row:
+            assert int(row.group(1)) == len(shown), "the row %s after %d bytes" % (line, len(shown))
+            shown += bytes.fromhex(row.group(2))
+        else:
+            check_rows_before(line, start, len(shown))
+            others.append(line)
+            start = len(shown)
+    assert others == lines, "other lines than without bytes"
+    assert stream.startswith(shown), "other bytes than those of the stream"
+    assert lines[-1].startswith("fault") or shown == stream, "%d bytes of %d" % (len(shown), len(stream))
+
+
+def check_hexadecimal(output, hexadecimal):
+    for line, other in zip_longest(output.decode().splitlines(), hexadecimal.decode().splitlines(), fillvalue=""):
+        assert in_decimal(other) == line, "%s in place of %s" % (other, line)
+
+
+class Dumps:
+    """The dumps of a stream, which is in a file. All have the same status."""
+
+    def __init__(self, words, path):
+        self.words, self.path, self.statuses = words, path, set()
+
+    def run(self, *words):
+        output, status, _ = programs.run([*self.words, *words, self.path])
+        self.statuses.add(status)
+        return output
+
+    def check(self, stream):
+        text, rows, hexadecimal = self.run(), self.run("--bytes"), self.run("--hex")
+        lines, named = text.decode().splitlines(), self.run("--names").decode().splitlines()
+        check_objects(lines, objects_in(self.run("--json")))
+        check_names(lines, named, stream)
+        check_objects(named, objects_in(self.run("--names", "--json")))
+        check_bytes(lines, rows, stream)
+        check_hexadecimal(text, hexadecimal)
+        check_hexadecimal(rows, self.run("--hex", "--bytes"))
+        assert COLOR.sub(b"", self.run("--color", "--hex")) == hexadecimal, "another text with colors"
+        assert len(self.statuses) == 1, "statuses %s" % sorted(self.statuses)
+
+    def check_files(self):
+        """Two files: the first object, and the first line, of each have its path as it was given."""
+        lines, objects = self.run(self.path).decode().splitlines(), objects_in(self.run("--json", self.path))
+        alone, alone_objects = self.run().decode().splitlines(), objects_in(self.run("--json"))
+        assert lines == 2 * [self.path + ":", *alone], "other lines of two files"
+        assert objects == 2 * [{"file": self.path}, *alone_objects], "other objects of two files"
+
+
+def forms_differ(words, stream):
+    """What differs of the dumps of a stream; of each tenth two files are dumped too."""
+    with tempfile.NamedTemporaryFile(suffix=".wasm") as file:
+        file.write(stream)
+        file.flush()
+        dumps = Dumps(words, file.name)
+        try:
+            dumps.check(stream)
+            if sum(stream) % 10 == 0:
+                dumps.check_files()
+        except (AssertionError, LookupError, ValueError) as error:
+            return str(error)[:400]
+    return None
+
+
+def main():
+    given = comparing.arguments(__doc__, "dump", numbers=[("seed", 1), ("count", 300)], files=True, show=5)
+    rng = random.Random(given.seed)
+    # Two sections of names, a shared memory, and a section of a component with an id that modules have.
+    streams = [named_module(), named_module() + other_names(), module(section(5, b"\1\3\1\2")), COMPONENT + section(1, b"\0")]
+    streams += [stream for stream, _ in common.golden()] + [(stream_of if number % 2 else some_stream)(rng) for number in range(given.count)]
+    for path in given.files:
+        with open(path, "rb") as file:
+            streams.append(file.read())
+    return comparing.compare(given, streams, comparing.one_by_one(lambda stream: forms_differ(given.command, stream)))

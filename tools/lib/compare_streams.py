@@ -1,0 +1,331 @@
+"""Comparisons of how streams are listed, stripped and read in chunks, with tools/model/model.py."""
+import itertools
+import multiprocessing
+import os
+import random
+import resource
+import select
+import shutil
+import subprocess
+import tempfile
+import time
+
+import common
+import comparing
+import pieces
+import programs
+from standard import CUSTOM_SECTION
+from streams import random_bytes, some_large_stream, some_stream
+from texts import number_at
+
+NUMBERS = [("seed", 1), ("count", 10000)]
+
+
+def differing(said, wanted):
+    """Both in a text, if they differ."""
+    return None if said == wanted else "program %s\n  model   %s" % (str(said)[:2000], str(wanted)[:2000])
+
+
+# ---- listings
+
+
+def listing_differs(words, model, stream, **options):
+    expected = model.reading(stream, 0, True)
+    return differing(programs.lines_of(words, stream, **options), (expected, programs.status(expected), b""))
+
+
+def listings():
+    """Lists random streams, and compares the listings with those of a model.
+
+    tools/compare listings            10,000 streams, from seed 1
+    tools/compare listings 7 200      200 streams, from seed 7
+    """
+    given = comparing.arguments(listings.__doc__, "list", common.MODEL, numbers=NUMBERS)
+    streams = comparing.drawn(given, some_stream, some_large_stream)
+    return comparing.compare(given, streams, comparing.one_by_one(lambda data: listing_differs(given.command, given.known, data)))
+
+
+# ---- through a pipe
+
+
+def decided(model, stream):
+    """The lines of the events that these bytes decide, and whether the last is among them."""
+    state, place, out = model.State(0, True), 0, []
+    while model.short(state, stream, place) is None:
+        try:
+            line, used, state = model.next_event(state, stream, place)
+        except model.Fault as fault:
+            return out + [fault.line()], True
+        out.append(line)
+        place += used
+    return out, False
+
+
+def text(lines):
+    return "".join(line + "\n" for line in lines).encode()
+
+
+def read_until(source, got, size):
+    """What was written, once it is as long as this, or after two seconds."""
+    end = time.time() + 2
+    while len(got) < size and time.time() < end:
+        if select.select([source], [], [], 0.5)[0]:
+            more = source.read()
+            if more == b"":
+                break
+            got += more or b""
+    return got
+
+
+def piped_differs(words, model, stream):
+    child, got = subprocess.Popen(words, stdin=subprocess.PIPE, stdout=subprocess.PIPE, bufsize=0), b""
+    os.set_blocking(child.stdout.fileno(), False)
+    for place in range(len(stream)):
+        child.stdin.write(stream[place : place + 1])
+        lines, is_last = decided(model, stream[: place + 1])
+        got = read_until(child.stdout, got, len(text(lines)))
+        if got != text(lines):
+            child.kill()
+            child.wait()
+            return "after %d bytes: %s" % (place, differing(got, text(lines)))
+        if is_last:
+            break
+    child.stdin.close()
+    child.wait()
+    return differing(got + (child.stdout.read() or b""), text(model.reading(stream, 0, True)))
+
+
+def pipe():
+    """Gives streams to the listing through a pipe, a byte at a time, and compares each line as it comes with a model.
+
+    tools/compare pipe          for 30 seconds, from seed 1
+    tools/compare pipe 7 300    for five minutes, from seed 7
+
+    After each byte the program has written the lines of the events that the bytes so far decide, and no others.
+    """
+    given = comparing.arguments(pipe.__doc__, "list", common.MODEL, numbers=[("seed", 1), ("seconds", 30)])
+    rng, end = random.Random(given.seed), time.time() + given.seconds
+    streams = itertools.takewhile(lambda _: time.time() < end, iter(lambda: some_stream(rng)[:3000], None))
+    return comparing.compare(given, streams, lambda many: [piped_differs(given.command, given.known, one) for one in many], size=1)
+
+
+# ---- chunks
+
+# Beginnings of modules, and bytes that may come after them.
+BEGINNINGS = ["", "0061736d01000000", "0061736d0d000100"] + ["0061736d01000000" + rest for rest in [
+    "010100", "03020100", "0c0101", "0c0100", "0a0100", "030201000a0401", "030202000a0802", "030202000a08020100",
+    "030201000a0101", "030201000a020100", "030201000a030100", "030201000affffffff0f01", "0b0100"]]
+ALPHABET = [0x00, 0x01, 0x02, 0x03, 0x05, 0x0A, 0x0B, 0x0C, 0x61, 0x73, 0x6D, 0x7F, 0x80, 0xFF]
+
+
+def short_streams(depth):
+    """All streams that continue some beginnings by up to this many bytes."""
+    for beginning in BEGINNINGS:
+        for length in range(depth + 1):
+            yield from (bytes.fromhex(beginning) + bytes(more) for more in itertools.product(ALPHABET, repeat=length))
+
+
+def cuttings(stream, has_random):
+    """An offset, and the stream in chunks: byte by byte, and if that is wanted in others, also empty ones, which the stream decides."""
+    rng, each = random.Random(stream), [stream[i : i + 1] for i in range(len(stream))]
+    if not has_random:
+        return 0, [each]
+    offset = rng.choice([0, 0, 7, 1000, 70000, (1 << 64) - 65 - 4 * len(stream)])
+    return offset, [pieces.cut(rng, stream), each, pieces.with_empty(rng, pieces.cut(rng, stream))]
+
+
+def chunks_differ(words, model, streams, has_random=True):
+    """What differs of each stream, read by `read_pieces` and by a feeder in one run of the program."""
+    cases, wanted, owners = [], [], []
+    for place, stream in enumerate(streams):
+        offset, ways = cuttings(stream, has_random)
+        for way in ways:
+            cases += [pieces.case("events", offset, way), pieces.case("steps", offset, way)]
+            wanted += [pieces.expected_events(model, stream, offset), pieces.expected_steps(model, way, offset)]
+            owners += [place, place]
+    found = [None] * len(streams)
+    for place, row, line, expected in zip(owners, cases, pieces.run(words, cases), wanted):
+        text = differing(pieces.said_of(line), expected)
+        found[place] = found[place] or text and row[:2000] + "  " + text
+    return found
+
+
+def chunks():
+    """Reads chunked streams, and compares the events, and each step of a feeder, with a model.
+
+    tools/compare pieces              10,000 random streams, from seed 1
+    tools/compare pieces --short 2    all streams that go on from some beginnings by up to 2 bytes, byte by byte
+
+    Each stream is cut at random, byte by byte, and with empty chunks between. Of each step of a feeder the request or the bytes that it consumed
+    are compared, what is then held, and what is stored.
+    """
+    more = [("--short", {"metavar": "DEPTH", "type": common.whole, "help": "short streams instead of random ones"})]
+    given = comparing.arguments(chunks.__doc__, "rows", common.MODEL, numbers=NUMBERS, show=5, more=more)
+    streams = comparing.drawn(given, some_stream) if given.short is None else short_streams(given.short)
+    return comparing.compare(given, streams, lambda many: chunks_differ(given.command, given.known, many, given.short is None))
+
+
+# ---- stripping
+
+
+def sections(data):
+    """The sections of a stream without a fault: of each its id, its bytes and its content."""
+    place = 8
+    while place < len(data):
+        size, start = number_at(data, place + 1)
+        yield data[place], data[place : start + size], data[start : start + size]
+        place = start + size
+
+
+def name_of(content):
+    """The name that a custom section begins with."""
+    size, start = number_at(content, 0)
+    return content[start : start + size].decode()
+
+
+def stripped(data, stays=lambda name: False):
+    """A stripped stream, if it has no fault; custom sections with some names may stay."""
+    return data[:8] + b"".join(whole for ident, whole, content in sections(data) if ident != CUSTOM_SECTION or stays(name_of(content)))
+
+
+# Options of strip, and whether a custom section with a name stays.
+CHOICES = [
+    ([], lambda name: False),
+    (["--keep-names"], lambda name: name == "name"),
+    (["--keep", "name", "--keep", "a"], lambda name: name in ("name", "a")),
+    (["--only", "name"], lambda name: name != "name"),
+    (["--only", "name", "--only", "a", "--keep-names"], lambda name: name != "a"),
+]
+
+
+def message(line):
+    """What is said of the fault that a listing ends with."""
+    _, offset, said = line.split(" ", 2)
+    return ("%s (at offset 0x%x)\n" % (said, int(offset))).encode()
+
+
+def strip_differs(words, model, data):
+    """What differs of a stream that is stripped from its input and from a file, which is read twice; the result must list and strip the same."""
+    lines = model.reading(data, 0, True)
+    with tempfile.NamedTemporaryFile(suffix=".wasm") as file:
+        file.write(data)
+        file.flush()
+        for options, stays in CHOICES:
+            wanted = (b"", 1, message(lines[-1])) if programs.status(lines) else (stripped(data, stays), 0, b"")
+            for way, stream in (([], data), ([file.name], b"")):
+                text = differing(programs.run([*words, *options, *way], stream), wanted)
+                if text:
+                    return "strip %s %s: %s" % (" ".join(options), "FILE" if way else "", text)
+    if programs.status(lines):
+        return None
+    left, list_words = stripped(data), programs.command("list", words[0])
+    return (differing(model.strip(data), left) or differing(programs.run(words, left), (left, 0, b""))
+            or differing(programs.lines_of(list_words, left), (model.reading(left, 0, True), 0, b"")))
+
+
+def wabt_differs(words, data):
+    """Whether a stripped stream has other sections than wasm-strip leaves, which writes their lengths anew."""
+    with tempfile.NamedTemporaryFile(suffix=".wasm") as file:
+        file.write(data)
+        file.flush()
+        done = subprocess.run(["wasm-strip", file.name], stderr=subprocess.PIPE)
+        with open(file.name, "rb") as again:
+            others = again.read()
+    left = programs.run(words, data)[0]
+    same = others[:8] == left[:8] and [(i, c) for i, _, c in sections(others)] == [(i, c) for i, _, c in sections(left)]
+    return None if same and not done.returncode else "wasm-strip leaves other sections, or refuses it: %r" % done.stderr[:200]
+
+
+def strip():
+    """Strips random streams and given files, and compares the results with a model.
+
+    tools/compare strip               2,000 streams, from seed 1
+    tools/compare strip 7 0 a.wasm    the modules of a file, also with wasm-strip of wabt, if it is installed
+
+    What is left of a stream is its header and its sections but the custom ones, byte for byte, and those that options keep; of a stream
+    with a fault nothing is left, and the fault is reported. What is left must list without a fault, and be left by stripping it again.
+    """
+    given = comparing.arguments(strip.__doc__, "strip", common.MODEL, numbers=[("seed", 1), ("count", 2000)], files=True)
+    others = set(common.modules_of(given.files)) if shutil.which("wasm-strip") else ()
+
+    def differs(data):
+        return strip_differs(given.command, given.known, data) or (wabt_differs(given.command, data) if data in others else None)
+
+    return comparing.compare(given, comparing.drawn(given, some_stream), comparing.one_by_one(differs))
+
+
+# ---- for a while
+
+LARGEST = 30000
+# What the program may map beside the stream: its own text, the C library, a chunk and a page of lines.
+ROOM = 12 << 20
+
+
+def mutated(rng, data):
+    out = bytearray(data)
+    for _ in range(rng.choice([1, 1, 1, 2, 3, 10])):
+        place, how = rng.randrange(len(out) + 1), rng.random()
+        if how < 0.4 and place < len(out):
+            out[place] = rng.choice([0, 1, 3, 10, 11, 12, 127, 128, 255, rng.randrange(256), out[place] ^ 1 << rng.randrange(8)])
+        elif how < 0.6:
+            out[place:place] = random_bytes(rng, rng.randrange(1, 9))
+        elif how < 0.8:
+            del out[place : place + rng.randrange(1, 9)]
+        elif how < 0.9:
+            del out[place:]
+        else:
+            out += bytes(rng.randrange(300)) if rng.random() < 0.5 else some_stream(rng)[8:]
+    return bytes(out)
+
+
+def source(rng, files):
+    """A random stream, a file, or a part of one."""
+    data = rng.choice(files) if files and rng.random() < 0.4 else some_stream(rng)
+    start = rng.randrange(max(1, len(data) - LARGEST)) if rng.random() < 0.5 else 0
+    return data if len(data) <= LARGEST else data[:8] * bool(start) + data[start : start + rng.randrange(LARGEST)]
+
+
+def spliced(rng, files):
+    """A source, or two that are joined at random places, often with some bytes changed."""
+    data = source(rng, files)
+    if rng.random() < 0.2:
+        other = source(rng, files)
+        data = data[: rng.randrange(len(data) + 1)] + other[rng.randrange(len(other) + 1) :]
+    return mutated(rng, data) if rng.random() < 0.6 else data
+
+
+def soaked(task):
+    """What differs of 200 streams of a seed: in chunks, and of each tenth the listing in little memory."""
+    seed, model, paths, row_words, list_words = task
+    files, rng, known = [open(path, "rb").read() for path in paths], random.Random(seed), common.load(model)
+    streams = [spliced(rng, files) for _ in range(200)]
+    found = list(zip(streams, chunks_differ(row_words, known, streams)))
+    for stream in streams[::10]:
+        size = ROOM + 4 * len(stream)
+        limit = lambda: resource.setrlimit(resource.RLIMIT_AS, (size, size))
+        found.append((stream, listing_differs(list_words, known, stream, preexec_fn=limit)))
+    return sum(map(len, streams)), ["seed %s, %s\n  %s" % (seed, stream.hex()[:2000], text) for stream, text in found if text]
+
+
+def soak():
+    """Reads random streams for a while, and compares what the programs say with a model.
+
+    tools/compare soak                        a minute, from seed 1
+    tools/compare soak 7 28800 --jobs 4 FILE  eight hours, with real files
+
+    A stream is a random one, a FILE or a part of it, two of these joined at random places, or any of them with bytes changed, cut off or put in. It is
+    read in chunks, and listed with no more memory than a few times what it is given. Each difference is printed with its seed.
+    """
+    more = [("--jobs", {"metavar": "N", "type": common.whole, "default": 1, "help": "how many processes (1)"})]
+    given = comparing.arguments(soak.__doc__, None, common.MODEL, numbers=[("seed", 1), ("seconds", 60)], files=True, show=3, more=more)
+    words, end = (programs.command("rows"), programs.command("list")), time.time() + given.seconds
+    count = size = differ = 0
+    with multiprocessing.Pool(max(given.jobs, 1)) as pool:
+        while time.time() < end:
+            seeds = ["%d-%d" % (given.seed, count // 200 + job) for job in range(max(given.jobs, 1))]
+            for read, found in pool.map(soaked, [(seed, given.model, given.files, *words) for seed in seeds]):
+                count, size, differ = count + 200, size + read, differ + len(found)
+                for line in found[: given.show]:
+                    print("DIFFERS", line, flush=True)
+    print("%d streams of %d bytes, %d differ (seed %s)" % (count, size, differ, given.seed))
+    return common.DIFFERS if differ else 0

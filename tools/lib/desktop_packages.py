@@ -1,0 +1,242 @@
+"""Checks of the packages for Windows and macOS: the wheels, the library that the crate links, and that CMake finds and links what the zips and tarballs have."""
+import glob
+import os
+import re
+import shutil
+import struct
+import subprocess
+import sys
+import tempfile
+import zipfile
+
+import cargo
+import common
+import desktops
+import packages
+import wine
+
+sys.path.insert(0, os.path.join(common.TOP, "bindings", "python"))
+from pulleynavy import _library, declared
+
+# For each target: the tag of its wheel (PEP 425), systems that pip installs it on, one that it doesn't, what Python calls the system, and the number
+# of the processor in the headers of PE and Mach-O.
+WHEELS = {
+    "x86_64-windows": ("win_amd64", ["win_amd64"], "win_arm64", "win32", 0x8664),
+    "aarch64-windows": ("win_arm64", ["win_arm64"], "win_amd64", "win32", 0xAA64),
+    "x86_64-macos": ("macosx_11_0_x86_64", ["macosx_11_0_x86_64", "macosx_13_0_x86_64"], "macosx_10_15_x86_64", "darwin", 0x1000007),
+    "aarch64-macos": ("macosx_11_0_arm64", ["macosx_11_0_arm64", "macosx_15_0_arm64"], "macosx_11_0_x86_64", "darwin", 0x100000C),
+}
+# Loads the library of a wheel as `ctypes` does, with the calls that the package names, for a program that is linked with these calls.
+LOADER = common.read("tools", "lib", "templates", "wheel_loader.c")
+JUMP = '__asm__(".globl {0}\\n{0}: jmp *calls+{1}(%rip)");\n'
+# Two programs over a package: with the shared library, which is put beside it, and with the archive.
+CMAKE = common.read("tools", "lib", "templates", "CMakeLists.txt")
+# A program that needs nothing of a system but the library, and has the two functions that the library calls.
+ALONE = common.read("tools", "lib", "templates", "alone.c")
+# The library that the crate links for each target of Rust, in a folder of targets.
+CRATE = {
+    "x86_64-pc-windows-gnu": "x86_64-windows/libpulleynavy.a",
+    "x86_64-pc-windows-msvc": "x86_64-windows/pulleynavy.lib",
+    "aarch64-pc-windows-gnullvm": "aarch64-windows/libpulleynavy.a",
+    "aarch64-pc-windows-msvc": "aarch64-windows/pulleynavy.lib",
+    "x86_64-apple-darwin": "x86_64-macos/libpulleynavy.a",
+    "aarch64-apple-darwin": "aarch64-macos/libpulleynavy.a",
+    "x86_64-unknown-freebsd": "x86_64-freebsd/libpulleynavy.a",
+    "riscv64gc-unknown-linux-gnu": "riscv64-linux/libpulleynavy.a",
+}
+# One that it has no library for.
+NO_TARGET = "powerpc64le-unknown-linux-gnu"
+# How a program is linked with the shared library, as llvm-readobj prints it.
+NEEDED = {"windows": "pulleynavy.dll", "macos": "@rpath/libpulleynavy.dylib"}
+# CMake asks this program for the version of macOS.
+SW_VERS = "#!/bin/sh\necho 11.0\n"
+
+
+class Failed(Exception):
+    """A command failed."""
+
+
+def must(words, folder=None, **more):
+    """What a command prints. No library is named to it."""
+    environment = {name: value for name, value in os.environ.items() if name != "PULLEYNAVY_LIB"}
+    done = subprocess.run(words, cwd=folder, stdin=subprocess.DEVNULL, stdout=subprocess.PIPE, stderr=subprocess.STDOUT, env={**environment, **more})
+    text = done.stdout.decode(errors="replace")
+    if done.returncode:
+        raise Failed("%s: status %d\n%s" % (" ".join(words), done.returncode, text[-3000:]))
+    return text
+
+
+def written(path, text):
+    os.makedirs(os.path.dirname(path), exist_ok=True)
+    with open(path, "w", encoding="ascii") as file:
+        file.write(text)
+    return path
+
+
+def make(targets, folder):
+    """Makes the packages for C, and the wheels if this machine has what makes them. Returns whether there are wheels."""
+    os.environ.setdefault("SOURCE_DATE_EPOCH", "1")
+    packages.targets = targets
+    try:
+        packages.zips(folder, folder)
+        packages.desktop_tarballs(folder)
+        packages.desktop_wheels(folder, os.path.join(folder, "wheels"))
+    except packages.Missing as program:
+        common.skip("missing: %s, so there are no wheels for Windows and macOS" % program)
+        return False
+    return True
+
+
+# ---- wheels
+
+
+def machine_of(data):
+    """The number of the processor in the header of a library for Windows or macOS."""
+    if data[:2] == b"MZ":
+        return struct.unpack_from("<H", data, struct.unpack_from("<I", data, 60)[0] + 4)[0]
+    return struct.unpack_from("<II", data)[1] if data[:4] == b"\xcf\xfa\xed\xfe" else None
+
+
+def wrong_wheel(path, tag, system, machine):
+    """What is wrong in a wheel: its tags, its library or the processor of that."""
+    with zipfile.ZipFile(path) as wheel:
+        files = {name: wheel.read(name) for name in wheel.namelist()}
+    [described] = [text.decode().splitlines() for name, text in files.items() if name.endswith(".dist-info/WHEEL")]
+    if [line for line in described if line.startswith(("Tag: ", "Root-Is-Purelib: "))] != ["Root-Is-Purelib: false", "Tag: py3-none-" + tag]:
+        yield "%s: its file WHEEL says %s" % (path, described)
+    libraries = [name for name in files if not name.endswith((".py", "/py.typed")) and name.startswith("pulleynavy/")]
+    if libraries != ["pulleynavy/" + _library.name_on(system)]:
+        yield "%s has %s" % (path, libraries)
+    elif machine_of(files[libraries[0]]) != machine:
+        yield "%s: the library is for the processor %s" % (path, machine_of(files[libraries[0]]))
+
+
+def chosen(folder, platform):
+    """The wheel of a folder that pip installs on a system, if there is one."""
+    with tempfile.TemporaryDirectory() as out:
+        words = ["pip3", "--disable-pip-version-check", "download", "--quiet", "--no-index", "--no-deps", "--find-links", folder, "--dest", out]
+        subprocess.run([*words, "--only-binary=:all:", "--platform", platform, "pulleynavy"], stdout=subprocess.DEVNULL, stderr=subprocess.DEVNULL)
+        return next(iter(os.listdir(out)), None)
+
+
+def wrong_wheels(folder, targets):
+    """What is wrong in the wheels of these targets, and in what pip and twine say of them."""
+    names = {target: "pulleynavy-%s-py3-none-%s.whl" % (common.version(), WHEELS[target][0]) for target in targets}
+    made = sorted(os.path.basename(path) for path in glob.glob(folder + "/*.whl"))
+    if made != sorted(names.values()):
+        yield "there are the wheels %s" % made
+        return
+    for target, name in names.items():
+        tag, systems, other, system, machine = WHEELS[target]
+        yield from wrong_wheel(os.path.join(folder, name), tag, system, machine)
+        if common.found("pip3"):
+            yield from ("pip chooses %s on %s" % (chosen(folder, one), one) for one in systems if chosen(folder, one) != name)
+            if chosen(folder, other) == name:
+                yield "pip chooses %s on %s" % (name, other)
+    if common.found("twine"):
+        must(["twine", "--no-color", "check", "--strict", *glob.glob(folder + "/*.whl")])
+
+
+def loader(folder, wheel):
+    """The source that loads the library of the wheel for Windows, and the path of that library as Windows has it."""
+    shutil.unpack_archive(wheel, os.path.join(folder, "wheel"), "zip")
+    calls = list(declared.CALLS)
+    text = LOADER % (len(calls), ", ".join('"%s"' % name for name in calls)) + "".join(JUMP.format(name, 8 * place) for place, name in enumerate(calls))
+    library = os.path.join(folder, "wheel", "pulleynavy", _library.name_on("win32"))
+    return written(os.path.join(folder, "loader.c"), text), "Z:" + library.replace("/", "\\")
+
+
+# ---- Rust
+
+
+def target_of(triple):
+    """What cargo passes to a build script for a target."""
+    said = dict(re.findall(r'^target_(arch|os|env)="(.*)"$', must(["rustc", "--print", "cfg", "--target", triple]), re.M))
+    return {"CARGO_CFG_TARGET_" + name.upper(): said.get(name, "") for name in ("arch", "os", "env")}
+
+
+def wrong_crate(targets, folder):
+    """The targets for which the build script of the crate links another library than that of the target."""
+    if not cargo.found() or not common.found("rustc"):
+        return
+    place = os.path.join(folder, "crate")
+    packages.crate(folder, place)
+    [made] = glob.glob(folder + "/*.crate")
+    shutil.unpack_archive(made, folder, "gztar")
+    package = made[: -len(".crate")]
+    must(["rustc", "--edition", "2024", package + "/build.rs", "-o", folder + "/build"])
+    for triple in [*CRATE, NO_TARGET]:
+        said = must([folder + "/build"], package, CARGO_MANIFEST_DIR=package, HOST="x86_64-unknown-linux-gnu", **target_of(triple))
+        found = dict(re.findall(r"^cargo::(rustc-link-search|rustc-link-lib|error)=(?:native=|static:\+verbatim=)?(.*)$", said, re.M))
+        if triple == NO_TARGET:
+            if "pulleynavy has no library for powerpc64 and linux" not in found.get("error", ""):
+                yield "build.rs says %r of %s" % (said, triple)
+            continue
+        linked = os.path.join(found.get("rustc-link-search", ""), found.get("rustc-link-lib", ""))
+        wanted = os.path.join(targets, CRATE[triple])
+        if os.path.basename(linked) != os.path.basename(wanted) or packages.read(linked) != packages.read(wanted):
+            yield "the crate links %s on %s: %s" % (linked, triple, found)
+
+
+# ---- CMake
+
+
+def unpacked(folder, target):
+    """The folder of a package for C, unpacked anywhere."""
+    top = "pulleynavy-%s-%s" % (common.version(), target)
+    place = os.path.join(folder, "unpacked here")
+    shutil.unpack_archive(os.path.join(folder, top + (".zip" if target.endswith("-windows") else ".tar.gz")), place)
+    return os.path.join(place, top)
+
+
+def built(place, package, sources, words, **more):
+    """Has CMake build both programs in a folder over a package. Returns the folder of the programs."""
+    written(os.path.join(place, "CMakeLists.txt"), CMAKE % (common.version(), " ".join('"%s"' % path for path in sources)))
+    must(["cmake", "-S", place, "-B", place + "/out", "-DCMAKE_PREFIX_PATH=" + package, *words], **more)
+    must(["cmake", "--build", place + "/out"], **more)
+    return place + "/out"
+
+
+def under_wine(folder, system):
+    """Scripts that run an example under wine, as CMake builds it with MinGW over the zip for Windows on x86-64."""
+    package = unpacked(folder, "x86_64-windows")
+    sources = [os.path.join(common.TOP, "crates", "wasm_c", "examples", "names.c"), wine.WITNESS]
+    out = built(os.path.join(folder, "cmake"), package, sources, ["-DCMAKE_SYSTEM_NAME=Windows", "-DCMAKE_C_COMPILER=" + wine.COMPILERS[0]])
+    return [system.running(os.path.join(out, name)) for name in ("names_pulleynavy.exe", "names_static.exe")]
+
+
+def options(target, stub):
+    """How CMake builds for a system without its headers and libraries."""
+    linked = "-fuse-ld=lld -nostdlib " + ("-Wl,--entry=main" if target.endswith("-windows") else stub)
+    words = {"C_COMPILER": "clang", "C_COMPILER_TARGET": desktops.TARGETS[target][1], "C_FLAGS": "-ffreestanding", "C_STANDARD_LIBRARIES": ""}
+    words |= {"TRY_COMPILE_TARGET_TYPE": "STATIC_LIBRARY", "EXE_LINKER_FLAGS": linked, "OSX_SYSROOT": ""}
+    words |= {"SYSTEM_NAME": "Windows" if target.endswith("-windows") else "Darwin"}
+    words |= {"AR": shutil.which("llvm-ar"), "RANLIB": shutil.which("llvm-ranlib"), "INSTALL_NAME_TOOL": shutil.which("llvm-install-name-tool")}
+    return ["-DCMAKE_%s=%s" % pair for pair in words.items()]
+
+
+def wrongly_linked(folder, target):
+    """What is wrong in the two programs that CMake links with clang and lld for a system that can't run here."""
+    if not common.all_found(["cmake", "clang", "lld", "llvm-ar", "llvm-readobj"]):
+        return
+    place = os.path.join(folder, "cmake-" + target)
+    os.chmod(written(os.path.join(place, "bin", "sw_vers"), SW_VERS), 0o755)
+    source, stub = written(os.path.join(place, "alone.c"), ALONE), written(os.path.join(place, "libSystem.tbd"), desktops.STUB)
+    path = os.path.join(place, "bin") + os.pathsep + os.environ["PATH"]
+    out = built(place, unpacked(folder, target), [source], options(target, stub), PATH=path)
+    for name in ("pulleynavy", "static"):
+        [program] = [path for path in glob.glob("%s/names_%s*" % (out, name)) if path.endswith((name, ".exe"))]
+        needed = NEEDED[target.partition("-")[2]] in must(["llvm-readobj", "--needed-libs", program]).split()
+        machine = machine_of(packages.read(program))
+        if needed != (name == "pulleynavy") or machine != WHEELS[target][4]:
+            yield "CMake for %s: names_%s needs the shared library: %s, its processor: %s" % (target, name, needed, machine)
+
+
+def differences(targets, folder):
+    """What is wrong in the packages of a folder of targets, without what wine runs. Makes the packages in another folder."""
+    differ = list(wrong_wheels(folder, WHEELS)) if make(targets, folder) else []
+    differ += wrong_crate(targets, folder)
+    for target in WHEELS:
+        if target != "x86_64-windows":
+            differ += wrongly_linked(folder, target)
+    return differ

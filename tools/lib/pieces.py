@@ -1,0 +1,116 @@
+"""Streams in chunks: the cases that the program wasm_rows reads, and what a model says of them."""
+import rows
+from common import leb
+from texts import number_at
+
+
+def joined(pieces):
+    """The bytes of a row of chunks: their count, and each after its size."""
+    return leb(len(pieces)) + b"".join(leb(len(piece)) + piece for piece in pieces)
+
+
+def case(reader, offset, pieces):
+    """The row of a stream in chunks."""
+    return rows.row_line(reader, joined(pieces), offset)
+
+
+# ---- what the model says
+
+
+def event_text(line, data):
+    words = line.split(" ")
+    if words[0] == "version":
+        return "version %s %s %s..%s %s" % (words[3], words[4], words[1], words[2], data)
+    if words[0] in ("section", "unknown"):
+        return " ".join([words[0], words[1]] + words[4:]) + " %s..%s %s" % (words[2], words[3], data)
+    if words[0] in ("start", "datacount", "code", "body", "custom"):
+        return " ".join([words[0]] + words[3:]) + " %s..%s %s" % (words[1], words[2], data)
+    return (line if words[0] == "fault" else words[0]) + " %s..%s x" % (words[1], words[1])
+
+
+def expected_events(model, stream, offset):
+    state, place, out = model.State(offset, True), 0, []
+    while True:
+        try:
+            line, used, state = model.next_event(state, stream, place)
+        except model.Fault as fault:
+            return out + [event_text(fault.line(), "")]
+        out.append(event_text(line, "x" + stream[place : place + used].hex()))
+        if line.startswith("end"):
+            return out
+        place += used
+
+
+def expected_steps(model, pieces, offset):
+    state, place, given, stored, eof, out, lasts = model.State(offset, True), 0, b"", 0, False, [], 0
+    later = iter(pieces)
+    while lasts < 2:
+        request = None if eof else model.short(state, given, place)
+        used = 0
+        if request is not None:
+            text = "need %d" % request[0]
+        else:
+            try:
+                line, used, state = model.next_event(state, given, place)
+                text = "part %d" % used
+                lasts += line.startswith("end")
+            except model.Fault as fault:
+                text = fault.line()
+                lasts += 1
+        place += used
+        out.append("%s %d %d" % (text, len(given) - place, stored))
+        if request is not None:
+            piece = next(later, None)
+            if piece is None:
+                eof = True
+            else:
+                given += piece
+                stored = len(given) - place
+    return out
+
+
+def pieces_in(data):
+    """The chunks of a row."""
+    count, place = number_at(data, 0)
+    pieces = []
+    for _ in range(count):
+        size, start = number_at(data, place)
+        place = start + size
+        pieces.append(data[start:place])
+    return pieces
+
+
+def model_lines(model, case):
+    """The lines that a model has for a row of a stream in chunks; None for other rows."""
+    reader, data, offset, _ = case
+    if reader == "events":
+        parts = expected_events(model, b"".join(pieces_in(data)), offset)
+    elif reader == "steps":
+        parts = expected_steps(model, pieces_in(data), offset)
+    else:
+        return None
+    return ["  " + "".join(part + "; " for part in parts)]
+
+
+# ---- cuts
+
+
+def cut(rng, stream):
+    places = sorted(rng.randrange(len(stream) + 1) for _ in range(rng.randrange(6)))
+    return [stream[i:j] for i, j in zip([0] + places, places + [len(stream)])]
+
+
+def with_empty(rng, pieces):
+    return [part for piece in pieces for part in ([b""] * rng.randrange(2) + [piece])]
+
+
+# ---- the program
+
+
+def run(words, cases):
+    """The line that it writes of each case."""
+    return [" / ".join(line[2:] for line in lines) for lines in rows.run(words, cases)]
+
+
+def said_of(line):
+    return [part for part in line.split("; ") if part]

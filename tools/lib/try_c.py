@@ -1,0 +1,438 @@
+"""Builds the C library by both compilers, and runs its examples under sanitizers and valgrind against a model and golden streams.
+
+    tools/try c               everything, with 300 random streams from seed 1, half of them modules with items
+    tools/try c 7 2000        2000 random streams, from seed 7
+    tools/try c --archive A   the archive A, in place of those that are built here; more than one may be given
+
+Each stream is listed in pieces of 1, 7, 100 and 65,536 bytes and whole, with its items, and stripped; every repeated byte is tried as a parser.
+Random calls of all functions, in any order that the header allows, return for a minute what they return in plain order (tools/lib/sequences.c).
+The package for Python also reads 20,000 streams with changed bytes, and must not make memory grow.
+The examples of the header run too, and Doxygen reads it without a warning. What a machine lacks (a compiler, valgrind, cargo) is said in one line, and the rest is done.
+"""
+import json
+import os
+import random
+import re
+import shutil
+import subprocess
+import sys
+import tempfile
+from concurrent.futures import ThreadPoolExecutor
+
+import cargo
+import common
+import programs
+import sequences as tables
+from modules import mutants, stream_of
+from streams import some_stream
+
+CRATE = os.path.join(common.TOP, "crates", "wasm_c")
+MUTANTS = 20_000
+# How long random calls are tried.
+SECONDS = 60
+PIECES = (1, 7, 100, 65536)
+# How many items a call stores, in turn.
+BATCHES = (64, 1, 3)
+# Each build of an example lists every third stream, so that each stream is listed by a third of them. Of fewer builds, one lists it.
+TURNS = 3
+WARNINGS = ["-Wall", "-Wextra", "-Wpedantic", "-Werror"]
+CHECKED = ["-g", "-O1", "-fsanitize=address,undefined", "-fno-sanitize-recover=all"]
+# The examples, with the standards that each is built by.
+PROGRAMS = {"list.c": ("c99", "c11"), "whole.cpp": ("c++11", "c++17")}
+PROGRAMS.update({name: ("c99",) for name in ("items.c", "imports.c", "calls.c", "patterns.c", "strip.c", "fuzz.c", "names.c")})
+
+
+class Failed(Exception):
+    pass
+
+
+def run(command, stream=b"", **options):
+    return subprocess.run(command, input=stream, stdout=subprocess.PIPE, stderr=subprocess.STDOUT, **options)
+
+
+def must(command, stream=b"", **options):
+    done = run(command, stream, **options)
+    if done.returncode:
+        raise Failed("%s: status %d\n%s" % (" ".join(command), done.returncode, done.stdout.decode(errors="replace")[-3000:]))
+    return done.stdout
+
+
+# ---- the archives and the programs
+
+
+def archives(folder):
+    """The archive as each compiler of the toolchain makes it."""
+    if not shutil.which("rt"):
+        common.stop(common.NO_PROGRAM, "rt is not on the path, and no --archive is given")
+    made = {}
+    for name, words in (("rattle", ["--backend", "rattle"]), ("llvm", [])):
+        must(["rt", "lib", *words], cwd=CRATE)
+        made[name] = os.path.join(folder, name + ".a")
+        shutil.copy(os.path.join(CRATE, "out", "libwasm_c.a"), made[name])
+    return made
+
+
+def compiled(folder, compiler, example, standard, flags, archive, name):
+    stem = os.path.basename(example).partition(".")[0]
+    path = os.path.join(folder, "_".join([stem, os.path.basename(compiler), standard.replace("+", "p"), name]))
+    words = [compiler, "-std=" + standard, *WARNINGS, *flags, "-I" + os.path.join(CRATE, "include"), os.path.join(CRATE, "examples", example)]
+    must(words + [archive, "-o", path])
+    return path
+
+
+def compilers():
+    for c, cpp in (("gcc", "g++"), ("clang", "clang++")):
+        if common.all_found([c, cpp]):
+            yield c, cpp
+
+
+def kinds_of_flags(folder, c):
+    """The flags with which this machine's compiler makes programs that run: a machine may lack the sanitizers, or forbid them."""
+    source, probe = os.path.join(folder, "probe.c"), os.path.join(folder, "probe")
+    with open(source, "w") as file:
+        file.write("int main(void) { return 0; }\n")
+    for flags in (["-O2"], CHECKED):
+        if run([c, *flags, source, "-o", probe]).returncode or run([probe]).returncode:
+            common.skip("missing: %s %s" % (c, " ".join(flags)))
+        else:
+            yield flags
+
+
+def built_examples(folder, made):
+    """Each example as each compiler makes it, with the sanitizers and without; the first of them is the one that valgrind runs."""
+    built = {}
+    for c, cpp in compilers():
+        kinds = list(kinds_of_flags(folder, c))
+        for example, standards in PROGRAMS.items():
+            for standard in standards:
+                for kind, archive in made.items():
+                    for flags in kinds:
+                        name = kind + ("" if flags is not CHECKED else "_checked")
+                        path = compiled(folder, cpp if example.endswith("pp") else c, example, standard, flags, archive, name)
+                        built.setdefault(example.partition(".")[0], []).append(path)
+    return built
+
+
+# ---- what they say
+
+
+def without_ranges(lines):
+    """The lines of a model without the offsets of lists of elements, which the library has no call for."""
+    return [re.sub(r"^(  \d+ element\(.*) \d+\.\.\d+ (#\d+\[)", r"\1 \2", line) for line in lines]
+
+
+def modelled(stream):
+    """The lines of the models, where a body that passes its section is refused as soon as its size has been read."""
+    reading, listing = common.load(common.MODEL).reading, common.load(common.MODEL_OF_ITEMS).listing
+    return listing(stream)[:-1] + reading(stream, 0, True)[-1:]
+
+
+def difference(command, stream, expected):
+    done = run(command, stream, timeout=600)
+    lines = programs.lines_in(done.stdout)
+    found = common.first_difference(lines, expected)
+    if not found and done.returncode == programs.status(expected):
+        return None
+    return "%s on %s\n  status %d, %s" % (" ".join(command), stream.hex()[:400], done.returncode, found or "and no line differs")
+
+
+def turns(paths, number):
+    """The builds of an example that have their turn with this stream, each with its number among all turns."""
+    return [(number + place, path) for place, path in enumerate(paths) if (number + place) % min(TURNS, len(paths)) == 0]
+
+
+def cases(built, streams):
+    """Each command with its stream and the lines that it is to write."""
+    for number, (stream, lines) in enumerate(streams):
+        events = [line for line in lines if not line.startswith("  ")]
+        for turn, path in turns(built["list"], number):
+            yield [path, str(PIECES[turn % len(PIECES)])], stream, events
+        for _, path in turns(built["whole"], number):
+            yield [path], stream, events
+        for turn, path in turns(built["items"], number):
+            yield [path, str(BATCHES[turn // TURNS % len(BATCHES)])], stream, without_ranges(lines)
+
+
+def compared(built, streams):
+    given = list(cases(built, streams))
+    for name in ("list", "whole", "items"):
+        listed = sum(command[0] in built[name] for command, _, _ in given)
+        if built[name] and listed < len(streams):
+            raise Failed("%s lists %d of %d streams" % (name, listed, len(streams)))
+    return in_parallel(lambda one: difference(*one), given)
+
+
+def in_parallel(differing, rows):
+    """The texts that a function returns for some of these rows, four at a time."""
+    with ThreadPoolExecutor(4) as pool:
+        return [text for text in pool.map(differing, rows) if text]
+
+
+def stripped(built, streams):
+    """Each stream stripped, as the model has it, or nothing if it has a fault."""
+    strip = common.load(common.MODEL).strip
+
+    def differing(row):
+        number, (stream, lines) = row
+        status = programs.status([line for line in lines if not line.startswith("  ")])
+        wanted = (b"" if status else strip(stream), status)
+        path = built["strip"][number % len(built["strip"])]
+        done = subprocess.run([path], input=stream, stdout=subprocess.PIPE, timeout=600)
+        if (done.stdout, done.returncode) == wanted:
+            return None
+        return "%s on %s\n  program %r\n  model   %r" % (path, stream.hex()[:400], (done.stdout, done.returncode), wanted)
+
+    return in_parallel(differing, enumerate(streams))
+
+
+def number_at(data, at):
+    """A u32 in LEB128 and where it ends."""
+    value = shift = 0
+    while shift < 35 and at < len(data):
+        value |= (data[at] & 0x7F) << shift
+        at, shift = at + 1, shift + 7
+        if data[at - 1] < 0x80:
+            return (value, at) if value < 1 << 32 else None
+    return None
+
+
+def text_at(data, at):
+    """A name, and where it ends."""
+    size = number_at(data, at)
+    if not size or size[0] > 100_000 or sum(size) > len(data):
+        return None
+    text = data[size[1] : sum(size)]
+    return (text, sum(size)) if text.decode(errors="replace").encode() == text else None
+
+
+def entries(data):
+    """The index and the name of each entry of a name map, up to the first that is malformed or out of order."""
+    count = number_at(data, 0)
+    at, last = (count[1], -1) if count else (0, -1)
+    for _ in range(count[0] if count else 0):
+        index = number_at(data, at)
+        name = index and text_at(data, index[1])
+        if not name or index[0] <= last:
+            return
+        at, last = name[1], index[0]
+        yield b"%d %s\n" % (index[0], name[0])
+
+
+def named_in(data):
+    """The functions that a section of names names, up to the first subsection that is malformed or out of order."""
+    at, last = 0, -1
+    while at < len(data) and last < data[at] < 0x80:
+        size = number_at(data, at + 1)
+        if not size or sum(size) > len(data):
+            return
+        if data[at] == 1:
+            yield from entries(data[size[1] : sum(size)])
+        at, last = sum(size), data[at]
+
+
+def names(built, streams):
+    """The names of functions, as `names.c` and as a few lines of Python have them."""
+
+    def differing(row):
+        number, (stream, lines) = row
+        wanted = b""
+        for line in lines:
+            if line.startswith("custom "):
+                start, end, data = map(int, line.split()[1:])
+                if stream[data - 4 : data] == b"name" and number_at(stream, start) == (4, data - 4):
+                    wanted += b"".join(named_in(stream[data:end]))
+        path = built["names"][number % len(built["names"])]
+        done = subprocess.run([path], input=stream, stdout=subprocess.PIPE, timeout=600)
+        if done.stdout == wanted:
+            return None
+        return "%s on %s\n  program %r\n  model   %r" % (path, stream.hex()[:400], done.stdout, wanted)
+
+    return in_parallel(differing, enumerate(streams))
+
+
+def imports(built, streams):
+    """The imports one by one, as `imports.c` has them, and as the model has them among all items."""
+
+    def differing(row):
+        number, (stream, lines) = row
+        rows = [re.match(r"  \d+ import\((x\w*) (x\w*) (\w+)", line) for line in lines]
+        wanted = ["%s %s %s" % row.groups() for row in rows if row]
+        path, batch = built["imports"][number % len(built["imports"])], BATCHES[number % len(BATCHES)]
+        found = programs.lines_in(run([path, str(batch)], stream, timeout=600).stdout)
+        if found == wanted:
+            return None
+        return "%s %d on %s\n  program %s\n  model   %s" % (path, batch, stream.hex()[:400], found, wanted)
+
+    return in_parallel(differing, enumerate(streams))
+
+
+def patterns(built, streams):
+    """Worked calls, every repeated byte as a parser, and each stream whole and in chunks."""
+    for path in built["calls"]:
+        must([path])
+    for path in built["patterns"]:
+        for stream, _ in streams[:: max(1, len(streams) // 20)]:
+            must([path], stream)
+    in_parallel(lambda row: must([built["fuzz"][-1]], row[0]) and None, streams)
+
+
+def documented():
+    """A program of the examples in the doc comments of the sources, which the header has too: a function for each."""
+    names, text = [], "#include <assert.h>\n#include <string.h>\n#include <pulleynavy.h>\n"
+    for path in [*common.files_of("wasm_plain"), *common.files_of("wasm_c")]:
+        if path.endswith(".rt"):
+            with open(path, encoding="utf-8") as file:
+                blocks = re.findall(r"^ */// ```c\n((?: *///.*\n)*?) */// ```$", file.read(), re.M)
+            for lines in blocks:
+                names.append("%s_%d" % (os.path.basename(path)[:-3], len(names)))
+                text += "\nstatic void %s(void) {\n%s}\n" % (names[-1], re.sub(r"^ */// ?", "    ", lines, flags=re.M))
+    if not names:
+        raise Failed("the sources have no examples for C")
+    return text + "\nint main(void) {\n%s    return 0;\n}\n" % "".join("    %s();\n" % name for name in names)
+
+
+def header_examples(folder, made):
+    """Builds and runs the examples of the header."""
+    path = os.path.join(folder, "documented.c")
+    with open(path, "w", encoding="utf-8") as file:
+        file.write(documented())
+    for c, _ in compilers():
+        for flags in kinds_of_flags(folder, c):
+            for kind, archive in made.items():
+                must([compiled(folder, c, path, "c99", flags, archive, "documented_" + kind)])
+
+
+def sequences(folder, made, streams, seed):
+    """Random calls in any order, with the sanitizers: each build has its share of a minute. Returns what they say."""
+    tables.written(folder)
+    path = os.path.join(folder, "sequences.streams")
+    with open(path, "wb") as file:
+        file.writelines(len(stream).to_bytes(4, "little") + stream for stream, _ in streams)
+    builds = [(c, archive, kind) for c, _ in compilers() if CHECKED in kinds_of_flags(folder, c) for kind, archive in made.items()]
+    words = [str(seed), str(SECONDS // max(1, len(builds))), path]
+    for c, archive, kind in builds:
+        program = compiled(folder, c, tables.SOURCE, "c11", [*CHECKED, "-I" + folder], archive, "sequences_" + kind)
+        print("%s, %s: %s" % (c, kind, must([program, *words]).decode().strip()), flush=True)
+
+
+def under_valgrind(built, streams):
+    if not shutil.which("valgrind") or run(["valgrind", "--quiet", "true"]).returncode:
+        common.skip("missing: a valgrind that runs")
+        return []
+    words = ["valgrind", "--quiet", "--error-exitcode=99", "--leak-check=full"]
+    plain = {name: [path for path in paths if not path.endswith("_checked")][0] for name, paths in built.items()}
+    texts = []
+    for stream, lines in streams[:: max(1, len(streams) // 12)]:
+        events = [line for line in lines if not line.startswith("  ")]
+        texts.append(difference(words + [plain["list"], "7"], stream, events))
+        texts.append(difference(words + [plain["items"]], stream, without_ranges(lines)))
+    return [text for text in texts if text]
+
+
+# The standards by which the header compiles, and those whose compilers check its assertions.
+STANDARDS = {"c": ["c89", "c99", "c11", "c17"], "cpp": ["c++98", "c++11", "c++17"]}
+ASSERTING = ("c11", "c17", "c++11", "c++17")
+CALLER = "#include <pulleynavy.h>\n#include <pulleynavy.h>\n\nuint32_t version(void);\nuint32_t version(void) { return pulleynavy_version(); }\n"
+
+
+def header_alone(folder):
+    """Compiles the header by each standard without a warning. Where there are assertions, one of a wrong layout is refused."""
+    with open(os.path.join(CRATE, "include", "pulleynavy.h"), encoding="utf-8") as file:
+        wrong = re.sub(r"sizeof\(pulleynavy_event\) == 96\b", "sizeof(pulleynavy_event) == 97", file.read())
+    for name, text in (("caller.c", CALLER), ("caller.cpp", CALLER), ("wrong/pulleynavy.h", wrong)):
+        os.makedirs(os.path.dirname(os.path.join(folder, name)), exist_ok=True)
+        with open(os.path.join(folder, name), "w", encoding="utf-8") as file:
+            file.write(text)
+    for pair in compilers():
+        for compiler, (kind, standards) in zip(pair, STANDARDS.items()):
+            for standard in standards:
+                words = [compiler, "-std=" + standard, *WARNINGS, "-fsyntax-only", os.path.join(folder, "caller." + kind)]
+                must([*words, "-I" + os.path.join(CRATE, "include")])
+                if bool(run([*words, "-I" + os.path.join(folder, "wrong")]).returncode) != (standard in ASSERTING):
+                    raise Failed("%s with %s checks the layout: %s" % (compiler, standard, standard not in ASSERTING))
+
+
+def with_doxygen(folder):
+    """The reference that Doxygen makes of the header, without a warning."""
+    if common.found("doxygen"):
+        place = os.path.join(folder, "doxygen")
+        os.makedirs(place, exist_ok=True)
+        must(["doxygen"], cwd=CRATE, env={**os.environ, "OUT": place, "VERSION": common.version()})
+
+
+# ---- the bindings
+
+
+# Clippy's lints are errors, and a result that nothing else comes from has to be used.
+CLIPPY = ["--", "-D", "warnings", "-D", "clippy::must_use_candidate"]
+
+
+def with_cargo(folder, archive):
+    """The tests and the examples of the crate for Rust, with its features and without, and programs that call it wasmparser, with warnings as errors."""
+    if not cargo.found():
+        return
+    place = os.path.join(folder, "archive")
+    os.makedirs(place, exist_ok=True)
+    shutil.copy(archive, os.path.join(place, "libwasm_c.a"))
+    settings = {"PULLEYNAVY_LIB": place, "CARGO_TARGET_DIR": os.path.join(folder, "target"), "RUSTFLAGS": "-D warnings"}
+    crate = os.path.join(folder, "rust")
+    cargo.offline(folder)
+    shutil.rmtree(crate, ignore_errors=True)
+    shutil.copytree(os.path.join(common.TOP, "bindings", "rust"), crate, ignore=shutil.ignore_patterns("Cargo.lock", "target"))
+    settings["PULLEYNAVY_GOLDEN"] = common.GOLDEN
+    with_serde = os.path.join(crate, "examples", "json")
+    clippy = shutil.which("cargo-clippy") or common.skip("missing: clippy")
+    for place in (crate, with_serde) if cargo.with_debian(with_serde) else (crate,):
+        for features in ([], ["--no-default-features"]):
+            must(["cargo", "test", "--offline", "--quiet", *features], cwd=place, env={**os.environ, **settings})
+            if clippy:
+                must(["cargo", "clippy", "--offline", "--quiet", "--all-targets", *features, *CLIPPY], cwd=place, env={**os.environ, **settings})
+    must(["cargo", "build", "--offline", "--quiet"], cwd=os.path.join(crate, "examples", "programs"), env={**os.environ, **settings})
+
+
+def with_python(folder, archive, streams, changed):
+    """The module for Python over a shared library, which is made of the archive. `changed` are streams that only it reads."""
+    if not common.found("cc"):
+        return
+    library = os.path.join(folder, "libpulleynavy.so")
+    must([os.path.join(common.TOP, "tools", "shared_library"), archive, library])
+    os.environ["PULLEYNAVY_LIB"] = library
+    package = os.path.join(common.TOP, "bindings", "python")
+    os.environ["PULLEYNAVY_STREAMS"] = os.path.join(folder, "streams.jsonl")
+    with open(os.environ["PULLEYNAVY_STREAMS"], "w", encoding="ascii") as file:
+        file.writelines(json.dumps({"hex": stream.hex(), "lines": lines}) + "\n" for stream, lines in streams + changed)
+    must([sys.executable, "-B", "-m", "unittest", "discover", "-q", "-s", "tests", "-t", "."], cwd=package)
+    if common.found("mypy"):
+        must(["mypy", "--strict", "--cache-dir", os.path.join(folder, "mypy"), "pulleynavy", "tests"], cwd=package)
+
+
+def main():
+    more = [("--archive", {"metavar": "FILE", "action": "append", "help": "an archive, instead of those that are built here"})]
+    given = common.arguments(__doc__, [("seed", 1), ("count", 300)], show=5, more=more)
+    for path in given.archive or []:
+        if not os.path.isfile(path):
+            common.stop(common.WRONG_USE, "there is no file %s" % path)
+    rng = random.Random(given.seed)
+    drawn = [(stream_of if number % 2 else some_stream)(rng) for number in range(given.count)]
+    streams = common.golden() + [(stream, modelled(stream)) for stream in drawn]
+    with tempfile.TemporaryDirectory() as folder:
+        try:
+            made = {"given%d" % number: path for number, path in enumerate(given.archive)} if given.archive else archives(folder)
+            built = built_examples(folder, made)
+            if not built:
+                return 0
+            header_alone(folder)
+            header_examples(folder, made)
+            with_doxygen(folder)
+            patterns(built, streams)
+            sequences(folder, made, streams, given.seed)
+            differ = [text for test in (compared, stripped, names, imports, under_valgrind) for text in test(built, streams)]
+            changed = [(stream, modelled(stream)) for stream in mutants(rng, [stream for stream, _ in common.golden()], MUTANTS)]
+            for number, archive in enumerate(made.values()):
+                with_cargo(folder, archive)
+                with_python(folder, archive, streams, changed[number :: len(made)])
+        except Failed as failed:
+            print("FAILED", failed)
+            return common.DIFFERS
+    count = sum(len(paths) for paths in built.values())
+    return common.tell(differ, given.show, "%d programs, %d streams, %d differ (seed %d)" % (count, len(streams), len(differ), given.seed))

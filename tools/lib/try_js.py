@@ -1,0 +1,203 @@
+"""Tests the JavaScript package: its tests in Node, its declarations with tsc, bundles by esbuild, and the packed package in an empty directory.
+
+    tools/try js                 everything, with 1000 random streams from seed 1, half of them modules with items
+    tools/try js 7 200           200 random streams, from seed 7
+    tools/try js --wasm FILE     the module FILE, instead of one that tools/build_targets builds
+    tools/try js --wasm64 FILE   also the module FILE, whose memory has 64-bit addresses
+
+Every stream is parsed whole and in chunks of 1, 7, 100 and 65,536 bytes, with its items, and compared with the lines of a model or of
+tools/golden.jsonl. 20,000 streams with changed bytes are parsed too, and must not make memory grow. What a machine lacks (Node, npm, tsc, esbuild, Chromium, Firefox, wasm-opt) is reported in one line, and the rest is done.
+"""
+import json
+import os
+import random
+import shutil
+import subprocess
+import tempfile
+
+import common
+import packages
+import programs
+import try_c
+from modules import mutants, stream_of
+from streams import some_stream
+
+PACKAGE = os.path.join(common.TOP, "bindings", "js")
+TSC = ["--strict", "--noEmit", "--target", "es2022", "--module", "es2022", "--moduleResolution", "node"]
+OLDEST_NODE = 18
+MUTANTS = 20_000
+
+
+class Failed(Exception):
+    """A command failed."""
+
+
+def must(command, **options):
+    done = subprocess.run(command, stdin=subprocess.DEVNULL, stdout=subprocess.PIPE, stderr=subprocess.STDOUT, **options)
+    text = done.stdout.decode(errors="replace")
+    if done.returncode:
+        raise Failed("%s: status %d\n%s" % (" ".join(map(str, command)), done.returncode, text[-6000:]))
+    return text
+
+
+def stripped(stream, lines):
+    """The stripped stream in hexadecimal, or none of a malformed one."""
+    is_fault = programs.status([line for line in lines if not line.startswith("  ")])
+    return None if is_fault else common.load(common.MODEL).strip(stream).hex()
+
+
+def write_streams(path, seed, count, mutant_count=0):
+    """Writes the golden streams and random ones, with the lines of the models. Returns how many there are."""
+    rng, modelled = random.Random(seed), try_c.modelled
+    drawn = [(stream_of if number % 2 else some_stream)(rng) for number in range(count)]
+    drawn += mutants(rng, [stream for stream, _ in common.golden()], mutant_count)
+    rows = common.golden() + [(stream, modelled(stream)) for stream in drawn]
+    with open(path, "w", encoding="ascii") as file:
+        for stream, lines in rows:
+            file.write(json.dumps({"hex": stream.hex(), "lines": lines, "stripped": stripped(stream, lines)}) + "\n")
+    return len(rows)
+
+
+def installed(folder, name, wasm):
+    """A copy of the package with this module."""
+    place = os.path.join(folder, name)
+    shutil.copytree(PACKAGE, place, ignore=shutil.ignore_patterns("*.wasm", "*.wasm.js", "*.tgz"))
+    packages.add_module(wasm, place)
+    return place
+
+
+def in_node(node, place, streams):
+    """The tests of the package. Returns how many passed."""
+    text = must([node, "--test"], cwd=place, env={**os.environ, "PULLEYNAVY_STREAMS": streams})
+    return sum(int(line.split()[-1]) for line in text.splitlines() if line.startswith(("# pass ", "ℹ pass ")))
+
+
+def with_wide_memory(node, place, streams):
+    """The comparisons with streams, over the module whose memory has 64-bit addresses."""
+    flags = ["--experimental-wasm-memory64"]
+    if subprocess.run([node, *flags, "-e", "0"], stdout=subprocess.DEVNULL, stderr=subprocess.DEVNULL).returncode:
+        flags = []
+    must([node, *flags, "tests/streams.test.js"], cwd=place, env={**os.environ, "PULLEYNAVY_STREAMS": streams})
+
+
+def in_browser(node, browser, place, streams):
+    """The comparisons with streams in a browser, where fetch loads the module. Returns what it says."""
+    return must([node, "tests/browser.js", browser, streams], cwd=place).splitlines()[0]
+
+
+def with_tsc(place):
+    """The declarations with the library dom, and with that of the language alone."""
+    must(["tsc", *TSC, "tests/types.ts"], cwd=place)
+    must(["tsc", *TSC, "--lib", "es2022", "tests/plain.ts"], cwd=place)
+
+
+# The entry of the package, the platform of a bundle, and whether the bundle needs the module beside it.
+BUNDLES = [("pulleynavy", "browser", True), ("pulleynavy", "node", True), ("pulleynavy/inline", "browser", False), ("pulleynavy/inline", "node", False)]
+BUNDLED = 'import { load } from "%s";\nconst { parse } = await load(globalThis.source);\nconsole.log([...parse(new Uint8Array(0))][0].fault);\n'
+
+
+def bundled(node, place, folder):
+    """Bundles programs by esbuild for browsers and for Node, and runs them in a folder without the package. Returns how many."""
+    for number, (entry, platform, needs_module) in enumerate(BUNDLES):
+        project, alone = (os.path.join(folder, "%s%d" % (word, number)) for word in ("bundled", "alone"))
+        os.makedirs(os.path.join(project, "node_modules"))
+        os.makedirs(alone)
+        os.symlink(place, os.path.join(project, "node_modules", "pulleynavy"))
+        with open(os.path.join(project, "use.js"), "w", encoding="utf-8") as file:
+            file.write(BUNDLED % entry)
+        path = os.path.join(alone, "use.mjs")
+        must(["esbuild", "use.js", "--bundle", "--format=esm", "--platform=" + platform, "--log-limit=0", "--outfile=" + path], cwd=project)
+        with open(path, encoding="utf-8") as file:
+            if platform == "browser" and "node:" in file.read():
+                raise Failed("a bundle of %s for browsers imports modules of Node" % entry)
+        if needs_module:
+            shutil.copy(os.path.join(place, "pulleynavy.wasm"), alone)
+        # Node's fetch reads no files, so a bundle for browsers gets the bytes.
+        bytes_of = 'import { readFileSync } from "node:fs"; globalThis.source = readFileSync("pulleynavy.wasm"); await import("./use.mjs");'
+        words = ["--input-type=module", "-e", bytes_of] if needs_module and platform == "browser" else ["use.mjs"]
+        if must([node, *words], cwd=alone) != "UNEXPECTED_EOF\n":
+            raise Failed("a bundle of %s for %s finds no fault" % (entry, platform))
+    return len(BUNDLES)
+
+
+def packed(npm, node, place, folder):
+    """Packs the package, installs it into an empty directory, and uses it there as a program and as a library."""
+    must([npm, "pack", "--silent", "--pack-destination", folder], cwd=place)
+    archive = os.path.join(folder, "pulleynavy-%s.tgz" % common.version())
+    empty = os.path.join(folder, "empty")
+    os.mkdir(empty)
+    must([npm, "install", "--offline", "--no-audit", "--no-fund", "--loglevel=error", archive], cwd=empty)
+    with open(os.path.join(empty, "a.wasm"), "wb") as file:
+        file.write(b"\0asm\1\0\0\0\3\2\1\0\x0a\4\1\2\0\x0b")
+    said = must([os.path.join("node_modules", ".bin", "pulleynavy"), "a.wasm"], cwd=empty).split()
+    if said != ["2", "0xa", "function", "(1)", "4", "0xe", "code", "(1)"]:
+        raise Failed("pulleynavy a.wasm: %s" % said)
+    use = "import { load } from 'pulleynavy'; import { readFileSync } from 'fs';"
+    use += " const { parse } = await load(); console.log([...parse(readFileSync('a.wasm'))].map(one => one.kind).join());"
+    said = must([node, "--input-type=module", "-e", use], cwd=empty).strip()
+    if said != "version,section,code,body,end":
+        raise Failed("the installed package: %s" % said)
+    return os.path.getsize(archive)
+
+
+def built(folder):
+    """The modules that tools/build_targets builds: that of 32 bits, and that of 64."""
+    must([os.path.join(common.TOP, "tools", "build_targets"), folder, "wasm32"])
+    return [os.path.join(folder, name) for name in ("pulleynavy32.wasm", "pulleynavy64.wasm")]
+
+
+def is_old(node):
+    version = must([node, "--version"]).strip()
+    if int(version[1:].split(".")[0]) >= OLDEST_NODE:
+        return False
+    common.skip("missing: node %d or later, not %s" % (OLDEST_NODE, version))
+    return True
+
+
+def tried(given, folder, node):
+    """Runs everything. Returns what to say of it."""
+    wasm, wasm64 = (given.wasm, given.wasm64) if given.wasm else built(folder)
+    if not os.path.exists(wasm):
+        common.stop(common.NO_PROGRAM, "there is no module with 32-bit memory")
+    streams = os.path.join(folder, "streams.jsonl")
+    count = write_streams(streams, given.seed, given.count)
+    place = installed(folder, "pulleynavy", wasm)
+    said = "%d tests, %d streams (seed %d)" % (in_node(node, place, streams), count, given.seed)
+    mutated = os.path.join(folder, "mutated.jsonl")
+    said += ", %d with changed bytes" % write_streams(mutated, given.seed, 0, MUTANTS)
+    must([node, "--expose-gc", "tests/streams.test.js"], cwd=place, env={**os.environ, "PULLEYNAVY_STREAMS": mutated})
+    if wasm64:
+        with_wide_memory(node, installed(folder, "wide", wasm64), streams)
+        said += ", also with 64-bit memory"
+    for name, program in (("Chromium", "chromium"), ("Firefox", "firefox-esr")):
+        browser = common.found(program)
+        if browser:
+            said += ", in %s %s" % (name, in_browser(node, browser, place, streams))
+    if common.found("tsc"):
+        with_tsc(place)
+        said += ", tsc --strict"
+    if common.found("esbuild"):
+        said += ", %d bundles" % bundled(node, place, folder)
+    npm = common.found("npm")
+    if npm:
+        said += ", a package of %d bytes" % packed(npm, node, place, folder)
+    return said
+
+
+def main():
+    more = [("--wasm", {"metavar": "FILE", "help": "the module with 32-bit memory"})]
+    more += [("--wasm64", {"metavar": "FILE", "help": "the module with 64-bit memory"})]
+    given = common.arguments(__doc__, [("seed", 1), ("count", 1000)], more=more)
+    for path in (given.wasm, given.wasm64):
+        if path and not os.path.isfile(path):
+            common.stop(common.WRONG_USE, "there is no file %s" % path)
+    node = common.found("node")
+    if not node or is_old(node):
+        return 0
+    with tempfile.TemporaryDirectory() as folder:
+        try:
+            print(tried(given, folder, node))
+        except Failed as failed:
+            print("FAILED", failed)
+            return common.DIFFERS
+    return 0
