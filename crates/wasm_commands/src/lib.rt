@@ -16,8 +16,10 @@ mod streams;
 mod strip;
 mod system;
 
+pub use check::check_as;
 pub use dump::{Colored, Format, dump_as};
 pub use messages::Causes;
 pub use reasons::Cause;
-pub use run::{run, run_host};
+pub use run::{run, run_host, run_program};
+pub use streams::{Messages, Noting};
 pub use system::System;

@@ -11,8 +11,8 @@ use crate::strip::strip;
 use crate::system::System;
 use std::alloc::{AllocError, Global};
 use std::cell::Cell;
-use std::env;
-use std::io::Write;
+use std::env::{self, Args};
+use std::io::{self, Write};
 use std::process::ExitCode;
 use wasm_console::{Given, words_given};
 use wasm_feed::{ListError, Sink, WriteSink, write_all};
@@ -139,23 +139,41 @@ pub fn run<S: System, W: Write + Drop, E: Sink>(
     }
 }
 
+/// Runs the program with arguments as the system has them, and returns its exit status.
+///
+/// `arguments` begin with the name of the program, which is skipped. One that is not valid UTF-8 is a wrong argument.
+/// The statuses are those of `run`.
+///
+/// # Errors
+///
+/// If the arguments can't be fetched or stored, it writes `out of memory` to `errors` and returns 3.
+pub fn run_program<S: System, W: Write + Drop, E: Sink>(
+    alloc: Global,
+    arguments: io::Result<Args>,
+    system: &S,
+    output: WriteSink<W>,
+    errors: &mut E,
+) -> ExitCode {
+    ExitCode::from(match words_given(alloc, arguments) {
+        Given::Words(words) => run(alloc, &words, system, output, errors),
+        Given::NotUtf8 => complain(Complaint::NotUtf8, errors),
+        Given::Nothing => refuse_run("-", ListError::Memory, system.causes(), errors),
+    })
+}
+
 /// Runs the program over the files and streams of the system, and returns its exit status.
 ///
 /// It prints no message if the reader of its output has closed the pipe.
 pub fn run_host(rt: HostRuntime) -> ExitCode {
     let (input_failure, output_failure) = (Cell::new(None), Cell::new(None));
+    let has_progress = Cell::new(true);
     let output = WriteSink::new(Noting::new(rt.stdout(), &output_failure));
     let mut errors = Messages::new(WriteSink::new(rt.stderr()), &output_failure);
-    let has_progress = Cell::new(true);
     let host = Host {
         rt: &rt,
         input_failure: &input_failure,
         output_failure: &output_failure,
         has_progress: &has_progress,
     };
-    ExitCode::from(match words_given(rt.alloc(), env::args(&rt)) {
-        Given::Words(words) => run(rt.alloc(), &words, &host, output, &mut errors),
-        Given::NotUtf8 => complain(Complaint::NotUtf8, &mut errors),
-        Given::Nothing => refuse_run("-", ListError::Memory, host.causes(), &mut errors),
-    })
+    run_program(rt.alloc(), env::args(&rt), &host, output, &mut errors)
 }

@@ -98,26 +98,18 @@ impl Progress {
 
 /// A writer that notes why a write or a flush failed.
 #[derive(Drop)]
-pub(crate) struct Noting<'a, W> {
+pub struct Noting<'a, W> {
     writer: W,
     failure: &'a Cell<Option<Cause>>,
 }
 
 impl<'a, W: Write> Noting<'a, W> {
     /// Creates a writer that forwards to this one, and notes here why it failed.
-    pub(crate) fn new(writer: W, failure: &'a Cell<Option<Cause>>) -> Self
+    pub fn new(writer: W, failure: &'a Cell<Option<Cause>>) -> Self
         ensures writer { result.writer ≡ writer }
         ensures failure { result.failure ≡ failure.entry }
     {
         Noting { writer, failure }
-    }
-
-    /// Returns the other writer.
-    pub(crate) fn into_inner(self) -> W
-        ensures { result ≡ self.writer }
-    {
-        let Noting { writer, failure: _ } = self;
-        writer
     }
 }
 
@@ -143,14 +135,14 @@ impl<W: Write> Write for Noting<'_, W> {
 
 /// A sink for messages. It discards them once the reader of the output has closed the pipe.
 #[derive(Drop)]
-pub(crate) struct Messages<'a, E> {
+pub struct Messages<'a, E> {
     sink: E,
     output_failure: &'a Cell<Option<Cause>>,
 }
 
 impl<'a, E: Sink> Messages<'a, E> {
     /// Creates a sink that forwards messages to this one, until the output is known to have failed with a closed pipe.
-    pub(crate) fn new(sink: E, output_failure: &'a Cell<Option<Cause>>) -> Self
+    pub fn new(sink: E, output_failure: &'a Cell<Option<Cause>>) -> Self
         ensures sink { result.sink ≡ sink }
         ensures failure { result.output_failure ≡ output_failure.entry }
     {
