@@ -302,11 +302,41 @@ def sub_type(text):
     return "sub(%s %s %s )" % ("true" if is_final else "false", rest[0] if len(rest) == 2 else "-", composite(rest[-1]))
 
 
-def type_of(node, name="type"):
-    return value_type(expression_of(node[name]))
-
-
 # ---- items
+
+# A part of a form: a field; one that may be missing; a field in other words; the item in another form; a list with its offsets and count.
+PART = re.compile(r"\{(\w*)(\?|[:#]\w+)?\}")
+
+
+def form(text):
+    """What says a node in this form."""
+    def part(node, name, how):
+        if how[:1] == "#":
+            return listed(node, name, FORMS[how[1:]])
+        if how[:1] == ":":
+            return WORDS[how[1:]](node[name]) if name else FORMS[how[1:]](node)
+        return node.any(name) if how else node[name]
+
+    return lambda node: PART.sub(lambda found: part(node, found[1], found[2] or ""), text)
+
+
+def placed(node, item, between=":"):
+    return node.text if node.text.startswith("fault ") else node.offset + between + item(node)
+
+
+def unplaced(node, item):
+    return node.text if node.text.startswith("fault ") else item(node)
+
+
+def listed(node, name, item):
+    """The offsets and the count of a list, and its items, each with its offset."""
+    return "%s #%s[%s]" % (node[name], node["count"], "".join(placed(one, item) + " " for one in node.under))
+
+
+def raw(value):
+    count, start = value.split(":")
+    assert len(start) == 2 * min(int(count), SHOWN)
+    return "x" + start + ("" if int(count) <= SHOWN else "+" + count)
 
 
 def rec_group(node):
@@ -318,131 +348,79 @@ def type_section(node):
     return "#%d[%s]" % (len(node.under), "".join(placed(one, rec_group) + " " for one in node.under))
 
 
-def table_type(node):
-    return "table(%s %s %s %s %s )" % (type_of(node, "element_type"), node["table64"], node["initial"], node.any("maximum"), node["shared"])
-
-
-def memory(node):
-    return "memory(%s %s %s %s %s )" % (node["memory64"], node["shared"], node["initial"], node.any("maximum"), node.any("page_size_log2"))
-
-
-def global_type(node):
-    ty, mutable = may_change(expression_of(node["content_type"]))
-    return "global(%s %s %s )" % (ty, mutable, node["shared"])
-
-
-def tag(node):
-    return "tag(%s %s )" % (node["kind"], node["func_type_idx"])
-
-
 def type_ref(node):
-    other = {"table": table_type, "memory": memory, "global": global_type, "tag": tag}
-    if node["ty"] in other:
-        return other[node["ty"]](node)
-    return "%s %s" % (node["ty"].replace("_", ""), node["index"])
-
-
-def import_item(node):
-    return "import(%s %s %s )" % (node["module"], node["name"], type_ref(node))
-
-
-def compact_item(node):
-    return "item(%s %s )" % (node["name"], type_ref(node))
+    return FORMS.get({"table": "tabletype", "global": "globaltype"}.get(node["ty"], node["ty"]), FORMS["indexed"])(node)
 
 
 def imports(node):
-    if "offset" in node.fields:
-        return "single %s %s" % (node["offset"], import_item(node))
-    if "items" in node.fields:
-        return "compact1 %s %s" % (node["module"], listed(node, "items", compact_item))
-    return "compact2 %s %s %s" % (node["module"], type_ref(node), listed(node, "names", lambda one: one["name"]))
-
-
-def listed(node, name, item):
-    """The offsets and the count of a list, and its items, each with its offset."""
-    return "%s #%s[%s]" % (node[name], node["count"], "".join(placed(one, item) + " " for one in node.under))
-
-
-def placed(node, item, between=":"):
-    if node.text.startswith("fault "):
-        return node.text
-    return node.offset + between + item(node)
-
-
-def unplaced(node, item):
-    return node.text if node.text.startswith("fault ") else item(node)
-
-
-def table(node):
-    return "table(%s %s )" % (table_type(node), node["init"])
-
-
-def export(node):
-    return "export(%s %s %s )" % (node["name"], node["kind"].replace("_", ""), node["index"])
+    found = "single" if "offset" in node.fields else "compact1" if "items" in node.fields else "compact2"
+    return FORMS[found](node)
 
 
 def element(node):
-    kind = node["kind"]
-    if kind == "active":
-        kind += " %s %s" % (node.any("table_index"), node["offset_expr"])
-    if "functions" in node.fields:
-        items = listed(node, "functions", lambda one: one["index"])
-    else:
-        items = type_of(node) + " " + listed(node, "expressions", lambda one: one["expr"])
+    kind = FORMS["activeelement"](node) if node["kind"] == "active" else node["kind"]
+    items = FORMS["functions" if "functions" in node.fields else "expressions"](node)
     return "element(%s %s %s )" % (kind, items, node["range"])
 
 
-def raw(value):
-    count, start = value.split(":")
-    assert len(start) == 2 * min(int(count), SHOWN)
-    return "x" + start + ("" if int(count) <= SHOWN else "+" + count)
-
-
 def data(node):
-    kind = node["kind"]
-    if kind == "active":
-        kind += " %s %s" % (node["memory_index"], node["offset_expr"])
-    return "data(%s %s %s )" % (kind, raw(node["data"]), node["range"])
+    return "data(%s %s %s )" % (FORMS["activedata"](node) if node["kind"] == "active" else node["kind"], raw(node["data"]), node["range"])
+
+
+def symbol(node):
+    kind = node.words[0]
+    if kind == "data":
+        where = "-" if node.words[1:] == ["undefined"] else "defined(%s %s %s )" % (node["index"], node["offset"], node["size"])
+        return "data %s %s %s" % (node["flags"], node["name"], where)
+    return "%s %s" % (kind, form("{flags} {section}" if kind == "section" else "{flags} {index} {name?}")(node))
+
+
+# The word of a field as a model has it.
+WORDS = {
+    "type": lambda word: value_type(expression_of(word)), "mutable": lambda word: "%s %s" % may_change(expression_of(word)), "raw": raw,
+    "plain": lambda word: word.replace("_", ""), "relocation": lambda word: str(RELOCATIONS.index(word)),
+}
+FORMS = {name: form(text) for name, text in {
+    "tabletype": "table({element_type:type} {table64} {initial} {maximum?} {shared} )",
+    "memory": "memory({memory64} {shared} {initial} {maximum?} {page_size_log2?} )",
+    "globaltype": "global({content_type:mutable} {shared} )", "tag": "tag({kind} {func_type_idx} )", "indexed": "{ty:plain} {index}",
+    "import": "import({module} {name} {:typeref} )", "compactitem": "item({name} {:typeref} )", "single": "single {offset} {:import}",
+    "compact1": "compact1 {module} {items#compactitem}", "compact2": "compact2 {module} {:typeref} {names#name}",
+    "table": "table({:tabletype} {init} )", "global": "global({:globaltype} {init_expr} )", "export": "export({name} {kind:plain} {index} )",
+    "activeelement": "active {table_index?} {offset_expr}", "functions": "{functions#index}", "expressions": "{type:type} {expressions#constexpr}",
+    "activedata": "active {memory_index} {offset_expr}", "kind": "{kind:plain}", "valtype": "{type:type}", "reftype": "{type:type}", "heaptype": "{type}",
+    "constexpr": "{expr}", "index": "{index}", "name": "{name}", "hint": "hint({func_offset} {taken} )", "function": "function({func} {hints#hint} )",
+    "producersvalue": "value({name} {version} )", "producersfield": "field({name} {values#producersvalue} )",
+    "unknown": "unknown {ty} {contents:raw} {range}", "naming": "name({index} {name} )",
+    "meminfo": "meminfo({memory_size} {memory_alignment} {table_size} {table_alignment} )", "exportinfo": "export({name} {flags} )",
+    "importinfo": "import({module} {field} {flags} )", "segment": "segment({name} {alignment} {flags} )", "init": "init({priority} {symbol_index} )",
+    "comdatsymbol": "symbol({kind} {index} )", "comdat": "comdat({name} {flags} {symbols#comdatsymbol} )",
+    "relocation": "reloc({type:relocation} {offset} {index} {addend} )", "reloc": "section {section} {range} {entries#relocation}",
+}.items()}
+FORMS |= {"typeref": type_ref, "imports": imports, "element": element, "data": data, "recgroup": rec_group, "symbol": symbol}
 
 
 # ---- custom sections
 
 
-def name_map(node):
-    return "{%s}" % "".join(unplaced(one, lambda one: "name(%s %s )" % (one["index"], one["name"])) + " " for one in node.under)
+def entries(item):
+    """The entries of a map of names."""
+    return lambda node: "{%s}" % "".join(unplaced(one, item) + " " for one in node.under)
 
 
-def indirect_map(node):
-    return "{%s}" % "".join(unplaced(one, lambda one: "names(%s %s )" % (one["index"], name_map(one))) + " " for one in node.under)
+name_map = entries(FORMS["naming"])
+indirect_map = entries(lambda node: "names(%s %s )" % (node["index"], name_map(node)))
 
 
 def subsections(node, one):
     return "<%s>" % "".join(unplaced(part, one) + " " for part in node.under)
 
 
-def unknown(node):
-    return "unknown %s %s %s" % (node["ty"], raw(node["contents"]), node["range"])
-
-
 def name_part(node):
     word = node.words[0]
-    if word == "unknown":
-        return unknown(node)
-    if word == "module":
-        return "module %s %s" % (node["name"], node["range"])
+    if word in ("unknown", "module"):
+        return FORMS["unknown"](node) if word == "unknown" else form("module {name} {range}")(node)
     return "%d%s" % (NAMES.index(word), indirect_map(node) if word in INDIRECT else name_map(node))
-
-
-def function_hints(node):
-    return "function(%s %s )" % (node["func"], listed(node, "hints", lambda one: "hint(%s %s )" % (one["func_offset"], one["taken"])))
-
-
-def producers_value(node):
-    return "value(%s %s )" % (node["name"], node["version"])
-
-
-def producers_field(node):
-    return "field(%s %s )" % (node["name"], listed(node, "values", producers_value))
 
 
 def feature(node):
@@ -451,68 +429,37 @@ def feature(node):
     return "feature(%d %s )" % (prefix, node["name"])
 
 
-def listed_word(node, word, item):
+def words_below(node, word, item):
+    """The items below a line, which all begin with a word."""
     assert all(one.words == [word] for one in node.under), node.text
     return some(item(one) for one in node.under)
+
+
+# The subsections of dylink.0 by their words: the number, and the word and the form of what is below.
+DYLINK = {"export_info": (3, "export", "exportinfo"), "import_info": (4, "import", "importinfo"), "needed": (2, "library", "name"), "runtime_path": (5, "folder", "name")}
+LINKING = {"segment_info": (5, "segment"), "init_funcs": (6, "init"), "comdat_info": (7, "comdat"), "symbol_table": (8, "symbol")}
 
 
 def dylink_part(node):
     if "target_arch" in node.fields:
         return "6 " + node["target_arch"]
-    word = node.words[0]
-    if word == "unknown":
-        return unknown(node)
-    if word == "mem_info":
-        return "1 meminfo(%s )" % " ".join(node[name] for name in ("memory_size", "memory_alignment", "table_size", "table_alignment"))
-    if word == "export_info":
-        return "3 " + listed_word(node, "export", lambda one: "export(%s %s )" % (one["name"], one["flags"]))
-    if word == "import_info":
-        return "4 " + listed_word(node, "import", lambda one: "import(%s %s %s )" % (one["module"], one["field"], one["flags"]))
-    number, item = {"needed": (2, "library"), "runtime_path": (5, "folder")}[word]
-    return "%d %s" % (number, listed_word(node, item, lambda one: one["name"]))
-
-
-def symbol(node):
-    kind, start = node.words[0], "%s %s" % (node.words[0], node["flags"])
-    if kind == "section":
-        return start + " " + node["section"]
-    if kind == "data":
-        where = "-" if node.words[1:] == ["undefined"] else "defined(%s %s %s )" % (node["index"], node["offset"], node["size"])
-        return "%s %s %s" % (start, node["name"], where)
-    return "%s %s %s" % (start, node["index"], node.any("name"))
-
-
-def comdat(node):
-    return "comdat(%s %s %s )" % (node["name"], node["flags"], listed(node, "symbols", lambda one: "symbol(%s %s )" % (one["kind"], one["index"])))
-
-
-LINKING = {
-    "segment_info": (5, lambda one: "segment(%s %s %s )" % (one["name"], one["alignment"], one["flags"])),
-    "init_funcs": (6, lambda one: "init(%s %s )" % (one["priority"], one["symbol_index"])),
-    "comdat_info": (7, comdat),
-    "symbol_table": (8, symbol),
-}
+    if node.words[0] in ("unknown", "mem_info"):
+        return FORMS["unknown"](node) if node.words[0] == "unknown" else "1 " + FORMS["meminfo"](node)
+    number, word, item = DYLINK[node.words[0]]
+    return "%d %s" % (number, words_below(node, word, FORMS[item]))
 
 
 def linking_part(node):
     if "target_arch" in node.fields:
         return "9 " + node["target_arch"]
     if node.words == ["unknown"]:
-        return unknown(node)
+        return FORMS["unknown"](node)
     name = next(iter(node.fields))
-    return "%d %s" % (LINKING[name][0], listed(node, name, LINKING[name][1]))
+    return "%d %s" % (LINKING[name][0], listed(node, name, FORMS[LINKING[name][1]]))
 
 
 def linking(node):
     return "version %s at %s %s %s" % (node["version"], node["subsections"], node["range"], subsections(node, linking_part))
-
-
-def relocation(node):
-    return "reloc(%d %s %s %s )" % (RELOCATIONS.index(node["type"]), node["offset"], node["index"], node["addend"])
-
-
-def reloc(node):
-    return "section %s %s %s" % (node["section"], node["range"], listed(node, "entries", relocation))
 
 
 def core_value(node):
@@ -522,23 +469,22 @@ def core_value(node):
     return "%s:%s" % (name.replace("_bits", ""), value)
 
 
-def under_word(node, word):
-    return [one for one in node.under if one.words[:1] == [word]]
-
-
 def instance(node):
     lists = [some(one[name] for one in node.under if name in one.fields) for name in ("memory", "global")]
     return "instance(%s %s )" % (node["module_index"], " ".join(lists))
 
 
 def frame(node):
-    lists = [some(map(core_value, under_word(node, word))) for word in ("local", "stack")]
+    lists = [some(core_value(one) for one in node.under if one.words[:1] == [word]) for word in ("local", "stack")]
     assert all(one.words[0] in ("local", "stack") for one in node.under)
     return "frame(%s %s %s %s )" % (node["instanceidx"], node["funcidx"], node["codeoffset"], " ".join(lists))
 
 
-def announced(node, name, text):
-    assert int(node[name]) == len(node.under), node.text
+def announced(name, word, item):
+    def text(node):
+        assert int(node[name]) == len(node.under), node.text
+        return words_below(node, word, item)
+
     return text
 
 
@@ -635,33 +581,8 @@ def check_places(row, node, data, offset):
 # ---- cases
 
 # The text of each item, by its row.
-ITEMS = {
-    "kind": lambda node: node["kind"].replace("_", ""),
-    "typeref": type_ref,
-    "import": import_item,
-    "compactitem": compact_item,
-    "imports": imports,
-    "valtype": type_of,
-    "reftype": type_of,
-    "heaptype": lambda node: node["type"],
-    "table": table,
-    "memory": memory,
-    "tag": tag,
-    "global": lambda node: "global(%s %s )" % (global_type(node), node["init_expr"]),
-    "export": export,
-    "constexpr": lambda node: node["expr"],
-    "element": element,
-    "data": data,
-    "recgroup": rec_group,
-    "symbol": symbol,
-    "comdat": comdat,
-    "relocation": relocation,
-    "corevalue": core_value,
-    "instance": instance,
-    "frame": frame,
-    "producersvalue": producers_value,
-    "index": lambda node: node["index"],
-}
+ROWS = "kind typeref import compactitem imports valtype reftype heaptype table memory tag global export constexpr element data recgroup symbol comdat relocation"
+ITEMS = {name: FORMS[name] for name in (ROWS + " producersvalue index").split()} | {"corevalue": core_value, "instance": instance, "frame": frame}
 
 
 def counted(item):
@@ -674,20 +595,11 @@ def counted(item):
 
 # The text of each custom section, and of a type section, by its row.
 CUSTOM = {
-    "types": type_section,
-    "namemap": name_map,
-    "indirect": indirect_map,
-    "names": lambda node: subsections(node, name_part),
-    "hints": counted(function_hints),
-    "producers": counted(producers_field),
-    "features": counted(feature),
-    "dylink": lambda node: subsections(node, dylink_part),
-    "linking": linking,
-    "reloc": reloc,
-    "core": lambda node: node["process"],
-    "coremodules": lambda node: announced(node, "modules", listed_word(node, "module", lambda one: one["name"])),
-    "coreinstances": lambda node: announced(node, "instances", listed_word(node, "instance", instance)),
-    "corestack": lambda node: node["thread"] + " " + announced(node, "frames", listed_word(node, "frame", frame)),
+    "types": type_section, "namemap": name_map, "indirect": indirect_map, "names": lambda node: subsections(node, name_part),
+    "hints": counted(FORMS["function"]), "producers": counted(FORMS["producersfield"]), "features": counted(feature),
+    "dylink": lambda node: subsections(node, dylink_part), "linking": linking, "reloc": FORMS["reloc"], "core": lambda node: node["process"],
+    "coremodules": announced("modules", "module", FORMS["name"]), "coreinstances": announced("instances", "instance", instance),
+    "corestack": lambda node: node["thread"] + " " + announced("frames", "frame", frame)(node),
 }
 
 
@@ -695,7 +607,7 @@ def case_text(row, lines, data, offset):
     """The text of a case: an item and how many bytes it takes, a section, or a fault. Its bytes begin at this offset."""
     nodes = nodes_of(with_ranges(row, lines, data, offset))
     if row == "flatimports":
-        return " ".join(placed(node, import_item) for node in nodes)
+        return " ".join(placed(node, FORMS["import"]) for node in nodes)
     if nodes[0].text.startswith("fault "):
         assert len(nodes) == 1 and not nodes[0].under
         return nodes[0].text
@@ -730,16 +642,8 @@ def expected_text(outcome, case):
 
 # The row of each kind of section that has items, by its id.
 SECTIONS = {
-    S.TYPE_SECTION: "recgroup",
-    S.IMPORT_SECTION: "import",
-    S.FUNCTION_SECTION: "index",
-    S.TABLE_SECTION: "table",
-    S.MEMORY_SECTION: "memory",
-    S.GLOBAL_SECTION: "global",
-    S.EXPORT_SECTION: "export",
-    S.ELEMENT_SECTION: "element",
-    S.DATA_SECTION: "data",
-    S.TAG_SECTION: "tag",
+    S.TYPE_SECTION: "recgroup", S.IMPORT_SECTION: "import", S.FUNCTION_SECTION: "index", S.TABLE_SECTION: "table", S.MEMORY_SECTION: "memory",
+    S.GLOBAL_SECTION: "global", S.EXPORT_SECTION: "export", S.ELEMENT_SECTION: "element", S.DATA_SECTION: "data", S.TAG_SECTION: "tag",
 }
 
 # The row of each custom section that is known, by its name.

@@ -153,6 +153,10 @@ def yes(b):
     return "true" if b else "false"
 
 
+def little(r, n):
+    return int.from_bytes(r.raw(n), "little")
+
+
 # ---- types
 HEAPS = {0x70: "func", 0x6F: "extern", 0x6E: "any", 0x6D: "eq", 0x6C: "i31", 0x6B: "struct", 0x6A: "array", 0x69: "exn",
          0x71: "none", 0x72: "noextern", 0x73: "nofunc", 0x74: "noexn"}
@@ -240,163 +244,151 @@ def recgroup(r):
 
 
 # ---- constant expressions
+def number(kind):
+    return lambda r: r.num(kind)
+
+
+def raw(n):
+    return lambda r: r.raw(n)
+
+
+def indices(n):
+    return lambda r: [r.u32() for _ in range(n)]
+
+
+# What follows an opcode, and each number after the two opcodes that have one.
+CONSTANT = {0x41: number("s32"), 0x42: number("s64"), 0x43: raw(4), 0x44: raw(8), 0x23: indices(1), 0xD2: indices(1), 0xD0: heaptype,
+            **dict.fromkeys((0x6A, 0x6B, 0x6C, 0x7C, 0x7D, 0x7E), indices(0))}
+NUMBERED = {0xFD: {12: raw(16)}, 0xFB: {**dict.fromkeys((0, 1, 6, 7), indices(1)), 8: indices(2), **dict.fromkeys((26, 27, 28), indices(0))}}
+
+
 def constexpr(r):
     s = r.at()
     while True:
         at, b = r.at(), r.byte()
-        bad = Bad(at, "not a constant instruction")
         if b == 0x0B:
             return "%d..%d" % (s, r.at())
-        if b == 0x41:
-            r.num("s32")
-        elif b == 0x42:
-            r.num("s64")
-        elif b == 0x43:
-            r.raw(4)
-        elif b == 0x44:
-            r.raw(8)
-        elif b == 0xFD:
-            if r.u32() != 12:
-                raise bad
-            r.raw(16)
-        elif b in (0x23, 0xD2):
-            r.u32()
-        elif b == 0xD0:
-            heaptype(r)
-        elif b in (0x6A, 0x6B, 0x6C, 0x7C, 0x7D, 0x7E):
-            pass
-        elif b == 0xFB:
-            n = r.u32()
-            if n in (0, 1, 6, 7):
-                r.u32()
-            elif n == 8:
-                r.u32()
-                r.u32()
-            elif n not in (26, 27, 28):
-                raise bad
-        else:
-            raise bad
+        rest = NUMBERED[b].get(r.u32()) if b in NUMBERED else CONSTANT.get(b)
+        if rest is None:
+            raise Bad(at, "not a constant instruction")
+        rest(r)
 
 
 # ---- items of sections
 KIND = {0: "func", 1: "table", 2: "memory", 3: "global", 4: "tag", 0x20: "funcexact"}
 
 
-def kind(r):
-    at, b = r.at(), r.byte()
-    if b not in KIND:
-        raise lead(at, "external kind", b)
-    return KIND[b]
+def seq(form, *parts):
+    """An item of these parts, one after the other, in a text of this form."""
+    return lambda r: form % tuple([part(r) for part in parts])
 
 
-def limit(r):
-    return str(r.num("u64" if r.f & 1 else "u32"))
+def flags(r, most, fault):
+    at, f = r.at(), r.byte()
+    if f > most:
+        raise Bad(at, fault)
+    return f
+
+
+def zero(fault):
+    """A byte that has to be 0."""
+    return lambda r: flags(r, 0, fault)
+
+
+def coded(names, what):
+    """A byte that stands for something."""
+    def read(r):
+        at, b = r.at(), r.byte()
+        if b not in names:
+            raise lead(at, what, b)
+        return names[b]
+    return read
+
+
+kind = coded(KIND, "external kind")
+
+
+def limits(r, f):
+    one = lambda: str(r.num("u64" if r.f & 1 else "u32"))
+    low = one()
+    return low, one() if f & 1 else "-"
 
 
 def tabletype(r):
-    t, at, f = reftype(r), r.at(), r.byte()
-    if f > 7:
-        raise Bad(at, "invalid table resizable limits flags")
-    low = limit(r)
-    high = limit(r) if f & 1 else "-"
-    return "table(%s %s %s %s %s )" % (t, yes(f & 4), low, high, yes(f & 2))
+    t = reftype(r)
+    f = flags(r, 7, "invalid table resizable limits flags")
+    return "table(%s %s %s %s %s )" % (t, yes(f & 4), *limits(r, f), yes(f & 2))
 
 
 def table(r):
-    if r.peek() == 0x40:
-        r.byte()
-        at = r.at()
-        if r.byte() != 0:
-            raise Bad(at, "invalid table encoding")
-        t = tabletype(r)
-        return "table(%s %s )" % (t, constexpr(r))
-    return "table(%s null )" % tabletype(r)
+    if r.peek() != 0x40:
+        return "table(%s null )" % tabletype(r)
+    r.byte()
+    zero("invalid table encoding")(r)
+    return seq("table(%s %s )", tabletype, constexpr)(r)
 
 
 def memory(r):
-    at, f = r.at(), r.byte()
-    if f > 15:
-        raise Bad(at, "invalid memory limits flags")
-    low = limit(r)
-    high = limit(r) if f & 1 else "-"
-    page = "-"
-    if f & 8:
-        n = r.u32()
-        if n >= 64:
-            raise Bad(at, "invalid custom page size")
-        page = str(n)
+    at, f = r.at(), flags(r, 15, "invalid memory limits flags")
+    low, high = limits(r, f)
+    page = r.u32() if f & 8 else "-"
+    if f & 8 and page >= 64:
+        raise Bad(at, "invalid custom page size")
     return "memory(%s %s %s %s %s )" % (yes(f & 4), yes(f & 2), low, high, page)
 
 
 def tag(r):
-    at = r.at()
-    if r.byte() != 0:
-        raise Bad(at, "invalid tag attributes")
+    zero("invalid tag attributes")(r)
     return "tag(exception %s )" % u32(r)
 
 
 def globaltype(r):
-    t, at, f = valtype(r), r.at(), r.byte()
-    if f > 3:
-        raise Bad(at, "malformed global flags")
+    t = valtype(r)
+    f = flags(r, 3, "malformed global flags")
     return "global(%s %s %s )" % (t, yes(f & 1), yes(f & 2))
-
-
-def globl(r):
-    t = globaltype(r)
-    return "global(%s %s )" % (t, constexpr(r))
 
 
 def typeref(r):
     k = kind(r)
-    if k in ("func", "funcexact"):
-        return "%s %s" % (k, u32(r))
-    return {"table": tabletype, "memory": memory, "global": globaltype, "tag": tag}[k](r)
+    other = {"table": tabletype, "memory": memory, "global": globaltype, "tag": tag}
+    return other[k](r) if k in other else "%s %s" % (k, u32(r))
 
 
-def imp(r):
-    m, n = name(r), name(r)
-    return "import(%s %s %s )" % (m, n, typeref(r))
+globl = seq("global(%s %s )", globaltype, constexpr)
+imp, compact = seq("import(%s %s %s )", name, name, typeref), seq("item(%s %s )", name, typeref)
+MISMATCH = "section size mismatch: unexpected data at the end of the section"
 
 
-def compact(r):
-    n = name(r)
-    return "item(%s %s )" % (n, typeref(r))
-
-
-def counted(r, f, skip=None):
-    """The items of a window that begins at the count; `skip` first skips them, if the list is inside an item."""
-    start = r.p
-    if skip:
+def counted(f, skip=None):
+    """The items of a list inside an item, which are first skipped."""
+    def read(r):
+        start = r.p
         for _ in range(r.u32()):
-            skip(r)
-        r = r.window(start, r.p)
-    return listed(r, f)
+            (skip or f)(r)
+        return listed(r.window(start, r.p), f)
+    return read
 
 
 def walk(r, f):
     """(offset, text) of each item, then (None, fault) if one ends them."""
-    n = r.u32()
-    out = []
+    n, out = r.u32(), []
     for _ in range(n):
         at = r.at()
         try:
             out.append((at, f(r)))
         except Bad as e:
             return n, out + [(None, e.line())]
-    if r.left():
-        out.append((None, Bad(r.at(), "section size mismatch: unexpected data at the end of the section").line()))
-    return n, out
+    return n, out + ([(None, Bad(r.at(), MISMATCH).line())] if r.left() else [])
+
+
+def placed(got):
+    """Items with their offsets, as a text."""
+    return "".join(("%d:%s " % g if g[0] is not None else g[1] + " ") for g in got)
 
 
 def listed(r, f):
     n, got = walk(r, f)
-    return "%s #%d[%s]" % (r.range(), n, "".join(("%d:%s " % g if g[0] is not None else g[1] + " ") for g in got))
-
-
-def skipped_item(r):
-    r.skip_string()
-    typeref(r)
+    return "%s #%d[%s]" % (r.range(), n, placed(got))
 
 
 def imports_group(r, flat=False):
@@ -404,38 +396,39 @@ def imports_group(r, flat=False):
     at = r.at()
     m, n = name(r), name(r)
     d = r.peek()
-    if n == "x" and d in (0x7F, 0x7E):
-        if not r.f & 2:
-            raise Bad(r.at(), "invalid leading byte 0x%X with compact imports proposal disabled" % d)
-        r.byte()
-        t = typeref(r) if d == 0x7E else None
-        start = r.p
-        for _ in range(r.u32()):
-            skipped_item(r) if d == 0x7F else r.skip_string()
-        w = r.window(start, r.p)
-        if flat:
-            one = (lambda q: (lambda a: "import(%s %s %s )" % (m, a, typeref(q)))(name(q))) if d == 0x7F else \
-                (lambda q: "import(%s %s %s )" % (m, name(q), t))
-            return walk(w, one)[1]
+    if n != "x" or d not in (0x7F, 0x7E):
+        i = "import(%s %s %s )" % (m, n, typeref(r))
+        return [(at, i)] if flat else "single %d %s" % (at, i)
+    if not r.f & 2:
+        raise Bad(r.at(), "invalid leading byte 0x%X with compact imports proposal disabled" % d)
+    r.byte()
+    t = typeref(r) if d == 0x7E else None
+    start = r.p
+    for _ in range(r.u32()):
+        r.skip_string()
         if d == 0x7F:
-            return "compact1 %s %s" % (m, listed(w, compact))
-        return "compact2 %s %s %s" % (m, t, listed(w, name))
-    i = "import(%s %s %s )" % (m, n, typeref(r))
-    return [(at, i)] if flat else "single %d %s" % (at, i)
+            typeref(r)
+    w = r.window(start, r.p)
+    if flat:
+        one = seq("import(" + m + " %s %s )", name, typeref) if d == 0x7F else seq("import(" + m + " %s " + (t or "") + " )", name)
+        return walk(w, one)[1]
+    return "compact1 %s %s" % (m, listed(w, compact)) if d == 0x7F else "compact2 %s %s %s" % (m, t, listed(w, name))
+
+
+def imports_from(r, n):
+    """The imports of groups one by one, to the end of the window."""
+    for _ in range(n):
+        try:
+            yield from imports_group(r, True)
+        except Bad as e:
+            yield None, e.line()
+            return
+    if r.left():
+        yield None, Bad(r.at(), MISMATCH).line()
 
 
 def flatimports(r):
-    n = r.u32()
-    out = ""
-    for _ in range(n):
-        try:
-            for at, t in imports_group(r, True):
-                out += ("%d:%s " % (at, t)) if at is not None else t + " "
-        except Bad as e:
-            return out + e.line() + " "
-    if r.left():
-        out += Bad(r.at(), "section size mismatch: unexpected data at the end of the section").line() + " "
-    return out
+    return placed(imports_from(r, r.u32()))
 
 
 def export(r):
@@ -450,80 +443,70 @@ def element(r):
     f = r.u32()
     if f > 7:
         raise Bad(r.at() - 1, "invalid flags byte in element segment")
-    if f & 1:
-        k = "declared" if f & 2 else "passive"
-    else:
+    k, ty = "declared" if f & 2 else "passive", "null:func"
+    if not f & 1:
         t = u32(r) if f & 2 else "-"
         k = "active %s %s" % (t, constexpr(r))
-    ty = "null:func"
-    if f & 3:
-        if f & 4:
-            ty = reftype(r)
-        else:
-            at = r.at()
-            if kind(r) != "func":
-                raise Bad(at, "only the function external type is supported in elem segment")
-    one = constexpr if f & 4 else u32
-    items = counted(r, one, one)
+    at = r.at()
+    if f & 3 and f & 4:
+        ty = reftype(r)
+    elif f & 3 and kind(r) != "func":
+        raise Bad(at, "only the function external type is supported in elem segment")
+    items = counted(constexpr if f & 4 else u32)(r)
     return "element(%s %s %d..%d )" % (k, ty + " " + items if f & 4 else items, s, r.at())
 
 
 def data(r):
     s = r.at()
     f = r.u32()
-    if f == 1:
-        k = "passive"
-    elif f in (0, 2):
+    if f > 2:
+        raise Bad(s, "invalid flags byte in data segment")
+    k = "passive"
+    if f != 1:
         m = u32(r) if f else "0"
         k = "active %s %s" % (m, constexpr(r))
-    else:
-        raise Bad(s, "invalid flags byte in data segment")
     b = r.raw(r.u32())
     return "data(%s %s %d..%d )" % (k, x(b), s, r.at())
 
 
 # ---- custom sections
-def naming(r):
-    i = u32(r)
-    return "name(%s %s )" % (i, text(r))
+def many(f):
+    return lambda r: owned(r, f)
 
 
-def ascending(r, f, fault):
-    """Items whose indices must ascend; f gives (index, text)."""
-    n = r.u32()
-    out, last = "{", None
-    for _ in range(n):
-        at = r.at()
-        try:
-            i, t = f(r)
-        except Bad as e:
-            return out + e.line() + " }"
-        if last is not None and i <= last:
-            out += "fault %d %s " % (at, fault)
-        else:
-            last = i
-            out += t + " "
-    if r.left():
-        out += Bad(r.at(), "section size mismatch: unexpected data at the end of the section").line() + " "
-    return out + "}"
+def listing_of(f):
+    return lambda r: listed(r, f)
 
 
-def namemap(r):
-    def one(q):
-        i = q.u32()
-        return i, "name(%d %s )" % (i, text(q))
-    return ascending(r, one, "names out of order")
+def ascending(f, fault):
+    """Items after indices that must ascend."""
+    def read(r):
+        out, last = "{", -1
+        for _ in range(r.u32()):
+            at = r.at()
+            try:
+                i = r.u32()
+                t = f(i, r)
+            except Bad as e:
+                return out + e.line() + " }"
+            out += t + " " if i > last else "fault %d %s " % (at, fault)
+            last = max(i, last)
+        return out + (Bad(r.at(), MISMATCH).line() + " " if r.left() else "") + "}"
+    return read
 
 
-def indirect(r):
-    def one(q):
-        i = q.u32()
-        start = q.p
-        for _ in range(q.u32()):
-            q.u32()
-            q.skip_string()
-        return i, "names(%d %s )" % (i, namemap(q.window(start, q.p)))
-    return ascending(r, one, "indirect names out of order")
+namemap = ascending(lambda i, r: "name(%d %s )" % (i, text(r)), "names out of order")
+
+
+def names_below(i, r):
+    start = r.p
+    for _ in range(r.u32()):
+        r.u32()
+        r.skip_string()
+    return "names(%d %s )" % (i, namemap(r.window(start, r.p)))
+
+
+indirect = ascending(names_below, "indirect names out of order")
 
 
 def parts(r, f, order=None):
@@ -538,9 +521,8 @@ def parts(r, f, order=None):
             r.raw(n)
         except Bad as e:
             return out + e.line() + " *"
-        w = r.window(p, r.p)
         try:
-            t = f(ident, w)
+            t = f(ident, r.window(p, r.p))
         except Bad as e:
             out += e.line() + " "
             continue
@@ -552,110 +534,43 @@ def parts(r, f, order=None):
     return out + ">"
 
 
-def unknown(ident, r):
-    return "unknown %d %s %s" % (ident, x(r.b[r.p:r.e]), r.range())
-
-
-def names(r):
+def subsections(rows, order=None):
+    """Subsections by their ids; each of `rows` has a form and what reads it. One that is unknown is its bytes."""
     def one(ident, q):
-        if ident == 0:
-            n = name(q)
-            if q.left():
-                raise Bad(q.at(), "trailing data at the end of a name")
-            return "module %s %s" % (n, q.range())
-        if ident in (2, 3, 10, 12, 13):
-            return "%d%s" % (ident, indirect(q))
-        if ident <= 13:
-            return "%d%s" % (ident, namemap(q))
-        return unknown(ident, q)
-    return parts(r, one, "name subsection out of order")
+        if ident in rows:
+            return rows[ident][0] % rows[ident][1](q)
+        return "unknown %d %s %s" % (ident, x(q.b[q.p:q.e]), q.range())
+    return lambda r: parts(r, one, order)
 
 
-def hint(r):
-    o = u32(r)
-    at, b = r.at(), r.byte()
-    if b != 1:
-        raise lead(at, "invalid branch hint byte", b)
-    at, b = r.at(), r.byte()
-    if b > 1:
-        raise lead(at, "invalid branch hint taken byte", b)
-    return "hint(%s %s )" % (o, yes(b))
+def module_name(q):
+    n = name(q)
+    if q.left():
+        raise Bad(q.at(), "trailing data at the end of a name")
+    return "%s %s" % (n, q.range())
 
 
-def hints(r):
-    def one(q):
-        f = u32(q)
-        return "function(%s %s )" % (f, counted(q, hint, hint))
-    return listed(r, one)
+NAMES = {i: ("%d%%s" % i, indirect if i in (2, 3, 10, 12, 13) else namemap) for i in range(1, 14)}
+names = subsections({**NAMES, 0: ("module %s", module_name)}, "name subsection out of order")
+hint = seq("hint(%s %s%s )", u32, coded({1: ""}, "invalid branch hint byte"), coded({0: "false", 1: "true"}, "invalid branch hint taken byte"))
+hints = listing_of(seq("function(%s %s )", u32, counted(hint)))
+producers_value = seq("value(%s %s )", text, text)
 
 
-def producers_value(r):
-    n = text(r)
-    return "value(%s %s )" % (n, text(r))
+def producers_field(r):
+    at, n = r.at(), r.string(False)
+    if n not in (b"language", b"sdk", b"processed-by"):
+        raise Bad(at, "invalid producers field name")
+    return "field(%s %s )" % (x(n), counted(producers_value, lambda q: (q.skip_string(), q.skip_string()))(r))
 
 
-def producers(r):
-    def skip(q):
-        q.skip_string()
-        q.skip_string()
-
-    def one(q):
-        at = q.at()
-        n = q.string(False)
-        if n not in (b"language", b"sdk", b"processed-by"):
-            raise Bad(at, "invalid producers field name")
-        return "field(%s %s )" % (x(n), counted(q, producers_value, skip))
-    return listed(r, one)
-
-
-def feature(r):
-    prefix = r.byte()
-    return "feature(%d %s )" % (prefix, text(r))
-
-
-def features(r):
-    return listed(r, feature)
-
-
-def dylink(r):
-    def one(i, q):
-        if i == 1:
-            return "1 meminfo(%s )" % " ".join(u32(q) for _ in range(4))
-        if i in (2, 5):
-            return "%d %s" % (i, owned(q, text))
-        if i == 3:
-            return "3 " + owned(q, lambda w: (lambda n: "export(%s %s )" % (n, u32(w)))(text(w)))
-        if i == 4:
-            def im(w):
-                m, n = text(w), text(w)
-                return "import(%s %s %s )" % (m, n, u32(w))
-            return "4 " + owned(q, im)
-        if i == 6:
-            return "6 " + text(q)
-        return unknown(i, q)
-    return parts(r, one)
-
-
-def segment(r):
-    n, a = text(r), u32(r)
-    return "segment(%s %s %s )" % (n, a, u32(r))
-
-
-def init(r):
-    p = u32(r)
-    return "init(%s %s )" % (p, u32(r))
-
-
-def comdat_symbol(r):
-    at, b = r.at(), r.byte()
-    if b > 5:
-        raise lead(at, "comdat symbol kind", b)
-    return "symbol(%s %s )" % (["data", "func", "global", "event", "table", "section"][b], u32(r))
-
-
-def comdat(r):
-    n, f = text(r), u32(r)
-    return "comdat(%s %s %s )" % (n, f, counted(r, comdat_symbol, comdat_symbol))
+producers = listing_of(producers_field)
+features = listing_of(seq("feature(%d %s )", R.byte, text))
+dylink = subsections({1: ("1 %s", seq("meminfo(%s %s %s %s )", u32, u32, u32, u32)), 2: ("2 %s", many(text)), 3: ("3 %s", many(seq("export(%s %s )", text, u32))),
+                      4: ("4 %s", many(seq("import(%s %s %s )", text, text, u32))), 5: ("5 %s", many(text)), 6: ("6 %s", text)})
+segment, init = seq("segment(%s %s %s )", text, u32, u32), seq("init(%s %s )", u32, u32)
+COMDAT = coded(dict(enumerate(["data", "func", "global", "event", "table", "section"])), "comdat symbol kind")
+comdat = seq("comdat(%s %s %s )", text, u32, counted(seq("symbol(%s %s )", COMDAT, u32)))
 
 
 def symbol(r):
@@ -666,117 +581,82 @@ def symbol(r):
         n = text(r) if not undefined or explicit else "-"
         return "%s %d %s %s" % ({0: "func", 2: "global", 4: "event", 5: "table"}[k], f, i, n)
     if k == 1:
-        n, d = text(r), "-"
-        if not undefined:
-            d = "defined(%s )" % " ".join(u32(r) for _ in range(3))
-        return "data %d %s %s" % (f, n, d)
+        n = text(r)
+        return "data %d %s %s" % (f, n, "-" if undefined else seq("defined(%s %s %s )", u32, u32, u32)(r))
     if k == 3:
         return "section %d %s" % (f, u32(r))
     raise lead(at, "symbol kind", k)
+
+
+# A counted subsection whose count is malformed is that subsection's own fault.
+linking_parts = subsections({i: ("%d %%s" % i, listing_of(f)) for i, f in {5: segment, 6: init, 7: comdat, 8: symbol}.items()} | {9: ("9 %s", name)})
 
 
 def linking(r):
     at, v = r.at(), r.u32()
     if v != 2:
         raise Bad(at, "unsupported linking section version", v)
-
-    def one(i, q):
-        if i in (5, 6, 7, 8):
-            return "%d %s" % (i, listed(q, {5: segment, 6: init, 7: comdat, 8: symbol}[i]))
-        if i == 9:
-            return "9 " + name(q)
-        return unknown(i, q)
-
-    # a counted subsection whose count is faulty is that subsection's own fault
-    rng, pos = r.range(), r.at()
-    return "version 2 at %d %s %s" % (pos, rng, parts(r, one))
+    return "version 2 at %d %s %s" % (r.at(), r.range(), linking_parts(r))
 
 
 def relocation(r):
-    at, t = r.at(), r.byte()
-    if t > 26:
-        raise lead(at, "RelocEntryType", t)
+    t = coded({i: i for i in range(27)}, "RelocEntryType")(r)
     o, i = u32(r), u32(r)
-    a = 0
-    if t in (3, 4, 5, 8, 9, 11, 21, 23):
-        a = r.num("s32")
-    elif t in (14, 15, 16, 17, 22, 25):
-        a = r.num("s64")
+    a = r.num("s32") if t in (3, 4, 5, 8, 9, 11, 21, 23) else r.num("s64") if t in (14, 15, 16, 17, 22, 25) else 0
     return "reloc(%d %s %s %d )" % (t, o, i, a)
 
 
 def reloc(r):
     s = u32(r)
-    rng = r.range()
-    return "section %s %s %s" % (s, rng, listed(r.window(r.p, r.e), relocation))
+    return "section %s %s %s" % (s, r.range(), listed(r.window(r.p, r.e), relocation))
 
 
-def finish(r, t):
-    if r.left():
-        raise Bad(r.at(), "trailing bytes at end of custom section")
-    return t
+def finish(f):
+    """All of a window's data."""
+    def read(r):
+        t = f(r)
+        if r.left():
+            raise Bad(r.at(), "trailing bytes at end of custom section")
+        return t
+    return read
 
 
-def start(r, at, what):
-    if r.byte() != 0:
-        raise Bad(at, "invalid start byte for " + what)
-
-
-def core(r):
-    start(r, r.at(), "core dump name")
-    return finish(r, text(r))
+def start(what, f):
+    """What follows a byte 0."""
+    def read(r):
+        zero("invalid start byte for " + what)(r)
+        return f(r)
+    return read
 
 
 def coremodules(r):
     begin = r.at()
 
     def one(q):
-        start(q, begin, "coremodule")
+        if q.byte() != 0:
+            raise Bad(begin, "invalid start byte for coremodule")
         return text(q)
-    return finish(r, owned(r, one))
+    return owned(r, one)
+
+
+VALUES = {1: lambda r: "missing", 0x7F: lambda r: "i32:%d" % r.num("s32"), 0x7E: lambda r: "i64:%d" % r.num("s64"),
+          0x7D: lambda r: "f32:%d" % little(r, 4), 0x7C: lambda r: "f64:%d" % little(r, 8)}
 
 
 def corevalue(r):
     at, b = r.at(), r.byte()
-    if b == 1:
-        return "missing"
-    if b == 0x7F:
-        return "i32:%d" % r.num("s32")
-    if b == 0x7E:
-        return "i64:%d" % r.num("s64")
-    if b == 0x7D:
-        return "f32:%d" % int.from_bytes(r.raw(4), "little")
-    if b == 0x7C:
-        return "f64:%d" % int.from_bytes(r.raw(8), "little")
-    raise Bad(at, "invalid CoreDumpValue type")
+    if b not in VALUES:
+        raise Bad(at, "invalid CoreDumpValue type")
+    return VALUES[b](r)
 
 
-def instance(r):
-    start(r, r.at(), "core dump instance")
-    m = u32(r)
-    a = owned(r, u32)
-    return "instance(%s %s %s )" % (m, a, owned(r, u32))
-
-
-def frame(r):
-    start(r, r.at(), "core dump stack frame")
-    a = [u32(r) for _ in range(3)]
-    loc = owned(r, corevalue)
-    return "frame(%s %s %s )" % (" ".join(a), loc, owned(r, corevalue))
-
-
-def coreinstances(r):
-    return finish(r, owned(r, instance))
-
-
-def corestack(r):
-    start(r, r.at(), "core dump stack name")
-    n = text(r)
-    return finish(r, n + " " + owned(r, frame))
-
+instance = start("core dump instance", seq("instance(%s %s %s )", u32, many(u32), many(u32)))
+frame = start("core dump stack frame", seq("frame(%s %s %s %s %s )", u32, u32, u32, many(corevalue), many(corevalue)))
+core = finish(start("core dump name", text))
+corestack = finish(start("core dump stack name", seq("%s %s", text, many(frame))))
 
 KNOWN = {"name": names, "metadata.code.branch_hint": hints, "producers": producers, "dylink.0": dylink, "core": core,
-         "coremodules": coremodules, "coreinstances": coreinstances, "corestack": corestack, "linking": linking}
+         "coremodules": finish(coremodules), "coreinstances": finish(many(instance)), "corestack": corestack, "linking": linking}
 # A dump has the features too, which other callers of the parser have to ask for.
 SHOWN = {**KNOWN, "target_features": features}
 
@@ -800,11 +680,11 @@ ITEMS = {"bool": boolean, "u32": u32, "string": name, "kind": kind, "typeref": t
          "table": table, "memory": memory, "tag": tag, "global": globl, "export": export, "element": element, "data": data,
          "constexpr": constexpr, "symbol": symbol, "comdat": comdat, "relocation": relocation, "corevalue": corevalue,
          "instance": instance, "frame": frame, "compactitem": compact, "producersvalue": producers_value}
-SECTIONS = {"bools": lambda r: listed(r, boolean), "u32s": lambda r: listed(r, u32), "strings": lambda r: listed(r, name),
+SECTIONS = {"bools": listing_of(boolean), "u32s": listing_of(u32), "strings": listing_of(name),
             "types": lambda r: listed(r, recgroup).partition(" ")[2],
             "flatimports": flatimports, "namemap": namemap, "indirect": indirect, "names": names, "dylink": dylink,
             "hints": hints, "producers": producers, "features": features, "linking": linking, "reloc": reloc, "core": core,
-            "coremodules": coremodules, "coreinstances": coreinstances, "corestack": corestack, "known": custom}
+            "coremodules": KNOWN["coremodules"], "coreinstances": KNOWN["coreinstances"], "corestack": corestack, "known": custom}
 
 
 def outcome(reader, b, o=0, feats=3):
@@ -821,10 +701,6 @@ def outcome(reader, b, o=0, feats=3):
 
 def field(number):
     return "number=%d" % number
-
-
-def little(r, n):
-    return int.from_bytes(r.raw(n), "little")
 
 
 def quoted(b):
@@ -904,7 +780,7 @@ def items(r, f):
         except Bad as e:
             return out + ["  " + missing(e)]
     if r.left():
-        out.append("  " + Bad(r.at(), "section size mismatch: unexpected data at the end of the section").line())
+        out.append("  " + Bad(r.at(), MISMATCH).line())
     return out
 
 
@@ -970,22 +846,8 @@ def listing(s, feats=3, readers=KNOWN):
         if w[0] == "section":
             i, b, e = int(w[1]), int(w[2]), int(w[3])
             r = R(s, 0, feats, b, e)
-            if i == 2:
-                r.u32()
-                n = model.u32(s, b, e)[1]
-                stop = False
-                for _ in range(n):
-                    try:
-                        got = imports_group(r, True)
-                    except Bad as fault:
-                        out.append("  " + fault.line())
-                        stop = True
-                        break
-                    out += ["  " + ("%d %s" % g if g[0] is not None else g[1]) for g in got]
-                if not stop and r.left():
-                    out.append("  " + Bad(r.at(), "section size mismatch: unexpected data at the end of the section").line())
-            else:
-                out += ["  " + ("%d %s" % g if g[0] is not None else g[1]) for g in walk(r, SECTION_ITEMS[i])[1]]
+            got = imports_from(r, r.u32()) if i == 2 else walk(r, SECTION_ITEMS[i])[1]
+            out += ["  " + ("%d %s" % g if g[0] is not None else g[1]) for g in got]
         elif w[0] == "custom":
             b, e, at = int(w[1]), int(w[2]), int(w[3])
             n = s[b + model.u32(s, b, e)[2]:at]
