@@ -4,7 +4,7 @@ use super::{CODELESS, MODULE, answers, runs};
 use std::test::Fail;
 
 // An export section whose second name is not UTF-8, and a name section with a truncated name.
-const MALFORMED: &[u8] = b"\0asm\x01\0\0\0\x07\x09\x02\x01a\0\0\x01\x80\0\0\0\x0a\x04name\0\x03\x01\0\x05";
+const MALFORMED: &[u8] = b"\0asm\x01\0\0\0\x07\x09\x02\x01a\0\0\x01\x80\0\0\0\x0a\x04name\x01\x03\x01\0\x05";
 
 #[test]
 fn reports_malformed_items(rt: HostRuntime) -> Result<(), Fail> {
