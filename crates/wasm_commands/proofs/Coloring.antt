@@ -7,10 +7,10 @@ use Rattle.std.proofs.lemmas.List.{take_at, take_more}
 use Rattle.std.specs.Io.KnownBytes.{Appends, Keeps, WriteAppends}
 use Rattle.wasm_text.specs.declared.devices.Failed.{Failed}
 use Rattle.std.proofs.KnownBytes.{Appends-kept}
-use Rattle.wasm_dumper.specs.Colors.{GainsByte, IsColored, IsSequence, given_by, plain, where_after, where_after_byte}
-use Rattle.wasm_dumper.specs.Colors.{without_colors, without_from}
-use Rattle.wasm_dumper.specs.declared.program.plain.Where.{Where}
-use Rattle.wasm_dumper.specs.declared.program.plain.Where.TheVariants.{Outside}
+use Rattle.wasm_commands.specs.Colors.{GainsByte, IsColored, IsSequence, given_by, plain, where_after, where_after_byte}
+use Rattle.wasm_commands.specs.Colors.{without_colors, without_from}
+use Rattle.wasm_commands.specs.declared.dump.plain.Where.{Where}
+use Rattle.wasm_commands.specs.declared.dump.plain.Where.TheVariants.{Outside}
 
 pub without_append : (at : Where) (xs ys : List ℕ) → without_from at (xs ++ ys)
     ≡ without_from at xs ++ without_from (where_after at xs) ys

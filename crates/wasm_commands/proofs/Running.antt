@@ -12,7 +12,7 @@ use Rattle.wasm_dumper.specs.Dump.{WritesWhole, WritesSome, Writes, Dumps}
 use Rattle.wasm_dumper.specs.declared.events.Only.{Only}
 use Rattle.wasm_tree.specs.declared.tree.Style.{Style}
 use Rattle.wasm_text.specs.declared.devices.Failed.{Failed}
-use Rattle.wasm_dumper.specs.Colors.{marked, seen, without_colors}
+use Rattle.wasm_commands.specs.Colors.{marked, seen, without_colors}
 
 -- what was written to one device is seen on another
 module _ (style : Style) (a b c d : Option (List ℕ)) (sees : (text : List ℕ) → Appends a b text → Appends c d text) where

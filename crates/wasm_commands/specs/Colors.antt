@@ -3,8 +3,8 @@
 use Rattle.std.specs.Prelude.{◌≡◌, ℕ, Bool, true, false, List, [], ◌∷◌, ◌++◌, take, nat_eq, Option, option_map}
 use Rattle.std.specs.Prelude.{if◌then◌else◌}
 use Rattle.wasm_text.specs.Calls.{Device}
-use Rattle.wasm_dumper.specs.declared.program.plain.Where.{Where}
-use Rattle.wasm_dumper.specs.declared.program.plain.Where.TheVariants.{Outside, Escaped, Inside}
+use Rattle.wasm_commands.specs.declared.dump.plain.Where.{Where}
+use Rattle.wasm_commands.specs.declared.dump.plain.Where.TheVariants.{Outside, Escaped, Inside}
 
 abbrev pub after_other : Where → ℕ → Where
 after_other Outside b = Outside

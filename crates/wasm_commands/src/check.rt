@@ -54,7 +54,6 @@ pub fn check_as<R: Source, W: Write>(
     let shown = Shown {
         only: &[Only::All],
         has_bytes: false,
-        has_items: true,
         found: &[],
     };
     let how = dump(alloc, shown, input, &mut tree, PIECE);

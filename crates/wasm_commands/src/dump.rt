@@ -182,14 +182,17 @@ pub(crate) fn show<S: System, W: Write + Drop, E: Sink>(
     let names = arguments.operands(alloc)?;
     let words = arguments.values(alloc, Flag::Section)?;
     let chosen = chosen_by(alloc, words.as_slice())?;
-    let only: &[Only<'_>] = if chosen.is_empty() { &[Only::All] } else { chosen.as_slice() };
+    let only: &[Only<'_>] = match verb {
+        Verb::List => &[Only::Parts],
+        _ if chosen.is_empty() => &[Only::All],
+        _ => chosen.as_slice(),
+    };
     let found = vec![in alloc; Cell::new(false); words.len()]?;
     let plan = Plan {
         words: words.as_slice(),
         shown: Shown {
             only,
             has_bytes: arguments.has(Flag::Bytes),
-            has_items: matches!(verb, Verb::Dump),
             found: found.as_slice(),
         },
         format,

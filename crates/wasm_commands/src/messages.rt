@@ -1,6 +1,8 @@
 // What the program says on standard error.
 ghost use Rattle.std.specs.Prelude.{◌≡◌};
-ghost use Rattle.wasm_commands.specs.Messages.{Complains, Reports, failure_text, file_text, refusal_text};
+ghost use Rattle.wasm_commands.specs.Messages.{Reports, command_text, complaint_text, failure_text, file_text, missing_text, name_shown, reason_if_any, refusal_text};
+ghost use Rattle.wasm_commands.specs.Messages.{about_word};
+ghost use Rattle.wasm_commands.specs.Reasons.{reason_of};
 ghost use Rattle.wasm_console.specs.Endings.{status_of as status_for};
 ghost use Rattle.wasm_text.specs.Calls.{device_of};
 ghost use Rattle.wasm_text.specs.Messages.{Says};
@@ -21,7 +23,9 @@ pub struct Causes {
 }
 
 /// Returns the name of an input in messages.
-pub(crate) fn shown_name(name: &str) -> &str {
+pub(crate) fn shown_name(name: &str) -> &str
+    ensures { result.now ≡ name_shown name.now }
+{
     match name {
         "-" => "standard input",
         _ => name,
@@ -29,7 +33,11 @@ pub(crate) fn shown_name(name: &str) -> &str {
 }
 
 /// Says why a file can't be opened, read or written. Returns the exit status 3.
-pub(crate) fn refuse_file<E: Sink>(name: &str, cause: Cause, errors: &mut E) -> u8 {
+pub(crate) fn refuse_file<E: Sink>(name: &str, cause: Cause, errors: &mut E) -> u8
+    ensures status { result ≡ 3 }
+    ensures says { Says (device_of E.taken E.has_failed errors.old errors.new)
+        (file_text name.now (reason_of cause)) }
+{
     say(
         errors,
         &[b"pulleynavy: ".as_slice(), name.as_bytes(), b": ", cause.words(), b"\n"],
@@ -38,7 +46,11 @@ pub(crate) fn refuse_file<E: Sink>(name: &str, cause: Cause, errors: &mut E) -> 
 }
 
 /// Says why a run over the input with this name failed. Returns the exit status 3.
-pub(crate) fn refuse_run<E: Sink>(name: &str, why: ListError, causes: Causes, errors: &mut E) -> u8 {
+pub(crate) fn refuse_run<E: Sink>(name: &str, why: ListError, causes: Causes, errors: &mut E) -> u8
+    ensures status { result ≡ 3 }
+    ensures says { Says (device_of E.taken E.has_failed errors.old errors.new)
+        (failure_text name.now why causes) }
+{
     match why {
         ListError::Input => say(
             errors,
@@ -64,7 +76,11 @@ pub(crate) fn refuse_run<E: Sink>(name: &str, why: ListError, causes: Causes, er
 }
 
 /// Says why a file could not be written. Returns the exit status 3.
-pub(crate) fn refuse_target<E: Sink>(name: &str, causes: Causes, errors: &mut E) -> u8 {
+pub(crate) fn refuse_target<E: Sink>(name: &str, causes: Causes, errors: &mut E) -> u8
+    ensures status { result ≡ 3 }
+    ensures says { Says (device_of E.taken E.has_failed errors.old errors.new)
+        (file_text name.now (reason_if_any causes.output)) }
+{
     say(
         errors,
         &[
@@ -79,7 +95,10 @@ pub(crate) fn refuse_target<E: Sink>(name: &str, causes: Causes, errors: &mut E)
 }
 
 /// Warns that a value of `--section` chose nothing of a file.
-pub(crate) fn warn_of_missing<E: Sink>(name: &str, word: &str, errors: &mut E) {
+pub(crate) fn warn_of_missing<E: Sink>(name: &str, word: &str, errors: &mut E)
+    ensures says { Says (device_of E.taken E.has_failed errors.old errors.new)
+        (missing_text name.now word.now) }
+{
     say(
         errors,
         &[
@@ -98,7 +117,11 @@ pub(crate) fn report<E: Sink>(
     how: &Result<Ended, ListError>,
     causes: Causes,
     errors: &mut E,
-) -> u8 {
+) -> u8
+    ensures status { result ≡ status_for how.now }
+    ensures reports { Reports name.now how.now causes
+        (device_of E.taken E.has_failed errors.old errors.new) }
+{
     match how {
         Ok(_) => status_of(how),
         Err(why) => refuse_run(name, *why, causes, errors),
@@ -106,7 +129,9 @@ pub(crate) fn report<E: Sink>(
 }
 
 // The words before a message about the arguments of a command.
-fn command_words(verb: Verb) -> &'static [u8] {
+fn command_words(verb: Verb) -> &'static [u8]
+    ensures { result.now ≡ command_text verb }
+{
     match verb {
         Verb::List => b"pulleynavy list",
         Verb::Dump => b"pulleynavy dump",
@@ -139,27 +164,37 @@ pub(crate) enum Complaint<'a> {
 }
 
 // Says what is wrong with an argument, and where to look.
-fn complain_of<E: Sink>(verb: Verb, parts: [&[u8]; 3], errors: &mut E) {
-    let [before, word, after] = parts;
+fn complain_of<E: Sink>(verb: Verb, before: &[u8], word: &str, after: &[u8], errors: &mut E)
+    ensures says { Says (device_of E.taken E.has_failed errors.old errors.new)
+        (about_word verb before.now word.now after.now) }
+{
     let words = command_words(verb);
     say(
         errors,
-        &[words, b": ".as_slice(), before, word, after, b"\nTry '", words, b" --help'.\n"],
+        &[words, b": ".as_slice(), before, word.as_bytes(), after, b"\nTry '", words, b" --help'.\n"],
     );
 }
 
 // Says what is wrong with an option.
-fn complain_of_option<E: Sink>(verb: Verb, refusal: Refusal<'_>, errors: &mut E) {
-    let parts: [&[u8]; 3] = match refusal {
-        Refusal::UnknownOption(word) => [b"unknown option '", word.as_bytes(), b"'"],
-        Refusal::NoValue(word) => [b"option '", word.as_bytes(), b"' needs a value"],
-        Refusal::UnwantedValue(word) => [b"option '", word.as_bytes(), b"' takes no value"],
-    };
-    complain_of(verb, parts, errors);
+fn complain_of_option<E: Sink>(verb: Verb, refusal: Refusal<'_>, errors: &mut E)
+    ensures says { Says (device_of E.taken E.has_failed errors.old errors.new)
+        (refusal_text verb refusal.entry) }
+{
+    match refusal {
+        Refusal::UnknownOption(word) => complain_of(verb, b"unknown option '", word, b"'", errors),
+        Refusal::NoValue(word) => complain_of(verb, b"option '", word, b"' needs a value", errors),
+        Refusal::UnwantedValue(word) => {
+            complain_of(verb, b"option '", word, b"' takes no value", errors);
+        }
+    }
 }
 
 /// Says what is wrong with the arguments. Returns the exit status 2.
-pub(crate) fn complain<E: Sink>(complaint: Complaint<'_>, errors: &mut E) -> u8 {
+pub(crate) fn complain<E: Sink>(complaint: Complaint<'_>, errors: &mut E) -> u8
+    ensures status { result ≡ 2 }
+    ensures says { Says (device_of E.taken E.has_failed errors.old errors.new)
+        (complaint_text complaint.entry) }
+{
     match complaint {
         Complaint::Argument(verb, refusal) => complain_of_option(verb, refusal, errors),
         Complaint::Excluded(verb, first, second) => say(
@@ -185,7 +220,7 @@ pub(crate) fn complain<E: Sink>(complaint: Complaint<'_>, errors: &mut E) -> u8 
             ],
         ),
         Complaint::Extra(verb, word) => {
-            complain_of(verb, [b"unexpected argument '", word.as_bytes(), b"'"], errors);
+            complain_of(verb, b"unexpected argument '", word, b"'", errors);
         }
         Complaint::UnknownCommand(word) => say(
             errors,

@@ -1,6 +1,7 @@
 // Why a file can't be opened, or a device failed.
 ghost use Rattle.std.specs.Prelude.{◌≡◌};
 ghost use Rattle.std.specs.IoError.{error_kind};
+ghost use Rattle.wasm_commands.specs.Messages.{reason_if_any};
 ghost use Rattle.wasm_commands.specs.Reasons.{reason_of, reason_of_kind};
 
 use std::io::{Error, ErrorKind};
@@ -45,7 +46,9 @@ impl Cause {
 }
 
 /// Returns the words for a device that did not say why it failed.
-pub(crate) fn words_if_any(cause: Option<Cause>) -> &'static [u8] {
+pub(crate) fn words_if_any(cause: Option<Cause>) -> &'static [u8]
+    ensures { result.now ≡ reason_if_any cause }
+{
     match cause {
         Some(cause) => cause.words(),
         None => words_of(ErrorKind::Other),

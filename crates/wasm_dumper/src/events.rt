@@ -26,7 +26,7 @@ use wasm_tree::{Space, Style, Tree, write_item};
 /// ```rattle
 /// // Only the import section, without bytes.
 /// let only = [Only::Id(2)];
-/// let shown = Shown { only: &only, has_bytes: false, has_items: true, found: &[] };
+/// let shown = Shown { only: &only, has_bytes: false, found: &[] };
 /// let mut input = SliceSource::new(b"\0asm\x01\0\0\0\x01\x01\0\x02\x01\0");
 /// let mut out = Lines::new(alloc, BoundedSink::new(alloc, 1000)?);
 /// let ended = dump(alloc, shown, &mut input, &mut out, 4096);
@@ -51,8 +51,6 @@ pub struct Shown<'n> {
     pub only: &'n [Only<'n>],
     /// Whether the dump shows the bytes of these events.
     pub has_bytes: bool,
-    /// Whether the dump shows the items of these events.
-    pub has_items: bool,
     /// A flag for each choice: the dump sets it where the choice chooses an event. It may be shorter than `only`.
     pub found: &'n [Cell<bool>],
 }

@@ -68,7 +68,7 @@ fn show_chosen<O: Tree>(
         show_bytes(alloc, shown.has_bytes, counts, part, payload, out);
         note_found(shown, payload);
         show_event(counts, payload, out);
-        if shown.has_items {
+        if shows_items(shown.only) {
             show_payload(alloc, counts, payload, out);
         }
     }
@@ -236,7 +236,7 @@ fn dump_into<R: Source, O: Tree>(
 /// ```rattle
 /// let mut input = SliceSource::new(b"\0asm\x01\0\0\0\x07\x05\x01\x01f\0\x05");
 /// let mut out = Lines::new(alloc, BoundedSink::new(alloc, 1000)?);
-/// let shown = Shown { only: &[Only::All], has_bytes: false, has_items: true, found: &[] };
+/// let shown = Shown { only: &[Only::All], has_bytes: false, found: &[] };
 /// let ended = dump(alloc, shown, &mut input, &mut out, 4096);
 /// let wanted = b"version 0 8 1 module\nsection 7 10 15 1 export\n  11 name=\"f\" kind=func index=5\nend 15\n";
 /// assert_eq!(rt; out.into_output().written(), wanted.as_slice());

@@ -1,6 +1,7 @@
 // The sections that `--section` chooses.
 ghost use Rattle.std.specs.Prelude.{◌≡◌, IfOk};
-ghost use Rattle.wasm_commands.specs.Choices.{ChooseInTurn, Chooses, texts};
+ghost use Rattle.wasm_commands.specs.Parsing.{texts};
+ghost use Rattle.wasm_commands.specs.Choices.{ChooseInTurn, Chooses};
 
 use std::alloc::{AllocError, Global};
 use wasm_dumper::Only;

@@ -103,7 +103,7 @@ fn dump_over<R: Source, W: Write>(
 /// let mut input = SliceSource::new(b"\0asm\x01\0\0\0");
 /// let mut text = Vec::new(alloc);
 /// let output = WriteSink::new(&mut text);
-/// let shown = Shown { only: &[Only::All], has_bytes: false, has_items: true, found: &[] };
+/// let shown = Shown { only: &[Only::All], has_bytes: false, found: &[] };
 /// let (ended, _) = dump_as(alloc, shown, Format::new(), None, &mut input, output);
 /// assert_eq!(rt; ended, Ok(Ended::End));
 /// assert_eq!(rt; text.as_slice(), b"version 0 8 1 module\nend 8\n".as_slice());

@@ -53,7 +53,6 @@ fn dumped<R: Source>(
     let shown = Shown {
         only,
         has_bytes: false,
-        has_items: true,
         found: &[],
     };
     let ended = dump(alloc, shown, input, &mut tree, piece.max(1));
@@ -232,7 +231,6 @@ fn rows_after_what_it_does_not_show(rt: HostRuntime) -> Result<(), Fail> {
         let shown = Shown {
             only: &[Only::Id(10)],
             has_bytes: true,
-            has_items: true,
             found: &[],
         };
         let ended = dump(

@@ -57,7 +57,6 @@ pub(super) fn dumped(alloc: Global, stream: &[u8], form: Form) -> Result<Vec<u8>
     let shown = Shown {
         only: &[Only::All],
         has_bytes: matches!(form, Form::Bytes),
-        has_items: true,
         found: &[],
     };
     write_dump(alloc, stream, shown, format, names, &mut written);

@@ -149,7 +149,6 @@ fn dumped_into(
     let shown = Shown {
         only: &[Only::Id(10)],
         has_bytes: false,
-        has_items: true,
         found: &[],
     };
     let input = &mut SliceSource::new(stream);

@@ -1,5 +1,5 @@
-use Rattle.wasm_dumper.proofs.Coloring.{stays_at_head}
-use Rattle.wasm_dumper.proofs.program.colored.write_after.Goals as goal
+use Rattle.wasm_commands.proofs.Coloring.{stays_at_head}
+use Rattle.wasm_commands.proofs.dump.colored.write_after.Goals as goal
 
 pub returns-clause-err : goal.returns-clause-err
 returns-clause-err g c =

@@ -1,6 +1,6 @@
 use Rattle.std.proofs.lemmas.Result.{err_from_is_err_and}
-use Rattle.wasm_dumper.proofs.Coloring.{colored_bound, colored_written, sequence_failed}
-use Rattle.wasm_dumper.proofs.program.colored.write_colors.Goals as goal
+use Rattle.wasm_commands.proofs.Coloring.{colored_bound, colored_written, sequence_failed}
+use Rattle.wasm_commands.proofs.dump.colored.write_colors.Goals as goal
 
 pub returns-in_err-written-clause-bytes : goal.returns-in_err-written-clause-bytes
 returns-in_err-written-clause-bytes g c =

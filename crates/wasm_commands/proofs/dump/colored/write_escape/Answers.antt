@@ -1,5 +1,5 @@
-use Rattle.wasm_dumper.proofs.Coloring.{escape_written}
-use Rattle.wasm_dumper.proofs.program.colored.write_escape.Goals as goal
+use Rattle.wasm_commands.proofs.Coloring.{escape_written}
+use Rattle.wasm_commands.proofs.dump.colored.write_escape.Goals as goal
 
 pub returns-clause-bytes : goal.returns-clause-bytes
 returns-clause-bytes g c =

@@ -1,7 +1,7 @@
 use Rattle.std.proofs.Common.{arith}
 use Rattle.std.proofs.lemmas.List.{get_or_default}
-use Rattle.wasm_dumper.proofs.Coloring.{gathers_next}
-use Rattle.wasm_dumper.proofs.program.gathered.gather.Goals as goal
+use Rattle.wasm_commands.proofs.Coloring.{gathers_next}
+use Rattle.wasm_commands.proofs.dump.gathered.gather.Goals as goal
 
 pub loop-byte-preserved : goal.loop-byte-preserved
 loop-byte-preserved c = record {

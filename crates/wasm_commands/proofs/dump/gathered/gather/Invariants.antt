@@ -1,6 +1,6 @@
 use Rattle.std.proofs.Common.{◌≡◌, ◌+◌}
-use Rattle.wasm_dumper.proofs.Coloring.{Gathers}
-use Rattle.wasm_dumper.proofs.program.gathered.gather.Given as goal
+use Rattle.wasm_commands.proofs.Coloring.{Gathers}
+use Rattle.wasm_commands.proofs.dump.gathered.gather.Given as goal
 
 abbrev pub invariant-loop-byte : goal.invariant-loop-byte
 invariant-loop-byte l = record {

@@ -1,8 +1,8 @@
 use Rattle.std.proofs.Common.{[], refl, append-nil}
-use Rattle.wasm_dumper.specs.declared.program.plain.Where.TheVariants.{Outside}
-use Rattle.wasm_dumper.proofs.Coloring.{gains_byte}
-use Rattle.wasm_dumper.proofs.program.gathered.put_byte.Goals as goal
-use Rattle.wasm_dumper.proofs.program.gathered.put_byte.Goals.{then-ne, else-ne}
+use Rattle.wasm_commands.specs.declared.dump.plain.Where.TheVariants.{Outside}
+use Rattle.wasm_commands.proofs.Coloring.{gains_byte}
+use Rattle.wasm_commands.proofs.dump.gathered.put_byte.Goals as goal
+use Rattle.wasm_commands.proofs.dump.gathered.put_byte.Goals.{then-ne, else-ne}
 
 pub returns : goal.returns
 returns c =

@@ -1,6 +1,6 @@
 use Rattle.std.proofs.Common.{◌≡◌, ◌+◌, ◌≤◌, drop, length}
-use Rattle.wasm_dumper.specs.Colors.{without_colors, without_from}
-use Rattle.wasm_dumper.proofs.program.plain.count_plain.Given as goal
+use Rattle.wasm_commands.specs.Colors.{without_colors, without_from}
+use Rattle.wasm_commands.proofs.dump.plain.count_plain.Given as goal
 
 abbrev pub invariant-loop-byte : goal.invariant-loop-byte
 invariant-loop-byte l = record {

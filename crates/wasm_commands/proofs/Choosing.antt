@@ -1,17 +1,9 @@
--- Arguments that are split, and what words choose.
+-- What words choose.
 use Rattle.std.proofs.Common.{◌≡◌, ◌∙◌, ◌+◌, ◌<◌, ℕ, List, [], ◌∷◌, ◌++◌, ap, sym, subst₂, map, take}
 use Rattle.std.proofs.Common.{length, get_or}
 use Rattle.std.proofs.lemmas.List.{map-append, take_more}
-use Rattle.wasm_dumper.specs.Words.{Chooses, ChooseInTurn, marks_of, options_of, words_of, rest_of}
-use Rattle.wasm_dumper.specs.Options.{with_marks}
-use Rattle.wasm_dumper.specs.declared.program.options.Options.{Options}
+use Rattle.wasm_commands.specs.Choices.{Chooses, ChooseInTurn}
 use Rattle.wasm_dumper.specs.declared.events.Only.{Only}
-
--- These words have been kept of arguments, and what else they ask for, and those are left.
-pub record Kept (all kept : List (List ℕ)) (options : Options) (now : List (List ℕ)) : Type 0 where
-  pub words : words_of all ≡ kept ++ words_of now
-  pub asked : options_of all ≡ with_marks options (marks_of now)
-  pub rest : rest_of all ≡ rest_of now
 
 choose_more : (words : List (List ℕ)) (only : List Only) (word : List ℕ) (choice : Only) → ChooseInTurn words only → Chooses word choice
     → ChooseInTurn (words ++ word ∷ []) (only ++ choice ∷ [])
