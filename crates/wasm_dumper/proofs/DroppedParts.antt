@@ -43,7 +43,7 @@ hidden_by only s x e h = none_of (has_imports (skip_or s x).head)
     (list_any (λ choice. is_chosen_by choice (report_with (skip_or s x).head)) only)
     (subst (λ (y : Option Skip). is_hidden only (skip_or s y).head ≡ true) (sym e) h)
 
-not_chosen : (only : List Only) (r : Report) (s : Skip) → skip_in r ≡ Some s → is_hidden only s.head ≡ true → is_chosen only r ≡ false
+pub not_chosen : (only : List Only) (r : Report) (s : Skip) → skip_in r ≡ Some s → is_hidden only s.head ≡ true → is_chosen only r ≡ false
 not_chosen only (custom_section text at window) s e h = (hidden_by only s (skip_in (custom_section text at window)) e h).1
 not_chosen only (counted id count window) s e h = (hidden_by only s (skip_in (counted id count window)) e h).1
 not_chosen only (unknown_section id contents from to) s e h = (hidden_by only s (skip_in (unknown_section id contents from to)) e h).1
@@ -182,7 +182,7 @@ module _ (only : List Only) (has_bytes : Bool) (full rest : Option (List ℕ)) (
           let f = sk.skips.fits in
           grind (arith, nat_tests, l, f, within)
 
-      fault_step : Steps feed (Err error) feed
+      pub fault_step : Steps feed (Err error) feed
       fault_step = record {
         parses = record { answer = rw (below, refused) refl; items = tt; state = refl };
         shows = refl;

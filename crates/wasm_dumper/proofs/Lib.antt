@@ -1,3 +1,5 @@
+pub mod CheckedParts
+pub mod Checking
 pub mod Coloring
 pub mod Common
 pub mod Counted

@@ -1,3 +1,4 @@
+pub mod Checks
 pub mod Chosen
 pub mod Colors
 pub mod Counting

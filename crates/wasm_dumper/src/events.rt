@@ -1,6 +1,6 @@
 // Which events a dump shows, and the line or JSON object of each.
 ghost use Rattle.std.specs.List.{list_any};
-ghost use Rattle.std.specs.Prelude.{◌≡◌, ◌≤◌, ◌+◌, ◌++◌, false, IfSome, length, option_map, take};
+ghost use Rattle.std.specs.Prelude.{◌≡◌, ◌≤◌, ◌+◌, ◌++◌, false, IfSome, length, option_map, take, true};
 ghost use Rattle.wasm_base.specs.FaultAt.{fault_at};
 ghost use Rattle.wasm_dumper.specs.Chosen.{after_blank, counted_name as name_counted, end_text, id_of as id_reported, is_chosen, is_chosen_by, is_chosen_with, name_of as name_reported, numbered_line};
 ghost use Rattle.wasm_grammar.specs.Content.{fault};
@@ -8,6 +8,7 @@ ghost use Rattle.wasm_grammar.specs.Ids.{name_of};
 ghost use Rattle.wasm_grammar.specs.Reading.{stream_end};
 ghost use Rattle.wasm_lines.specs.Listing.{line_in};
 ghost use Rattle.wasm_parser.specs.ParseAnswer.{report_of};
+ghost use Rattle.wasm_tree.specs.Found.{Finds, FindsNone};
 ghost use Rattle.wasm_tree.specs.Tree.{Adds, AddsFirst, base_of, has_line_feed};
 
 use crate::counts::Counts;
@@ -18,7 +19,7 @@ use wasm_items::FunctionBody;
 use wasm_lines::{FaultLine, encoding_name, write_payload};
 use wasm_parser::{Encoding, Payload};
 use wasm_text::{Base, ShortText, write_word};
-use wasm_tree::{Space, Style, Tree, write_item};
+use wasm_tree::{Space, Style, Tree, Within, write_item};
 
 /// A choice of events for a dump.
 ///
@@ -122,8 +123,8 @@ fn short_name(id: u8) -> Option<&'static str>
     section_name(id)
 }
 
-// Returns the standard's name of a section whose line has an id and a count.
-fn counted_name(payload: &Payload<'_>) -> Option<&'static str>
+/// Returns the standard's name of a section whose line has an id and a count.
+pub(crate) fn counted_name(payload: &Payload<'_>) -> Option<&'static str>
     ensures name { option_map (λ name. name.now) result ≡ name_counted (report_of payload.now) }
     ensures short { IfSome result (λ name. length name.now ≤ 9) }
 {
@@ -264,8 +265,12 @@ fn section_event<O: Tree>(payload: &Payload<'_>, out: &mut O)
 
 // Writes the object of an event.
 fn event_object<O: Tree>(counts: &Counts, payload: &Payload<'_>, out: &mut O)
-    ensures { Adds (O.writing out.old) (O.writing out.new) }
+    ensures adds { Adds (O.writing out.old) (O.writing out.new) }
+    ensures found { FindsNone (O.found out.old) (O.found out.new) }
 {
+    if O::ONLY_FAULTS {
+        return;
+    }
     match payload {
         Payload::Version {
             num,
@@ -281,12 +286,18 @@ fn event_object<O: Tree>(counts: &Counts, payload: &Payload<'_>, out: &mut O)
     }
 }
 
-// Writes the object of a fault.
+// Writes the object of a fault, or its line on a tree that keeps faults alone.
 fn fault_object<O: Tree>(error: &Error, out: &mut O)
-    ensures { Adds (O.writing out.old) (O.writing out.new) }
+    ensures adds { Adds (O.writing out.old) (O.writing out.new) }
+    ensures found { Finds true (O.found out.old) (O.found out.new) }
 {
-    begin_event("fault", out);
-    out.fault_fields(error);
+    if O::ONLY_FAULTS {
+        out.enter(Within::Stream);
+        out.fault(0, error);
+    } else {
+        begin_event("fault", out);
+        out.fault_fields(error);
+    }
 }
 
 // Returns the index of the function of a body.
@@ -299,8 +310,9 @@ fn function_of(counts: &Counts, payload: &Payload<'_>) -> Option<u64> {
 
 /// Writes the line of an event, or its object. That of a body has the number and the name of its function.
 pub(crate) fn show_event<O: Tree>(counts: &Counts, payload: &Payload<'_>, out: &mut O)
-    ensures { AddsFirst (numbered_line (base_of (O.writing out.old).style) counts.now (report_of payload.now))
+    ensures adds { AddsFirst (numbered_line (base_of (O.writing out.old).style) counts.now (report_of payload.now))
         (O.writing out.old) (O.writing out.new) }
+    ensures found { FindsNone (O.found out.old) (O.found out.new) }
 {
     match out.style() {
         Style::Lines(base) => {
@@ -317,8 +329,9 @@ pub(crate) fn show_event<O: Tree>(counts: &Counts, payload: &Payload<'_>, out: &
 
 /// Writes the line of the fault at which the stream ends, or its object.
 pub(crate) fn show_last_fault<O: Tree>(error: &Error, out: &mut O)
-    ensures { AddsFirst (line_in (base_of (O.writing out.old).style) (stream_end (fault (fault_at error.now))))
+    ensures adds { AddsFirst (line_in (base_of (O.writing out.old).style) (stream_end (fault (fault_at error.now))))
         (O.writing out.old) (O.writing out.new) }
+    ensures found { Finds true (O.found out.old) (O.found out.new) }
 {
     match out.style() {
         Style::Lines(base) => out.first_of_function(&FaultLine { base, error }, None),

@@ -28,7 +28,7 @@ enum Place {
 /// lines.
 ///
 /// ```rattle
-/// let error = Error::new(Fault::InvalidUtf8, 60);
+/// let error = Error::new(Fault::MalformedUtf8, 60);
 /// let mut out = Faults::new(alloc, BoundedSink::new(alloc, 1000)?, String::from_str(alloc, "a.wasm: ")?, false);
 /// out.enter(Within::Section("import"));
 /// out.fault(1, &error);

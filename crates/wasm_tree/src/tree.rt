@@ -125,7 +125,7 @@ pub trait Tree {
     /// What it has written.
     ghost writing: { Self → Writing };
 
-    /// Whether it was told a fault, if it keeps faults alone and has not stopped.
+    /// Whether a fault was reported to it, if it keeps faults alone and has not stopped.
     ghost found: { Self → Option Bool };
 
     /// The constant `ONLY_FAULTS`, for clauses.
