@@ -81,6 +81,7 @@ joined (Err wrong) rest later = Err wrong
 abbrev pub is_last_option : List ℕ → Bool
 is_last_option word = bytes_eq word (codes "--")
 
+-- | what the arguments of a command are read as, or what is wrong with the first one that is wrong [`read_one`, `has_option`, `last_value`, `values_in`, `operands_in`] <GNU Coding Standards, Command-Line Interfaces>
 -- what the arguments of a command are read as, or what is wrong with the first one that is wrong; after `--` all are
 -- operands
 abbrev pub arguments_of : Verb → List (List ℕ) → Result (List Read) Wrong

@@ -24,6 +24,7 @@ pub record DumpsAs (format : Format) (shown : Shown) (input output : Device) (ho
   pub source : input.has_failed ≡ input_failed how input.had_failed
   pub sink : output.has_failed ≡ output_failed how output.had_failed
 
+-- | a dump and then flushing its output
 -- The input was dumped in this format, and the output flushed.
 pub record RunsDump (format : Format) (shown : Shown) (input output : Device) (forwarded : Bool)
     (result : Result Ended ListError) : Type 0 where

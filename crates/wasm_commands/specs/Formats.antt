@@ -71,6 +71,7 @@ format_with verb reads (Ok colors) = unless_excluded verb (record {
   is_hex = has_option option.Hex reads;
 }) (has_option option.Bytes reads)
 
+-- | the format that options ask for, or what is wrong with them
 -- the format that options ask for, or what is wrong with them
 abbrev pub format_asked : Verb → List Read → (is_terminal : Bool) → Result Format (List ℕ)
 format_asked verb reads is_terminal =

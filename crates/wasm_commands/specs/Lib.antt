@@ -1,4 +1,5 @@
 pub mod ArgumentLists
+pub mod Checks
 pub mod Choices
 pub mod Colors
 pub mod DumpRuns

@@ -17,6 +17,7 @@ verb_named word =
     else if bytes_eq word (codes "strip") then Some verb.Strip
     else None
 
+-- | the options of the commands of `pulleynavy`, and whether each takes a value [`verb_named`, `accepts_option`, `takes_of`]
 -- the option with this name
 abbrev pub option_named : List ℕ → Option Flag
 option_named word =

@@ -27,5 +27,6 @@ abbrev pub words_of_code : Option ℤ → (otherwise : List ℕ) → List ℕ
 words_of_code (Some (pos 9)) otherwise = codes "Bad file descriptor"
 words_of_code _ otherwise = otherwise
 
+-- | why a file can't be opened, or a device failed, in the words of the system
 abbrev pub reason_of : Cause → List ℕ
 reason_of cause = words_of_code cause.code (reason_of_kind cause.kind)

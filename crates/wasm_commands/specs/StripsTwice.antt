@@ -18,6 +18,7 @@ GoesOnAs keeps (Ok End) second output how = StripsSource keeps second output how
 GoesOnAs keeps (Ok (Fault e)) second output how = IsUntouched second × IsUntouched output × (how ≡ Ok (Fault e))
 GoesOnAs keeps (Err why) second output how = IsUntouched second × IsUntouched output × (how ≡ Err why)
 
+-- | a file that is stripped: it is read once to its end, and if there is no fault, again to be written
 -- a file that was stripped
 pub record StripsTwice (keeps : List ℕ → Bool) (first second output : Device) (how : Result Ended ListError) : Type 0
     where

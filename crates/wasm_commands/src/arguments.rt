@@ -226,6 +226,9 @@ pub(crate) fn parse<'a>(
     verb: Verb,
     words: &'a [String],
 ) -> Result<Result<Arguments<'a>, Refusal<'a>>, AllocError>
+    // Proved: arguments are read as GNU programs read them: options before and after other
+    //   arguments, values after `=` or as the next argument, and after `--` no options; of wrong
+    //   arguments the first is refused
     ensures { IfOk result (λ parsed. parsed_of parsed ≡ arguments_of verb (map string_bytes words.now)) }
 {
     let mut parsed = Vec::new(alloc);
@@ -265,6 +268,8 @@ fn value_of<'a>(argument: &Argument<'a>, flag: Flag) -> Option<Option<&'a str>>
 impl<'a> Arguments<'a> {
     /// Returns whether an option is among them.
     pub(crate) fn has(&self, flag: Flag) -> bool
+        // Proved: which options, values and other arguments there are [`has`, `last`, `values` and
+        //   `operands` of `Arguments`]
         ensures { result ≡ has_option flag (reads_of self.now) }
     {
         let mut rest = self.parsed.as_slice();

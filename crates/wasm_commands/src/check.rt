@@ -1,4 +1,9 @@
 // The command `check`: reads every item of files, and reports the malformed ones.
+ghost use Rattle.std.specs.Prelude.{◌≡◌, false, IfOk, Ok, Some};
+ghost use Rattle.wasm_tree.specs.Written.{found_by};
+ghost use Rattle.wasm_commands.specs.Checks.{ChecksInput};
+ghost use Rattle.wasm_text.specs.Calls.{from_to};
+
 use crate::arguments::Arguments;
 use crate::messages::{refuse_file, refuse_run, report, shown_name};
 use crate::options::Flag;
@@ -10,20 +15,44 @@ use wasm_dumper::{Only, Shown, dump};
 use wasm_feed::{Ended, ListError, Sink, Source, WriteSink};
 use wasm_tree::Faults;
 
-// How a check of an input ended, and whether there was a fault.
-type Checked = Result<bool, ListError>;
-
 // Returns what comes before each fault of a file: its name and a colon.
 fn prefix_of(alloc: Global, name: &str) -> Result<String, AllocError> {
     format!(in alloc; "{}: ", shown_name(name))
 }
 
 // Flushes the output if the check did not fail.
-fn flushed<W: Write>(checked: Checked, output: &mut WriteSink<W>) -> Checked {
-    let found = checked?;
-    match output.flush() {
-        Ok(()) => Ok(found),
-        Err(_) => Err(ListError::Output),
+fn flushed<W: Write>(
+    checked: Result<bool, ListError>,
+    output: &mut WriteSink<W>,
+) -> Result<bool, ListError>
+    ensures { IfOk result (λ found. checked ≡ Ok found) }
+{
+    match checked {
+        Ok(found) => match output.flush() {
+            Ok(()) => Ok(found),
+            Err(_) => Err(ListError::Output),
+        },
+        Err(why) => Err(why),
+    }
+}
+
+// Reads an input and each item in it on a tree of faults. Returns whether there was one.
+fn find_faults<R: Source, W: Sink>(
+    alloc: Global,
+    input: &mut R,
+    tree: &mut Faults<W>,
+) -> Result<bool, ListError>
+    requires { found_by tree.old ≡ Some false }
+    ensures { ChecksInput (from_to (R.remaining input.old) (R.remaining input.new)) result }
+{
+    let shown = Shown {
+        only: &[Only::All],
+        has_bytes: false,
+        found: &[],
+    };
+    match dump(alloc, shown, input, tree, PIECE) {
+        Ok(_) => Ok(tree.has_faults()),
+        Err(why) => Err(why),
     }
 }
 
@@ -49,18 +78,15 @@ pub fn check_as<R: Source, W: Write>(
     is_quiet: bool,
     input: &mut R,
     output: WriteSink<W>,
-) -> (Checked, WriteSink<W>) {
+) -> (Result<bool, ListError>, WriteSink<W>)
+    // Proved: `check_as` returns whether there is a fault: none exactly if the stream is accepted,
+    //   and each section of a known kind, and each custom section that is known, is read to its end
+    //   without a fault by the meaning of its items, their lists and subsections
+    //   [its clause (`ChecksInput`: `IsFaulty`, `any_faulty`)]
+    ensures { ChecksInput (from_to (R.remaining input.old) (R.remaining input.new)) result.0 }
+{
     let mut tree = Faults::new(alloc, output, prefix, is_quiet);
-    let shown = Shown {
-        only: &[Only::All],
-        has_bytes: false,
-        found: &[],
-    };
-    let how = dump(alloc, shown, input, &mut tree, PIECE);
-    let found = match how {
-        Ok(_) => Ok(tree.has_faults()),
-        Err(why) => Err(why),
-    };
+    let found = find_faults(alloc, input, &mut tree);
     let mut output = tree.into_output();
     (flushed(found, &mut output), output)
 }

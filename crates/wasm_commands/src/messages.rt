@@ -118,6 +118,8 @@ pub(crate) fn report<E: Sink>(
     causes: Causes,
     errors: &mut E,
 ) -> u8
+    // Proved: the message and the status of a run that failed name the file or device, and the
+    //   system's reason [`report` (`Reports`), `refuse_file`, `refuse_run`, `refuse_target`]
     ensures status { result ≡ status_for how.now }
     ensures reports { Reports name.now how.now causes
         (device_of E.taken E.has_failed errors.old errors.new) }
@@ -191,6 +193,8 @@ fn complain_of_option<E: Sink>(verb: Verb, refusal: Refusal<'_>, errors: &mut E)
 
 /// Says what is wrong with the arguments. Returns the exit status 2.
 pub(crate) fn complain<E: Sink>(complaint: Complaint<'_>, errors: &mut E) -> u8
+    // Proved: wrong arguments give the status 2, and the message names the one that is wrong
+    //   [`complain` (`complaint_text`)]
     ensures status { result ≡ 2 }
     ensures says { Says (device_of E.taken E.has_failed errors.old errors.new)
         (complaint_text complaint.entry) }

@@ -61,6 +61,8 @@ pub(crate) enum Takes {
 
 /// Returns the command with this name.
 pub(crate) fn verb_of(word: &str) -> Option<Verb>
+    // Proved: the commands, their options, and whether each takes a value [`verb_of`, `flag_of`,
+    //   `is_of`, `takes`]
     ensures { result ≡ verb_named word.now }
 {
     match word {

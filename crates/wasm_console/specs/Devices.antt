@@ -2,6 +2,7 @@
 use Rattle.std.specs.Prelude.{◌≡◌}
 use Rattle.wasm_text.specs.Calls.{Device}
 
+-- | a device was left alone
 -- the call left the device alone
 pub record IsUntouched (device : Device) : Type 0 where
   pub bytes : device.after ≡ device.before

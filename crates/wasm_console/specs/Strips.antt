@@ -65,6 +65,7 @@ StripsAs keeps input output (Err Output) = StripsAll keeps input output (Err Out
 StripsAs keeps input output (Err Input) = CannotRead input output
 StripsAs keeps input output (Err Memory) = CannotRead input output
 
+-- | an input that is stripped and can be read only once: all that it has is read before anything is written [`WritesStripped`, `ReadsAll`]
 -- an input that was stripped, and whether each device has failed
 pub record StripsInput (keeps : List ℕ → Bool) (input output : Device) (how : Result Ended ListError) : Type 0 where
   pub strips : StripsAs keeps input output how

@@ -54,6 +54,8 @@ pub enum Given {
 
 /// Collects the arguments of a program, if the system returned them. The first one, the name of the program, is skipped.
 pub fn words_given(alloc: Global, arguments: io::Result<Args>) -> Given
+    // Proved: `words_given` returns the arguments after the program's name, or that one is not valid
+    //   UTF-8, or that an allocation failed
     ensures { IsGiven (λ args. map string_bytes (into_iter_items args)) arguments result }
 {
     match arguments {

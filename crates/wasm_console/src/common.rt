@@ -20,6 +20,7 @@ pub const PIECE: usize = 65_536;
 ///
 /// `AllocError` when the allocation fails.
 pub fn read_buffer(alloc: Global) -> Result<Vec<u8>, AllocError>
+    // Proved: the buffer that stripping reads into has 65,536 bytes
     ensures { IfOk result (λ buffer. vec_len buffer ≡ 65536) }
 {
     vec![in alloc; 0u8; PIECE]
@@ -38,6 +39,8 @@ pub fn read_buffer(alloc: Global) -> Result<Vec<u8>, AllocError>
 /// assert_eq!(rt; write_parts(&mut output, &[b"a.wasm".as_slice(), b"\n"]), Err(Failed));
 /// ```
 pub fn write_parts<E: Sink>(output: &mut E, parts: &[&[u8]]) -> Result<(), Failed>
+    // Proved: `write_parts` writes texts one after the other, or a prefix of them if the sink failed
+    //   [its clauses (`joined`)]
     ensures ok { OnOk result (Appends (E.taken output.old) (E.taken output.new) (joined parts.now)) }
     ensures err { OnErr result ((n : ℕ)
         × Appends (E.taken output.old) (E.taken output.new) (take n (joined parts.now))) }
@@ -54,6 +57,7 @@ pub fn write_parts<E: Sink>(output: &mut E, parts: &[&[u8]]) -> Result<(), Faile
 
 /// Writes a message of several texts to `errors`, as far as the sink takes it. A sink that fails is ignored.
 pub fn say<E: Sink>(errors: &mut E, parts: &[&[u8]])
+    // Proved: `say` writes a message of several texts, or a prefix of it if the device failed
     ensures { Says (device_of E.taken E.has_failed errors.old errors.new) (joined parts.now) }
 {
     let _ = write_parts(errors, parts);
@@ -61,6 +65,7 @@ pub fn say<E: Sink>(errors: &mut E, parts: &[&[u8]])
 
 /// Returns the exit status of a run over a stream: 0 at the end, 1 at a fault, and 3 if it failed.
 pub fn status_of(how: &Result<Ended, ListError>) -> u8
+    // Proved: the status of a run over a stream is 0 at its end, 1 at a fault, and 3 if it failed
     ensures { result ≡ status_for how.now }
 {
     match how {
@@ -76,6 +81,8 @@ pub fn status_of(how: &Result<Ended, ListError>) -> u8
 ///
 /// If flushing fails, it writes `output failed` to `errors` and returns 3. Other statuses are returned unchanged.
 pub fn finish<W: Write, E: Sink>(status: u8, output: &mut WriteSink<W>, errors: &mut E) -> u8
+    // Proved: after a status of 0 or 1 `finish` flushes the output. It returns that status and
+    //   prints nothing, or returns 3 and says so if the output failed; after 2 or 3 it does nothing
     ensures { Finishes status output.new.forwarded
         (writer_device W.contents output.old output.new)
         (device_of E.taken E.has_failed errors.old errors.new) result }

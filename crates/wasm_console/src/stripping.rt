@@ -81,6 +81,9 @@ pub fn strip_input<R: Source, W: Sink>(
     input: &mut R,
     output: &mut W,
 ) -> Result<Ended, ListError>
+    // Proved: `strip_input` reads all of the input, and writes the stripped stream and nothing else,
+    //   or a prefix of that if the output failed; at a fault of the stream, and if the input or an
+    //   allocation failed, it writes nothing
     ensures { StripsInput (stays_by keep.entry) (device_of R.remaining R.has_failed input.old input.new)
         (device_of W.taken W.has_failed output.old output.new) result }
 {
@@ -91,6 +94,7 @@ pub fn strip_input<R: Source, W: Sink>(
 /// Writes the fault of a stream to `errors`, as `Display` writes it. Returns the exit status 1, or 3 with the message
 /// `out of memory` when an allocation fails.
 pub fn report_fault<E: Sink>(alloc: Global, error: Error, errors: &mut E) -> u8
+    // Proved: `report_fault` writes the fault's text and returns 1, or 3 if an allocation failed
     ensures { Refuses error (device_of E.taken E.has_failed errors.old errors.new) result }
 {
     match format!(in alloc; "{error}\n") {

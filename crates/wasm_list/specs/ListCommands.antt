@@ -18,6 +18,7 @@ asked_of Listing = listing
 asked_of Stripping = stripping
 asked_of Unknown = unknown
 
+-- | what the arguments of `wasm_list` ask for
 -- what the arguments ask for: none a listing, and the one argument `strip` to strip
 abbrev pub asked_by : List (List ℕ) → Asked
 asked_by [] = listing

@@ -32,6 +32,9 @@ pub(crate) fn run_program<R: Source, W: Write, E: Sink>(
     output: &mut WriteSink<W>,
     errors: &mut E,
 ) -> ExitCode
+    // Proved: `run_program` is the whole program over any devices: which bytes it reads and writes,
+    //   what it prints, and its status, for all arguments; `main` only passes it the arguments and
+    //   the standard streams
     ensures { RunsProgram (asked_if_any (λ args. map string_bytes (into_iter_items args)) arguments)
         (WantsMemory (λ args. map string_bytes (into_iter_items args)) arguments)
         output.new.forwarded
@@ -99,6 +102,13 @@ pub fn run<R: Source, W: Sink, E: Sink>(
     output: &mut W,
     errors: &mut E,
 ) -> u8
+    // Proved: `run` without arguments lists, and returns 0, 1 or 3 as the listing ended
+    //   [the clause of `run` (`Runs`: `RunsListing`)]
+    // Proved: `run` with the argument `strip` strips; at a fault it returns 1 and prints the fault's
+    //   text, and if a device or an allocation failed it returns 3 and says why
+    //   [the clause of `run` (`Runs`: `RunsStripping`)]
+    // Proved: `run` with any other arguments returns 2, prints its usage, and touches neither input
+    //   nor output [the clause of `run` (`Runs`: `RunsUsage`)]
     ensures { Runs (asked_by (map string_bytes args.now))
         (device_of R.remaining R.has_failed input.old input.new)
         (device_of W.taken W.has_failed output.old output.new)

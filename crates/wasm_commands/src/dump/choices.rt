@@ -22,6 +22,8 @@ fn sections_named(word: &str) -> Only<'_>
 
 /// Parses the values of `--section`, in order.
 pub(crate) fn chosen_by<'w>(alloc: Global, words: &[&'w str]) -> Result<Vec<Only<'w>>, AllocError>
+    // Proved: a value of `--section` chooses by an id, else a name of the standard, else a custom
+    //   section's name
     ensures { IfOk result (λ only. ChooseInTurn (texts words.now) only.items) }
 {
     let mut only = Vec::new(alloc);

@@ -115,6 +115,8 @@ pub(crate) fn format_of<'a>(
     arguments: &Arguments<'a>,
     is_terminal: bool,
 ) -> Result<Format, Complaint<'a>>
+    // Proved: the format that options ask for; `--json` with `--color`, `--bytes` or `--hex` is
+    //   refused, and a value of `--color` but `always`, `never` and `auto`
     ensures { or_text result ≡ format_asked verb (reads_of arguments.now) is_terminal }
 {
     let is_colored = match colors_of(verb, arguments, is_terminal) {

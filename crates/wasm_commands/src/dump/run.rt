@@ -116,6 +116,10 @@ pub fn dump_as<R: Source, W: Write>(
     input: &mut R,
     output: WriteSink<W>,
 ) -> (Result<Ended, ListError>, WriteSink<W>)
+    // Proved: `dump_as` dumps what is chosen in a format, and flushes what was written, or returns
+    //   `Output` if that fails; after a dump that was given up it returns why
+    // Proved: with colors, what the output received is the same text without its colors: no byte of
+    //   the text is lost, changed or out of order [that of `dump_as` (`seen_as`)]
     ensures { RunsDump format shown.entry
         (device_of R.remaining R.has_failed input.old input.new)
         (seen_as (has_colors format) (writer_device W.contents output result.1))

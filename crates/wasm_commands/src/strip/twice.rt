@@ -21,6 +21,8 @@ pub(crate) fn strip_twice<R: Source, W: Sink>(
     second: &mut R,
     output: &mut W,
 ) -> Result<Ended, ListError>
+    // Proved: of two sources of a file, the first is read to check it. Only if that reading ends
+    //   without a fault, the second is read, and written without the sections that do not stay
     ensures { StripsTwice (stays_by keep.entry)
         (device_of R.remaining R.has_failed first.old first.new)
         (device_of R.remaining R.has_failed second.old second.new)

@@ -39,6 +39,7 @@ fn checked(
     let shown = Shown {
         only: asked.only,
         has_bytes: false,
+        found: &[],
     };
     let mut input = SliceSource::new(stream);
     let ended = dump(alloc, shown, &mut input, &mut tree, piece.max(1));
