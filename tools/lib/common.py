@@ -59,6 +59,12 @@ def write(path, data):
     return path
 
 
+def slug(heading):
+    """The anchor of a heading."""
+    text = re.sub(r"\[([^\]]*)\]\([^)]*\)", r"\1", heading).strip().lower()
+    return re.sub(r"[^\w\- ]", "", text).replace(" ", "-")
+
+
 class Failed(Exception):
     """A command failed, or something differs."""
 
@@ -100,6 +106,18 @@ def found(name):
 def all_found(names):
     """Whether all these programs are there. Each that is missing is reported."""
     return all([found(name) for name in names])
+
+
+def has_library(name, package):
+    """Whether this Python has a library. If only Debian's own Python has it, that runs the tool instead."""
+    if importlib.util.find_spec(name):
+        return True
+    debian = "/usr/bin/python3"
+    has = os.path.realpath(sys.executable) != os.path.realpath(debian) and os.path.exists(debian)
+    if has and not subprocess.run([debian, "-c", "import " + name], stderr=subprocess.DEVNULL).returncode:
+        os.execv(debian, [debian, *sys.orig_argv[1:]])
+    skip("missing: %s" % package)
+    return False
 
 
 # ---- arguments
