@@ -1,4 +1,4 @@
-"""Markdown as HTML, by markdown-it: doc comments and documents. In both a piece of code may be a link, and a document's links lead to the site."""
+"""Markdown as HTML, by markdown-it: doc comments and documents. In both, code may be a link, and a document's links lead to the site."""
 import html
 import os
 import re
@@ -12,7 +12,7 @@ from markdown_it import MarkdownIt
 
 
 def code(self, tokens, at, options, env):
-    """A piece of code, which is a link if `find` of the environment knows where to."""
+    """Code, which is a link if `find` of the environment knows where to."""
     text = tokens[at].content
     is_linked = sum(token.nesting for token in tokens[:at] if token.type.startswith("link_"))
     href, shown = None if is_linked else env["find"](text), "<code>%s</code>" % html.escape(text)
