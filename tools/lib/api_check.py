@@ -84,7 +84,7 @@ def without_entry(pages):
 def wrong_uses():
     """The names that definitions, sources and the page on a first proof bring in of a file of definitions that has none of this name."""
     page = "docs/FIRST_PROOF.md"
-    yield from missing_names([(page, api_names.uses_of(api_source.read(*page.split("/")), 0)[0])])
+    yield from missing_names([(page, api_names.uses_of(common.read(*page.split("/")), 0)[0])])
     for crate in api_source.LIBRARIES:
         places = [("%s, %s" % (crate, name), specs.names) for name, specs in api_names.all_specs(crate).items()]
         for name in api_source.source_names(crate):

@@ -547,7 +547,7 @@ def index_page(site):
 def script(site):
     """The script of the pages, with the index that it searches."""
     index = json.dumps(site.index, ensure_ascii=False, separators=(",", ":"))
-    return "const INDEX = %s;\n%s" % (index, api_source.read("tools", "lib", "api.js"))
+    return "const INDEX = %s;\n%s" % (index, common.read("tools", "lib", "api.js"))
 
 
 def files(more):
@@ -558,6 +558,6 @@ def files(more):
     found[DEFINITIONS] = definitions_page(site)
     found.update((name, write(site)) for name, write in more.items())
     found[CRATES] = index_page(site)
-    found["api.css"] = api_source.read("tools", "lib", "api.css")
+    found["api.css"] = common.read("tools", "lib", "api.css")
     found["api.js"] = script(site)
     return found, site

@@ -263,8 +263,7 @@ def print_instructions(given, folder):
         if given.only not in what:
             continue
         count = usual // 10
-        with open(path, "wb") as out:
-            out.write(make(count))
+        common.write(path, make(count))
         for way in ways:
             if way in ("16", "1"):
                 continue
@@ -286,8 +285,7 @@ def print_dumps(only, folder):
     if only not in "dump":
         return
     path, rows = os.path.join(folder, "made.wasm"), []
-    with open(path, "wb") as out:
-        out.write(items_of_each_kind(4000))
+    common.write(path, items_of_each_kind(4000))
     for options in ([], ["--bytes"], ["--json"], ["--color"]):
         wrote, calls = profiled([DUMPER, *options], path, folder)
         under = max((under for _, _, _, under in calls), default=0)
@@ -311,7 +309,7 @@ def build():
             common.stop(common.NO_PROGRAM, "%s could not be built" % name)
     try:
         benches.build()
-    except benches.Failed as failed:
+    except common.Failed as failed:
         common.stop(common.NO_PROGRAM, "the benchmark could not be built: %s" % failed)
 
 
@@ -383,8 +381,7 @@ def print_callers(only, archive, folder):
         if ways is not EVENT_WAYS or only not in what:
             continue
         path = os.path.join(folder, "made.wasm")
-        with open(path, "wb") as out:
-            out.write(make(usual))
+        common.write(path, make(usual))
         ours = timed_in_memory(path, ways)
         # The crate for Rust has no feeder.
         takes = {"C": [way for way in ways if way != "parse_all"], "Rust": ["parse", "parse_all"]}
@@ -474,8 +471,7 @@ def of_made_files(sizes, only, folder):
         for size in sizes:
             count = int(usual * size)
             path = os.path.join(folder, "made.wasm")
-            with open(path, "wb") as out:
-                out.write(make(count))
+            common.write(path, make(count))
             times = timed_in_memory(path, ways)
             for way in ways:
                 counted, took = times.get(way, (0, 0))

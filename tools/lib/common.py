@@ -70,8 +70,9 @@ class Failed(Exception):
 
 
 def must(words, folder=None, stream=b"", env=None, **options):
-    """What a command prints, its errors among it. Raises Failed if its status is not 0."""
-    done = subprocess.run(words, cwd=folder, input=stream, stdout=subprocess.PIPE, stderr=subprocess.STDOUT, env={**os.environ, **(env or {})}, **options)
+    """What a command prints, its errors among it. Raises Failed if its status is not 0. A variable that is None is not set."""
+    settings = {name: value for name, value in {**os.environ, **(env or {})}.items() if value is not None}
+    done = subprocess.run(words, cwd=folder, input=stream, stdout=subprocess.PIPE, stderr=subprocess.STDOUT, env=settings, **options)
     if done.returncode:
         raise Failed("%s: status %d\n%s" % (" ".join(map(str, words)), done.returncode, done.stdout.decode(errors="replace")[-4000:]))
     return done.stdout.decode(errors="replace")

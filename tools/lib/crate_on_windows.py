@@ -40,28 +40,20 @@ def compiler():
     return None
 
 
-def written(path, text):
-    with open(path, "w", encoding="ascii") as file:
-        file.write(text)
-    return path
-
-
 def runner(place, system):
     """A script that runs a program of cargo under wine."""
     dll = os.path.join(place, "bcryptprimitives.dll")
-    subprocess.run([wine.COMPILERS[0], "-shared", "-static", "-o", dll, written(os.path.join(place, "random.c"), RANDOM), "-ladvapi32"], check=True)
+    subprocess.run([wine.COMPILERS[0], "-shared", "-static", "-o", dll, common.write(os.path.join(place, "random.c"), RANDOM), "-ladvapi32"], check=True)
     dlls = "Z:" + place.replace("/", "\\")
-    script = written(os.path.join(place, "wine"), RUNNER % {"dlls": dlls, "wine": " ".join([*system.words, "wine"]), "folder": system.folder})
+    script = common.write(os.path.join(place, "wine"), RUNNER % {"dlls": dlls, "wine": " ".join([*system.words, "wine"]), "folder": system.folder})
     os.chmod(script, 0o755)
     return script
 
 
 def without_serde(path):
     """Removes the optional dependency from a manifest. Cargo looks for it too, and it isn't among the crates that the standard library needs."""
-    with open(path, encoding="utf-8") as file:
-        text = file.read()
-    with open(path, "w", encoding="utf-8") as file:
-        file.write(re.sub(r"^serde = .*\n", "", text, flags=re.M))
+    text = common.read(path)
+    common.write(path, re.sub(r"^serde = .*\n", "", text, flags=re.M))
 
 
 def differences(library, system):

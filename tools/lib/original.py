@@ -28,8 +28,7 @@ debug = "line-tables-only"
 
 def built(source, folder):
     """The program that reads with the crate in a folder, built with link-time optimization."""
-    with open(os.path.join(source, "Cargo.toml"), encoding="utf-8") as file:
-        manifest = file.read()
+    manifest = common.read(os.path.join(source, "Cargo.toml"))
     package = re.search(r'^name = "(.*)"$', manifest, re.M).group(1)
     features = [name for name in ("std", "features") if re.search("^%s = " % name, manifest, re.M)]
     project = os.path.join(folder, "original")

@@ -23,11 +23,6 @@ WALKER = """static size_t %(name)s(void *cursor, const uint8_t *bytes, size_t si
 """
 
 
-def text_of(path):
-    with open(path, encoding="utf-8") as file:
-        return file.read()
-
-
 def calls(text):
     """The result, the name and the arguments of each call of the header."""
     return [(result.strip(), name, [" ".join(one.split()) for one in arguments.split(",")]) for result, name, arguments in CALL.findall(text)]
@@ -59,8 +54,8 @@ def kind_of(result, arguments):
 
 def uncalled():
     """The calls of the header that the program does not make: those of neither table have to be in it by their names."""
-    program = text_of(SOURCE)
-    for result, name, arguments in calls(text_of(HEADER)):
+    program = common.read(SOURCE)
+    for result, name, arguments in calls(common.read(HEADER)):
         if not kind_of(result, arguments)[0] and not re.search(r"\bCALL0?\(%s\b" % name, program):
             yield name
 
@@ -87,6 +82,5 @@ def tables(text):
 def written(folder):
     """Writes the tables into a folder, for `tables.h` of the program."""
     path = os.path.join(folder, "tables.h")
-    with open(path, "w", encoding="utf-8") as file:
-        file.write(tables(text_of(HEADER)))
+    common.write(path, tables(common.read(HEADER)))
     return path

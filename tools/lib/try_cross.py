@@ -27,8 +27,7 @@ SAMPLE = 10
 def emulated(path, runner=RUNNER):
     """A program that runs this one under the emulator."""
     script = path + ".sh"
-    with open(script, "w", encoding="utf-8") as file:
-        file.write('#!/bin/sh\nexec %s %s "$@"\n' % (runner, path))
+    common.write(script, '#!/bin/sh\nexec %s %s "$@"\n' % (runner, path))
     os.chmod(script, 0o755)
     return script
 
@@ -72,7 +71,7 @@ def main():
             archive = given.archive or aarch64(folder)
             for number, level in enumerate(("-O2", "-O0")):
                 differ += differences(programs(folder, archive, level), streams[number::2])
-        except try_c.Failed as failed:
+        except common.Failed as failed:
             print("FAILED", failed)
             return common.DIFFERS
     return common.tell(differ, given.show, "aarch64: %d streams, %d differ (seed %d)" % (len(streams), len(differ), given.seed))

@@ -100,10 +100,9 @@ def documented(library, archive, folder, system):
         os.makedirs(there, exist_ok=True)
         [windows] = page.with_c(there, number, blocks["c"], os.path.join(library, "libpulleynavy.a"), wine.COMPILERS[0], ["-static", wine.WITNESS])
         for stream in [BINARY, *modules, *malformed]:
-            with open(os.path.join(there, "module"), "wb") as file:
-                file.write(stream)
-            wanted = page.run([linux], "stdin", file.name)
-            output, is_good = page.run([system.running(windows + ".exe")], "stdin", file.name)
+            path = common.write(os.path.join(there, "module"), stream)
+            wanted = page.run([linux], "stdin", path)
+            output, is_good = page.run([system.running(windows + ".exe")], "stdin", path)
             if (output if IS_BINARY in blocks["c"] else output.replace(b"\r\n", b"\n"), is_good) != wanted:
                 yield "%s of %s\n  Windows %r\n  Linux   %r" % (page.TASKS[number][0], stream.hex()[:200], (output, is_good), wanted)
 
@@ -233,7 +232,7 @@ def main():
                     differ += on_windows(library, archive, made, streams)
                 else:
                     differ += on_linux(target, library, streams if target == "riscv64-linux" else streams[::SAMPLE])
-        except (desktop_packages.Failed, try_c.Failed) as failed:
+        except common.Failed as failed:
             print("FAILED", failed)
             return common.DIFFERS
     return common.tell(differ, given.show, "%d targets, %d differ (seed %d)" % (len(desktops.TARGETS), len(differ), given.seed))

@@ -38,13 +38,9 @@ LONGEST_WAIT = 10
 MODULE = b"\0asm\1\0\0\0"
 
 
-class Failed(Exception):
-    """The page does something else than it should."""
-
-
 def same(found, wanted, what):
     if found != wanted:
-        raise Failed("%s\n  page   %s\n  wanted %s" % (what, str(found)[:600], str(wanted)[:600]))
+        raise common.Failed("%s\n  page   %s\n  wanted %s" % (what, str(found)[:600], str(wanted)[:600]))
 
 
 def becomes(find, wanted, what):
@@ -166,13 +162,12 @@ def count_faults(said, lines, stream):
     more, unknown = re.search(r"and ([\d,]+) more faults?\.", said), sum(bool(re.match("  x[0-9a-f]* unknown", line)) for line in lines)
     shown = 0 if said.endswith("No faults.") else 1 + int(more[1] if more else 0)
     if not len(faults) <= shown <= len(faults) + unknown:
-        raise Failed("%d faults, not %d: %s: %s" % (shown, len(faults), said, stream.hex()[:400]))
+        raise common.Failed("%d faults, not %d: %s: %s" % (shown, len(faults), said, stream.hex()[:400]))
 
 
 def compare(page, path, stream, lines):
     """Compares what the page shows of a stream with the lines of a model. Returns how many rows it has."""
-    with open(path, "wb") as file:
-        file.write(stream)
+    common.write(path, stream)
     said = page.load(path)
     rows = page.run(OPEN_ALL) if len(stream) else page.rows()
     found, inside = shown_rows(rows)
@@ -207,8 +202,7 @@ def streams(page, folder, given):
 def names(page, folder):
     """The names of the name section are on every index."""
     path = os.path.join(folder, "named.wasm")
-    with open(path, "wb") as file:
-        file.write(named_module())
+    common.write(path, named_module())
     page.browser.resize(1280, TALL)
     page.start()
     page.load(path)
@@ -216,12 +210,12 @@ def names(page, folder):
     for space, (_, words) in NAMES.items():
         for index, word in enumerate(words):
             if "%s %d %s" % (space, index, word) not in found:
-                raise Failed("%s %d has no name %s: %s" % (space, index, word, found))
+                raise common.Failed("%s %d has no name %s: %s" % (space, index, word, found))
     said = page.run("return rows().map(row => row.texts.slice(0, 3).filter(Boolean).join(' '))")
     rows = ("export dice func 2 roll", "export mem memory 0 heap", "start func 1 next", "local 0 sides name", "func 1 next body, 2 bytes")
     for wanted in rows:
         if wanted not in said:
-            raise Failed("no row %r: %s" % (wanted, said))
+            raise common.Failed("no row %r: %s" % (wanted, said))
     page.browser.resize(1280, USUAL)
 
 
@@ -231,20 +225,18 @@ def first_names(page, folder):
     exported = module(section(1, vector([b"\x60\0\0"])), section(3, vector([b"\0"])), exports, section(10, vector([b"\2\0\x0b"])))
     for stream, wanted in ((exported, "func 0 first"), (named_module() + other_names(), "func 1 next")):
         path = os.path.join(folder, "names.wasm")
-        with open(path, "wb") as file:
-            file.write(stream)
+        common.write(path, stream)
         page.start()
         page.load(path)
         said = [" ".join(filter(None, row["texts"][:2])) for row in page.run(OPEN_ALL)]
         if wanted not in said:
-            raise Failed("no row %r: %s" % (wanted, said))
+            raise common.Failed("no row %r: %s" % (wanted, said))
 
 
 def letters(page, folder):
     """Each byte is shown in hexadecimal and, if it is a visible character of ASCII, as that."""
     path, stream = os.path.join(folder, "letters.wasm"), module(custom("all bytes", bytes(range(256))))
-    with open(path, "wb") as file:
-        file.write(stream)
+    common.write(path, stream)
     page.browser.resize(1280, TALL)
     page.start()
     page.load(path)
@@ -300,7 +292,7 @@ def labels(page):
     for element in found:
         if page.browser.role(element) != "status" and not page.browser.label(element).strip():
             html = page.browser.run("return arguments[0].outerHTML.slice(0, 200)", {browsers.ELEMENT: element})
-            raise Failed("no accessible name: %s" % html)
+            raise common.Failed("no accessible name: %s" % html)
     for selector, role in ROLES.items():
         same(page.browser.role(page.browser.element(selector)), role, selector)
     return len(found)
@@ -316,7 +308,7 @@ def contrast(page, paths):
             page.run("$('theme').value = arguments[0]; $('theme').dispatchEvent(new Event('change')); await pause(50);", theme)
             lowest = min(lowest, page.run(CONTRAST))
             if lowest[0] < LEAST_CONTRAST:
-                raise Failed("contrast %.2f (%s, %s): %s" % (lowest[0], theme, said, lowest[1]))
+                raise common.Failed("contrast %.2f (%s, %s): %s" % (lowest[0], theme, said, lowest[1]))
     return lowest[0]
 
 
@@ -446,8 +438,7 @@ def big(page, folder):
     """A file of 40 MB is shown soon, and the page reacts meanwhile. Returns the times."""
     count, stream = big_module()
     path = os.path.join(folder, "big.wasm")
-    with open(path, "wb") as file:
-        file.write(stream)
+    common.write(path, stream)
     page.start()
     page.run(MEASURE)
     began = time.time()
@@ -456,7 +447,7 @@ def big(page, folder):
     longest = page.run("return window.longest") / 1000
     same(said.endswith("No faults."), True, said)
     if longest > LONGEST_PAUSE:
-        raise Failed("the page did not react for %.2f s" % longest)
+        raise common.Failed("the page did not react for %.2f s" % longest)
     found = page.search("function%d" % (count - 1))
     same([row["texts"][:2] for row in found], [["func %d" % (count - 1), "function%d" % (count - 1)]] * 3, "a search in 40 MB")
     reach(page, len(stream), lambda at: stream[at])
@@ -640,7 +631,7 @@ def main():
                     continue
                 try:
                     print(tried(browser, given, made, own))
-                except (Failed, browsers.BrowserError) as failed:
+                except (common.Failed, browsers.BrowserError) as failed:
                     print("FAILED %s: %s" % (kind.name, failed))
                     status = common.DIFFERS
     return status
