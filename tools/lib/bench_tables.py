@@ -24,7 +24,6 @@ import re
 import shutil
 import statistics
 import subprocess
-import sys
 import tempfile
 import time
 
@@ -320,10 +319,7 @@ def archive_in(folder, given):
     """Puts the C library into this folder, for the linker: the given archive, the prebuilt one if it is of these sources, or one that is built here."""
     path = given or os.path.join(common.PREBUILT, "libpulleynavy-x86_64.a")
     if not given and not common.is_prebuilt():
-        targets = os.path.join(folder, "targets")
-        path = os.path.join(targets, "libwasm_c-x86_64.a")
-        if subprocess.run([os.path.join(common.TOP, "tools", "build_targets"), targets, "x86_64", "--jobs", "4"], stdout=sys.stderr).returncode:
-            common.stop(common.NO_PROGRAM, "the C library could not be built")
+        path = os.path.join(programs.build_targets(os.path.join(folder, "targets"), "x86_64"), "libwasm_c-x86_64.a")
     return shutil.copy(path, os.path.join(folder, "libwasm_c.a"))
 
 
@@ -508,15 +504,13 @@ def main():
         ("--sizes", {"metavar": "LIST", "type": sizes_of, "default": "0.1,1,10", "help": "how many times as large the made files are (0.1,1,10 if left out)"}),
         ("--only", {"metavar": "WORD", "default": "", "help": "the rows that contain this"}),
         ("--count", {"action": "store_true", "help": "the instructions alone"}),
-        ("--archive", {"metavar": "FILE", "help": "an archive of the C library, instead of the prebuilt one or one that is built here"}),
+        ("--archive", {"metavar": "FILE", "type": common.existing, "help": "an archive of the C library, instead of the prebuilt one or one that is built here"}),
         ("--original", {"metavar": "FOLDER", "help": "count this source of wasmparser too"}),
     ]
     options = common.arguments(__doc__, files=True, more=more)
     sizes = options.sizes
     if options.count and (options.files or not shutil.which("valgrind")):
         common.stop(common.WRONG_USE, "--count is for made files, and needs valgrind")
-    if options.archive and not os.path.isfile(options.archive):
-        common.stop(common.WRONG_USE, "there is no file %s" % options.archive)
     build()
     with tempfile.TemporaryDirectory() as folder:
         if not options.files and shutil.which("valgrind"):

@@ -21,7 +21,7 @@ COMMANDS = {
         "tests": ("try_tests", "the tests of tests/ and the benchmark, without proofs"),
         "examples": ("try_examples", "the examples of the doc comments, without proofs"),
         "c": ("try_c", "the C library, its examples, and the bindings for Rust and Python"),
-        "cross": ("try_cross", "the C library for aarch64, under qemu"),
+        "cross": ("try_desktops:cross", "the C library for aarch64, under qemu"),
         "desktops": ("try_desktops", "the C library for Windows, macOS, FreeBSD and riscv64, and its packages"),
         "js": ("try_js", "the JavaScript package in Node and browsers, and bundles of it"),
         "documents": ("try_documents", "the programs of docs/CALLING.md, in each language"),
@@ -54,4 +54,8 @@ def run(tool, about):
         common.stop(common.WRONG_USE, "there is no %s; there are %s" % (words[0], ", ".join(known)))
     sys.argv = ["tools/%s %s" % (tool, words[0]), *words[1:]]
     module, _, name = known[words[0]][0].partition(":")
-    return getattr(importlib.import_module(module), name or "main")()
+    try:
+        return getattr(importlib.import_module(module), name or "main")()
+    except common.Failed as failed:
+        print("FAILED", failed)
+        return common.DIFFERS

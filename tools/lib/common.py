@@ -136,6 +136,20 @@ def whole(word):
     return int(word)
 
 
+def existing(path):
+    """The whole path of a file or folder that is there."""
+    if not os.path.exists(path):
+        raise argparse.ArgumentTypeError("there is no %s" % path)
+    return os.path.abspath(path)
+
+
+def existing(path):
+    """The whole path of a file or folder that is there."""
+    if not os.path.exists(path):
+        raise argparse.ArgumentTypeError("there is no %s" % path)
+    return os.path.abspath(path)
+
+
 def arguments(doc, numbers=(), files=False, show=None, more=()):
     """The arguments of a tool: first numbers, each with its name and what it is if left out, then files.
 

@@ -116,6 +116,12 @@ def modelled(stream):
     return listing(stream)[:-1] + reading(stream, 0, True)[-1:]
 
 
+def drawn(seed, count):
+    """Random streams, half of them modules with items, with the lines of the models."""
+    rng = random.Random(seed)
+    return [(stream, modelled(stream)) for stream in [(stream_of if number % 2 else some_stream)(rng) for number in range(count)]]
+
+
 def difference(command, stream, expected):
     done = run(command, stream, timeout=600)
     lines = programs.lines_in(done.stdout)
@@ -391,14 +397,9 @@ def with_python(folder, archive, streams, changed):
 
 
 def main():
-    more = [("--archive", {"metavar": "FILE", "action": "append", "help": "an archive, instead of those that are built here"})]
+    more = [("--archive", {"metavar": "FILE", "type": common.existing, "action": "append", "help": "an archive, instead of those that are built here"})]
     given = common.arguments(__doc__, [("seed", 1), ("count", 300)], show=5, more=more)
-    for path in given.archive or []:
-        if not os.path.isfile(path):
-            common.stop(common.WRONG_USE, "there is no file %s" % path)
-    rng = random.Random(given.seed)
-    drawn = [(stream_of if number % 2 else some_stream)(rng) for number in range(given.count)]
-    streams = common.golden() + [(stream, modelled(stream)) for stream in drawn]
+    streams = common.golden() + drawn(given.seed, given.count)
     with tempfile.TemporaryDirectory() as folder:
         try:
             made = {"given%d" % number: path for number, path in enumerate(given.archive)} if given.archive else archives(folder)
@@ -411,7 +412,7 @@ def main():
             patterns(built, streams)
             sequences(folder, made, streams, given.seed)
             differ = [text for test in (compared, stripped, names, imports, under_valgrind) for text in test(built, streams)]
-            changed = [(stream, modelled(stream)) for stream in mutants(rng, [stream for stream, _ in common.golden()], MUTANTS)]
+            changed = [(stream, modelled(stream)) for stream in mutants(random.Random(given.seed), [stream for stream, _ in common.golden()], MUTANTS)]
             for number, archive in enumerate(made.values()):
                 with_cargo(folder, archive)
                 with_python(folder, archive, streams, changed[number :: len(made)])

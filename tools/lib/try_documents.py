@@ -172,16 +172,13 @@ def chosen():
 
 def main():
     line = common.parser(__doc__)
-    line.add_argument("--archive", metavar="FILE", required=True, help="the C library")
-    line.add_argument("--wasm", metavar="FILE", required=True, help="the WebAssembly module")
+    line.add_argument("--archive", metavar="FILE", type=common.existing, required=True, help="the C library")
+    line.add_argument("--wasm", metavar="FILE", type=common.existing, required=True, help="the WebAssembly module")
     given = line.parse_args()
-    for path in (given.archive, given.wasm):
-        if not os.path.isfile(path):
-            common.stop(common.WRONG_USE, "there is no file %s" % path)
     if not common.found("cc"):
         return 0
     streams, malformed = chosen()
     with tempfile.TemporaryDirectory() as folder:
-        differ = list(differences(folder, os.path.abspath(given.archive), os.path.abspath(given.wasm), streams, malformed))
+        differ = list(differences(folder, given.archive, given.wasm, streams, malformed))
     counts = len(TASKS), len(streams), len(malformed), len(differ)
     return common.tell(differ, 5, "%d tasks, %d modules, %d malformed streams, %d differ" % counts)

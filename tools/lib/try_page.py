@@ -13,7 +13,6 @@ import http.server
 import os
 import random
 import re
-import subprocess
 import tempfile
 import threading
 import time
@@ -21,6 +20,7 @@ import unicodedata
 
 import browsers
 import common
+import programs
 from browsers import waited
 from common import leb
 from made import NAMES, custom, module, named_module, other_names, text, vector
@@ -601,28 +601,17 @@ def tried(browser, given, made, folder):
     return "%s %s: %s" % (browser.name, browser.version, ", ".join(said))
 
 
-def built(folder):
-    """The module that tools/build_targets builds."""
-    done = subprocess.run([os.path.join(common.TOP, "tools", "build_targets"), folder, "wasm32"], stdin=subprocess.DEVNULL)
-    path = os.path.join(folder, "pulleynavy32.wasm")
-    if done.returncode or not os.path.exists(path):
-        common.stop(common.NO_PROGRAM, "there is no module with 32-bit memory")
-    return path
-
-
 def main():
-    more = [("--wasm", {"metavar": "FILE", "help": "the module with 32-bit memory"})]
+    more = [("--wasm", {"metavar": "FILE", "type": common.existing, "help": "the module with 32-bit memory"})]
     more += [("--pictures", {"metavar": "DIR", "help": "where pictures of the page go"})]
     given = common.arguments(__doc__, [("seed", 1), ("count", 20)], more=more)
-    if given.wasm and not os.path.isfile(given.wasm):
-        common.stop(common.WRONG_USE, "there is no file %s" % given.wasm)
     if given.pictures:
         os.makedirs(given.pictures, exist_ok=True)
     if not common.found("esbuild"):
         return 0
     status = 0
     with tempfile.TemporaryDirectory() as folder:
-        given.wasm = os.path.abspath(given.wasm or built(folder))
+        given.wasm = given.wasm or os.path.join(programs.build_targets(folder, "wasm32"), "pulleynavy32.wasm")
         made = common.load(os.path.join(common.TOP, "page", "pack"), "pack").pack(folder, given.wasm)
         for kind in (browsers.Chromium, browsers.Firefox):
             own = os.path.join(folder, kind.name)
