@@ -1,4 +1,4 @@
-# For wasm_list and wasm_dump at the top: runs the prebuilt program of a name, with the arguments after it.
+# For pulleynavy and wasm_list at the top: runs the prebuilt program of a name, with the arguments after it.
 #
 # prebuilt/SOURCES has the checksum of each source that the programs are made of. If one differs, tools/run proves and builds the program,
 # or without `rt` the prebuilt one runs as it is.

@@ -8,7 +8,7 @@ import common
 import documents
 
 LIBRARIES = ("wasm_base", "wasm_grammar", "wasm_items", "wasm_custom", "wasm_text", "wasm_parser", "wasm_lines", "wasm_feeder", "wasm_feed", "wasm_tree", "wasm_show",
-             "wasm_dumper")
+             "wasm_dumper", "wasm_commands")
 CLAUSE = re.compile(r"^\s+(requires|ensures|within|decreases)\b")
 # A comment over clauses.
 COMMENT = re.compile(r"^\s+// ")

@@ -9,7 +9,7 @@ A row is a task: to list or to dump a file, to dump it as JSON, to dump one sect
 Others are `cat`, wabt (wasm-objdump, wasm-strip) and LLVM (llvm-objdump, llvm-strip), where they are installed. A time is the processor time of
 a process, user and system, the least of seven runs in which the programs take turns, and `memory` is the most that ours held. All items are
 walked by the benchmark, if tools/bench has built it, and their time is that of the fastest round in one process. It takes the programs of `prebuilt/`, or
-those that ./wasm_list and ./wasm_dump built. Leave the machine idle.
+those that ./wasm_list and ./pulleynavy built. Leave the machine idle.
 """
 import os
 import shutil
@@ -125,12 +125,13 @@ def others(*commands):
 
 def tasks(path, out):
     """Each task with its commands: whether they read the file as their input, and their words. Ours is the first."""
-    lister, dump = program("wasm_list"), program("wasm_dump")
+    lister, ours = program("wasm_list"), program("pulleynavy")
     yield "list", [[lister], *others(["cat"], ["wasm-objdump", "-h", path], ["llvm-objdump", "-h", path])]
-    yield "dump", [[dump, path], *others(["cat"], ["wasm-objdump", "-x", path])]
-    yield "dump as JSON", [[dump, "--json", path], *others(["cat"])]
-    yield "dump one section", [[dump, "--section", "producers", path], *others(["wasm-objdump", "-x", "-j", "producers", path])]
-    yield "strip", [[lister, "strip"], *others(["cat"], ["wasm-strip", path, "-o", out], ["llvm-strip", path, "-o", out])]
+    yield "dump", [[ours, "dump", path], *others(["cat"], ["wasm-objdump", "-x", path])]
+    yield "dump as JSON", [[ours, "dump", "--json", path], *others(["cat"])]
+    yield "dump one section", [[ours, "dump", "--section", "producers", path], *others(["wasm-objdump", "-x", "-j", "producers", path])]
+    yield "check", [[ours, "check", path], *others(["cat"])]
+    yield "strip", [[ours, "strip", path], *others(["cat"], ["wasm-strip", path, "-o", out], ["llvm-strip", path, "-o", out])]
 
 
 def run(words, path, out):

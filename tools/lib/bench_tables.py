@@ -36,7 +36,7 @@ import standard as S
 from common import leb
 from made import custom, listed, module, section, text
 
-PROGRAM, LISTER, DUMPER = benches.PROGRAM, programs.path_of("wasm_list"), programs.path_of("wasm_dump")
+PROGRAM, LISTER, DUMPER = benches.PROGRAM, programs.path_of("wasm_list"), programs.path_of("pulleynavy")
 EVENT_WAYS = ["parse", "parse_all", "65536", "4096", "100", "16", "1"]
 RUNS = 5
 
@@ -234,15 +234,15 @@ def print_instructions(given, folder):
 
 
 def print_dumps(only, folder):
-    """The instructions of wasm_dump, all of the process, in each form."""
+    """The instructions of `pulleynavy dump`, all of the process, in each form."""
     if only not in "dump":
         return
     path, rows = os.path.join(folder, "made.wasm"), []
     common.write(path, items_of_each_kind(4000))
     for options in ([], ["--bytes"], ["--json"], ["--color"]):
-        wrote, calls = profiled([DUMPER, *options], path, folder)
+        wrote, calls = profiled([DUMPER, "dump", *options], path, folder)
         under = max((under for _, _, _, under in calls), default=0)
-        rows.append([" ".join(["wasm_dump", *options]), "%.1f" % (len(wrote) / 1e6), "%.1f" % (under / 1e6)])
+        rows.append([" ".join(["pulleynavy dump", *options]), "%.1f" % (len(wrote) / 1e6), "%.1f" % (under / 1e6)])
     print_table(["of %d kB, as many items of each kind" % (os.path.getsize(path) // 1000), "MB written", "million instructions"], rows)
 
 
@@ -255,7 +255,7 @@ def words_of(way, by_made):
 
 def build():
     """Builds the programs that are not built yet, or from older sources."""
-    for name in ("wasm_list", "wasm_dump"):
+    for name in ("wasm_list", "pulleynavy"):
         if os.access(programs.path_of(name), os.X_OK) and not programs.is_older(name):
             continue
         if subprocess.run([os.path.join(common.TOP, "tools", "run"), "--build", name]).returncode:

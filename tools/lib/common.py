@@ -237,7 +237,7 @@ def sources_of(crate):
 
 def sources():
     """The files that the prebuilt artifacts are made of, in order."""
-    for crate in sorted({crate for name in ("wasm_c", "wasm_list", "wasm_dump") for crate in crates_of(name)}):
+    for crate in sorted({crate for name in ("wasm_c", "wasm_list", "pulleynavy") for crate in crates_of(name)}):
         yield from sources_of(crate)
     for folder in ("page", os.path.join("bindings", "js")):
         for name in sorted(os.listdir(os.path.join(TOP, folder))):
@@ -257,7 +257,7 @@ def checksum_lines(paths):
 
 def sources_of_programs():
     """The files that the prebuilt programs are made of, in order."""
-    for crate in sorted({crate for name in ("wasm_list", "wasm_dump") for crate in crates_of(name)}):
+    for crate in sorted({crate for name in ("wasm_list", "pulleynavy") for crate in crates_of(name)}):
         yield from sources_of(crate)
 
 

@@ -8,7 +8,14 @@ import time
 import common
 
 # The words of each task: a crate that is a program, and its first arguments.
-WORDS = {"list": ["wasm_list"], "strip": ["wasm_list", "strip"], "dump": ["wasm_dump"], "rows": ["wasm_rows"]}
+WORDS = {
+    "list": ["wasm_list"],
+    "named": ["pulleynavy", "list"],
+    "dump": ["pulleynavy", "dump"],
+    "check": ["pulleynavy", "check"],
+    "strip": ["pulleynavy", "strip"],
+    "rows": ["wasm_rows"],
+}
 
 
 def path_of(crate):

@@ -1,6 +1,6 @@
-// Runs of both programs over devices, and dumps. Tests use only what is public.
+// Runs of the program, and dumps. Tests use only what is public.
+mod commands;
 mod dump;
-mod list;
 mod shared;
 
 use std::fmt::Debug;

@@ -11,6 +11,7 @@ ghost use Rattle.wasm_parser.specs.ParseAnswer.{report_of};
 ghost use Rattle.wasm_tree.specs.Tree.{Adds, AddsFirst, base_of, has_line_feed};
 
 use crate::counts::Counts;
+use std::cell::Cell;
 use std::ops::Range;
 use wasm_base::Error;
 use wasm_grammar::{CODE_SECTION, section_name};
@@ -25,7 +26,7 @@ use wasm_tree::{Space, Style, Tree, write_item};
 /// ```rattle
 /// // Only the import section, without bytes.
 /// let only = [Only::Id(2)];
-/// let shown = Shown { only: &only, has_bytes: false };
+/// let shown = Shown { only: &only, has_bytes: false, found: &[] };
 /// let mut input = SliceSource::new(b"\0asm\x01\0\0\0\x01\x01\0\x02\x01\0");
 /// let mut out = Lines::new(alloc, BoundedSink::new(alloc, 1000)?);
 /// let ended = dump(alloc, shown, &mut input, &mut out, 4096);
@@ -50,6 +51,8 @@ pub struct Shown<'n> {
     pub only: &'n [Only<'n>],
     /// Whether the dump shows the bytes of these events.
     pub has_bytes: bool,
+    /// A flag for each choice: the dump sets it where the choice chooses an event. It may be shorter than `only`.
+    pub found: &'n [Cell<bool>],
 }
 
 // Returns the id of the section that a payload is, or belongs to.
@@ -102,6 +105,15 @@ pub(crate) fn is_chosen_by_any(only: &[Only<'_>], section: Option<u8>, name: Opt
         }
     }
     false
+}
+
+/// Sets the flags of the choices that choose a payload.
+pub(crate) fn note_found(shown: Shown<'_>, payload: &Payload<'_>) {
+    for (choice, found) in shown.only.iter().zip(shown.found.iter()) {
+        if is_chosen_alone(choice, id_of(payload), name_of_custom(payload)) {
+            found.set(true);
+        }
+    }
 }
 
 /// Returns whether a payload is shown: the end always is.

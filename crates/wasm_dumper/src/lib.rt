@@ -1,5 +1,5 @@
 //! The dump of a stream: a line for each event, and under it a line for each item, with its number. Each line can be a
-//! JSON object. `Counts` numbers items in their index spaces, and `program` is `wasm_dump` over any devices.
+//! JSON object. `Counts` numbers items in their index spaces.
 #![tactic(auto)]
 
 mod collected;
@@ -9,7 +9,6 @@ mod hidden;
 pub mod laws;
 mod numbered;
 mod payload;
-pub mod program;
 mod stream;
 
 pub use collected::collect_names;

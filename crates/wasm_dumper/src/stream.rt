@@ -10,7 +10,7 @@ ghost use Rattle.wasm_dumper.specs.Dump.{DumpsByTree, DumpsInto, ShowsAnswer, Sh
 ghost use Rattle.wasm_tree.specs.Tree.{Adds, AddsBytes, IsOut};
 
 use crate::counts::Counts;
-use crate::events::{Shown, chooses, show_event, show_last_fault};
+use crate::events::{Shown, chooses, note_found, show_event, show_last_fault};
 use crate::hidden::{drop_hidden, skip_hidden};
 use crate::payload::{offsets_of_items, show_payload};
 use std::alloc::Global;
@@ -66,8 +66,11 @@ fn show_chosen<O: Tree>(
 {
     if chooses(shown.only, payload) {
         show_bytes(alloc, shown.has_bytes, counts, part, payload, out);
+        note_found(shown, payload);
         show_event(counts, payload, out);
-        show_payload(alloc, counts, payload, out);
+        if shows_items(shown.only) {
+            show_payload(alloc, counts, payload, out);
+        }
     }
 }
 
@@ -233,7 +236,7 @@ fn dump_into<R: Source, O: Tree>(
 /// ```rattle
 /// let mut input = SliceSource::new(b"\0asm\x01\0\0\0\x07\x05\x01\x01f\0\x05");
 /// let mut out = Lines::new(alloc, BoundedSink::new(alloc, 1000)?);
-/// let shown = Shown { only: &[Only::All], has_bytes: false };
+/// let shown = Shown { only: &[Only::All], has_bytes: false, found: &[] };
 /// let ended = dump(alloc, shown, &mut input, &mut out, 4096);
 /// let wanted = b"version 0 8 1 module\nsection 7 10 15 1 export\n  11 name=\"f\" kind=func index=5\nend 15\n";
 /// assert_eq!(rt; out.into_output().written(), wanted.as_slice());

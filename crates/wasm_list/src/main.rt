@@ -1,10 +1,26 @@
-//! Lists the sections of the WebAssembly stream on standard input, or strips it of its custom sections.
+//! Lists the parts of the WebAssembly stream on standard input, or strips it of its custom sections.
 #![tactic(auto)]
 
+mod command;
+mod run;
+#[cfg(test)]
+mod tests;
+
+use run::run_program;
+pub use run::run;
+use std::env;
 use std::process::ExitCode;
-pub use wasm_cli::list::run;
-use wasm_cli::list::run_host;
+use wasm_feed::{ReadSource, WriteSink};
 
 fn main(rt: HostRuntime) -> ExitCode {
-    run_host(rt)
+    let mut input = ReadSource::new(rt.stdin());
+    let mut output = WriteSink::new(rt.stdout());
+    let mut errors = WriteSink::new(rt.stderr());
+    run_program(
+        rt.alloc(),
+        env::args(&rt),
+        &mut input,
+        &mut output,
+        &mut errors,
+    )
 }

@@ -1,3 +1,4 @@
+pub mod Faults
 pub mod ItemText
 pub mod SymbolText
 pub mod TypeText

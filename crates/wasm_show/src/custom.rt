@@ -1,12 +1,21 @@
 // Texts of custom sections.
+ghost use Rattle.std.specs.Prelude.{true};
+ghost use Rattle.wasm_custom.specs.Known.{known_parts};
+ghost use Rattle.wasm_show.specs.Faults.{custom_faulty, features_faulty, known_faulty, name_section_faulty, producers_faulty};
+ghost use Rattle.wasm_tree.specs.Found.{Finds, FindsNone};
 ghost use Rattle.wasm_tree.specs.Tree.{Adds};
 
-use crate::lists::{show_fault, show_items, show_list, under};
+use crate::linking::{show_dylink, show_linking, show_relocations};
+use crate::lists::{
+    Items, show_extent, show_fault, show_fields, show_items, show_list, show_section, under,
+};
 use crate::show::Show;
 use std::alloc::Global;
+use wasm_base::{Error, Result, SectionLimitedIntoIterWithOffsets};
 use wasm_custom::{
     BranchHint, BranchHintFunction, CustomSectionReader, KnownCustom, NameSectionReader,
-    ProducersField, ProducersFieldValue, TargetFeature, TargetFeaturesSectionReader,
+    ProducersField, ProducersFieldValue, ProducersSectionReader, TargetFeature,
+    TargetFeaturesSectionReader,
 };
 use wasm_tree::Tree;
 
@@ -40,6 +49,43 @@ impl Show for ProducersField<'_> {
     }
 }
 
+// The fields of a section `producers`. Reading one only skips its values.
+#[derive(Drop)]
+struct Fields<'a> {
+    fields: SectionLimitedIntoIterWithOffsets<'a, ProducersField<'a>>,
+}
+
+impl<'a> Items for Fields<'a> {
+    ghost use Rattle.wasm_base.specs.Section.{most_items};
+    ghost use Rattle.wasm_show.specs.Faults.{OwesFields, field_faulty};
+
+    type Item = ProducersField<'a>;
+
+    ghost owes = { λ f. OwesFields f.fields };
+
+    ghost holds = { field_faulty };
+
+    ghost most = { λ f. most_items f.fields };
+
+    fn next_item(&mut self) -> Option<Result<(u64, ProducersField<'a>)>> {
+        self.fields.next()
+    }
+
+    fn show_lists<O: Tree>(level: usize, item: &ProducersField<'a>, out: &mut O) {
+        show_section(level, &item.values, out);
+    }
+}
+
+// Writes the fields of a section `producers`, and their values under them.
+fn show_producers<O: Tree>(level: usize, section: &ProducersSectionReader<'_>, out: &mut O)
+    ensures adds { Adds (O.writing out.old) (O.writing out.new) }
+    ensures found { Finds (producers_faulty section.now) (O.found out.old) (O.found out.new) }
+{
+    show_extent("fields", section, out);
+    let fields = section.clone().unwrap().into_iter_with_offsets();
+    show_items(under(level), Fields { fields }, out);
+}
+
 // Writes the byte that says how a feature is used: the signs of the standard as they are, others as numbers.
 fn show_prefix<O: Tree>(prefix: u8, out: &mut O)
     ensures { Adds (O.writing out.old) (O.writing out.new) }
@@ -59,10 +105,18 @@ impl Show for TargetFeature<'_> {
     }
 }
 
+// Writes the subsections of a section `name` on lines under the current line.
+fn show_names<O: Tree>(level: usize, section: &NameSectionReader<'_>, out: &mut O)
+    ensures adds { Adds (O.writing out.old) (O.writing out.new) }
+    ensures found { Finds (name_section_faulty section.now) (O.found out.old) (O.found out.new) }
+{
+    show_items(under(level), section.clone().unwrap(), out);
+}
+
 /// Writes the subsections on lines under the current line.
 impl Show for NameSectionReader<'_> {
     fn show<O: Tree>(&self, level: usize, out: &mut O) {
-        show_items(under(level), self.clone().unwrap(), out);
+        show_names(level, self, out);
     }
 }
 
@@ -81,7 +135,8 @@ impl Show for NameSectionReader<'_> {
 /// assert_eq!(rt; out.into_output().written(), wanted.as_slice());
 /// ```
 pub fn show_custom<O: Tree>(alloc: Global, section: &CustomSectionReader<'_>, out: &mut O)
-    ensures { Adds (O.writing out.old) (O.writing out.new) }
+    ensures adds { Adds (O.writing out.old) (O.writing out.new) }
+    ensures found { Finds (custom_faulty section.now) (O.found out.old) (O.found out.new) }
 {
     out.line(1, "section");
     out.quoted("name", section.name());
@@ -96,29 +151,42 @@ pub fn show_custom<O: Tree>(alloc: Global, section: &CustomSectionReader<'_>, ou
 
 // Writes the features of a section `target_features`.
 fn show_features<O: Tree>(section: &CustomSectionReader<'_>, out: &mut O)
-    ensures { Adds (O.writing out.old) (O.writing out.new) }
+    ensures adds { Adds (O.writing out.old) (O.writing out.new) }
+    ensures found { Finds (features_faulty section.now) (O.found out.old) (O.found out.new) }
 {
     match TargetFeaturesSectionReader::new(section.data_reader()) {
         Ok(features) => show_list("features", 1, &features, out),
-        Err(_) => out.label("known", "unknown"),
+        Err(error) => show_refused(&error, out),
+    }
+}
+
+// Writes that features could not be read, or the fault on a tree that keeps faults alone.
+fn show_refused<O: Tree>(error: &Error, out: &mut O)
+    ensures adds { Adds (O.writing out.old) (O.writing out.new) }
+    ensures found { Finds true (O.found out.old) (O.found out.new) }
+{
+    out.label("known", "unknown");
+    if O::ONLY_FAULTS {
+        show_fault(1, error, out);
     }
 }
 
 // Writes the contents of a custom section: its fields on the current line, which is at this level, and its items under it.
 fn show_known<O: Tree>(level: usize, known: &KnownCustom<'_>, out: &mut O)
-    ensures { Adds (O.writing out.old) (O.writing out.new) }
+    ensures adds { Adds (O.writing out.old) (O.writing out.new) }
+    ensures found { Finds (known_faulty (known_parts known.now)) (O.found out.old) (O.found out.new) }
 {
     match known {
-        KnownCustom::Name(section) => section.show(level, out),
+        KnownCustom::Name(section) => show_names(level, section, out),
         KnownCustom::BranchHints(section) => show_list("functions", level, section, out),
-        KnownCustom::Producers(section) => show_list("fields", level, section, out),
-        KnownCustom::Dylink0(section) => section.show(level, out),
-        KnownCustom::CoreDump(section) => section.show(level, out),
-        KnownCustom::CoreDumpStack(section) => section.show(level, out),
-        KnownCustom::CoreDumpInstances(section) => section.show(level, out),
-        KnownCustom::CoreDumpModules(section) => section.show(level, out),
-        KnownCustom::Linking(section) => section.show(level, out),
-        KnownCustom::Reloc(section) => section.show(level, out),
+        KnownCustom::Producers(section) => show_producers(level, section, out),
+        KnownCustom::Dylink0(section) => show_dylink(level, section, out),
+        KnownCustom::CoreDump(section) => show_fields(level, section, out),
+        KnownCustom::CoreDumpStack(section) => show_fields(level, section, out),
+        KnownCustom::CoreDumpInstances(section) => show_fields(level, section, out),
+        KnownCustom::CoreDumpModules(section) => show_fields(level, section, out),
+        KnownCustom::Linking(section) => show_linking(level, section, out),
+        KnownCustom::Reloc(section) => show_relocations(level, section, out),
         KnownCustom::Unknown => out.label("known", "unknown"),
     }
 }

@@ -16,5 +16,5 @@ mod show;
 mod types;
 
 pub use custom::show_custom;
-pub use lists::{Items, show_fault, show_items, show_list, show_section};
+pub use lists::{Items, show_fault, show_fields, show_items, show_list, show_section};
 pub use show::{Show, Text};

@@ -1,14 +1,17 @@
 // Texts of the sections `linking`, `reloc.*` and `dylink.0`, and of their items.
 ghost use Rattle.std.specs.Prelude.{◌≡◌, false};
 ghost use Rattle.wasm_custom.specs.Linking.{text_if_any};
+ghost use Rattle.wasm_show.specs.Faults.{dylink_faulty, linking_faulty, linking_section_faulty, relocations_faulty};
+ghost use Rattle.wasm_tree.specs.Found.{Finds, FindsNone};
 ghost use Rattle.wasm_tree.specs.Said.{SaysFields};
 ghost use Rattle.wasm_show.specs.SymbolText.{data_symbol_fields, defined_fields, indexed_fields, section_symbol_fields, symbol_fields};
 ghost use Rattle.wasm_tree.specs.Tree.{Adds, has_line_feed};
 
-use crate::lists::{show_items, show_lines, show_list, under};
+use crate::lists::{Items, placed, show_items, show_lines, show_list, show_section, under};
 use crate::names::show_unknown;
 use crate::show::Show;
 use bitflags::Flags;
+use wasm_base::{Result, Subsections};
 use wasm_custom::{
     Comdat, ComdatSymbol, ComdatSymbolKind, DefinedDataSymbol, Dylink0SectionReader,
     Dylink0Subsection, ExportInfo, ImportInfo, InitFunc, Linking, LinkingSectionReader, MemInfo,
@@ -164,21 +167,93 @@ impl Show for Linking<'_> {
     }
 }
 
+// The subsections of a section `linking`. Reading one only reads the count of its list.
+#[derive(Drop)]
+struct LinkingItems<'a> {
+    subsections: Subsections<'a, Linking<'a>>,
+}
+
+impl<'a> Items for LinkingItems<'a> {
+    ghost use Rattle.std.specs.Prelude.{length};
+    ghost use Rattle.wasm_base.specs.Window.{place};
+    ghost use Rattle.wasm_show.specs.Faults.{OwesLinking, linking_faulty};
+
+    type Item = Linking<'a>;
+
+    ghost owes = { λ l. OwesLinking l.subsections };
+
+    ghost holds = { linking_faulty };
+
+    ghost most = { λ l. length (place l.subsections).rest };
+
+    fn next_item(&mut self) -> Option<Result<(u64, Linking<'a>)>> {
+        let offset = self.subsections.original_position();
+        placed(offset, self.subsections.next())
+    }
+
+    fn show_lists<O: Tree>(level: usize, item: &Linking<'a>, out: &mut O) {
+        show_listed(level, item, out);
+    }
+}
+
+// Writes the faults of the list of a subsection on a tree that keeps faults alone.
+fn show_listed<O: Tree>(level: usize, item: &Linking<'_>, out: &mut O)
+    ensures adds { Adds (O.writing out.old) (O.writing out.new) }
+    ensures found { Finds (linking_faulty item.now) (O.found out.old) (O.found out.new) }
+{
+    match item {
+        Linking::SegmentInfo(segments) => show_section(level, segments, out),
+        Linking::InitFuncs(functions) => show_section(level, functions, out),
+        Linking::ComdatInfo(comdats) => show_section(level, comdats, out),
+        Linking::SymbolTable(symbols) => show_section(level, symbols, out),
+        Linking::TargetArch(_) => {}
+        Linking::Unknown { .. } => {}
+    }
+}
+
+// Writes the fields of a section `linking`.
+fn show_head<O: Tree>(section: &LinkingSectionReader<'_>, out: &mut O)
+    ensures adds { Adds (O.writing out.old) (O.writing out.new) }
+    ensures found { FindsNone (O.found out.old) (O.found out.new) }
+{
+    if O::ONLY_FAULTS {
+        return;
+    }
+    let range = section.range();
+    out.number("version", u64::from(section.version()));
+    out.range("range", range.start, range.end);
+    out.number("subsections", section.original_position());
+}
+
+/// Writes a section `linking`, and its subsections on lines under the current line.
+pub(crate) fn show_linking<O: Tree>(level: usize, section: &LinkingSectionReader<'_>, out: &mut O)
+    ensures adds { Adds (O.writing out.old) (O.writing out.new) }
+    ensures found { Finds (linking_section_faulty section.now) (O.found out.old) (O.found out.new) }
+{
+    show_head(section, out);
+    let subsections = section.subsections();
+    show_items(under(level), LinkingItems { subsections }, out);
+}
+
 /// Writes the subsections on lines under the current line.
 impl Show for LinkingSectionReader<'_> {
     fn show<O: Tree>(&self, level: usize, out: &mut O) {
-        let range = self.range();
-        out.number("version", u64::from(self.version()));
-        out.range("range", range.start, range.end);
-        out.number("subsections", self.original_position());
-        show_items(under(level), self.subsections(), out);
+        show_linking(level, self, out);
     }
+}
+
+/// Writes the subsections of a section `dylink.0` on lines under the current line.
+pub(crate) fn show_dylink<O: Tree>(level: usize, section: &Dylink0SectionReader<'_>, out: &mut O)
+    ensures adds { Adds (O.writing out.old) (O.writing out.new) }
+    ensures found { Finds (dylink_faulty section.now) (O.found out.old) (O.found out.new) }
+{
+    show_items(under(level), section.clone().unwrap(), out);
 }
 
 /// Writes the subsections on lines under the current line.
 impl Show for Dylink0SectionReader<'_> {
     fn show<O: Tree>(&self, level: usize, out: &mut O) {
-        show_items(under(level), self.clone().unwrap(), out);
+        show_dylink(level, self, out);
     }
 }
 
@@ -289,12 +364,31 @@ impl Show for RelocationEntry {
     }
 }
 
+// Writes the fields of a section of relocations.
+fn show_relocated<O: Tree>(section: &RelocSectionReader<'_>, out: &mut O)
+    ensures adds { Adds (O.writing out.old) (O.writing out.new) }
+    ensures found { FindsNone (O.found out.old) (O.found out.new) }
+{
+    if O::ONLY_FAULTS {
+        return;
+    }
+    let range = section.range();
+    out.number("section", u64::from(section.section_index()));
+    out.range("range", range.start, range.end);
+}
+
+/// Writes a section of relocations, and these on lines under the current line.
+pub(crate) fn show_relocations<O: Tree>(level: usize, section: &RelocSectionReader<'_>, out: &mut O)
+    ensures adds { Adds (O.writing out.old) (O.writing out.new) }
+    ensures found { Finds (relocations_faulty section.now) (O.found out.old) (O.found out.new) }
+{
+    show_relocated(section, out);
+    show_list("entries", level, &section.entries(), out);
+}
+
 /// Writes the relocations on lines under the current line.
 impl Show for RelocSectionReader<'_> {
     fn show<O: Tree>(&self, level: usize, out: &mut O) {
-        let range = self.range();
-        out.number("section", u64::from(self.section_index()));
-        out.range("range", range.start, range.end);
-        show_list("entries", level, &self.entries(), out);
+        show_relocations(level, self, out);
     }
 }

@@ -1,5 +1,7 @@
 // Texts of names.
 ghost use Rattle.std.specs.Prelude.{◌≡◌, false};
+ghost use Rattle.wasm_show.specs.Faults.{name_faulty};
+ghost use Rattle.wasm_tree.specs.Found.{Finds};
 ghost use Rattle.wasm_tree.specs.Tree.{Adds, has_line_feed};
 
 use crate::lists::{show_items, under};
@@ -63,6 +65,30 @@ fn show_module_name<O: Tree>(name: &str, range: &Range<u64>, out: &mut O)
     out.label("kind", "module");
     out.quoted("name", name);
     out.range("range", range.start, range.end);
+}
+
+/// Writes the faults of the names of a subsection on a tree that keeps faults alone.
+pub(crate) fn show_maps<O: Tree>(level: usize, name: &Name<'_>, out: &mut O)
+    ensures adds { Adds (O.writing out.old) (O.writing out.new) }
+    ensures found { Finds (name_faulty name.now) (O.found out.old) (O.found out.new) }
+{
+    match name {
+        Name::Function(names) => show_items(level, names.clone().unwrap(), out),
+        Name::Types(names) => show_items(level, names.clone().unwrap(), out),
+        Name::Table(names) => show_items(level, names.clone().unwrap(), out),
+        Name::Memory(names) => show_items(level, names.clone().unwrap(), out),
+        Name::Global(names) => show_items(level, names.clone().unwrap(), out),
+        Name::Element(names) => show_items(level, names.clone().unwrap(), out),
+        Name::Data(names) => show_items(level, names.clone().unwrap(), out),
+        Name::Tag(names) => show_items(level, names.clone().unwrap(), out),
+        Name::Local(names) => show_items(level, names.clone().unwrap(), out),
+        Name::Label(names) => show_items(level, names.clone().unwrap(), out),
+        Name::Field(names) => show_items(level, names.clone().unwrap(), out),
+        Name::Parameter(names) => show_items(level, names.clone().unwrap(), out),
+        Name::TagParameter(names) => show_items(level, names.clone().unwrap(), out),
+        Name::Module { .. } => {}
+        Name::Unknown { .. } => {}
+    }
 }
 
 /// Writes the fields of the item, and the names on lines under it.

@@ -1,5 +1,6 @@
 pub mod Common
 pub mod EscapedBytes
+pub mod Finding
 pub mod ForCallers
 pub mod Json
 pub mod MemberTexts

@@ -95,7 +95,7 @@ beginning : (taken written : Option (List ℕ)) (waiting : List ℕ) (why : List
     → WritesHead taken written waiting
 beginning taken written waiting why w = grind arith
 
-no_input : (taken written : Option (List ℕ)) (waiting : List ℕ) (why : ListError) → IsCut taken written waiting why → why ≢ Input
+pub no_input : (taken written : Option (List ℕ)) (waiting : List ℕ) (why : ListError) → IsCut taken written waiting why → why ≢ Input
 no_input taken written waiting why w = grind arith
 
 -- a part more of a line

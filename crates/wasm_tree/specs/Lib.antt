@@ -1,4 +1,5 @@
 pub mod Fields
+pub mod Found
 pub mod ItemNames
 pub mod Json
 pub mod Numbers

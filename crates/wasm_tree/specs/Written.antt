@@ -2,7 +2,9 @@
 use Rattle.std.specs.Prelude.{◌≡◌, ℕ, Bool, false, List, [], ◌∷◌, ◌++◌, Option, Some, None, if◌then◌else◌}
 use Rattle.wasm_text.specs.declared.devices.ListError.TheVariants.{Memory}
 use Rattle.wasm_text.specs.declared.digits.Base.{Base}
-use Rattle.wasm_tree.specs.Tree.{Rest, Writing, with_rest}
+use Rattle.wasm_tree.specs.Found.{found_unless}
+use Rattle.wasm_tree.specs.Tree.{Put, Rest, Writing, with_rest}
+use Rattle.wasm_tree.specs.declared.faults.Faults.{Faults}
 use Rattle.wasm_tree.specs.declared.lines.Lines.{Lines}
 use Rattle.wasm_tree.specs.declared.objects.Objects.{Objects}
 use Rattle.wasm_tree.specs.declared.objects.Spot.{Spot}
@@ -41,6 +43,18 @@ offsets t = with_rest (of_objects Outside) (record {
   has_failed = false;
   why = if t.has_stopped then Some Memory else None;
 })
+
+-- What writes faults alone writes no objects either: of its text nothing is stated but whether it could be written.
+abbrev pub text_unstated : Put → Writing
+text_unstated put = with_rest (of_objects Outside)
+    (record { taken = None; waiting = []; has_failed = put.has_failed; why = put.why })
+
+abbrev pub faults : {W : Type 0} → Faults W → Writing
+faults t = text_unstated t.output
+
+-- whether it has found a fault, unless it has stopped
+abbrev pub found_by : {W : Type 0} → Faults W → Option Bool
+found_by t = found_unless t.output.why t.has_found
 
 -- ---- what is noted
 

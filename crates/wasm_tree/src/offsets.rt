@@ -1,11 +1,13 @@
 // Where items begin.
-ghost use Rattle.std.specs.Prelude.{◌≡◌, [], Some, option_map};
+ghost use Rattle.std.specs.Prelude.{◌≡◌, [], Some, option_map, None, false};
+ghost use Rattle.wasm_tree.specs.Found.{knows_none};
 ghost use Rattle.wasm_tree.specs.Tree.{Adds};
 ghost use Rattle.wasm_tree.specs.Written.{Notes, NotesStart, noted_by, offsets};
 
 use crate::numbers::Space;
-use crate::tree::{Start, Style, Tree, Value};
+use crate::tree::{Start, Style, Tree, Value, Within};
 use std::alloc::Global;
+use wasm_base::Error;
 use wasm_text::{ListError, ShortText};
 
 /// A tree that writes nothing, and records the offsets at which items begin.
@@ -57,6 +59,14 @@ impl Offsets {
 impl Tree for Offsets {
     ghost writing = { λ t. offsets t };
 
+    ghost found = { λ t. None };
+
+    ghost ONLY_FAULTS = { false };
+
+    ghost knows = { λ t. knows_none (offsets t) };
+
+    const ONLY_FAULTS: bool = false;
+
     fn stopped(&self) -> Option<ListError> {
         if self.has_stopped {
             Some(ListError::Memory)
@@ -105,4 +115,8 @@ impl Tree for Offsets {
     fn first_of_function<T: ShortText>(&mut self, _text: &T, _function: Option<u64>) {}
 
     fn begin_part(&mut self, _alloc: Global, _offset: u64, _bytes: &[u8], _cuts: Vec<u64>) {}
+
+    fn enter(&mut self, _within: Within<'_>) {}
+
+    fn note_fault(&mut self, _error: &Error) {}
 }

@@ -1,7 +1,8 @@
 // A sink with the bytes that wait for it.
 ghost use Rattle.std.specs.Prelude.{◌≡◌, ◌≤◌, [], None, length};
-ghost use Rattle.wasm_tree.specs.Tree.{Put, Puts, Rest, stopped_without_memory, with_rest};
+ghost use Rattle.wasm_tree.specs.Tree.{GoesOn, Put, Puts, Rest, stopped_without_memory, with_rest};
 
+use crate::escapes::{PAGE_BYTES, hexadecimal_digits, plain_count};
 use std::alloc::Global;
 use std::marker::Model;
 use wasm_text::{ListError, Page, ShortText, Sink};
@@ -114,5 +115,61 @@ impl<W: Sink> Output<W> {
         if let Err(why) = self.page.write_out(&mut self.sink) {
             self.why = Some(why);
         }
+    }
+
+    // Like `put`, where it doesn't matter what was put.
+    fn put_some(&mut self, bytes: &[u8])
+        requires short { length bytes.now ≤ 65536 }
+        ensures { GoesOn self.old self.new }
+    {
+        self.put(bytes);
+    }
+
+    /// Like `put_text`, where it doesn't matter what was put.
+    pub(crate) fn put_short<T: ShortText>(&mut self, text: &T)
+        ensures { GoesOn self.old self.new }
+    {
+        self.put_text(text);
+    }
+
+    /// Puts bytes, however many.
+    pub(crate) fn put_long(&mut self, bytes: &[u8])
+        ensures { GoesOn self.old self.new }
+    {
+        let mut rest = bytes;
+        'pieces: while rest.len() > PAGE_BYTES {
+            let (first, later) = rest.split_at(PAGE_BYTES);
+            self.put_some(first);
+            rest = later;
+        }
+        self.put_some(rest);
+    }
+
+    // Puts a byte of a text in quotes by its digits.
+    fn put_escaped(&mut self, byte: u8)
+        ensures { GoesOn self.old self.new }
+    {
+        self.put_some(b"\\");
+        self.put_some(&hexadecimal_digits(byte));
+    }
+
+    /// Puts a text in quotes.
+    pub(crate) fn put_quoted(&mut self, text: &str)
+        ensures { GoesOn self.old self.new }
+    {
+        self.put_some(b"\"");
+        let mut rest = text.as_bytes();
+        'runs: while let Some((byte, later)) = rest.split_first() {
+            let count = plain_count(rest);
+            if count == 0 {
+                self.put_escaped(*byte);
+                rest = later;
+            } else {
+                let (plain, others) = rest.split_at(count);
+                self.put_some(plain);
+                rest = others;
+            }
+        }
+        self.put_some(b"\"");
     }
 }

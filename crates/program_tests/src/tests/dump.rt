@@ -6,5 +6,4 @@ mod golden;
 mod named;
 mod names;
 mod naming;
-mod runs;
 mod trees;

@@ -1,51 +1,12 @@
-// What both programs share: files that can't be opened, and streams whose reader has gone.
+// Streams whose reader has gone.
 use super::same;
 use std::alloc::Global;
 use std::cell::Cell;
 use std::io::{self, ErrorKind, Write};
 use std::process::Abort;
 use std::test::Fail;
-use wasm_cli::{Messages, Piped, refuse_file};
-use wasm_feed::{BoundedSink, Sink, WriteSink, write_all};
-
-// What is said of a file that could not be opened for this reason, by a device with this much room.
-fn says(
-    rt: &impl Abort,
-    alloc: Global,
-    kind: ErrorKind,
-    room: usize,
-    wanted: &[u8],
-) -> Result<(), Fail> {
-    let mut errors = BoundedSink::new(alloc, room)?;
-    let status = refuse_file("a.wasm", &io::Error::from(kind), &mut errors);
-    same(rt, status, 3);
-    same(rt, errors.written(), wanted);
-    Ok(())
-}
-
-#[test]
-fn says_why_a_file_cannot_be_opened(rt: HostRuntime) -> Result<(), Fail> {
-    let alloc = rt.alloc();
-    let denied = ErrorKind::PermissionDenied;
-    says(
-        &rt,
-        alloc,
-        ErrorKind::NotFound,
-        100,
-        b"a.wasm: no such file\n",
-    )?;
-    says(&rt, alloc, denied, 100, b"a.wasm: permission denied\n")?;
-    says(
-        &rt,
-        alloc,
-        ErrorKind::InvalidInput,
-        100,
-        b"a.wasm: can't be opened\n",
-    )?;
-    says(&rt, alloc, ErrorKind::NotFound, 6, b"a.wasm")?;
-    says(&rt, alloc, ErrorKind::NotFound, 3, b"a.w")?;
-    says(&rt, alloc, ErrorKind::NotFound, 0, b"")
-}
+use wasm_commands::{Messages, Noting};
+use wasm_feed::{Sink, WriteSink, write_all};
 
 // A writer that fails for a reason, or takes all bytes.
 #[derive(Drop)]
@@ -76,13 +37,13 @@ fn message_after(
     kind: Option<ErrorKind>,
     wanted: (bool, &[u8]),
 ) -> Result<(), Fail> {
-    let is_closed = Cell::new(false);
+    let failure = Cell::new(None);
     let mut text = Vec::new(alloc);
-    let mut output = Piped::new(Failing { kind }, &is_closed);
+    let mut output = Noting::new(Failing { kind }, &failure);
     let failed = output.write(b"abc").is_err();
     same(rt, output.write(b"abc").is_err(), failed);
     same(rt, output.flush().is_err(), failed);
-    let mut errors = Messages::new(WriteSink::new(&mut text), &is_closed);
+    let mut errors = Messages::new(WriteSink::new(&mut text), &failure);
     let written = write_all(&mut errors, b"output failed\n");
     same(rt, written.is_ok(), true);
     same(rt, errors.failed(), false);

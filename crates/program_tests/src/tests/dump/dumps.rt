@@ -53,6 +53,7 @@ fn dumped<R: Source>(
     let shown = Shown {
         only,
         has_bytes: false,
+        found: &[],
     };
     let ended = dump(alloc, shown, input, &mut tree, piece.max(1));
     (ended, tree.into_output())
@@ -230,6 +231,7 @@ fn rows_after_what_it_does_not_show(rt: HostRuntime) -> Result<(), Fail> {
         let shown = Shown {
             only: &[Only::Id(10)],
             has_bytes: true,
+            found: &[],
         };
         let ended = dump(
             rt.alloc(),

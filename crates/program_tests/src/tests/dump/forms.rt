@@ -1,5 +1,5 @@
 // Dumps in other forms: objects of JSON, lines with bytes, and lines with hexadecimal offsets.
-use super::runs::{MODULE, USAGE, all_refused, runs};
+use crate::tests::commands::{MODULE, runs};
 use std::alloc::Global;
 use std::process::Abort;
 use std::test::Fail;
@@ -24,25 +24,25 @@ const LONG: &[u8] =
 type Row = (&'static [&'static str], &'static [u8], u8, &'static [u8]);
 
 const ROWS: [Row; 11] = [
-    (&["--json"], MODULE, 0, OBJECTS),
-    (&["--json"], NAMES, 0, ESCAPED),
-    (&["--json"], ADDENDS, 0, SIGNED),
-    (&["--json"], FAULTS, 1, FAULT_OBJECTS),
-    (&["--bytes"], MODULE, 0, BYTES),
+    (&["dump", "--json"], MODULE, 0, OBJECTS),
+    (&["dump", "--json"], NAMES, 0, ESCAPED),
+    (&["dump", "--json"], ADDENDS, 0, SIGNED),
+    (&["dump", "--json"], FAULTS, 1, FAULT_OBJECTS),
+    (&["dump", "--bytes"], MODULE, 0, BYTES),
     // Sixteen bytes a row, and only those of the sections that are chosen.
-    (&["--section", "custom", "--bytes"], LONG, 1, SIXTEEN),
-    (&["--hex"], MODULE, 0, HEX),
+    (&["dump", "--section", "custom", "--bytes"], LONG, 1, SIXTEEN),
+    (&["dump", "--hex"], MODULE, 0, HEX),
     // Offsets that don't count from the start of the stream stay decimal.
-    (&["--hex"], ADDENDS, 0, HEX_RANGES),
-    (&["--hex"], FAULTS, 1, HEX_FAULTS),
+    (&["dump", "--hex"], ADDENDS, 0, HEX_RANGES),
+    (&["dump", "--hex"], FAULTS, 1, HEX_FAULTS),
     (
-        &["--section", "custom", "--hex", "--bytes"],
+        &["dump", "--section", "custom", "--hex", "--bytes"],
         LONG,
         1,
         HEX_BYTES,
     ),
     (
-        &["--color", "--hex", "--section", "3"],
+        &["dump", "--color", "--hex", "--section", "3"],
         MODULE,
         0,
         HEX_COLORS,
@@ -149,21 +149,6 @@ fn all_write(rt: &impl Abort, alloc: Global, rows: &[Row]) -> Result<(), Fail> {
 #[test]
 fn writes_other_forms(rt: HostRuntime) -> Result<(), Fail> {
     all_write(&rt, rt.alloc(), &ROWS)
-}
-
-const REFUSED: [&[&str]; 7] = [
-    &["--json", "--color"],
-    &["--bytes", "--json"],
-    &["--json", "--version"],
-    &["--bytes", "--help"],
-    &["--hex", "--json"],
-    &["--json", "--section", "3", "--hex"],
-    &["--hex", "--version"],
-];
-
-#[test]
-fn refuses_what_json_has_not(rt: HostRuntime) -> Result<(), Fail> {
-    all_refused(&rt, rt.alloc(), &REFUSED, USAGE)
 }
 
 // What a sink has of two parts: bytes are left after the last line of the first one, and the second has no line.

@@ -3,8 +3,8 @@ use super::names::names_in;
 use std::alloc::Global;
 use std::process::Abort;
 use std::test::Fail;
-use wasm_dumper::Only;
-use wasm_dumper::program::{Options, dump_as};
+use wasm_commands::{Format, dump_as};
+use wasm_dumper::{Only, Shown};
 use wasm_feed::{SliceSource, WriteSink};
 use wasm_tree::ItemNames;
 
@@ -24,26 +24,22 @@ pub(super) enum Form {
 }
 
 impl Form {
-    fn options(self) -> Options {
-        let options = Options::new();
+    fn format(self) -> Format {
+        let format = Format::new();
         match self {
-            Form::Lines => options,
-            Form::Named => Options {
+            Form::Lines | Form::Bytes => format,
+            Form::Named => Format {
                 is_named: true,
-                ..options
+                ..format
             },
-            Form::Bytes => Options {
-                has_bytes: true,
-                ..options
-            },
-            Form::Objects => Options {
+            Form::Objects => Format {
                 is_json: true,
-                ..options
+                ..format
             },
-            Form::NamedObjects => Options {
+            Form::NamedObjects => Format {
                 is_json: true,
                 is_named: true,
-                ..options
+                ..format
             },
         }
     }
@@ -51,28 +47,34 @@ impl Form {
 
 // The dump of a stream in a form.
 pub(super) fn dumped(alloc: Global, stream: &[u8], form: Form) -> Result<Vec<u8>, Fail> {
-    let options = form.options();
-    let names = if options.is_named {
+    let format = form.format();
+    let names = if format.is_named {
         Some(names_in(alloc, stream)?)
     } else {
         None
     };
     let mut written = Vec::<u8>::new(alloc);
-    write_dump(alloc, stream, options, names, &mut written);
+    let shown = Shown {
+        only: &[Only::All],
+        has_bytes: matches!(form, Form::Bytes),
+        found: &[],
+    };
+    write_dump(alloc, stream, shown, format, names, &mut written);
     Ok(written)
 }
 
 fn write_dump(
     alloc: Global,
     stream: &[u8],
-    options: Options,
+    shown: Shown<'_>,
+    format: Format,
     names: Option<ItemNames>,
     written: &mut Vec<u8>,
 ) {
     let (_how, _output) = dump_as(
         alloc,
-        &[Only::All],
-        options,
+        shown,
+        format,
         names,
         &mut SliceSource::new(stream),
         WriteSink::new(written),

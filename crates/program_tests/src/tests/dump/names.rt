@@ -149,6 +149,7 @@ fn dumped_into(
     let shown = Shown {
         only: &[Only::Id(10)],
         has_bytes: false,
+        found: &[],
     };
     let input = &mut SliceSource::new(stream);
     let ended = dump(alloc, shown, input, &mut tree, 65_536);

@@ -1,0 +1,137 @@
+// Files in memory.
+use std::alloc::Global;
+use std::cell::Cell;
+use std::io::{self, ErrorKind, Read};
+use wasm_commands::{Cause, Causes, System};
+use wasm_feed::{BoundedSink, ReadSource};
+
+/// A file by its name, and whether it can be read twice.
+#[derive(Clone, Copy)]
+pub(super) struct Named<'a> {
+    pub(super) name: &'a str,
+    pub(super) bytes: &'a [u8],
+    pub(super) is_regular: bool,
+}
+
+/// Standard input, and files. Reading the file `broken` fails, and so does creating `denied`.
+#[derive(Drop)]
+pub(super) struct Files<'a> {
+    input: &'a [u8],
+    named: &'a [Named<'a>],
+    input_failure: Cell<Option<Cause>>,
+    /// The size of the file that was replaced, and how often one was discarded.
+    pub(super) replaced: Cell<Option<usize>>,
+    pub(super) discarded: Cell<u32>,
+}
+
+impl<'a> Files<'a> {
+    /// Standard input alone.
+    pub(super) fn of_input(input: &'a [u8]) -> Files<'a> {
+        Files::new(input, &[])
+    }
+
+    /// Standard input, and these files.
+    pub(super) fn new(input: &'a [u8], named: &'a [Named<'a>]) -> Files<'a> {
+        Files {
+            input,
+            named,
+            input_failure: Cell::new(None),
+            replaced: Cell::new(None),
+            discarded: Cell::new(0),
+        }
+    }
+}
+
+/// A reader of bytes, or one that fails.
+#[derive(Drop)]
+pub(super) struct Reader<'a> {
+    bytes: &'a [u8],
+    is_broken: bool,
+}
+
+impl Read for Reader<'_> {
+    fn read(&mut self, buf: &mut [u8]) -> io::Result<usize> {
+        if self.is_broken {
+            return Err(io::Error::from(ErrorKind::IsADirectory));
+        }
+        self.bytes.read(buf)
+    }
+}
+
+// The cause of an error of this kind.
+fn cause(kind: ErrorKind) -> Cause {
+    Cause::of(&io::Error::from(kind))
+}
+
+fn found<'a>(named: &'a [Named<'a>], name: &str) -> Option<Named<'a>> {
+    for file in named {
+        if file.name == name {
+            return Some(*file);
+        }
+    }
+    None
+}
+
+impl<'a> System for Files<'a> {
+    type Input = ReadSource<Reader<'a>>;
+
+    type Output = BoundedSink;
+
+    fn open(&self, name: &str) -> Result<ReadSource<Reader<'a>>, Cause> {
+        if name == "broken" {
+            self.input_failure.set(Some(cause(ErrorKind::IsADirectory)));
+            let (bytes, is_broken) = (b"".as_slice(), true);
+            return Ok(ReadSource::new(Reader { bytes, is_broken }));
+        }
+        let bytes = if name == "-" {
+            self.input
+        } else {
+            match found(self.named, name) {
+                Some(file) => file.bytes,
+                None => return Err(cause(ErrorKind::NotFound)),
+            }
+        };
+        let is_broken = false;
+        Ok(ReadSource::new(Reader { bytes, is_broken }))
+    }
+
+    fn is_regular(&self, name: &str) -> bool {
+        match found(self.named, name) {
+            Some(file) => file.is_regular,
+            None => false,
+        }
+    }
+
+    fn is_terminal(&self) -> bool {
+        false
+    }
+
+    fn create(&self, alloc: Global, _input: &str, name: &str) -> Result<BoundedSink, Cause> {
+        if name == "denied" {
+            return Err(cause(ErrorKind::PermissionDenied));
+        }
+        let room = if name == "full" { 9 } else { 100 };
+        match BoundedSink::new(alloc, room) {
+            Ok(output) => Ok(output),
+            Err(_) => Err(cause(ErrorKind::OutOfMemory)),
+        }
+    }
+
+    fn replace(&self, output: BoundedSink, is_complete: bool) -> Result<(), Cause> {
+        if is_complete {
+            self.replaced.set(Some(output.written().len()));
+        } else {
+            self.discarded.set(self.discarded.get().saturating_add(1));
+        }
+        Ok(())
+    }
+
+    fn hide_progress(&self) {}
+
+    fn causes(&self) -> Causes {
+        Causes {
+            input: self.input_failure.get(),
+            output: Some(cause(ErrorKind::StorageFull)),
+        }
+    }
+}

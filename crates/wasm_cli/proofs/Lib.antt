@@ -1,4 +1,0 @@
-pub mod Choosing
-pub mod Finishing
-pub mod Reading
-pub mod Telling

@@ -1,9 +1,0 @@
-pub mod Arguments
-pub mod Devices
-pub mod Endings
-pub mod ListCommands
-pub mod ListRuns
-pub mod StripFiles
-pub mod StripOptions
-pub mod Strips
-pub mod StripsTwice

@@ -1,0 +1,4 @@
+pub mod Choosing
+pub mod Coloring
+pub mod Parsing
+pub mod Running

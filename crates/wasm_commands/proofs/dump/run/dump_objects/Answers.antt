@@ -1,0 +1,12 @@
+use Rattle.wasm_tree.specs.declared.tree.Style.TheVariants.{Objects}
+use Rattle.wasm_commands.proofs.dump.run.dump_objects.Goals as goal
+
+pub returns : goal.returns
+returns g c =
+    let d = c.dump-how.ensures Objects _ _ c.with_names-tree.ensures in
+    let same = c.into_output.ensures in
+    record {
+      dumps = rw (c.requires, same.taken) d.dumps;
+      source = d.source;
+      sink = rw same.failed d.sink;
+    }

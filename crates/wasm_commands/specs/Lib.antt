@@ -1,0 +1,10 @@
+pub mod ArgumentLists
+pub mod Choices
+pub mod Colors
+pub mod DumpRuns
+pub mod Formats
+pub mod Messages
+pub mod Options
+pub mod Parsing
+pub mod Reasons
+pub mod StripsTwice

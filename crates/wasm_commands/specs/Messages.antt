@@ -1,0 +1,83 @@
+-- What the program says on standard error.
+use Rattle.std.specs.Prelude.{◌≡◌, ◌⊎◌, ℕ, List, [], ◌++◌, codes, bytes_eq, Option, Some, None, Result, Ok, Err}
+use Rattle.std.specs.Prelude.{if◌then◌else◌}
+use Rattle.std.specs.declared.io.ErrorKind.TheVariants.{Other}
+use Rattle.wasm_text.specs.Calls.{Device}
+use Rattle.wasm_text.specs.Messages.{Says}
+use Rattle.wasm_text.specs.declared.devices.ListError.{ListError}
+use Rattle.wasm_text.specs.declared.devices.ListError.TheVariants.{Input, Output, Memory}
+use Rattle.wasm_feeder.specs.declared.turns.Ended.{Ended}
+use Rattle.wasm_console.specs.Devices.{IsUntouched}
+use Rattle.wasm_commands.specs.Reasons.{reason_of, reason_of_kind}
+use Rattle.wasm_commands.specs.declared.arguments.Refusal.{Refusal}
+use Rattle.wasm_commands.specs.declared.arguments.Refusal.TheVariants.{UnknownOption, NoValue, UnwantedValue}
+use Rattle.wasm_commands.specs.declared.messages.Causes.{Causes}
+use Rattle.wasm_commands.specs.declared.messages.Complaint.{Complaint}
+use Rattle.wasm_commands.specs.declared.messages.Complaint.TheVariants as complaint
+use Rattle.wasm_commands.specs.declared.options.Verb.{Verb}
+use Rattle.wasm_commands.specs.declared.options.Verb.TheVariants as verb
+use Rattle.wasm_commands.specs.declared.reasons.Cause.{Cause}
+
+-- the name of an input in messages
+abbrev pub name_shown : List ℕ → List ℕ
+name_shown name = if bytes_eq name (codes "-") then codes "standard input" else name
+
+-- why a device failed, if it said so
+abbrev pub reason_if_any : Option Cause → List ℕ
+reason_if_any (Some cause) = reason_of cause
+reason_if_any None = reason_of_kind Other
+
+-- why a file can't be used
+abbrev pub file_text : (name reason : List ℕ) → List ℕ
+file_text name reason = codes "pulleynavy: " ++ (name ++ (codes ": " ++ (reason ++ codes "\n")))
+
+-- why a run over the input with this name failed
+abbrev pub failure_text : (name : List ℕ) → ListError → Causes → List ℕ
+failure_text name Input causes = file_text (name_shown name) (reason_if_any causes.input)
+failure_text name Output causes = file_text (codes "standard output") (reason_if_any causes.output)
+failure_text name Memory causes = codes "pulleynavy: out of memory\n"
+
+-- what is said of a run over a stream: nothing, or why it failed
+abbrev pub Reports : (name : List ℕ) → Result Ended ListError → Causes → (errors : Device) → Type 0
+Reports name (Ok how) causes errors = IsUntouched errors
+Reports name (Err why) causes errors = Says errors (failure_text name why causes)
+
+-- a value of `--section` that chose nothing of a file
+abbrev pub missing_text : (name word : List ℕ) → List ℕ
+missing_text name word =
+    codes "pulleynavy dump: " ++ (name_shown name ++ (codes ": no section '" ++ (word ++ codes "'\n")))
+
+abbrev pub command_text : Verb → List ℕ
+command_text verb.List = codes "pulleynavy list"
+command_text verb.Dump = codes "pulleynavy dump"
+command_text verb.Check = codes "pulleynavy check"
+command_text verb.Strip = codes "pulleynavy strip"
+
+-- what is wrong with a word, and where to look
+abbrev pub about_word : Verb → (before word after : List ℕ) → List ℕ
+about_word verb before word after = command_text verb ++ (codes ": " ++ (before ++ (word ++ (after
+    ++ (codes "\nTry '" ++ (command_text verb ++ codes " --help'.\n"))))))
+
+-- what is wrong with an option
+abbrev pub refusal_text : Verb → Refusal → List ℕ
+refusal_text verb (UnknownOption word) = about_word verb (codes "unknown option '") word.now (codes "'")
+refusal_text verb (NoValue word) = about_word verb (codes "option '") word.now (codes "' needs a value")
+refusal_text verb (UnwantedValue word) = about_word verb (codes "option '") word.now (codes "' takes no value")
+
+-- what is wrong with the arguments
+abbrev pub complaint_text : Complaint → List ℕ
+complaint_text (complaint.Argument verb refusal) = refusal_text verb refusal
+complaint_text (complaint.Excluded verb first second) = command_text verb ++ (codes ": options '" ++ (first.now
+    ++ (codes "' and '" ++ (second.now ++ codes "' exclude each other\n"))))
+complaint_text (complaint.WrongValue verb option value) = command_text verb ++ (codes ": wrong value '" ++ (value.now
+    ++ (codes "' of option '" ++ (option.now ++ codes "'\n"))))
+complaint_text (complaint.Extra verb word) = about_word verb (codes "unexpected argument '") word.now (codes "'")
+complaint_text (complaint.UnknownCommand word) =
+    codes "pulleynavy: unknown command '" ++ (word.now ++ codes "'\nTry 'pulleynavy --help'.\n")
+complaint_text (complaint.UnknownOption word) =
+    codes "pulleynavy: unknown option '" ++ (word.now ++ codes "'\nTry 'pulleynavy --help'.\n")
+complaint_text complaint.NoCommand =
+    codes "usage: pulleynavy COMMAND [OPTION]... [FILE]...\nTry 'pulleynavy --help'.\n"
+complaint_text complaint.NamesOfInput =
+    codes "pulleynavy dump: --names reads each file twice, and standard input can't be: name files\n"
+complaint_text complaint.NotUtf8 = codes "pulleynavy: an argument is not valid UTF-8\n"

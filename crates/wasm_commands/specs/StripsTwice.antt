@@ -1,0 +1,26 @@
+-- A file that is read once to be checked, and again to be written.
+use Rattle.std.specs.Prelude.{◌≡◌, ℕ, Bool, false, List, None, Result, Ok, Err}
+use Rattle.wasm_text.specs.Calls.{Device}
+use Rattle.wasm_text.specs.declared.devices.ListError.{ListError}
+use Rattle.wasm_feed.specs.StripStream.{StripsSource}
+use Rattle.wasm_feeder.specs.declared.turns.Ended.{Ended}
+use Rattle.wasm_feeder.specs.declared.turns.Ended.TheVariants.{End, Fault}
+use Rattle.wasm_console.specs.Devices.{IsUntouched}
+
+-- a device that drops what is written to it
+abbrev pub dropped : Device
+dropped = record { before = None; after = None; had_failed = false; has_failed = false }
+
+-- what is done after the first reading: only a file without a fault is read again and written
+abbrev pub GoesOnAs : (keeps : List ℕ → Bool) → (checked : Result Ended ListError) → (second output : Device)
+    → (how : Result Ended ListError) → Type 0
+GoesOnAs keeps (Ok End) second output how = StripsSource keeps second output how
+GoesOnAs keeps (Ok (Fault e)) second output how = IsUntouched second × IsUntouched output × (how ≡ Ok (Fault e))
+GoesOnAs keeps (Err why) second output how = IsUntouched second × IsUntouched output × (how ≡ Err why)
+
+-- a file that was stripped
+pub record StripsTwice (keeps : List ℕ → Bool) (first second output : Device) (how : Result Ended ListError) : Type 0
+    where
+  pub checked : Result Ended ListError
+  pub checks : StripsSource keeps first dropped checked
+  pub goes_on : GoesOnAs keeps checked second output how

@@ -1,0 +1,127 @@
+// Dumps an input to an output.
+ghost use Rattle.std.specs.Prelude.{◌≡◌, true, false};
+ghost use Rattle.std.specs.Io.KnownBytes.{Keeps};
+ghost use Rattle.wasm_commands.specs.Colors.{seen_as};
+ghost use Rattle.wasm_commands.specs.DumpRuns.{DumpsAs, Flushes, RunsDump};
+ghost use Rattle.wasm_commands.specs.Formats.{has_colors};
+ghost use Rattle.wasm_text.specs.Calls.{device_of, writer_device};
+
+use super::colored::Colored;
+use super::format::Format;
+use std::alloc::Global;
+use std::io::Write;
+use wasm_console::PIECE;
+use wasm_dumper::{Shown, dump};
+use wasm_feed::{Ended, ListError, Source, WriteSink};
+use wasm_tree::{ItemNames, Lines, Objects};
+
+// Flushes the output if the dump did not fail.
+fn forward_all<W: Write>(
+    how: Result<Ended, ListError>,
+    output: &mut WriteSink<W>,
+) -> Result<Ended, ListError>
+    ensures keeps { Keeps (W.contents output.old.writer) (W.contents output.new.writer) }
+    ensures ends { Flushes how output.old.failed output.new.failed output.new.forwarded result }
+{
+    match how {
+        Ok(ended) => match output.flush() {
+            Ok(()) => Ok(ended),
+            Err(_) => Err(ListError::Output),
+        },
+        Err(why) => Err(why),
+    }
+}
+
+// Dumps these sections of the input as lines, with these names if there are any.
+fn dump_lines<R: Source, W: Write>(
+    alloc: Global,
+    shown: Shown<'_>,
+    format: Format,
+    names: Option<ItemNames>,
+    input: &mut R,
+    output: WriteSink<W>,
+) -> (Result<Ended, ListError>, WriteSink<W>)
+    requires { format.is_json ≡ false }
+    ensures { DumpsAs format shown.entry (device_of R.remaining R.has_failed input.old input.new)
+        (seen_as (has_colors format) (writer_device W.contents output result.1)) result.0 }
+{
+    let colored = Colored::new(output, format.has_colors());
+    let mut tree = Lines::with_names(alloc, colored, format.base(), names);
+    let how = dump(alloc, shown, input, &mut tree, PIECE);
+    let colored = tree.into_output();
+    (how, colored.into_inner())
+}
+
+// Dumps these sections of the input as JSON objects, with these names if there are any.
+fn dump_objects<R: Source, W: Write>(
+    alloc: Global,
+    shown: Shown<'_>,
+    format: Format,
+    names: Option<ItemNames>,
+    input: &mut R,
+    output: WriteSink<W>,
+) -> (Result<Ended, ListError>, WriteSink<W>)
+    requires { format.is_json ≡ true }
+    ensures { DumpsAs format shown.entry (device_of R.remaining R.has_failed input.old input.new)
+        (seen_as (has_colors format) (writer_device W.contents output result.1)) result.0 }
+{
+    let mut tree = Objects::with_names(alloc, output, names);
+    let how = dump(alloc, shown, input, &mut tree, PIECE);
+    (how, tree.into_output())
+}
+
+// Dumps these sections of the input as lines or objects.
+fn dump_over<R: Source, W: Write>(
+    alloc: Global,
+    shown: Shown<'_>,
+    format: Format,
+    names: Option<ItemNames>,
+    input: &mut R,
+    output: WriteSink<W>,
+) -> (Result<Ended, ListError>, WriteSink<W>)
+    ensures { DumpsAs format shown.entry (device_of R.remaining R.has_failed input.old input.new)
+        (seen_as (has_colors format) (writer_device W.contents output result.1)) result.0 }
+{
+    if format.is_json {
+        dump_objects(alloc, shown, format, names, input, output)
+    } else {
+        dump_lines(alloc, shown, format, names, input, output)
+    }
+}
+
+/// Writes the dump of the input in a format, flushes the output, and returns how the stream ended, and the
+/// output.
+///
+/// `shown` chooses the events, and `names` has the names of items, if there are any. With colors, the output is the dump
+/// with escape sequences between its bytes.
+///
+/// # Errors
+///
+/// Those of `wasm_dumper::dump`, and `Output` if flushing fails.
+///
+/// ```rattle
+/// let mut input = SliceSource::new(b"\0asm\x01\0\0\0");
+/// let mut text = Vec::new(alloc);
+/// let output = WriteSink::new(&mut text);
+/// let shown = Shown { only: &[Only::All], has_bytes: false, found: &[] };
+/// let (ended, _) = dump_as(alloc, shown, Format::new(), None, &mut input, output);
+/// assert_eq!(rt; ended, Ok(Ended::End));
+/// assert_eq!(rt; text.as_slice(), b"version 0 8 1 module\nend 8\n".as_slice());
+/// ```
+pub fn dump_as<R: Source, W: Write>(
+    alloc: Global,
+    shown: Shown<'_>,
+    format: Format,
+    names: Option<ItemNames>,
+    input: &mut R,
+    output: WriteSink<W>,
+) -> (Result<Ended, ListError>, WriteSink<W>)
+    ensures { RunsDump format shown.entry
+        (device_of R.remaining R.has_failed input.old input.new)
+        (seen_as (has_colors format) (writer_device W.contents output result.1))
+        result.1.forwarded result.0 }
+{
+    let (how, mut output) = dump_over(alloc, shown, format, names, input, output);
+    let result = forward_all(how, &mut output);
+    (result, output)
+}

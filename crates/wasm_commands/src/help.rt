@@ -1,0 +1,198 @@
+// What the program prints of itself: help texts and the version. `tools/generate program` writes the texts.
+use crate::options::Verb;
+
+/// What a help text is about.
+#[derive(Clone, Copy)]
+pub(crate) enum Topic {
+    /// The program.
+    Program,
+    /// A command.
+    Command(Verb),
+}
+
+// The text of `--help`.
+const PROGRAM: &[u8] = b"usage: pulleynavy COMMAND [OPTION]... [FILE]...
+       pulleynavy help [COMMAND]
+       pulleynavy --version
+
+pulleynavy reads WebAssembly modules, and the headers of components. It does
+not validate them, and it does not decode function bodies.
+
+Commands:
+  list   list the parts of binaries
+  dump   show every item of binaries
+  check  find malformed items in binaries
+  strip  remove custom sections
+
+Options come before or after files. Without a FILE, or with '-', a command
+reads standard input. 'pulleynavy COMMAND --help' says more.
+";
+
+// The text of `list --help`.
+const LIST: &[u8] = b"usage: pulleynavy list [--json] [FILE...]
+
+Writes a line for each part of each FILE: the header, each section with its
+offsets and its number of items, each function body, and the end. A fault of
+the file is the last line, with its offset.
+
+Lines for sections end with their names in the standard, those for custom
+sections with their own names, in quotes. With several files, each listing
+follows the name of its file.
+
+Options:
+  --json         Each line is a JSON object, for programs.
+  --no-progress  Shows no progress. For files above 64 MiB it is otherwise a
+                 line on standard error, if that is a terminal.
+  --             Ends the options: all arguments after it are files.
+  -h, --help     Prints a summary.
+  -V, --version  Prints the version, and that of the wasmparser crate whose
+                 names it follows.
+
+Exit status:
+  0  All files were read to their ends. Headers, and the order, sizes and
+     counts of sections and bodies, are checked. A malformed item does not
+     change the status.
+  1  A file has a fault at which reading stops.
+  2  The arguments are wrong.
+  3  A file or device failed, or memory ran out. The reason is printed to
+     standard error, unless the output is a pipe that its reader has closed.
+
+With several files the exit status is the greatest of theirs.
+";
+
+// The text of `dump --help`.
+const DUMP: &[u8] = b"usage: pulleynavy dump [--names] [--bytes] [--hex] [--color[=WHEN]] [--json]
+                       [--section ID|NAME]... [FILE...]
+
+Shows what each FILE contains: a line for each section and function body, and
+below it a line for each item, which begins with the offset of the item in the
+file. With several files, each dump follows the name of its file.
+
+A malformed item is a line that begins with fault, and the next section
+follows. A fault of the file itself is the last line. Function bodies are
+ranges of bytes.
+
+Options:
+  --names         Each file is read twice, and items are shown with their names
+                  from the custom sections called 'name', or else from the
+                  symbol table of an object file. Standard input cannot be read
+                  twice.
+  --bytes         Each line follows the bytes that it was read from, in
+                  hexadecimal.
+  --hex           Offsets are hexadecimal, as 0x1f. All other numbers stay
+                  decimal.
+  --color[=WHEN]  The text has colors for a terminal: 'always', which is also
+                  meant without WHEN, 'never', or 'auto' if the output is a
+                  terminal.
+  --json          Each line is a JSON object, for programs. Excludes --bytes,
+                  --hex and --color.
+  --section ID|NAME
+                  Only sections with this id, with this name in the standard,
+                  or custom sections with this name are shown. The option may
+                  be repeated. If a file has none of them, a warning says so.
+  --no-progress   Shows no progress. For files above 64 MiB it is otherwise a
+                  line on standard error, if that is a terminal.
+  --              Ends the options: all arguments after it are files.
+  -h, --help      Prints a summary.
+  -V, --version   Prints the version, and that of the wasmparser crate whose
+                  names it follows.
+
+Exit status:
+  0  All files were read to their ends, and each --section chose something of
+     each. A malformed item does not change the status.
+  1  A file has a fault at which reading stops, or lacks a section that was
+     asked for.
+  2  The arguments are wrong.
+  3  A file or device failed, or memory ran out. The reason is printed to
+     standard error, unless the output is a pipe that its reader has closed.
+
+With several files the exit status is the greatest of theirs.
+";
+
+// The text of `check --help`.
+const CHECK: &[u8] = b"usage: pulleynavy check [--quiet] [FILE...]
+
+Reads every item of every section that it knows, and writes a line for each
+malformed one: the file, the offset, what is wrong, and the section. It writes
+nothing of a well-formed file.
+
+It knows the sections of the core standard, and of the custom sections name,
+producers, target_features, linking, reloc.*, dylink.0, branch hints and core
+dumps. It does not look at the instructions of function bodies, and it does not
+validate.
+
+Options:
+  -q, --quiet    Writes nothing. The exit status alone says whether there is a
+                 fault.
+  --no-progress  Shows no progress. For files above 64 MiB it is otherwise a
+                 line on standard error, if that is a terminal.
+  --             Ends the options: all arguments after it are files.
+  -h, --help     Prints a summary.
+  -V, --version  Prints the version, and that of the wasmparser crate whose
+                 names it follows.
+
+Exit status:
+  0  No file has a fault.
+  1  A file has a fault.
+  2  The arguments are wrong.
+  3  A file or device failed, or memory ran out. The reason is printed to
+     standard error, unless the output is a pipe that its reader has closed.
+
+With several files the exit status is the greatest of theirs.
+";
+
+// The text of `strip --help`.
+const STRIP: &[u8] = b"usage: pulleynavy strip [--keep-names] [--keep NAME]... [--only NAME]...
+                        [-o OUT] [FILE]
+
+Writes FILE without its custom sections, such as names and debugging
+information. All other bytes stay as they are. If FILE is malformed, nothing is
+written.
+
+A regular file is read twice instead of being kept in memory: first to check
+it, then to write it. Standard input is read into memory.
+
+Options:
+  --keep-names   Keeps the custom sections called 'name'.
+  --keep NAME    Keeps the custom sections with this name. The option may be
+                 repeated.
+  --only NAME    Removes only the custom sections with this name, and those
+                 that other such options name. A section that another option
+                 keeps is not removed.
+  -o, --output OUT
+                 Writes to OUT instead of standard output. OUT is replaced once
+                 all of it is written, and may be FILE itself. It keeps its
+                 permissions, or gets those of FILE if it is new.
+  --no-progress  Shows no progress. For files above 64 MiB it is otherwise a
+                 line on standard error, if that is a terminal.
+  --             Ends the options: all arguments after it are files.
+  -h, --help     Prints a summary.
+  -V, --version  Prints the version, and that of the wasmparser crate whose
+                 names it follows.
+
+Exit status:
+  0  The file was stripped.
+  1  The file has a fault, which is printed to standard error.
+  2  The arguments are wrong.
+  3  A file or device failed, or memory ran out. The reason is printed to
+     standard error, unless the output is a pipe that its reader has closed.
+";
+
+/// The text of `--version`.
+const VERSION: &[u8] = b"pulleynavy 0.15.0 (follows wasmparser 0.263.0)\n";
+
+/// Returns a help text.
+pub(crate) fn help_of(topic: Topic) -> &'static [u8] {
+    match topic {
+        Topic::Program => PROGRAM,
+        Topic::Command(Verb::List) => LIST,
+        Topic::Command(Verb::Dump) => DUMP,
+        Topic::Command(Verb::Check) => CHECK,
+        Topic::Command(Verb::Strip) => STRIP,
+    }
+}
+
+/// Returns the text of `--version`.
+pub(crate) fn version() -> &'static [u8] {
+    VERSION
+}

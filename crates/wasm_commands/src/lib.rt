@@ -1,0 +1,25 @@
+//! The commands of the program `pulleynavy`, over any files and devices: `list`, `dump`, `check`, `strip` and `help`.
+#![tactic(auto)]
+
+mod arguments;
+mod check;
+mod dump;
+mod files;
+mod help;
+mod host;
+mod messages;
+mod options;
+mod reasons;
+mod replacement;
+mod run;
+mod streams;
+mod strip;
+mod system;
+
+pub use check::check_as;
+pub use dump::{Colored, Format, dump_as};
+pub use messages::Causes;
+pub use reasons::Cause;
+pub use run::{run, run_host, run_program};
+pub use streams::{Messages, Noting};
+pub use system::System;

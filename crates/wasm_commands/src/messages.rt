@@ -1,0 +1,255 @@
+// What the program says on standard error.
+ghost use Rattle.std.specs.Prelude.{◌≡◌};
+ghost use Rattle.wasm_commands.specs.Messages.{Reports, command_text, complaint_text, failure_text, file_text, missing_text, name_shown, reason_if_any, refusal_text};
+ghost use Rattle.wasm_commands.specs.Messages.{about_word};
+ghost use Rattle.wasm_commands.specs.Reasons.{reason_of};
+ghost use Rattle.wasm_console.specs.Endings.{status_of as status_for};
+ghost use Rattle.wasm_text.specs.Calls.{device_of};
+ghost use Rattle.wasm_text.specs.Messages.{Says};
+
+use crate::arguments::Refusal;
+use crate::options::Verb;
+use crate::reasons::{Cause, words_if_any};
+use wasm_console::{say, status_of};
+use wasm_feed::{Ended, ListError, Sink};
+
+/// Why the devices of a run failed, as far as they said so.
+#[derive(Clone, Copy)]
+pub struct Causes {
+    /// Why the input failed.
+    pub input: Option<Cause>,
+    /// Why the output failed.
+    pub output: Option<Cause>,
+}
+
+/// Returns the name of an input in messages.
+pub(crate) fn shown_name(name: &str) -> &str
+    ensures { result.now ≡ name_shown name.now }
+{
+    match name {
+        "-" => "standard input",
+        _ => name,
+    }
+}
+
+/// Says why a file can't be opened, read or written. Returns the exit status 3.
+pub(crate) fn refuse_file<E: Sink>(name: &str, cause: Cause, errors: &mut E) -> u8
+    ensures status { result ≡ 3 }
+    ensures says { Says (device_of E.taken E.has_failed errors.old errors.new)
+        (file_text name.now (reason_of cause)) }
+{
+    say(
+        errors,
+        &[b"pulleynavy: ".as_slice(), name.as_bytes(), b": ", cause.words(), b"\n"],
+    );
+    3
+}
+
+/// Says why a run over the input with this name failed. Returns the exit status 3.
+pub(crate) fn refuse_run<E: Sink>(name: &str, why: ListError, causes: Causes, errors: &mut E) -> u8
+    ensures status { result ≡ 3 }
+    ensures says { Says (device_of E.taken E.has_failed errors.old errors.new)
+        (failure_text name.now why causes) }
+{
+    match why {
+        ListError::Input => say(
+            errors,
+            &[
+                b"pulleynavy: ".as_slice(),
+                shown_name(name).as_bytes(),
+                b": ",
+                words_if_any(causes.input),
+                b"\n",
+            ],
+        ),
+        ListError::Output => say(
+            errors,
+            &[
+                b"pulleynavy: standard output: ".as_slice(),
+                words_if_any(causes.output),
+                b"\n",
+            ],
+        ),
+        ListError::Memory => say(errors, &[b"pulleynavy: out of memory\n".as_slice()]),
+    }
+    3
+}
+
+/// Says why a file could not be written. Returns the exit status 3.
+pub(crate) fn refuse_target<E: Sink>(name: &str, causes: Causes, errors: &mut E) -> u8
+    ensures status { result ≡ 3 }
+    ensures says { Says (device_of E.taken E.has_failed errors.old errors.new)
+        (file_text name.now (reason_if_any causes.output)) }
+{
+    say(
+        errors,
+        &[
+            b"pulleynavy: ".as_slice(),
+            name.as_bytes(),
+            b": ",
+            words_if_any(causes.output),
+            b"\n",
+        ],
+    );
+    3
+}
+
+/// Warns that a value of `--section` chose nothing of a file.
+pub(crate) fn warn_of_missing<E: Sink>(name: &str, word: &str, errors: &mut E)
+    ensures says { Says (device_of E.taken E.has_failed errors.old errors.new)
+        (missing_text name.now word.now) }
+{
+    say(
+        errors,
+        &[
+            b"pulleynavy dump: ".as_slice(),
+            shown_name(name).as_bytes(),
+            b": no section '",
+            word.as_bytes(),
+            b"'\n",
+        ],
+    );
+}
+
+/// Returns the exit status of a run over a stream. If it failed, says why.
+pub(crate) fn report<E: Sink>(
+    name: &str,
+    how: &Result<Ended, ListError>,
+    causes: Causes,
+    errors: &mut E,
+) -> u8
+    ensures status { result ≡ status_for how.now }
+    ensures reports { Reports name.now how.now causes
+        (device_of E.taken E.has_failed errors.old errors.new) }
+{
+    match how {
+        Ok(_) => status_of(how),
+        Err(why) => refuse_run(name, *why, causes, errors),
+    }
+}
+
+// The words before a message about the arguments of a command.
+fn command_words(verb: Verb) -> &'static [u8]
+    ensures { result.now ≡ command_text verb }
+{
+    match verb {
+        Verb::List => b"pulleynavy list",
+        Verb::Dump => b"pulleynavy dump",
+        Verb::Check => b"pulleynavy check",
+        Verb::Strip => b"pulleynavy strip",
+    }
+}
+
+/// What is wrong with the arguments.
+#[derive(Clone, Copy)]
+pub(crate) enum Complaint<'a> {
+    /// An argument of a command is wrong.
+    Argument(Verb, Refusal<'a>),
+    /// Two options of a command exclude each other.
+    Excluded(Verb, &'a str, &'a str),
+    /// A value is none of those that an option takes.
+    WrongValue(Verb, &'a str, &'a str),
+    /// A command has more operands than it takes: the first one of these.
+    Extra(Verb, &'a str),
+    /// There is no such command.
+    UnknownCommand(&'a str),
+    /// There is no such option before a command.
+    UnknownOption(&'a str),
+    /// There is no command.
+    NoCommand,
+    /// The names of standard input can't be shown.
+    NamesOfInput,
+    /// An argument is not valid UTF-8.
+    NotUtf8,
+}
+
+// Says what is wrong with an argument, and where to look.
+fn complain_of<E: Sink>(verb: Verb, before: &[u8], word: &str, after: &[u8], errors: &mut E)
+    ensures says { Says (device_of E.taken E.has_failed errors.old errors.new)
+        (about_word verb before.now word.now after.now) }
+{
+    let words = command_words(verb);
+    say(
+        errors,
+        &[words, b": ".as_slice(), before, word.as_bytes(), after, b"\nTry '", words, b" --help'.\n"],
+    );
+}
+
+// Says what is wrong with an option.
+fn complain_of_option<E: Sink>(verb: Verb, refusal: Refusal<'_>, errors: &mut E)
+    ensures says { Says (device_of E.taken E.has_failed errors.old errors.new)
+        (refusal_text verb refusal.entry) }
+{
+    match refusal {
+        Refusal::UnknownOption(word) => complain_of(verb, b"unknown option '", word, b"'", errors),
+        Refusal::NoValue(word) => complain_of(verb, b"option '", word, b"' needs a value", errors),
+        Refusal::UnwantedValue(word) => {
+            complain_of(verb, b"option '", word, b"' takes no value", errors);
+        }
+    }
+}
+
+/// Says what is wrong with the arguments. Returns the exit status 2.
+pub(crate) fn complain<E: Sink>(complaint: Complaint<'_>, errors: &mut E) -> u8
+    ensures status { result ≡ 2 }
+    ensures says { Says (device_of E.taken E.has_failed errors.old errors.new)
+        (complaint_text complaint.entry) }
+{
+    match complaint {
+        Complaint::Argument(verb, refusal) => complain_of_option(verb, refusal, errors),
+        Complaint::Excluded(verb, first, second) => say(
+            errors,
+            &[
+                command_words(verb),
+                b": options '".as_slice(),
+                first.as_bytes(),
+                b"' and '",
+                second.as_bytes(),
+                b"' exclude each other\n",
+            ],
+        ),
+        Complaint::WrongValue(verb, option, value) => say(
+            errors,
+            &[
+                command_words(verb),
+                b": wrong value '".as_slice(),
+                value.as_bytes(),
+                b"' of option '",
+                option.as_bytes(),
+                b"'\n",
+            ],
+        ),
+        Complaint::Extra(verb, word) => {
+            complain_of(verb, b"unexpected argument '", word, b"'", errors);
+        }
+        Complaint::UnknownCommand(word) => say(
+            errors,
+            &[
+                b"pulleynavy: unknown command '".as_slice(),
+                word.as_bytes(),
+                b"'\nTry 'pulleynavy --help'.\n",
+            ],
+        ),
+        Complaint::UnknownOption(word) => say(
+            errors,
+            &[
+                b"pulleynavy: unknown option '".as_slice(),
+                word.as_bytes(),
+                b"'\nTry 'pulleynavy --help'.\n",
+            ],
+        ),
+        Complaint::NoCommand => say(
+            errors,
+            &[b"usage: pulleynavy COMMAND [OPTION]... [FILE]...\nTry 'pulleynavy --help'.\n".as_slice()],
+        ),
+        Complaint::NamesOfInput => say(
+            errors,
+            &[b"pulleynavy dump: --names reads each file twice, and standard input can't be: name files\n".as_slice()],
+        ),
+        Complaint::NotUtf8 => say(
+            errors,
+            &[b"pulleynavy: an argument is not valid UTF-8\n".as_slice()],
+        ),
+    }
+    2
+}

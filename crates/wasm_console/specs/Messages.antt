@@ -1,0 +1,7 @@
+-- Messages of several texts.
+use Rattle.std.specs.Prelude.{ℕ, List, flat_map}
+use Rattle.std.specs.Borrow.{Bor}
+
+-- the texts, one after the other
+abbrev pub joined : List (Bor (List ℕ)) → List ℕ
+joined parts = flat_map (λ part. part.now) parts

@@ -1,0 +1,85 @@
+// The size of a read, messages, and the end of a run.
+ghost use Rattle.std.specs.Prelude.{◌≡◌, IfOk, OnOk, OnErr, ℕ, take, true, is_ok, if◌then◌else◌, vec_len};
+ghost use Rattle.std.specs.Io.KnownBytes.{Appends};
+ghost use Rattle.wasm_console.specs.Endings.{Finishes, status_of as status_for};
+ghost use Rattle.wasm_console.specs.Messages.{joined};
+ghost use Rattle.wasm_text.specs.Calls.{device_of, writer_device};
+ghost use Rattle.wasm_text.specs.Messages.{Says};
+
+use std::alloc::{AllocError, Global};
+use std::io::Write;
+use wasm_feed::{Ended, Failed, ListError, Sink, WriteSink, write_all};
+use wasm_text::give_up;
+
+/// The number of bytes of the input that are read at once, at most.
+pub const PIECE: usize = 65_536;
+
+/// Allocates a buffer of `PIECE` bytes to read into.
+///
+/// # Errors
+///
+/// `AllocError` when the allocation fails.
+pub fn read_buffer(alloc: Global) -> Result<Vec<u8>, AllocError>
+    ensures { IfOk result (λ buffer. vec_len buffer ≡ 65536) }
+{
+    vec![in alloc; 0u8; PIECE]
+}
+
+/// Writes texts, one after the other.
+///
+/// # Errors
+///
+/// `Failed` if a write failed. A prefix of the texts, one after the other, is then written.
+///
+/// ```rattle
+/// let mut output = BoundedSink::new(alloc, 20)?;
+/// write_parts(&mut output, &[b"no option '".as_slice(), b"-x", b"'\n"])?;
+/// assert_eq!(rt; output.written(), b"no option '-x'\n".as_slice());
+/// assert_eq!(rt; write_parts(&mut output, &[b"a.wasm".as_slice(), b"\n"]), Err(Failed));
+/// ```
+pub fn write_parts<E: Sink>(output: &mut E, parts: &[&[u8]]) -> Result<(), Failed>
+    ensures ok { OnOk result (Appends (E.taken output.old) (E.taken output.new) (joined parts.now)) }
+    ensures err { OnErr result ((n : ℕ)
+        × Appends (E.taken output.old) (E.taken output.new) (take n (joined parts.now))) }
+    ensures failed { E.has_failed output.new
+        ≡ (if is_ok result then E.has_failed output.old else true) }
+{
+    for part in parts {
+        write_all(output, part)?;
+    }
+    Ok(())
+}
+
+/// Writes a message of several texts to `errors`, as far as the sink takes it. A sink that fails is ignored.
+pub fn say<E: Sink>(errors: &mut E, parts: &[&[u8]])
+    ensures { Says (device_of E.taken E.has_failed errors.old errors.new) (joined parts.now) }
+{
+    let _ = write_parts(errors, parts);
+}
+
+/// Returns the exit status of a run over a stream: 0 at the end, 1 at a fault, and 3 if it failed.
+pub fn status_of(how: &Result<Ended, ListError>) -> u8
+    ensures { result ≡ status_for how.now }
+{
+    match how {
+        Ok(Ended::End) => 0,
+        Ok(Ended::Fault(_)) => 1,
+        Err(_) => 3,
+    }
+}
+
+/// Flushes the output after the status 0 or 1, and returns the exit status of the program.
+///
+/// # Errors
+///
+/// If flushing fails, it writes `output failed` to `errors` and returns 3. Other statuses are returned unchanged.
+pub fn finish<W: Write, E: Sink>(status: u8, output: &mut WriteSink<W>, errors: &mut E) -> u8
+    ensures { Finishes status output.new.forwarded
+        (writer_device W.contents output.old output.new)
+        (device_of E.taken E.has_failed errors.old errors.new) result }
+{
+    if status < 2 && output.flush().is_err() {
+        return give_up(errors, ListError::Output);
+    }
+    status
+}

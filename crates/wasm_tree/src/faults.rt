@@ -1,0 +1,199 @@
+// Faults alone.
+ghost use Rattle.std.specs.Prelude.{◌≡◌, None, Some, false, refl, true};
+ghost use Rattle.wasm_tree.specs.Found.{FindsNone, HasFound, knows_found};
+ghost use Rattle.wasm_tree.specs.Tree.{Adds, GoesOn, starts_objects};
+ghost use Rattle.wasm_tree.specs.Written.{faults, found_by};
+
+use crate::numbers::Space;
+use crate::output::Output;
+use crate::short::Offset;
+use crate::tree::{Start, Style, Tree, Value, Within};
+use std::alloc::Global;
+use wasm_base::Error;
+use wasm_text::{Base, ListError, ShortText, Sink};
+
+/// Where the items are that are walked.
+#[derive(Drop)]
+enum Place {
+    Stream,
+    Section(&'static str),
+    Custom(String),
+}
+
+/// A tree that keeps faults alone: it writes a line for each malformed item to a sink. It buffers at most 65,536 bytes.
+///
+/// A line is the prefix that was passed, the offset of the fault in hexadecimal digits, its message, its number, if it
+/// has one, and the section that the item is in. Names of custom sections are quoted as in lines. A quiet tree writes
+/// nothing. Either way `has_faults` returns whether there was a fault. Call `write_out` at the end to write the buffered
+/// lines.
+///
+/// ```rattle
+/// let error = Error::new(Fault::InvalidUtf8, 60);
+/// let mut out = Faults::new(alloc, BoundedSink::new(alloc, 1000)?, String::from_str(alloc, "a.wasm: ")?, false);
+/// out.enter(Within::Section("import"));
+/// out.fault(1, &error);
+/// out.write_out();
+/// assert!(rt; out.has_faults());
+/// let wanted = b"a.wasm: 0x3c: malformed UTF-8 encoding, in section import\n";
+/// assert_eq!(rt; out.into_output().written(), wanted.as_slice());
+/// ```
+pub struct Faults<W: Sink> {
+    alloc: Global,
+    output: Output<W>,
+    prefix: String,
+    place: Place,
+    is_quiet: bool,
+    has_found: bool,
+}
+
+impl<W: Sink> Faults<W> {
+    /// Creates a tree of faults. Each line begins with `prefix`, which may be empty, such as the name of the file and
+    /// `": "`. If `is_quiet`, no line is written. Nothing is written yet.
+    pub fn new(alloc: Global, output: W, prefix: String, is_quiet: bool) -> Faults<W>
+        ensures writing { faults result ≡ starts_objects None (W.has_failed output) }
+        ensures found { found_by result ≡ Some false }
+    {
+        Faults {
+            alloc,
+            output: Output::new(alloc, output),
+            prefix,
+            place: Place::Stream,
+            is_quiet,
+            has_found: false,
+        }
+    }
+
+    /// Returns whether there was a fault.
+    ///
+    /// If the tree has stopped, later items were not walked.
+    #[tactic(auto, using(crate::proofs::Finding::is_found))]
+    pub fn has_faults(&self) -> bool
+        ensures { HasFound (Some result) (found_by self.now) }
+    {
+        self.has_found
+    }
+
+    /// Returns the sink, with what was written to it. Buffered bytes are dropped: call `write_out` first.
+    pub fn into_output(self) -> W
+        ensures { W.has_failed result ≡ (faults self).has_failed }
+    {
+        let Faults {
+            alloc: _,
+            output,
+            prefix: _,
+            place: _,
+            is_quiet: _,
+            has_found: _,
+        } = self;
+        output.into_sink()
+    }
+
+    // Writes where the items are.
+    fn put_place(&mut self)
+        ensures goes { GoesOn self.old.output self.new.output }
+        ensures kept { self.new.has_found ≡ self.old.has_found }
+    {
+        match &self.place {
+            Place::Stream => {}
+            Place::Section(name) => {
+                self.output.put_long(b", in section ");
+                self.output.put_long(name.as_bytes());
+            }
+            Place::Custom(name) => {
+                self.output.put_long(b", in custom section ");
+                self.output.put_quoted(name.as_str());
+            }
+        }
+    }
+
+    // Writes the line of a fault.
+    fn put_fault(&mut self, error: &Error)
+        ensures goes { GoesOn self.old.output self.new.output }
+        ensures kept { self.new.has_found ≡ self.old.has_found }
+    {
+        self.output.put_long(self.prefix.as_bytes());
+        self.output.put_short(&Offset {
+            base: Base::Hexadecimal,
+            offset: error.offset(),
+        });
+        self.output.put_long(b": ");
+        self.output.put_long(error.message().as_bytes());
+        if let Some(number) = error.number() {
+            self.output.put_long(b": ");
+            self.output.put_short(&number);
+        }
+        self.put_place();
+        self.output.put_long(b"\n");
+    }
+}
+
+#[tactic(auto, using(crate::proofs::Saying::says_never, crate::proofs::Saying::says_none_ever))]
+impl<W: Sink> Tree for Faults<W> {
+    ghost writing = { λ t. faults t };
+
+    ghost found = { λ t. found_by t };
+
+    ghost ONLY_FAULTS = { true };
+
+    ghost knows = { λ t. knows_found (faults t) t.has_found refl };
+
+    const ONLY_FAULTS: bool = true;
+
+    fn stopped(&self) -> Option<ListError> {
+        self.output.stopped()
+    }
+
+    fn style(&self) -> Style {
+        Style::Objects
+    }
+
+    fn out_of_memory(&mut self) {
+        self.output.out_of_memory();
+    }
+
+    fn write_out(&mut self) {
+        self.output.write_out();
+    }
+
+    fn end(&mut self) {}
+
+    fn begin_line(&mut self, _level: usize, _start: Start<'_>) {}
+
+    fn bytes(&mut self, _bytes: &[u8]) {}
+
+    fn digits(&mut self, _number: u64) {}
+
+    fn offset(&mut self, _offset: u64) {}
+
+    fn begin_field(&mut self, _name: &str) {}
+
+    fn field(&mut self, _name: &str, _value: Value<'_>) {}
+
+    fn label(&mut self, _name: &str, _word: &str) {}
+
+    fn item_number(&mut self, _space: Space, _index: u64) {}
+
+    fn item_name(&mut self, _space: Space, _index: u64) {}
+
+    fn first_of_function<T: ShortText>(&mut self, _text: &T, _function: Option<u64>) {}
+
+    fn begin_part(&mut self, _alloc: Global, _offset: u64, _bytes: &[u8], _cuts: Vec<u64>) {}
+
+    fn enter(&mut self, within: Within<'_>) {
+        match within {
+            Within::Stream => self.place = Place::Stream,
+            Within::Section(name) => self.place = Place::Section(name),
+            Within::Custom(name) => match String::from_str(self.alloc, name) {
+                Ok(name) => self.place = Place::Custom(name),
+                Err(_) => self.output.out_of_memory(),
+            },
+        }
+    }
+
+    fn note_fault(&mut self, error: &Error) {
+        self.has_found = true;
+        if !self.is_quiet {
+            self.put_fault(error);
+        }
+    }
+}

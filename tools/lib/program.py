@@ -1,0 +1,101 @@
+"""What the program pulleynavy says of its commands and options: the one source of its help texts, manual page and completions."""
+
+# Names of the sections of a module, and of custom sections, that are offered after --section.
+SECTIONS = "custom type import function table memory global export start element code data datacount tag".split()
+CUSTOM = "name producers target_features linking dylink.0".split()
+
+PURPOSE = "list, show, check and strip WebAssembly binaries"
+
+ABOUT = (
+    "pulleynavy reads WebAssembly modules, and the headers of components. It does not validate them, and it does not decode function bodies.",
+    "Options come before or after files. Without a FILE, or with '-', a command reads standard input. 'pulleynavy COMMAND --help' says more.",
+)
+
+# Options: how they are written, the name of their value, a summary for completions, and the text.
+HELP = ("-h, --help", None, "print a summary", "Prints a summary.")
+VERSION = ("-V, --version", None, "print the version", "Prints the version, and that of the wasmparser crate whose names it follows.")
+PROGRESS = ("--no-progress", None, "show no progress of large files", "Shows no progress. For files above 64 MiB it is otherwise a line on standard error, if that is a terminal.")
+END = ("--", None, None, "Ends the options: all arguments after it are files.")
+COMMON = (PROGRESS, END, HELP, VERSION)
+
+# Of each command: its summary, its call, what it does, its options, the statuses 0 and 1, and examples.
+COMMANDS = {
+    "list": {
+        "summary": "list the parts of binaries",
+        "call": "[--json] [FILE...]",
+        "about": (
+            "Writes a line for each part of each FILE: the header, each section with its offsets and its number of items, each function body, and the end. A fault of the file is the last line, with its offset.",
+            "Lines for sections end with their names in the standard, those for custom sections with their own names, in quotes. With several files, each listing follows the name of its file.",
+        ),
+        "options": (("--json", None, "write a JSON object per line", "Each line is a JSON object, for programs."), *COMMON),
+        "good": "All files were read to their ends. Headers, and the order, sizes and counts of sections and bodies, are checked. A malformed item does not change the status.",
+        "bad": "A file has a fault at which reading stops.",
+        "examples": (("List the parts of a module:", "pulleynavy list a.wasm"),),
+    },
+    "dump": {
+        "summary": "show every item of binaries",
+        "call": "[--names] [--bytes] [--hex] [--color[=WHEN]] [--json] [--section ID|NAME]... [FILE...]",
+        "about": (
+            "Shows what each FILE contains: a line for each section and function body, and below it a line for each item, which begins with the offset of the item in the file. With several files, each dump follows the name of its file.",
+            "A malformed item is a line that begins with fault, and the next section follows. A fault of the file itself is the last line. Function bodies are ranges of bytes.",
+        ),
+        "options": (
+            ("--names", None, "show the names of items", "Each file is read twice, and items are shown with their names from the custom sections called 'name', or else from the symbol table of an object file. Standard input cannot be read twice."),
+            ("--bytes", None, "show the bytes of each line", "Each line follows the bytes that it was read from, in hexadecimal."),
+            ("--hex", None, "write offsets in hexadecimal", "Offsets are hexadecimal, as 0x1f. All other numbers stay decimal."),
+            ("--color", "[=WHEN]", "write colors for a terminal", "The text has colors for a terminal: 'always', which is also meant without WHEN, 'never', or 'auto' if the output is a terminal."),
+            ("--json", None, "write a JSON object per line", "Each line is a JSON object, for programs. Excludes --bytes, --hex and --color."),
+            ("--section", "ID|NAME", "show only this section", "Only sections with this id, with this name in the standard, or custom sections with this name are shown. The option may be repeated. If a file has none of them, a warning says so."),
+            *COMMON,
+        ),
+        "good": "All files were read to their ends, and each --section chose something of each. A malformed item does not change the status.",
+        "bad": "A file has a fault at which reading stops, or lacks a section that was asked for.",
+        "examples": (
+            ("Show everything:", "pulleynavy dump a.wasm"),
+            ("Show imports only, from standard input:", "pulleynavy dump --section import < a.wasm"),
+            ("Show functions with their names, in a pager:", "pulleynavy dump --names --color a.wasm | less -R"),
+            ("Print the names of all exports:", "pulleynavy dump --json --section export a.wasm | jq -r 'select(.level == 1).name'"),
+        ),
+    },
+    "check": {
+        "summary": "find malformed items in binaries",
+        "call": "[--quiet] [FILE...]",
+        "about": (
+            "Reads every item of every section that it knows, and writes a line for each malformed one: the file, the offset, what is wrong, and the section. It writes nothing of a well-formed file.",
+            "It knows the sections of the core standard, and of the custom sections name, producers, target_features, linking, reloc.*, dylink.0, branch hints and core dumps. It does not look at the instructions of function bodies, and it does not validate.",
+        ),
+        "options": (("-q, --quiet", None, "write nothing", "Writes nothing. The exit status alone says whether there is a fault."), *COMMON),
+        "good": "No file has a fault.",
+        "bad": "A file has a fault.",
+        "examples": (("Check all modules of a folder:", "pulleynavy check *.wasm"),),
+    },
+    "strip": {
+        "summary": "remove custom sections",
+        "call": "[--keep-names] [--keep NAME]... [--only NAME]... [-o OUT] [FILE]",
+        "about": (
+            "Writes FILE without its custom sections, such as names and debugging information. All other bytes stay as they are. If FILE is malformed, nothing is written.",
+            "A regular file is read twice instead of being kept in memory: first to check it, then to write it. Standard input is read into memory.",
+        ),
+        "options": (
+            ("--keep-names", None, "keep the sections called name", "Keeps the custom sections called 'name'."),
+            ("--keep", "NAME", "keep the custom sections with a name", "Keeps the custom sections with this name. The option may be repeated."),
+            ("--only", "NAME", "remove only the custom sections with a name", "Removes only the custom sections with this name, and those that other such options name. A section that another option keeps is not removed."),
+            ("-o, --output", "OUT", "write to this file", "Writes to OUT instead of standard output. OUT is replaced once all of it is written, and may be FILE itself. It keeps its permissions, or gets those of FILE if it is new."),
+            *COMMON,
+        ),
+        "good": "The file was stripped.",
+        "bad": "The file has a fault, which is printed to standard error.",
+        "examples": (
+            ("Strip a module:", "pulleynavy strip a.wasm -o small.wasm"),
+            ("Remove one custom section:", "pulleynavy strip --only .debug_info a.wasm > small.wasm"),
+        ),
+    },
+}
+
+WRONG = "The arguments are wrong."
+FAILED = "A file or device failed, or memory ran out. The reason is printed to standard error, unless the output is a pipe that its reader has closed."
+GREATEST = "With several files the exit status is the greatest of theirs."
+
+NOTES = (
+    "The offset of a fault is that of the byte that is wrong, or of the first one that is missing. A name that is not UTF-8 is the exception: its fault is at its last byte, as in the wasmparser crate.",
+)
