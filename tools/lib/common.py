@@ -173,12 +173,12 @@ def arguments(doc, numbers=(), files=False, show=None, more=()):
     return given
 
 
-def generate(doc, files):
-    """The main part of a tool that writes files, which are texts by their paths: with --check it says which differ. Returns its status."""
+def generate(doc, make):
+    """The main part of a tool that writes files. `make` returns their texts by their paths. With --check it says which differ. Returns its status."""
     line = parser(doc, usage="%(prog)s [--check]")
     line.add_argument("--check", action="store_true", help="write nothing; the status is 1 if a file differs")
     given, status = line.parse_args(), 0
-    for path, text in files.items():
+    for path, text in make().items():
         is_current = os.path.exists(path) and read(path) == text
         if given.check and not is_current:
             print("%s is not what %s writes" % (os.path.relpath(path, TOP), sys.argv[0]))

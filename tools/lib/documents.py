@@ -134,9 +134,14 @@ def written(name):
     return "\n".join(made), left
 
 
-def main():
+def made():
+    """Both documents as they are generated."""
     texts = {name: written(name) for name in DOCUMENTS}
     for name, (_, left) in texts.items():
         if left:
             common.stop(common.DIFFERS, "docs/%s: no table has the rows of %s" % (name, ", ".join(left)))
-    return common.generate(__doc__, {os.path.join(common.TOP, "docs", name): text for name, (text, _) in texts.items()})
+    return {os.path.join(common.TOP, "docs", name): text for name, (text, _) in texts.items()}
+
+
+def main():
+    return common.generate(__doc__, made)

@@ -35,4 +35,4 @@ def file_of(header):
 
 
 def main():
-    return common.generate(__doc__, {TARGET: file_of(common.read(HEADER))})
+    return common.generate(__doc__, lambda: {TARGET: file_of(common.read(HEADER))})

@@ -500,9 +500,14 @@ TARGETS = {TARGET: header, os.path.join(BINDINGS, "rust", "src", "ffi.rs"): rust
 TARGETS.update({os.path.join(BINDINGS, "js", "declared.js"): javascript, os.path.join(BINDINGS, "js", "declared.d.ts"): typescript})
 
 
-def main():
+def made():
+    """The files that are written."""
     for name in forgotten():
         common.stop(common.DIFFERS, "crates/wasm_c/src/%s is not in SOURCES" % name)
     for call in undocumented():
         common.stop(common.DIFFERS, "docs/C.md does not name %s" % call)
-    return common.generate(__doc__, {path: write() for path, write in TARGETS.items()})
+    return {path: write() for path, write in TARGETS.items()}
+
+
+def main():
+    return common.generate(__doc__, made)
