@@ -33,6 +33,7 @@ COMMANDS = {
         "documents": ("documents", "the tables of docs/PROVED.md and docs/DEFINITIONS.md, from comments over clauses and definitions"),
         "header": ("generate_header", "the header of the C library, and the declarations of the bindings"),
         "codes": ("generate_codes", "the numbers of enumerations for the crate for Rust, from the header"),
+        "program": ("generate_program", "the help texts, the manual page and the completions of pulleynavy"),
         "manuals": ("generate_manuals", "manual pages of ten calls of the C library, from the header"),
     },
     "bench": {
