@@ -116,7 +116,7 @@ def has_library(name, package):
     debian = "/usr/bin/python3"
     has = os.path.realpath(sys.executable) != os.path.realpath(debian) and os.path.exists(debian)
     if has and not subprocess.run([debian, "-c", "import " + name], stderr=subprocess.DEVNULL).returncode:
-        os.execv(debian, [debian, *sys.orig_argv[1:]])
+        os.execv(debian, [debian, *sys.argv])
     skip("missing: %s" % package)
     return False
 
@@ -134,13 +134,6 @@ def whole(word):
     if not word.isdecimal():
         raise argparse.ArgumentTypeError("%r is no number" % word)
     return int(word)
-
-
-def existing(path):
-    """The whole path of a file or folder that is there."""
-    if not os.path.exists(path):
-        raise argparse.ArgumentTypeError("there is no %s" % path)
-    return os.path.abspath(path)
 
 
 def existing(path):

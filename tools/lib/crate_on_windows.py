@@ -11,21 +11,9 @@ import wine
 
 TARGET = "x86_64-pc-windows-gnu"
 # Rust takes random numbers from a DLL that wine 8 lacks.
-RANDOM = """#include <windows.h>
-BOOLEAN NTAPI SystemFunction036(PVOID, ULONG);
-__declspec(dllexport) BOOL WINAPI ProcessPrng(PBYTE bytes, SIZE_T size) { return SystemFunction036(bytes, (ULONG)size); }
-"""
+RANDOM = common.read("tools", "lib", "templates", "random.c")
 # Runs the tests of a file, which begin with a line that says how many there are. A run without it is one that wine lost.
-RUNNER = """#!/bin/sh
-for turn in 1 2 3; do
-    WINEPATH='%(dlls)s' %(wine)s "$@" > "$0.$$" 2>&1
-    status=$?
-    grep -q '^running [0-9]' "$0.$$" && break
-    echo "status $status, did not begin: $*" >> '%(folder)s/repeated'
-done
-cat "$0.$$"
-exit $status
-"""
+RUNNER = common.read("tools", "lib", "templates", "runner.sh")
 
 
 def compiler():

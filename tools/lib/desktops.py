@@ -32,15 +32,7 @@ LINES = re.compile(r'^target (datalayout|triple) = ".*"$', re.M)
 # The two functions that the library calls, which all systems have. On riscv64 it calls memset too, which LLVM writes as stores elsewhere.
 CALLED = ("memcpy", "memmove")
 # The system library of macOS, as a linker wants to know it.
-STUB = """--- !tapi-tbd
-tbd-version: 4
-targets: [ x86_64-macos, arm64-macos ]
-install-name: '/usr/lib/libSystem.B.dylib'
-exports:
-  - targets: [ x86_64-macos, arm64-macos ]
-    symbols: [ _memcpy, _memmove, dyld_stub_binder ]
-...
-"""
+STUB = common.read("tools", "lib", "templates", "libSystem.tbd")
 
 
 def run(*words, folder=None):

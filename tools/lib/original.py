@@ -9,21 +9,7 @@ import common
 
 SOURCE = os.path.join(common.TOP, "bindings", "rust", "examples", "programs", "src", "bin", "bench.rs")
 # The manifest: the crate's folder, name and features.
-MANIFEST = """[package]
-name = "original"
-version = "0.0.0"
-edition = "2024"
-
-[dependencies]
-wasmparser = { path = %s, package = %s, default-features = false, features = %s }
-
-[profile.release]
-lto = "fat"
-codegen-units = 1
-debug = "line-tables-only"
-
-[workspace]
-"""
+MANIFEST = common.read("tools", "lib", "templates", "original.toml")
 
 
 def built(source, folder):

@@ -12,15 +12,8 @@ READS = ["const uint8_t *bytes", "size_t bytes_size", "uint64_t offset", "uint32
 WALKS = ["const uint8_t *bytes", "size_t bytes_size"]
 # The calls of both kinds with an argument more, and what is passed for it.
 MORE = {"pulleynavy_read_core_module": ("", ", offset / 2"), "pulleynavy_read_bundled_import": ("&bundle, ", "")}
-READER = """static void %(name)s(const uint8_t *bytes, size_t size, uint64_t offset, uint32_t features, void *out) {
-    %(type)s item = pulleynavy_%(name)s(%(before)sbytes, size, offset, features%(after)s);
-    *(%(type)s *)out = item;
-}
-"""
-WALKER = """static size_t %(name)s(void *cursor, const uint8_t *bytes, size_t size, void *out, size_t count) {
-    return pulleynavy_%(name)s(cursor, bytes, size, out, count);
-}
-"""
+READER = common.read("tools", "lib", "templates", "reader.c")
+WALKER = common.read("tools", "lib", "templates", "walker.c")
 
 
 def calls(text):

@@ -37,12 +37,7 @@ EXPORTS = common.read("tools", "lib", "templates", "exports.js")
 # Loads the library under a C library that is not glibc.
 LOADER = common.read("tools", "lib", "templates", "loader.c")
 C = common.read("tools", "lib", "templates", "package.c")
-CMAKE = """cmake_minimum_required(VERSION 3.13)
-project(t C)
-find_package(pulleynavy %s REQUIRED)
-add_executable(t t.c)
-target_link_libraries(t pulleynavy::%s)
-"""
+CMAKE = common.read("tools", "lib", "templates", "package.cmake")
 MANIFEST = '[package]\nname = "t"\nversion = "0.0.0"\nedition = "2021"\n\n[dependencies]\npulleynavy = "%s"\n' % common.version()
 # What stands in for pandas: a Parquet file that is a CSV file.
 PANDAS = """import csv
