@@ -337,9 +337,9 @@ def faults(page, path):
     page.load(path)
     with open(path, "rb") as file:
         lines = common.load(common.MODEL_OF_ITEMS).listing(file.read())
-    for _, offset, text in [row for row in expected_rows(lines) if row[2]]:
+    for _, offset, said in [row for row in expected_rows(lines) if row[2]]:
         chosen = lambda: [page.chosen()[name] for name in ("offset", "isBad")] + page.chosen()["texts"][:1]
-        becomes(chosen, [offset, True, "fault: " + text], "the fault that is chosen")
+        becomes(chosen, [offset, True, "fault: " + said], "the fault that is chosen")
         becomes(lambda: page.run("return isFaultInSight(arguments[0])", offset), True, "the byte of the fault at %d" % offset)
         page.run("$('next').click()")
 
