@@ -1,9 +1,11 @@
 -- Two texts that are written one after the other.
-use Rattle.std.proofs.Common.{◌≡◌, ◌∙◌, ◌++◌, ◌+◌, ℕ, List, Option, length, take, drop, Result, Ok, Err, OnErr, ap, subst, sym}
+use Rattle.std.proofs.Common.{◌≡◌, ◌∙◌, ◌++◌, ◌+◌, ◌-◌, ◌≤◌, ◌∷◌, [], ℕ, List, Option, length, take, take_all, drop, get_or, Result, Ok, Err}
+use Rattle.std.proofs.Common.{Bor, OnErr, ap, arith, le_refl, refl, subst, sym}
 use Rattle.std.proofs.lemmas.List.{append_assoc, take-append-drop}
 use Rattle.std.proofs.Math.Seq.{take-append_seam, take-append-add}
 use Rattle.std.proofs.KnownBytes.{Appends-trans}
 use Rattle.std.specs.Io.KnownBytes.{Appends}
+use Rattle.wasm_console.specs.Messages.{joined}
 use Rattle.wasm_text.specs.declared.devices.Failed.{Failed}
 
 -- the start of a text is the start of it and another
@@ -24,3 +26,33 @@ second_cut (Err e) a b c first second w (n, p) = (
   length first + n,
   subst (Appends a c) (sym (take-append-add first second n)) (Appends-trans a b c first (take n second) w p),
 )
+
+-- texts are the first one and the later ones
+joined_front : (rest : List (Bor (List ℕ))) (d : Bor (List ℕ)) → 1 ≤ length rest
+    → joined rest ≡ (get_or rest 0 d).now ++ joined (take (length rest - 1) (drop 1 rest))
+joined_front [] d some = absurd (omega (arith, some))
+joined_front (part ∷ later) d some =
+    let one : length (part ∷ later) - 1 ≡ length later = omega arith in
+    rw (one, take_all (length later) later (le_refl (length later))) refl
+
+-- Some of the texts were written, and these are left.
+module _ (a b c : Option (List ℕ)) (all written : List ℕ) (rest : List (Bor (List ℕ))) (d : Bor (List ℕ)) (some : 1 ≤ length rest)
+    (parts : all ≡ written ++ joined rest) (wrote : Appends a b written) where
+  abbrev pub later : List (Bor (List ℕ))
+  later = take (length rest - 1) (drop 1 rest)
+
+  -- and the next one
+  pub one_more : all ≡ (written ++ (get_or rest 0 d).now) ++ joined later
+  one_more = parts ∙ (ap (λ (x : List ℕ). written ++ x) (joined_front rest d some)
+      ∙ sym (append_assoc written (get_or rest 0 d).now (joined later)))
+
+  pub wrote_more : Appends b c (get_or rest 0 d).now → Appends a c (written ++ (get_or rest 0 d).now)
+  wrote_more p = Appends-trans a b c written (get_or rest 0 d).now wrote p
+
+  -- but a prefix of the next one
+  pub cut_within : (r : Result (Unit {0}) Failed) → (n : ℕ) × Appends b c (take n (get_or rest 0 d).now)
+      → OnErr r ((n : ℕ) × Appends a c (take n all))
+  cut_within r cut = subst (λ (x : List ℕ). OnErr r ((n : ℕ) × Appends a c (take n x)))
+      (sym (parts ∙ ap (λ (x : List ℕ). written ++ x) (joined_front rest d some)))
+      (second_cut r a b c written ((get_or rest 0 d).now ++ joined later) wrote
+      (first_cut r b c (get_or rest 0 d).now (joined later) cut))

@@ -44,8 +44,10 @@ pub fn write_parts<E: Sink>(output: &mut E, parts: &[&[u8]]) -> Result<(), Faile
     ensures failed { E.has_failed output.new
         ≡ (if is_ok result then E.has_failed output.old else true) }
 {
-    for part in parts {
+    let mut rest = parts;
+    'parts: while let [part, later @ ..] = rest {
         write_all(output, part)?;
+        rest = later;
     }
     Ok(())
 }

@@ -1,6 +1,9 @@
 // The format of a dump.
-ghost use Rattle.std.specs.Prelude.{◌≡◌};
-ghost use Rattle.wasm_commands.specs.Formats.{has_colors, offset_base, plain_format};
+ghost use Rattle.std.specs.Prelude.{◌≡◌, None};
+ghost use Rattle.wasm_commands.specs.ArgumentLists.{last_value};
+ghost use Rattle.wasm_commands.specs.Formats.{colors_asked, colors_when, format_asked, has_colors, offset_base, or_text, plain_format, unless_excluded};
+ghost use Rattle.wasm_commands.specs.Parsing.{reads_of};
+ghost use Rattle.wasm_commands.specs.declared.options.Flag.TheVariants as option;
 
 use crate::arguments::Arguments;
 use crate::messages::Complaint;
@@ -57,46 +60,72 @@ impl Format {
     }
 }
 
-// Returns whether there are colors: `--color` alone is `--color=always`.
+// Returns whether `--color` with a value asks for colors.
+fn colors_for<'a>(verb: Verb, when: &'a str, is_terminal: bool) -> Result<bool, Complaint<'a>>
+    ensures { or_text result ≡ colors_when verb when.now is_terminal }
+{
+    match when {
+        "always" => Ok(true),
+        "never" => Ok(false),
+        "auto" => Ok(is_terminal),
+        _ => Err(Complaint::WrongValue(verb, "--color", when)),
+    }
+}
+
+// Returns whether there are colors: `--color` alone asks for them.
 fn colors_of<'a>(
     verb: Verb,
     arguments: &Arguments<'a>,
     is_terminal: bool,
-) -> Result<bool, Complaint<'a>> {
+) -> Result<bool, Complaint<'a>>
+    ensures { or_text result
+        ≡ colors_asked verb (last_value option.Color None (reads_of arguments.now)) is_terminal }
+{
     match arguments.last(Flag::Color) {
         None => Ok(false),
         Some(None) => Ok(true),
-        Some(Some(when)) => match when {
-            "always" => Ok(true),
-            "never" => Ok(false),
-            "auto" => Ok(is_terminal),
-            _ => Err(Complaint::WrongValue(verb, "--color", when)),
-        },
+        Some(Some(when)) => colors_for(verb, when, is_terminal),
     }
 }
 
-/// Returns the format that options ask for, or what is wrong with them: JSON has no colors, no rows of bytes and no
-/// hexadecimal numbers.
-pub(crate) fn format_of<'a>(
+// Returns the format, unless JSON is asked for with what it has not: colors, rows of bytes, hexadecimal numbers.
+fn unless_contradictory(
     verb: Verb,
-    arguments: &Arguments<'a>,
-    is_terminal: bool,
-) -> Result<Format, Complaint<'a>> {
-    let format = Format {
-        is_colored: colors_of(verb, arguments, is_terminal)?,
-        is_named: arguments.has(Flag::Names),
-        is_json: arguments.has(Flag::Json),
-        is_hex: arguments.has(Flag::Hex),
-    };
+    format: Format,
+    has_bytes: bool,
+) -> Result<Format, Complaint<'static>>
+    ensures { or_text result ≡ unless_excluded verb format has_bytes }
+{
     if !format.is_json {
         Ok(format)
     } else if format.is_colored {
         Err(Complaint::Excluded(verb, "--json", "--color"))
-    } else if arguments.has(Flag::Bytes) {
+    } else if has_bytes {
         Err(Complaint::Excluded(verb, "--json", "--bytes"))
     } else if format.is_hex {
         Err(Complaint::Excluded(verb, "--json", "--hex"))
     } else {
         Ok(format)
     }
+}
+
+/// Returns the format that options ask for, or what is wrong with them.
+pub(crate) fn format_of<'a>(
+    verb: Verb,
+    arguments: &Arguments<'a>,
+    is_terminal: bool,
+) -> Result<Format, Complaint<'a>>
+    ensures { or_text result ≡ format_asked verb (reads_of arguments.now) is_terminal }
+{
+    let is_colored = match colors_of(verb, arguments, is_terminal) {
+        Ok(is_colored) => is_colored,
+        Err(complaint) => return Err(complaint),
+    };
+    let format = Format {
+        is_colored,
+        is_named: arguments.has(Flag::Names),
+        is_json: arguments.has(Flag::Json),
+        is_hex: arguments.has(Flag::Hex),
+    };
+    unless_contradictory(verb, format, arguments.has(Flag::Bytes))
 }
