@@ -3,7 +3,7 @@ use Rattle.wasm_dumper.proofs.Common.{◌≡◌, ℕ, ◌+◌, ◌^◌, ◌<◌,
 use Rattle.wasm_dumper.proofs.Common.{◌∙◌, append-nil, arith, nat_eq, length, Option, append_assoc, length-append, drop, Consumes-trans}
 use Rattle.wasm_dumper.proofs.Common.{list_any, if◌then◌else◌, fault_at, Error, seen, lending, Feed, pushed, weight, Steps, Cursor, Fault}
 use Rattle.wasm_dumper.proofs.Common.{fault, import_id, Report, counted, Event, last_event, input_failed, ListError, Input, Writing, Adds}
-use Rattle.wasm_dumper.proofs.Common.{IsOut, base_of, chosen_line, is_chosen, shown_line, after, after_all, no_counts, AreOfShown}
+use Rattle.wasm_dumper.proofs.Common.{IsOut, base_of, chosen_line, is_chosen, shown_line, after, after_all, no_counts, shows_items, AreOfShown}
 use Rattle.wasm_dumper.proofs.Common.{DumpsInto, ShowsAnswer, bytes_of_events, origin, shown_bytes, FailsWithin, Hides, Counts, Only}
 use Rattle.std.proofs.Common.{not, ◌&&◌, nat_lt}
 use Rattle.std.proofs.lemmas.Bool.Decides.{nat_tests}
@@ -43,7 +43,7 @@ hidden_by only s x e h = none_of (has_imports (skip_or s x).head)
     (list_any (λ choice. is_chosen_by choice (report_with (skip_or s x).head)) only)
     (subst (λ (y : Option Skip). is_hidden only (skip_or s y).head ≡ true) (sym e) h)
 
-not_chosen : (only : List Only) (r : Report) (s : Skip) → skip_in r ≡ Some s → is_hidden only s.head ≡ true → is_chosen only r ≡ false
+pub not_chosen : (only : List Only) (r : Report) (s : Skip) → skip_in r ≡ Some s → is_hidden only s.head ≡ true → is_chosen only r ≡ false
 not_chosen only (custom_section text at window) s e h = (hidden_by only s (skip_in (custom_section text at window)) e h).1
 not_chosen only (counted id count window) s e h = (hidden_by only s (skip_in (counted id count window)) e h).1
 not_chosen only (unknown_section id contents from to) s e h = (hidden_by only s (skip_in (unknown_section id contents from to)) e h).1
@@ -126,7 +126,7 @@ module _ (only : List Only) (has_bytes : Bool) (full rest : Option (List ℕ)) (
         ∙ (ap (λ (y : List ℕ). bytes ++ y) (no_bytes has_bytes only e.report e.consumed unshown) ∙ append-nil bytes) in (
           numbers ++ [],
           events_more None only no_counts d.events numbers e [] are
-              (subst (λ (b : Bool). AreOfShown None b (after_all no_counts d.events) e.report []) (sym unshown) refl),
+              (subst (λ (b : Bool). AreOfShown None b (shows_items only) (after_all no_counts d.events) e.report []) (sym unshown) refl),
           rw (same, none) (no_numbers (origin before.style taken failed was numbers bytes) last wrote),
         )
 
@@ -182,7 +182,7 @@ module _ (only : List Only) (has_bytes : Bool) (full rest : Option (List ℕ)) (
           let f = sk.skips.fits in
           grind (arith, nat_tests, l, f, within)
 
-      fault_step : Steps feed (Err error) feed
+      pub fault_step : Steps feed (Err error) feed
       fault_step = record {
         parses = record { answer = rw (below, refused) refl; items = tt; state = refl };
         shows = refl;

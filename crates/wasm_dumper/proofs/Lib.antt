@@ -1,10 +1,8 @@
-pub mod Coloring
+pub mod CheckedParts
+pub mod Checking
 pub mod Common
 pub mod Counted
 pub mod DroppedParts
 pub mod Dumping
 pub mod Lines
 pub mod Numbering
-pub mod Refusing
-pub mod Running
-pub mod Splitting

@@ -6,7 +6,7 @@ use Rattle.wasm_dumper.proofs.Common.{turn_after, Step, NeedMoreData, Parsed, En
 use Rattle.wasm_dumper.proofs.Common.{stream_end, line_in, report_of, ListError, Base, Number, more, numbers_from, numbers_read, Writing}
 use Rattle.wasm_dumper.proofs.Common.{IsWritten, with_numbers, AddsThese, AddsNumbers, Adds, base_of, Origin, AddsFirst, AddsUpTo, Space}
 use Rattle.wasm_dumper.proofs.Common.{Types, is_chosen, shown_line, numbered_line, one_number, after, after_all, numbers_in_line, Found}
-use Rattle.wasm_dumper.proofs.Common.{import_numbers, count_of, item_at, AreOfShown, ShowsAnswer, shown_bytes, AreOf, AreOfEvents, Counts}
+use Rattle.wasm_dumper.proofs.Common.{import_numbers, count_of, item_at, shows_items, AreOfItemsIf, ShowsItemsIf, AreOfShown, ShowsAnswer, shown_bytes, AreOf, AreOfEvents, Counts}
 use Rattle.wasm_dumper.proofs.Common.{Only}
 use Rattle.std.proofs.Common.{add-zero, add-suc}
 use Rattle.std.proofs.Math.Nat.{min-eq_left}
@@ -166,10 +166,15 @@ items_begin : (why : Option ListError) (stop : ListError) (c : Counts) (r : Repo
 items_begin why stop c (counted id count window) shown a = section_begins why stop (nat_eq id import_id) c id count window shown a
 items_begin why stop c other shown a = a
 
-shown_begin : (why : Option ListError) (stop : ListError) (chosen : Bool) (c : Counts) (r : Report) (shown : List Number)
-    → AreOfShown why chosen c r shown → AreOfShown (Some stop) chosen c r shown
-shown_begin why stop true c r shown (items, parts, a) = (items, parts, items_begin why stop c r items a)
-shown_begin why stop false c r shown a = a
+items_begin_if : (why : Option ListError) (stop : ListError) (has_items : Bool) (c : Counts) (r : Report) (shown : List Number)
+    → AreOfItemsIf why has_items c r shown → AreOfItemsIf (Some stop) has_items c r shown
+items_begin_if why stop true c r shown a = items_begin why stop c r shown a
+items_begin_if why stop false c r shown a = a
+
+shown_begin : (why : Option ListError) (stop : ListError) (chosen has_items : Bool) (c : Counts) (r : Report) (shown : List Number)
+    → AreOfShown why chosen has_items c r shown → AreOfShown (Some stop) chosen has_items c r shown
+shown_begin why stop true has_items c r shown (items, parts, a) = (items, parts, items_begin_if why stop has_items c r items a)
+shown_begin why stop false has_items c r shown a = a
 
 pub events_begin : (why : Option ListError) (stop : ListError) (only : List Only) (c : Counts) (events : List Event)
     (numbers : List Number)
@@ -178,7 +183,7 @@ events_begin why stop only c [] numbers a = a
 events_begin why stop only c (x ∷ events) numbers (one, later, of, parts, rest) = (
   one,
   later,
-  shown_begin why stop (is_chosen only x.report) c x.report one of,
+  shown_begin why stop (is_chosen only x.report) (shows_items only) c x.report one of,
   parts,
   events_begin why stop only (after c x.report) events later rest,
 )
@@ -270,7 +275,7 @@ bytes_unchosen false only r bytes chosen = refl
 -- a line of the first level, if it is shown, and its items
 module _ (only : List Only) (has_bytes : Bool) (c : Counts) (r : Report) (bytes : List ℕ) where
   pub shows_chosen : (old begun mid new : Writing) → is_chosen only r ≡ true → AddsBytes (if has_bytes then bytes else []) old begun
-      → AddsFirst (numbered_line (base_of begun.style) c r) begun mid → ShowsItems c r mid new
+      → AddsFirst (numbered_line (base_of begun.style) c r) begun mid → ShowsItemsIf (shows_items only) c r mid new
       → ShowsReport only has_bytes c r bytes old new
   shows_chosen old begun mid new chosen p a b o i =
       let shown = if has_bytes then bytes else [] in
@@ -281,7 +286,8 @@ module _ (only : List Only) (has_bytes : Bool) (c : Counts) (r : Report) (bytes 
       let first = added line (numbers_in_line c r) (line_is_first base c r) before (p o i) in
       let (items, held, going) = b (with_numbers (with_line before line) (numbers_in_line c r)) first in (
         numbers_in_line c r ++ items,
-        subst (λ (x : Bool). AreOfShown new.why x c r (numbers_in_line c r ++ items)) (sym chosen) (items, refl, held),
+        subst (λ (x : Bool). AreOfShown new.why x (shows_items only) c r (numbers_in_line c r ++ items)) (sym chosen)
+            (items, refl, held),
         subst₂ (λ (x y : List ℕ). IsWritten (with_bytes (with_numbers (with_line o x) (numbers_in_line c r ++ items)) y) new)
             (sym (ap (λ (x : Bool). if x then line else []) chosen)) (sym (bytes_chosen has_bytes only r bytes chosen))
             (joined (with_line before line) (numbers_in_line c r) items new going),
@@ -290,7 +296,7 @@ module _ (only : List Only) (has_bytes : Bool) (c : Counts) (r : Report) (bytes 
   pub shows_unchosen : (w : Writing) → is_chosen only r ≡ false → ShowsReport only has_bytes c r bytes w w
   shows_unchosen w chosen o i = (
     [],
-    subst (λ (x : Bool). AreOfShown w.why x c r []) (sym chosen) refl,
+    subst (λ (x : Bool). AreOfShown w.why x (shows_items only) c r []) (sym chosen) refl,
     subst₂ (λ (x y : List ℕ). IsWritten (with_bytes (with_numbers (with_line o x) []) y) w)
         (sym (ap (λ (x : Bool). if x then shown_line (base_of o.style) r else []) chosen))
         (sym (bytes_unchosen has_bytes only r bytes chosen)) (nothing_more o w i),
@@ -351,8 +357,18 @@ events_more why only c (x ∷ events) numbers e shown (one, later, of, parts, re
   events_more why only (after c x.report) events later e shown rest b,
 )
 
+ended_none : (why : Option ListError) (has_items : Bool) (c : Counts) (offset : ℕ) (shown : List Number)
+    → AreOfItemsIf why has_items c (stream_end (ended offset)) shown → shown ≡ []
+ended_none why true c offset shown none = none
+ended_none why false c offset shown none = none
+
+-- no items of what is reported, of which there may be some
+pub shows_items_none : (c : Counts) (r : Report) (old new : Writing) → Adds old new → ShowsItemsIf false c r old new
+shows_items_none c r old new a = shows_none (AreOfItemsIf new.why false c r) old new refl a
+
 -- the end has none
 pub end_none : (why : Option ListError) (only : List Only) (c : Counts) (r : Report) (shown : List Number) → is_end r ≡ true
     → AreOf why only c r shown → shown ≡ []
-end_none why only c (stream_end (ended offset)) shown e (items, parts, none) = parts ∙ none
+end_none why only c (stream_end (ended offset)) shown e (items, parts, none) =
+    parts ∙ ended_none why (shows_items only) c offset items none
 end_none why only c other shown e a = cc

@@ -1,5 +1,5 @@
 -- Which events a dump shows, and the line of each.
-use Rattle.std.specs.Prelude.{◌≡◌, option_map, ℕ, Bool, true, false, List, [], ◌++◌, Option, Some, None, nat_eq}
+use Rattle.std.specs.Prelude.{◌≡◌, option_map, ℕ, Bool, true, false, List, [], ◌++◌, Option, Some, None, nat_eq, not}
 use Rattle.std.specs.Prelude.{bytes_eq, codes, if◌then◌else◌}
 use Rattle.std.specs.List.{list_any}
 use Rattle.wasm_grammar.specs.Reading.{Report, counted, code_entry, custom_section, stream_end}
@@ -15,7 +15,7 @@ use Rattle.wasm_tree.specs.Tree.{base_of}
 use Rattle.wasm_dumper.specs.declared.counts.Counts.{Counts}
 use Rattle.wasm_tree.specs.declared.tree.Style.{Style}
 use Rattle.wasm_dumper.specs.declared.events.Only.{Only}
-use Rattle.wasm_dumper.specs.declared.events.Only.TheVariants.{All, Id, Name}
+use Rattle.wasm_dumper.specs.declared.events.Only.TheVariants.{All, Parts, Id, Name}
 
 -- the id of the section that is reported, or that a part of one is of. Core specification, Binary format, Modules,
 -- Sections.
@@ -43,6 +43,7 @@ is_name name None = false
 -- whether this choice alone chooses a part of the section with this id, or the custom section with this name
 abbrev pub is_chosen_with : Only → Option ℕ → Option (List ℕ) → Bool
 is_chosen_with All section name = true
+is_chosen_with Parts section name = true
 is_chosen_with (Id id) section name = is_id id section
 is_chosen_with (Name text) section name = is_name text.now name
 
@@ -53,6 +54,14 @@ is_chosen_by choice report = is_chosen_with choice (id_of report) (name_of repor
 -- whether what is reported is shown: the sections that any of these choices chooses, and the last event
 abbrev pub is_chosen : List Only → Report → Bool
 is_chosen only report = if is_last report then true else list_any (λ choice. is_chosen_by choice report) only
+
+abbrev pub is_parts : Only → Bool
+is_parts Parts = true
+is_parts other = false
+
+-- whether items are shown: no choice is of the parts alone
+abbrev pub shows_items : List Only → Bool
+shows_items only = not (list_any is_parts only)
 
 -- the name of the section that is reported with its id; the text of any other report begins with its name
 abbrev pub counted_name : Report → Option (List ℕ)

@@ -17,7 +17,7 @@ use Rattle.wasm_feeder.specs.declared.turns.Ended.{Ended}
 use Rattle.wasm_feeder.specs.declared.turns.Ended.TheVariants.{End}
 use Rattle.wasm_text.specs.declared.devices.ListError.{ListError}
 use Rattle.wasm_text.specs.declared.devices.ListError.TheVariants.{Input, Output, Memory}
-use Rattle.wasm_dumper.specs.Chosen.{is_chosen, chosen_line}
+use Rattle.wasm_dumper.specs.Chosen.{is_chosen, chosen_line, shows_items}
 use Rattle.wasm_tree.specs.Numbers.{Number}
 use Rattle.wasm_dumper.specs.Counting.{after, no_counts, numbers_in_line, AreOfItems}
 use Rattle.wasm_tree.specs.Tree.{IsShaped, Writing, Origin, IsWritten, AddsNumbers, with_bytes, with_line, with_numbers}
@@ -26,14 +26,20 @@ use Rattle.wasm_tree.specs.declared.tree.Style.{Style}
 use Rattle.wasm_dumper.specs.declared.counts.Counts.{Counts}
 use Rattle.wasm_dumper.specs.declared.events.Only.{Only}
 
+-- The numbers are those of the items of what is reported, if items are shown.
+abbrev pub AreOfItemsIf : (why : Option ListError) (has_items : Bool) → Counts → Report → List Number → Type 0
+AreOfItemsIf why true counts report numbers = AreOfItems why counts report numbers
+AreOfItemsIf why false counts report numbers = numbers ≡ []
+
 -- The numbers are those of what is reported, of its line and its items, if it is shown; otherwise there are none.
-abbrev pub AreOfShown : (why : Option ListError) (shown : Bool) → Counts → Report → List Number → Type 0
-AreOfShown why true counts report numbers =
-    (items : List Number) × (numbers ≡ numbers_in_line counts report ++ items) × AreOfItems why counts report items
-AreOfShown why false counts report numbers = numbers ≡ []
+abbrev pub AreOfShown : (why : Option ListError) (shown has_items : Bool) → Counts → Report → List Number → Type 0
+AreOfShown why true has_items counts report numbers = (items : List Number)
+    × (numbers ≡ numbers_in_line counts report ++ items) × AreOfItemsIf why has_items counts report items
+AreOfShown why false has_items counts report numbers = numbers ≡ []
 
 abbrev pub AreOf : (why : Option ListError) → List Only → Counts → Report → List Number → Type 0
-AreOf why only counts report numbers = AreOfShown why (is_chosen only report) counts report numbers
+AreOf why only counts report numbers =
+    AreOfShown why (is_chosen only report) (shows_items only) counts report numbers
 
 -- The numbers are those of these events, in order, after earlier ones.
 abbrev pub AreOfEvents : (why : Option ListError) → List Only → Counts → List Event → List Number → Type 0
@@ -120,6 +126,10 @@ pub record Dumps (style : Style) (only : List Only) (has_bytes : Bool) (input ou
 -- The items of what is reported were shown, with their numbers after earlier ones.
 abbrev pub ShowsItems : Counts → Report → (old new : Writing) → Type 0
 ShowsItems counts report old new = AddsNumbers (AreOfItems new.why counts report) old new
+
+-- The same, if items are shown.
+abbrev pub ShowsItemsIf : (has_items : Bool) → Counts → Report → (old new : Writing) → Type 0
+ShowsItemsIf has_items counts report old new = AddsNumbers (AreOfItemsIf new.why has_items counts report) old new
 
 -- These lines of the first level were written, if any, with offsets in the base of the style, and what is under them,
 -- with numbers of which this holds, and these bytes are shown with them.

@@ -1,10 +1,5 @@
+pub mod Checks
 pub mod Chosen
-pub mod Colors
 pub mod Counting
 pub mod Dump
-pub mod DumpCommands
-pub mod DumpFiles
-pub mod DumpRuns
 pub mod Hiding
-pub mod Options
-pub mod Words

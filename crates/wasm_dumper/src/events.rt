@@ -1,13 +1,14 @@
 // Which events a dump shows, and the line or JSON object of each.
 ghost use Rattle.std.specs.List.{list_any};
-ghost use Rattle.std.specs.Prelude.{◌≡◌, ◌≤◌, ◌+◌, ◌++◌, false, IfSome, length, option_map, take};
+ghost use Rattle.std.specs.Prelude.{◌≡◌, ◌≤◌, ◌+◌, ◌++◌, codes, false, IfSome, length, option_map, take, true};
 ghost use Rattle.wasm_base.specs.FaultAt.{fault_at};
-ghost use Rattle.wasm_dumper.specs.Chosen.{after_blank, counted_name as name_counted, end_text, id_of as id_reported, is_chosen, is_chosen_by, is_chosen_with, name_of as name_reported, numbered_line};
+ghost use Rattle.wasm_dumper.specs.Chosen.{after_blank, counted_name as name_counted, end_text, id_of as id_reported, is_chosen, is_chosen_by, is_chosen_with, is_parts, name_of as name_reported, numbered_line, shows_items as items_are_shown};
 ghost use Rattle.wasm_grammar.specs.Content.{fault};
 ghost use Rattle.wasm_grammar.specs.Ids.{name_of};
 ghost use Rattle.wasm_grammar.specs.Reading.{stream_end};
 ghost use Rattle.wasm_lines.specs.Listing.{line_in};
 ghost use Rattle.wasm_parser.specs.ParseAnswer.{report_of};
+ghost use Rattle.wasm_tree.specs.Found.{Finds, FindsNone};
 ghost use Rattle.wasm_tree.specs.Tree.{Adds, AddsFirst, base_of, has_line_feed};
 
 use crate::counts::Counts;
@@ -19,7 +20,7 @@ use wasm_items::FunctionBody;
 use wasm_lines::{FaultLine, encoding_name, write_payload};
 use wasm_parser::{Encoding, Payload};
 use wasm_text::{Base, ShortText, write_word};
-use wasm_tree::{Space, Style, Tree, write_item};
+use wasm_tree::{Space, Style, Tree, Within, write_item};
 
 /// A choice of events for a dump.
 ///
@@ -38,6 +39,8 @@ use wasm_tree::{Space, Style, Tree, write_item};
 pub enum Only<'n> {
     /// All events.
     All,
+    /// All events, without their items. With other choices too, no items are shown.
+    Parts,
     /// The events of sections with this id (core specification, Binary format, Modules, Sections).
     Id(u8),
     /// The custom sections with this name.
@@ -51,7 +54,7 @@ pub struct Shown<'n> {
     pub only: &'n [Only<'n>],
     /// Whether the dump shows the bytes of these events.
     pub has_bytes: bool,
-    /// A flag for each choice: the dump sets it where the choice chooses an event. It may be shorter than `only`.
+    /// A flag for each choice: the dump sets it where the choice chooses an event. There may be fewer flags.
     pub found: &'n [Cell<bool>],
 }
 
@@ -83,7 +86,7 @@ fn is_chosen_alone(choice: &Only<'_>, section: Option<u8>, name: Option<&str>) -
     ensures { result ≡ is_chosen_with choice.now section (option_map (λ text. text.now) name.entry) }
 {
     match choice {
-        Only::All => true,
+        Only::All | Only::Parts => true,
         Only::Id(id) => section == Some(*id),
         Only::Name(text) => match name {
             Some(name) => *text == name,
@@ -105,6 +108,29 @@ pub(crate) fn is_chosen_by_any(only: &[Only<'_>], section: Option<u8>, name: Opt
         }
     }
     false
+}
+
+// Returns whether a choice is of the parts alone.
+fn is_parts_choice(choice: &Only<'_>) -> bool
+    ensures { result ≡ is_parts choice.now }
+{
+    match choice {
+        Only::Parts => true,
+        _ => false,
+    }
+}
+
+/// Returns whether items are shown: no choice is of the parts alone.
+#[tactic(auto, using(std::proofs::lemmas::List::Folds::list_any_more, std::proofs::lemmas::List::Folds::list_any_at))]
+pub(crate) fn shows_items(only: &[Only<'_>]) -> bool
+    ensures { result ≡ items_are_shown only.now }
+{
+    for choice in only {
+        if is_parts_choice(choice) {
+            return false;
+        }
+    }
+    true
 }
 
 /// Sets the flags of the choices that choose a payload.
@@ -134,8 +160,8 @@ fn short_name(id: u8) -> Option<&'static str>
     section_name(id)
 }
 
-// Returns the standard's name of a section whose line has an id and a count.
-fn counted_name(payload: &Payload<'_>) -> Option<&'static str>
+/// Returns the standard's name of a section whose line has an id and a count.
+pub(crate) fn counted_name(payload: &Payload<'_>) -> Option<&'static str>
     ensures name { option_map (λ name. name.now) result ≡ name_counted (report_of payload.now) }
     ensures short { IfSome result (λ name. length name.now ≤ 9) }
 {
@@ -276,8 +302,12 @@ fn section_event<O: Tree>(payload: &Payload<'_>, out: &mut O)
 
 // Writes the object of an event.
 fn event_object<O: Tree>(counts: &Counts, payload: &Payload<'_>, out: &mut O)
-    ensures { Adds (O.writing out.old) (O.writing out.new) }
+    ensures adds { Adds (O.writing out.old) (O.writing out.new) }
+    ensures found { FindsNone (O.found out.old) (O.found out.new) }
 {
+    if O::ONLY_FAULTS {
+        return;
+    }
     match payload {
         Payload::Version {
             num,
@@ -293,12 +323,18 @@ fn event_object<O: Tree>(counts: &Counts, payload: &Payload<'_>, out: &mut O)
     }
 }
 
-// Writes the object of a fault.
+// Writes the object of a fault, or its line on a tree that keeps faults alone.
 fn fault_object<O: Tree>(error: &Error, out: &mut O)
-    ensures { Adds (O.writing out.old) (O.writing out.new) }
+    ensures adds { Adds (O.writing out.old) (O.writing out.new) }
+    ensures found { Finds true (O.found out.old) (O.found out.new) }
 {
-    begin_event("fault", out);
-    out.fault_fields(error);
+    if O::ONLY_FAULTS {
+        out.enter(Within::Stream);
+        out.fault(0, error);
+    } else {
+        begin_event("fault", out);
+        out.fault_fields(error);
+    }
 }
 
 // Returns the index of the function of a body.
@@ -309,10 +345,42 @@ fn function_of(counts: &Counts, payload: &Payload<'_>) -> Option<u64> {
     }
 }
 
-/// Writes the line of an event, or its object. That of a body has the number and the name of its function.
-pub(crate) fn show_event<O: Tree>(counts: &Counts, payload: &Payload<'_>, out: &mut O)
-    ensures { AddsFirst (numbered_line (base_of (O.writing out.old).style) counts.now (report_of payload.now))
+// Returns the name of a custom section, if no line below has it: items are not shown.
+fn name_in_line<'a>(only: &[Only<'_>], payload: &Payload<'a>) -> Option<&'a str> {
+    if shows_items(only) {
+        None
+    } else {
+        name_of_custom(payload)
+    }
+}
+
+// Writes a line of the first level, with a name in quotes if there is one, or the name of a function.
+fn write_first<T: ShortText, O: Tree>(
+    text: &T,
+    name: Option<&str>,
+    function: Option<u64>,
+    out: &mut O,
+)
+    ensures adds { AddsFirst (T.text text.now ++ codes "\n") (O.writing out.old) (O.writing out.new) }
+    ensures found { FindsNone (O.found out.old) (O.found out.new) }
+{
+    match name {
+        Some(name) => out.first_named(text, name),
+        None => out.first_of_function(text, function),
+    }
+}
+
+/// Writes the line of an event, or its object. That of a body has the number and the name of its function, and that of a
+/// custom section its name, if items are not shown.
+pub(crate) fn show_event<O: Tree>(
+    only: &[Only<'_>],
+    counts: &Counts,
+    payload: &Payload<'_>,
+    out: &mut O,
+)
+    ensures adds { AddsFirst (numbered_line (base_of (O.writing out.old).style) counts.now (report_of payload.now))
         (O.writing out.old) (O.writing out.new) }
+    ensures found { FindsNone (O.found out.old) (O.found out.new) }
 {
     match out.style() {
         Style::Lines(base) => {
@@ -321,7 +389,8 @@ pub(crate) fn show_event<O: Tree>(counts: &Counts, payload: &Payload<'_>, out: &
                 counts,
                 payload,
             };
-            out.first_of_function(&heading, function_of(counts, payload));
+            let name = name_in_line(only, payload);
+            write_first(&heading, name, function_of(counts, payload), out);
         }
         Style::Objects => event_object(counts, payload, out),
     }
@@ -329,8 +398,9 @@ pub(crate) fn show_event<O: Tree>(counts: &Counts, payload: &Payload<'_>, out: &
 
 /// Writes the line of the fault at which the stream ends, or its object.
 pub(crate) fn show_last_fault<O: Tree>(error: &Error, out: &mut O)
-    ensures { AddsFirst (line_in (base_of (O.writing out.old).style) (stream_end (fault (fault_at error.now))))
+    ensures adds { AddsFirst (line_in (base_of (O.writing out.old).style) (stream_end (fault (fault_at error.now))))
         (O.writing out.old) (O.writing out.new) }
+    ensures found { Finds true (O.found out.old) (O.found out.new) }
 {
     match out.style() {
         Style::Lines(base) => out.first_of_function(&FaultLine { base, error }, None),

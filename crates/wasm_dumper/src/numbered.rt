@@ -1,7 +1,11 @@
 // Writes items with their indices in their index spaces.
-ghost use Rattle.std.specs.Prelude.{◌≡◌, None, Some};
-ghost use Rattle.wasm_base.specs.Window.{place};
+ghost use Rattle.std.specs.Prelude.{◌≡◌, Bool, None, Some};
+ghost use Rattle.wasm_base.specs.Outcome.{Outcome};
+ghost use Rattle.wasm_base.specs.Window.{Place, place};
 ghost use Rattle.wasm_items.specs.Flattened.{flattened, found_at};
+ghost use Rattle.wasm_items.specs.RecGroups.{rec_group_at};
+ghost use Rattle.wasm_show.specs.Faults.{Agrees, FindsItem, any_fault, no_lists, plainly, section_faulty};
+ghost use Rattle.wasm_tree.specs.Found.{Finds, FindsNone};
 ghost use Rattle.wasm_dumper.specs.Counting.{after_found, count_of, number_found, import_number, import_numbers, with_import};
 ghost use Rattle.wasm_dumper.specs.Counting.{one_number};
 ghost use Rattle.wasm_tree.specs.declared.numbers.Space.TheVariants.{Types};
@@ -13,12 +17,13 @@ use wasm_base::{FromReader, Result, SectionLimited};
 use wasm_items::{
     Import, ImportSection, ImportSectionReader, RecGroup, SubType, TypeSectionReader,
 };
-use wasm_show::{Show, Text, show_fault};
+use wasm_show::{Items, Show, Text, show_fault, show_fields};
 use wasm_tree::{Space, Start, Tree};
 
 // Begins the line of an item that has this index.
 fn begin_item<O: Tree>(offset: u64, space: Space, index: u64, out: &mut O)
-    ensures { AddsNumber space index (O.writing out.old) (O.writing out.new) }
+    ensures adds { AddsNumber space index (O.writing out.old) (O.writing out.new) }
+    ensures found { FindsNone (O.found out.old) (O.found out.new) }
 {
     out.item(1, offset);
     out.text(" ");
@@ -30,11 +35,12 @@ fn show_one<T: Show, O: Tree>(space: Space, index: u64, item: &Result<(u64, T)>,
     ensures shows { AddsThese (number_found space index item.now)
         (O.writing out.old) (O.writing out.new) }
     ensures next { result ≡ after_found index item.now }
+    ensures found { FindsItem no_lists item.now (O.found out.old) (O.found out.new) }
 {
     match item {
         Ok((offset, item)) => {
             begin_item(*offset, space, index, out);
-            item.show(1, out);
+            show_fields(1, item, out);
             index.saturating_add(1)
         }
         Err(e) => {
@@ -55,6 +61,8 @@ pub(crate) fn show_numbered<'a, T: FromReader<'a> + Show, O: Tree>(
         (O.writing out.old) (O.writing out.new) }
     ensures all { AddsItems T.meaning one_number space (count_of counts.now space) section.now
         (O.writing out.old) (O.writing out.new) }
+    ensures found { (reading : Place → Outcome Bool) → Agrees T.meaning no_lists reading
+        → Finds (section_faulty reading section.now) (O.found out.old) (O.found out.new) }
 {
     let mut index = counts.of(space);
     for item in section.clone().unwrap().into_iter_with_offsets() {
@@ -70,12 +78,13 @@ fn show_import<O: Tree>(counts: &mut Counts, import: &Result<(u64, Import<'_>)>,
     ensures shows { AddsThese (import_number counts.old (found_at import.now))
         (O.writing out.old) (O.writing out.new) }
     ensures counted { counts.new ≡ with_import counts.old (found_at import.now) }
+    ensures found { FindsItem no_lists import.now (O.found out.old) (O.found out.new) }
 {
     match import {
         Ok((offset, import)) => {
             let space = import_space(&import.ty);
             begin_item(*offset, space, counts.of(space), out);
-            import.show(1, out);
+            show_fields(1, import, out);
             counts.add(space);
         }
         Err(e) => show_fault(1, e, out),
@@ -84,9 +93,11 @@ fn show_import<O: Tree>(counts: &mut Counts, import: &Result<(u64, Import<'_>)>,
 
 /// Writes the imports of a section, each with its index in its index space.
 pub(crate) fn show_imports<O: Tree>(counts: &Counts, section: &ImportSectionReader<'_>, out: &mut O)
-    ensures { AddsAll
+    ensures all { AddsAll
         (import_numbers counts.now (flattened section.now.count (place section.now.reader)))
         (O.writing out.old) (O.writing out.new) }
+    ensures found { Finds (any_fault (flattened section.now.count (place section.now.reader)))
+        (O.found out.old) (O.found out.new) }
 {
     let mut before = *counts;
     for import in section.clone().unwrap().into_imports_with_offsets() {
@@ -99,17 +110,21 @@ pub(crate) fn show_imports<O: Tree>(counts: &Counts, section: &ImportSectionRead
 
 // Writes a type of a group on its own line, with its index.
 fn show_type<O: Tree>(index: u64, ty: &SubType, out: &mut O)
-    ensures { AddsNumber Types index (O.writing out.old) (O.writing out.new) }
+    ensures adds { AddsNumber Types index (O.writing out.old) (O.writing out.new) }
+    ensures found { FindsNone (O.found out.old) (O.found out.new) }
 {
     out.begin_line(2, Start::Empty);
     out.item_number(Space::Types, index);
-    out.begin_field("type");
-    ty.text(out);
+    if !O::ONLY_FAULTS {
+        out.begin_field("type");
+        ty.text(out);
+    }
 }
 
 // Writes the types of a group, each with its index. Returns the index of the next type.
 fn show_types<O: Tree>(first: u64, types: &[SubType], out: &mut O) -> u64
-    ensures { AddsUpTo Types first result (O.writing out.old) (O.writing out.new) }
+    ensures adds { AddsUpTo Types first result (O.writing out.old) (O.writing out.new) }
+    ensures found { FindsNone (O.found out.old) (O.found out.new) }
 {
     let mut index = first;
     for ty in types {
@@ -122,11 +137,12 @@ fn show_types<O: Tree>(first: u64, types: &[SubType], out: &mut O) -> u64
 // Writes a group and returns the index of the next type. The types of an explicit group are on lines under the line of the
 // group. The one type of any other group is on the same line.
 fn show_group<O: Tree>(first: u64, offset: u64, group: &RecGroup, out: &mut O) -> u64
-    ensures { AddsUpTo Types first result (O.writing out.old) (O.writing out.new) }
+    ensures adds { AddsUpTo Types first result (O.writing out.old) (O.writing out.new) }
+    ensures found { FindsNone (O.found out.old) (O.found out.new) }
 {
     if !group.explicit {
         begin_item(offset, Space::Types, first, out);
-        group.show(1, out);
+        show_fields(1, group, out);
         return first.saturating_add(1);
     }
     out.item(1, offset);
@@ -135,11 +151,12 @@ fn show_group<O: Tree>(first: u64, offset: u64, group: &RecGroup, out: &mut O) -
 }
 
 // Writes a group, or the fault in its place. Returns the index of the next type.
-fn show_found<O: Tree>(index: u64, offset: u64, group: &Result<RecGroup>, out: &mut O) -> u64
-    ensures { AddsUpTo Types index result (O.writing out.old) (O.writing out.new) }
+fn show_found<O: Tree>(index: u64, group: &Result<(u64, RecGroup)>, out: &mut O) -> u64
+    ensures adds { AddsUpTo Types index result (O.writing out.old) (O.writing out.new) }
+    ensures found { FindsItem no_lists group.now (O.found out.old) (O.found out.new) }
 {
     match group {
-        Ok(group) => show_group(index, offset, group, out),
+        Ok((offset, group)) => show_group(index, *offset, group, out),
         Err(e) => {
             show_fault(1, e, out);
             index
@@ -149,17 +166,18 @@ fn show_found<O: Tree>(index: u64, offset: u64, group: &Result<RecGroup>, out: &
 
 /// Writes the groups of a type section, with the index of each type.
 pub(crate) fn show_groups<O: Tree>(alloc: Global, section: &TypeSectionReader<'_>, out: &mut O)
-    ensures { AddsNext Types 0 (O.writing out.old) (O.writing out.new) }
+    ensures next { AddsNext Types 0 (O.writing out.old) (O.writing out.new) }
+    ensures found { Finds (section_faulty (plainly rec_group_at) section.now)
+        (O.found out.old) (O.found out.new) }
 {
     let mut groups = section.clone().unwrap().into_iter_in(alloc);
     let mut index = 0;
-    'groups: for _ in 0..u64::MAX {
-        if out.has_stopped() {
-            break;
-        }
-        let offset = groups.original_position();
-        match groups.next() {
-            Some(group) => index = show_found(index, offset, &group, out),
+    'groups: while !out.has_stopped() {
+        match groups.next_item() {
+            Some(group) => {
+                index = show_found(index, &group, out);
+                drop(group);
+            }
             None => break,
         }
     }

@@ -1,13 +1,27 @@
 // Writes the items of payloads.
 ghost use Rattle.wasm_parser.specs.ParseAnswer.{ItemsBegin, report_of};
-ghost use Rattle.wasm_dumper.specs.Dump.{ShowsItems};
+ghost use Rattle.wasm_dumper.specs.Checks.{faulty_if, report_faulty};
+ghost use Rattle.wasm_dumper.specs.Dump.{ShowsItems, ShowsItemsIf};
+ghost use Rattle.wasm_tree.specs.Found.{Finds};
 
 use crate::counts::Counts;
+use crate::events::counted_name;
 use crate::numbered::{show_groups, show_imports, show_numbered};
 use std::alloc::Global;
 use wasm_parser::Payload;
 use wasm_show::{show_custom, show_section};
-use wasm_tree::{Offsets, Space, Tree};
+use wasm_tree::{Offsets, Space, Tree, Within};
+
+// The place of the items of a payload.
+fn within<'a>(payload: &Payload<'a>) -> Within<'a> {
+    match payload {
+        Payload::CustomSection(section) => Within::Custom(section.name()),
+        _ => match counted_name(payload) {
+            Some(name) => Within::Section(name),
+            None => Within::Stream,
+        },
+    }
+}
 
 /// Writes the items of a payload on lines of level 1, with their numbers in their index spaces.
 ///
@@ -27,8 +41,39 @@ use wasm_tree::{Offsets, Space, Tree};
 /// assert_eq!(rt; out.into_output().written(), wanted.as_slice());
 /// ```
 pub fn show_payload<O: Tree>(alloc: Global, counts: &Counts, payload: &Payload<'_>, out: &mut O)
-    ensures { ItemsBegin payload.now
+    ensures shows { ItemsBegin payload.now
         → ShowsItems counts.now (report_of payload.now) (O.writing out.old) (O.writing out.new) }
+    ensures found { ItemsBegin payload.now
+        → Finds (report_faulty (report_of payload.now)) (O.found out.old) (O.found out.new) }
+{
+    out.enter(within(payload));
+    show_items_of(alloc, counts, payload, out);
+}
+
+/// Writes the items of a payload, if items are shown.
+pub(crate) fn show_payload_if<O: Tree>(
+    has_items: bool,
+    alloc: Global,
+    counts: &Counts,
+    payload: &Payload<'_>,
+    out: &mut O,
+)
+    ensures shows { ItemsBegin payload.now → ShowsItemsIf has_items counts.now
+        (report_of payload.now) (O.writing out.old) (O.writing out.new) }
+    ensures found { ItemsBegin payload.now
+        → Finds (faulty_if has_items (report_of payload.now)) (O.found out.old) (O.found out.new) }
+{
+    if has_items {
+        show_payload(alloc, counts, payload, out);
+    }
+}
+
+// Does what `show_payload` says, where the tree knows in which section the items are.
+fn show_items_of<O: Tree>(alloc: Global, counts: &Counts, payload: &Payload<'_>, out: &mut O)
+    ensures shows { ItemsBegin payload.now
+        → ShowsItems counts.now (report_of payload.now) (O.writing out.old) (O.writing out.new) }
+    ensures found { ItemsBegin payload.now
+        → Finds (report_faulty (report_of payload.now)) (O.found out.old) (O.found out.new) }
 {
     match payload {
         Payload::TypeSection(section) => show_groups(alloc, section, out),

@@ -3,16 +3,18 @@ ghost use Rattle.std.specs.Prelude.{◌≡◌, ◌≤◌, ◌<◌, ◌+◌, [], 
 ghost use Rattle.wasm_feeder.specs.Beside.{beside, lending, ReadsEnough};
 ghost use Rattle.wasm_feeder.specs.Cursors.{feed_of};
 ghost use Rattle.wasm_parser.specs.ParseAnswer.{AnswerBegins, ItemsBegin, report_of};
-ghost use Rattle.wasm_text.specs.Calls.{device_of};
+ghost use Rattle.wasm_text.specs.Calls.{device_of, from_to};
 ghost use Rattle.wasm_feeder.specs.Step.{answer_of};
 ghost use Rattle.wasm_feeder.specs.Turns.{turn_after};
 ghost use Rattle.wasm_dumper.specs.Dump.{DumpsByTree, DumpsInto, ShowsAnswer, ShowsReport, after_answer};
+ghost use Rattle.wasm_dumper.specs.Checks.{FindsAt, answer_faulty, shown_faulty};
+ghost use Rattle.wasm_tree.specs.Found.{Finds, FindsNone};
 ghost use Rattle.wasm_tree.specs.Tree.{Adds, AddsBytes, IsOut};
 
 use crate::counts::Counts;
-use crate::events::{Shown, chooses, note_found, show_event, show_last_fault};
+use crate::events::{Shown, chooses, note_found, show_event, show_last_fault, shows_items};
 use crate::hidden::{drop_hidden, skip_hidden};
-use crate::payload::{offsets_of_items, show_payload};
+use crate::payload::{offsets_of_items, show_payload_if};
 use std::alloc::Global;
 use wasm_feeder::{Ahead, Cursor, Ended, Step, Turn, parse_next, seen};
 use wasm_parser::{Parser, Payload, Result as ParserResult};
@@ -37,8 +39,9 @@ fn show_bytes<O: Tree>(
     payload: &Payload<'_>,
     out: &mut O,
 )
-    ensures { AddsBytes (if has_bytes then part.entry.bytes.now else [])
+    ensures adds { AddsBytes (if has_bytes then part.entry.bytes.now else [])
         (O.writing out.old) (O.writing out.new) }
+    ensures found { FindsNone (O.found out.old) (O.found out.new) }
 {
     if has_bytes {
         match offsets_of_items(alloc, counts, payload) {
@@ -60,17 +63,18 @@ fn show_chosen<O: Tree>(
     payload: &Payload<'_>,
     out: &mut O,
 )
-    ensures { ItemsBegin payload.now → ShowsReport shown.entry.only.now shown.entry.has_bytes
+    ensures shows { ItemsBegin payload.now → ShowsReport shown.entry.only.now shown.entry.has_bytes
         counts.now (report_of payload.now) part.entry.bytes.now
         (O.writing out.old) (O.writing out.new) }
+    ensures found { ItemsBegin payload.now → Finds
+        (shown_faulty shown.entry.only.now (report_of payload.now))
+        (O.found out.old) (O.found out.new) }
 {
     if chooses(shown.only, payload) {
         show_bytes(alloc, shown.has_bytes, counts, part, payload, out);
         note_found(shown, payload);
-        show_event(counts, payload, out);
-        if shows_items(shown.only) {
-            show_payload(alloc, counts, payload, out);
-        }
+        show_event(shown.only, counts, payload, out);
+        show_payload_if(shows_items(shown.only), alloc, counts, payload, out);
     }
 }
 
@@ -88,6 +92,8 @@ fn show_answer<O: Tree>(
         shown.entry.has_bytes counts.old answer.now (O.writing out.old) (O.writing out.new) }
     ensures counts { AnswerBegins (answer_of answer.now)
         → counts.new ≡ after_answer counts.old answer.now }
+    ensures found { AnswerBegins (answer_of answer.now) → Finds
+        (answer_faulty shown.entry.only.now answer.now) (O.found out.old) (O.found out.new) }
 {
     match answer {
         Ok(Step::NeedMoreData(_)) => Turn::Read,
@@ -128,6 +134,7 @@ fn flush<O: Tree>(out: &mut O) -> Result<(), ListError>
     ensures out { IsOut (O.writing out.new) }
     ensures ok { OnOk result ((O.writing out.new).why ≡ None) }
     ensures err { IfErr result (λ why. (O.writing out.new).why ≡ Some why) }
+    ensures found { FindsNone (O.found out.old) (O.found out.new) }
 {
     out.write_out();
     go_on(out)
@@ -145,6 +152,7 @@ fn make_ready<O: Tree>(
     ensures enough { OnOk result (ReadsEnough stored.new.items ahead.new cursor.new) }
     ensures room { OnOk result (vec_len stored.new + length ahead.new ≤ vec_capacity stored.new) }
     ensures keeps { OnOk result (O.writing out.new ≡ O.writing out.old) }
+    ensures found { OnOk result (O.found out.new ≡ O.found out.old) }
     ensures adds { Adds (O.writing out.old) (O.writing out.new) }
     ensures stops { IfErr result (λ why. (O.writing out.new).why ≡ Some why) }
 {
@@ -167,9 +175,12 @@ fn dump_into<R: Source, O: Tree>(
     buffer: Vec<u8>,
 ) -> Result<Ended, ListError>
     requires { 0 < vec_len buffer }
-    ensures { DumpsInto shown.entry.only.now shown.entry.has_bytes
+    ensures dumps { DumpsInto shown.entry.only.now shown.entry.has_bytes
         (device_of R.remaining R.has_failed input.old input.new)
         (O.writing out.old) result (O.writing out.new) }
+    ensures found { FindsAt shown.entry.only.now
+        (from_to (R.remaining input.old) (R.remaining input.new)) result
+        (O.found out.old) (O.writing out.new) (O.found out.new) }
 {
     let mut counts = Counts::new();
     let mut offset = 0;
@@ -250,9 +261,12 @@ pub fn dump<R: Source, O: Tree>(
     piece: usize,
 ) -> Result<Ended, ListError>
     requires { 1 ≤ piece }
-    ensures { DumpsByTree shown.entry.only.now shown.entry.has_bytes
+    ensures dumps { DumpsByTree shown.entry.only.now shown.entry.has_bytes
         (device_of R.remaining R.has_failed input.old input.new)
         (O.writing out.old) result (O.writing out.new) }
+    ensures found { FindsAt shown.entry.only.now
+        (from_to (R.remaining input.old) (R.remaining input.new)) result
+        (O.found out.old) (O.writing out.new) (O.found out.new) }
 {
     let buffer = vec![in alloc; 0u8; piece]?;
     dump_into(alloc, shown, input, out, buffer)

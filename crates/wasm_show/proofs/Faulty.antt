@@ -9,7 +9,7 @@ use Rattle.wasm_base.specs.Hints.{is_out_of_memory}
 use Rattle.wasm_base.specs.Item.{ReadsAs, outcome_map}
 use Rattle.wasm_base.specs.Outcome.{Outcome}
 use Rattle.wasm_base.specs.Owned.{UnlessMemory}
-use Rattle.wasm_base.specs.Section.{Items, NextItem, NextItemIn}
+use Rattle.wasm_base.specs.Section.{AtItsOffset, Items, NextItem, NextItemIn}
 use Rattle.wasm_base.specs.Subsections.{NextSubsection, ReadsSubsection, ReadsWindowAs, result_map, subsection_at}
 use Rattle.wasm_base.specs.Window.{KeepsWindow, Place, Window, place}
 use Rattle.wasm_base.specs.declared.error.Error.{Error}
@@ -26,10 +26,14 @@ use Rattle.wasm_show.specs.Faults.{AgreesOnWindows, OwesLinking, OwesSubsections
 use Rattle.wasm_show.specs.Faults.{or_after, or_next, subsections_faulty, OwesNames, name_faulty, or_name, or_next_name}
 use Rattle.wasm_show.specs.Faults.{subsections_of_names_faulty}
 use Rattle.wasm_show.specs.Faults.{no_lists, naming_reading, indirect_reading, indirect_faulty, OwesNamings, OwesIndirect}
-use Rattle.wasm_show.specs.Faults.{AfterItem, Agrees, OwesItems, or_later, items_faulty, left_faulty, FindsFault, FindsItem, GivesOwed, entries_faulty, map_faulty, or_in_order, with_offset}
+use Rattle.wasm_items.specs.Flattened.{NextImport, found_at}
+use Rattle.wasm_items.specs.Imports.{ImportParts}
+use Rattle.wasm_items.specs.declared.imports.Import.{Import}
+use Rattle.wasm_show.specs.Faults.{AfterItem, Agrees, OwesItems, OwesList, any_fault, or_later, items_faulty, left_faulty, FindsFault}
+use Rattle.wasm_show.specs.Faults.{FindsItem, GivesOwed, entries_faulty, map_faulty, or_in_order, with_offset}
 use Rattle.wasm_tree.specs.Found.{either, Finds, HasFound, with_more}
 
--- ---- what is left to be found
+-- ---- the remaining items
 
 -- What was known to be found by the end is what was found so far, and what the remaining items have.
 abbrev pub Remains : {I : Type 0} → (owes : I → Bool → Type 0) → (is : Option Bool) → I → (found : Option Bool) → Type 0
@@ -223,8 +227,6 @@ agrees_indirect : (p : Place) (o : Outcome IndirectNaming) → ReadsAs (λ namin
 agrees_indirect p (Ok x) e = ap (outcome_map (λ naming. (naming.index, indirect_faulty naming))) e
 agrees_indirect p (Err f) e = ap (outcome_map (λ naming. (naming.index, indirect_faulty naming))) e
 
-
-
 -- what a wrapper passes on
 pub passes_on : {I T : Type 0} (owes : I → Bool → Type 0) (holds : T → Bool) (s t : I) (x y : Option (Result (ℕ × T) Error)) → x ≡ y
     → GivesOwed owes holds s y t → GivesOwed owes holds s x t
@@ -385,7 +387,8 @@ module _ (s t : Ascending Window) where
       else or_next_name s.last (λ last q. later_names most last q) (subsection_at here)) (is_zero _ e)
 
   -- a name that was read, in order or not
-  name_read : (most : ℕ) (head : Outcome (ℕ × Window)) (x : Name) (after : Place) → ReadsSubsection name_meaning false here head (Ok x) after
+  name_read : (most : ℕ) (head : Outcome (ℕ × Window)) (x : Name) (after : Place)
+      → ReadsSubsection name_meaning false here head (Ok x) after
       → or_next_name s.last (λ last q. later_names most last q) head
       ≡ (if is_above s.last (id_of x) then either (name_faulty x) (later_names most (Some (id_of x)) after) else true)
   name_read most (Ok head) x after (m, e) =
@@ -495,3 +498,74 @@ module _ {T : Type 0} (meaning : Place → Outcome T → Type 0) (holds : T → 
       → NextItemIn meaning s given t → GivesOwed (OwesItems meaning holds) holds s x t
   after_owned offset given x e h = passes_on (OwesItems meaning holds) holds s t x (with_offset offset given) e
       (after_owned_by offset given h)
+
+-- ---- iterators over items with their offsets
+
+module _ {T : Type 0} (meaning : Place → Outcome T → Type 0) (holds : T → Bool) (s t : Items) where
+  module _ (reading : Place → Outcome Bool) (agrees : Agrees meaning holds reading) where
+    placed_is : (b : Bool) (n : ℕ) (x : ℕ × T) → s.ended ≡ b → s.left ≡ n → NextItem (AtItsOffset meaning) s (Some (Ok x)) t
+        → left_faulty reading s ≡ either (holds x.1) (left_faulty reading t)
+    placed_is true n x e m h = absurd (let f = (h.over e).0 in cc)
+    placed_is false zero x e m h = absurd (h.last e m)
+    placed_is false (suc n) x e m h =
+        let item = h.item e (omega (arith, m)) in
+        let read = agrees (place s.reader) (Ok (x.1, place t.reader)) item.0.1 in
+        let left : n ≡ t.left = omega (arith, m, item.1) in
+        left_by reading s false (suc n) e m ∙ (ap (or_later (λ q. items_faulty reading n q)) read
+        ∙ ap (either (holds x.1)) (ap (λ (k : ℕ). items_faulty reading k (place t.reader)) left
+        ∙ sym (left_by reading t false t.left item.2 refl)))
+
+    none_placed : (b : Bool) (n : ℕ) → s.ended ≡ b → s.left ≡ n → NextItem {T = ℕ × T} (AtItsOffset meaning) s None t
+        → left_faulty reading s ≡ false
+    none_placed true n e m h = left_by reading s true n e m
+    none_placed false zero e m h = left_by reading s false zero e m ∙ ap (nat_lt 0) (h.last e m).0
+    none_placed false (suc n) e m h = absurd (h.item e (omega (arith, m)))
+
+    placed_fault : (b : Bool) (n : ℕ) (f : Error) → s.ended ≡ b → s.left ≡ n → NextItem {T = ℕ × T} (AtItsOffset meaning) s (Some (Err f)) t
+        → left_faulty reading s ≡ true
+    placed_fault true n f e m h = absurd (let x = (h.over e).0 in cc)
+    placed_fault false zero f e m h = left_by reading s false zero e m ∙ positive (h.last e m).0
+      where
+        positive : {a b : ℕ} → a < b → nat_lt a b ≡ true
+        positive {a} {b} l = grind (arith, nat_tests)
+    placed_fault false (suc n) f e m h =
+        let item = h.item e (omega (arith, m)) in
+        left_by reading s false (suc n) e m
+        ∙ ap (or_later (λ q. items_faulty reading n q)) (agrees (place s.reader) (Err (fault_at f)) item.0)
+
+  pub after_item : (given : Option (Result (ℕ × T) Error)) → NextItem (AtItsOffset meaning) s given t
+      → GivesOwed (OwesItems meaning holds) holds s given t
+  after_item None h = λ faulty o. o.2 ∙ none_placed o.0 o.1 _ _ refl refl h
+  after_item (Some (Ok x)) h = λ faulty o.
+      (left_faulty o.0 t, (o.0, o.1, refl), o.2 ∙ placed_is o.0 o.1 _ _ x refl refl h)
+  after_item (Some (Err f)) h = λ faulty o k.
+      (o.2 ∙ placed_fault o.0 o.1 _ _ f refl refl h, (left_faulty o.0 t, (o.0, o.1, refl)))
+
+-- an iterator over imports
+pub after_import : (s t : List (Result (ℕ × ImportParts) FaultAt)) (given : Option (Result (ℕ × Import) Error))
+    → NextImport {X = ℕ × Import} found_at s given t → GivesOwed OwesList no_lists s given t
+after_import s t None h = λ faulty o. o ∙ ap (λ l. any_fault l) h.0.0
+after_import s t (Some (Ok x)) h = λ faulty o. (any_fault t, refl, o ∙ ap (λ l. any_fault l) h.0)
+after_import s t (Some (Err f)) h = λ faulty o k. (o ∙ ap (λ l. any_fault l) h.0, (any_fault t, refl))
+
+module _ {T : Type 0} (meaning : Place → Outcome T → Type 0) (holds : T → Bool) (first s t : Items) (old : Option Bool) where
+  pub item_found : (x : Result (ℕ × T) Error) (mid new : Option Bool) → SoFar (OwesItems meaning holds) first s old mid
+      → NextItem (AtItsOffset meaning) s (Some x) t → FindsItem holds x mid new → SoFar (OwesItems meaning holds) first t old new
+  item_found x mid new a n f = one_so_far (OwesItems meaning holds) holds first s t x old mid new a
+      (after_item meaning holds s t (Some x) n) f
+
+  pub all_items_found : (new : Option Bool) → SoFar (OwesItems meaning holds) first s old new
+      → NextItem {T = ℕ × T} (AtItsOffset meaning) s None t
+      → (faulty : Bool) → OwesItems meaning holds first faulty → Finds faulty old new
+  all_items_found new a n faulty o = all_found (OwesItems meaning holds) holds first s t old new a (after_item meaning holds s t None n)
+      faulty o
+
+module _ (first s t : List (Result (ℕ × ImportParts) FaultAt)) (old : Option Bool) where
+  pub import_found : (x : Result (ℕ × Import) Error) (mid new : Option Bool) → SoFar OwesList first s old mid
+      → NextImport {X = ℕ × Import} found_at s (Some x) t → FindsItem no_lists x mid new → SoFar OwesList first t old new
+  import_found x mid new a n f = one_so_far OwesList no_lists first s t x old mid new a (after_import s t (Some x) n) f
+
+  pub all_imports_found : (new : Option Bool) → SoFar OwesList first s old new → NextImport {X = ℕ × Import} found_at s None t
+      → Finds (any_fault first) old new
+  all_imports_found new a n = all_found OwesList (no_lists {T = Import}) first s t old new a (after_import s t None n)
+      (any_fault first) refl

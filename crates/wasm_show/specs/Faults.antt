@@ -1,5 +1,6 @@
 -- Whether sections, subsections and name maps have malformed items, in themselves or in their lists.
-use Rattle.std.specs.Prelude.{◌≡◌, ℕ, zero, suc, ◌<◌, ◌≤◌, Bool, true, false, List, [], ◌∷◌, length, nat_eq, nat_lt, Option, Some, None}
+use Rattle.std.specs.Prelude.{◌≡◌, ℕ, zero, suc, ◌<◌, ◌≤◌, Bool, true, false, List, [], ◌∷◌, length, nat_eq, nat_lt}
+use Rattle.std.specs.Prelude.{Option, Some, None}
 use Rattle.std.specs.Prelude.{Result, Ok, Err, bytes_eq, codes, if◌then◌else◌}
 use Rattle.wasm_base.specs.Ascending.{Ascending, is_above}
 use Rattle.wasm_base.specs.FaultAt.{FaultAt, fault_at}
@@ -64,8 +65,8 @@ Agrees {T} meaning holds reading = (p : Place) (o : Outcome T) → meaning p o �
 
 -- ---- what an iterator owes
 
--- What a call of `next_item` returned, by whether there was a fault among the remaining items and their lists: if it was
--- an item, there was one in its lists or there is one later.
+-- What a call of `next_item` returned, by whether there was a fault among the remaining items and their lists: if it
+-- was an item, there was one in its lists or there is one later.
 abbrev pub AfterItem : {I T : Type 0} → (owes : I → Bool → Type 0) → (holds : T → Bool) → Bool
     → Option (Result (ℕ × T) Error) → I → Type 0
 AfterItem owes holds faulty None t = faulty ≡ false
@@ -77,7 +78,7 @@ abbrev pub GivesOwed : {I T : Type 0} → (owes : I → Bool → Type 0) → (ho
     → Option (Result (ℕ × T) Error) → I → Type 0
 GivesOwed owes holds s given t = (faulty : Bool) → owes s faulty → AfterItem owes holds faulty given t
 
--- Each result leaves fewer ones to come.
+-- Each result leaves fewer later ones.
 abbrev pub IsFewer : {I A : Type 0} → (most : I → ℕ) → I → Option A → I → Type 0
 IsFewer most s None t = Unit {0}
 IsFewer most s (Some x) t = most t < most s
@@ -126,8 +127,8 @@ abbrev pub or_next : (reading : ℕ → Window → Result Bool FaultAt) → (lat
 or_next reading later (Ok head) = or_after (reading head.0.0 head.0.1) (later head.1)
 or_next reading later (Err f) = true
 
--- Whether the subsections that a window has from a place on have a fault: one after the other to the end, of which there
--- are at most as many as bytes. The reading says of a subsection whether a list of it has a fault.
+-- Whether the subsections that a window has from a place on have a fault: one after the other to the end, of which
+-- there are at most as many as bytes. The reading says of a subsection whether a list of it has a fault.
 abbrev pub subsections_faulty : (reading : ℕ → Window → Result Bool FaultAt) → (most : ℕ) → Place → Bool
 subsections_faulty reading zero p = false
 subsections_faulty reading (suc most) p = if nat_eq (length p.rest) 0 then false
@@ -294,8 +295,8 @@ counted_features_faulty (Err f) = true
 abbrev pub features_faulty : Custom → Bool
 features_faulty section = counted_features_faulty (section_in (whole_window (place section.reader)))
 
--- Whether a custom section has a fault: the features of a module, and what is known by its name and its data. What can't
--- be known since its data is malformed is unknown.
+-- Whether a custom section has a fault: the features of a module, and what is known by its name and its data. A
+-- section with another name, or whose reader rejects the data, is unknown and has none.
 abbrev pub custom_faulty : Custom → Bool
 custom_faulty section = if bytes_eq section.name (codes "target_features") then features_faulty section
     else known_faulty (known_of section)

@@ -28,7 +28,7 @@ enum Place {
 /// lines.
 ///
 /// ```rattle
-/// let error = Error::new(Fault::InvalidUtf8, 60);
+/// let error = Error::new(Fault::MalformedUtf8, 60);
 /// let mut out = Faults::new(alloc, BoundedSink::new(alloc, 1000)?, String::from_str(alloc, "a.wasm: ")?, false);
 /// out.enter(Within::Section("import"));
 /// out.fault(1, &error);
@@ -176,6 +176,8 @@ impl<W: Sink> Tree for Faults<W> {
     fn item_name(&mut self, _space: Space, _index: u64) {}
 
     fn first_of_function<T: ShortText>(&mut self, _text: &T, _function: Option<u64>) {}
+
+    fn first_named<T: ShortText>(&mut self, _text: &T, _name: &str) {}
 
     fn begin_part(&mut self, _alloc: Global, _offset: u64, _bytes: &[u8], _cuts: Vec<u64>) {}
 

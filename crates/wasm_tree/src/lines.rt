@@ -476,6 +476,10 @@ impl<W: Sink> Tree for Lines<W> {
         self.names = names;
     }
 
+    fn first_named<T: ShortText>(&mut self, text: &T, name: &str) {
+        self.first_with_name(text, Some(name));
+    }
+
     fn begin_part(&mut self, alloc: Global, offset: u64, bytes: &[u8], cuts: Vec<u64>)
         ensures { AddsBytes bytes.now (lines self.old) (lines self.new) }
     {

@@ -116,6 +116,8 @@ impl Tree for Offsets {
 
     fn first_of_function<T: ShortText>(&mut self, _text: &T, _function: Option<u64>) {}
 
+    fn first_named<T: ShortText>(&mut self, _text: &T, _name: &str) {}
+
     fn begin_part(&mut self, _alloc: Global, _offset: u64, _bytes: &[u8], _cuts: Vec<u64>) {}
 
     fn enter(&mut self, _within: Within<'_>) {}

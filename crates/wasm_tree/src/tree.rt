@@ -125,7 +125,7 @@ pub trait Tree {
     /// What it has written.
     ghost writing: { Self → Writing };
 
-    /// Whether it was told a fault, if it keeps faults alone and has not stopped.
+    /// Whether a fault was reported to it, if it keeps faults alone and has not stopped.
     ghost found: { Self → Option Bool };
 
     /// The constant `ONLY_FAULTS`, for clauses.
@@ -245,6 +245,13 @@ pub trait Tree {
     ///
     /// The text may end with numbers of items. A tree of objects writes nothing.
     fn first_of_function<T: ShortText>(&mut self, text: &T, function: Option<u64>)
+        ensures adds { AddsFirst (T.text text.now ++ codes "\n") (writing self.old) (writing self.new) }
+        ensures found { FindsNone (found self.old) (found self.new) };
+
+    /// Writes a line of the first level: this text, and this name in quotes after a blank.
+    ///
+    /// The text may end with numbers of items. A tree of objects writes nothing.
+    fn first_named<T: ShortText>(&mut self, text: &T, name: &str)
         ensures adds { AddsFirst (T.text text.now ++ codes "\n") (writing self.old) (writing self.new) }
         ensures found { FindsNone (found self.old) (found self.new) };
 

@@ -1,6 +1,7 @@
 // Worked examples.
 mod colors;
 mod dumps;
+mod faults;
 mod forms;
 mod golden;
 mod named;

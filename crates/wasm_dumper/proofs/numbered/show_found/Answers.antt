@@ -2,5 +2,5 @@ use Rattle.wasm_dumper.proofs.Common.{arith, Types}
 use Rattle.wasm_dumper.proofs.Numbering.{up_to_here}
 use Rattle.wasm_dumper.proofs.numbered.show_found.Goals as goal
 
-pub returns-in-Err : goal.returns-in-Err
-returns-in-Err g c = up_to_here Types c.args.index _ _ (omega arith) c.show_fault.ensures
+pub returns-in-Err-clause-adds : goal.returns-in-Err-clause-adds
+returns-in-Err-clause-adds g c = up_to_here Types c.args.index _ _ (omega arith) c.show_fault.ensures.adds

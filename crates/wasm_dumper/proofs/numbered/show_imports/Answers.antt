@@ -1,4 +1,6 @@
-use Rattle.wasm_dumper.proofs.Common.{List, sym, ap, subst, ◌∙◌, Section, place, flattened, Found, import_numbers, Counts}
+use Rattle.wasm_show.proofs.ForCallers.{SoFar, none_so_far, import_found, all_imports_found, not_known}
+use Rattle.wasm_show.specs.Faults.{OwesList, no_lists}
+use Rattle.wasm_dumper.proofs.Common.{List, refl, sym, ap, subst, ◌∙◌, Section, place, flattened, Found, import_numbers, Counts}
 use Rattle.wasm_dumper.proofs.Numbering.{AddsAllBut, none_shown, import_shown, all_shown, some_shown}
 use Rattle.wasm_dumper.proofs.numbered.show_imports.Goals.{in-None, in-Some+then-has_stopped}
 use Rattle.wasm_dumper.proofs.numbered.show_imports.Goals as goal
@@ -15,6 +17,8 @@ loop-import-init g c =
       finite = tt;
       left = subst (λ (s : List Found). AddsAllBut all (import_numbers c.args.counts.now s) now now) (sym begins)
           (none_shown all now);
+      found = subst (λ (s : List Found). SoFar OwesList s c.into_iter-import-iterator.result (g.O.Tree.found c.args.out.now)
+          (g.O.Tree.found c.args.out.now)) begins (none_so_far OwesList c.into_iter-import-iterator.result (g.O.Tree.found c.args.out.now));
     }
 
 pub loop-import-preserved : goal.loop-import-preserved
@@ -29,12 +33,23 @@ loop-import-preserved g c =
           (sym c.show_import.ensures.counted)
           (import_shown all c.loop-import.before _ _ _ _ _ _ c.loop-import.invariant.left c.in-Some.ensures.steps
           c.show_import.ensures.shows);
+      found = import_found (flattened c.args.section.now.count (place c.args.section.now.reader)) c.loop-import.import-iterator
+          c.next.new.self _ _ _ _ c.loop-import.invariant.found c.in-Some.ensures.steps c.show_import.ensures.found;
     }
 
-pub returns : goal.returns
-returns g c =
+pub returns-clause-all : goal.returns-clause-all
+returns-clause-all g c =
     let all = import_numbers c.args.counts.now (flattened c.args.section.now.count (place c.args.section.now.reader)) in
     elim c.match-next.branch [
       | in-None w ↦ all_shown all c.loop-import.before _ _ _ _ c.loop-import.invariant.left w.in-None.ensures.steps
-      | in-Some+then-has_stopped w ↦ some_shown all _ _ _ (sym w.has_stopped.ensures ∙ w.if-has_stopped.true) c.loop-import.invariant.left
+      | in-Some+then-has_stopped w ↦ some_shown all _ _ _ (sym w.has_stopped.ensures.is ∙ w.if-has_stopped.true)
+          c.loop-import.invariant.left
+    ]
+
+pub returns-clause-found : goal.returns-clause-found
+returns-clause-found g c =
+    elim c.match-next.branch [
+      | in-None w ↦ all_imports_found (flattened c.args.section.now.count (place c.args.section.now.reader)) c.loop-import.import-iterator
+          _ _ _ c.loop-import.invariant.found w.in-None.ensures.steps
+      | in-Some+then-has_stopped w ↦ λ is h. not_known _ _ (w.has_stopped.ensures.unknown w.if-has_stopped.true)
     ]

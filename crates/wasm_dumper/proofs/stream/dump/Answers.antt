@@ -2,10 +2,10 @@ use Rattle.wasm_dumper.proofs.Common.{err_from_is_err_and}
 use Rattle.wasm_dumper.proofs.Dumping.{by_tree, no_room}
 use Rattle.wasm_dumper.proofs.stream.dump.Goals as goal
 
-pub returns-in_err-buffer : goal.returns-in_err-buffer
-returns-in_err-buffer g c style taken failed s =
+pub returns-in_err-buffer-clause-dumps : goal.returns-in_err-buffer-clause-dumps
+returns-in_err-buffer-clause-dumps g c style taken failed s =
     let e = err_from_is_err_and c.from_residual.result c.from_residual.ensures.1 in
     rw (e.1, e.2) (no_room style _ _ _ _ taken failed _ s)
 
-pub returns : goal.returns
-returns g c style taken failed s = by_tree _ _ _ _ _ _ c.dump_into.ensures style taken failed s
+pub returns-clause-dumps : goal.returns-clause-dumps
+returns-clause-dumps g c style taken failed s = by_tree _ _ _ _ _ _ c.dump_into.ensures.dumps style taken failed s

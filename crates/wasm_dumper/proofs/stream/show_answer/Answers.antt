@@ -12,4 +12,4 @@ returns-in-Ok-NeedMoreData-clause-shows g c begins =
 pub returns-in-Err-clause-shows : goal.returns-in-Err-clause-shows
 returns-in-Err-clause-shows g c begins = shows_fault c.args.shown.only.now c.args.shown.has_bytes c.args.counts.now c.args.answer.now _ _ _
     c.in-Err.is
-    c.show_last_fault.ensures
+    c.show_last_fault.ensures.adds

@@ -22,5 +22,6 @@ pub returns-clause-found : goal.returns-clause-found
 returns-clause-found g c faulty o =
     elim c.items-test.branch [
       | else-items-test w ↦ unknown_found g.I.Items.owes _ _ (c.has_stopped.ensures.unknown w.items-test.false) faulty
-      | then-items-test+in-None w ↦ all_found g.I.Items.owes g.I.Items.holds _ _ w.next_item.new.self _ _ c.items.invariant.found w.in-None.ensures.owed faulty o
+      | then-items-test+in-None w ↦ all_found g.I.Items.owes g.I.Items.holds _ _ w.next_item.new.self _ _
+          c.items.invariant.found w.in-None.ensures.owed faulty o
     ]

@@ -1,0 +1,229 @@
+// Dumps of streams on a tree that keeps faults alone.
+use std::alloc::Global;
+use std::process::Abort;
+use std::test::Fail;
+use wasm_dumper::{Only, Shown, dump};
+use wasm_feed::{BoundedSink, Ended, ListError, SliceSource};
+use wasm_parser::{Error, Fault};
+use wasm_tree::{Faults, Tree, Within};
+
+// What is asked for: the sections, the beginning of each line, and whether nothing is written.
+#[derive(Clone, Copy)]
+struct Asked<'a> {
+    only: &'a [Only<'a>],
+    prefix: &'a str,
+    is_quiet: bool,
+}
+
+const ALL: Asked<'static> = Asked {
+    only: &[Only::All],
+    prefix: "",
+    is_quiet: false,
+};
+
+// How the dump of this stream ends, whether there was a fault, and the sink.
+fn checked(
+    alloc: Global,
+    asked: Asked<'_>,
+    stream: &[u8],
+    room: usize,
+    piece: usize,
+) -> Result<(Result<Ended, ListError>, bool, BoundedSink), Fail> {
+    let prefix = String::from_str(alloc, asked.prefix)?;
+    let mut tree = Faults::new(
+        alloc,
+        BoundedSink::new(alloc, room)?,
+        prefix,
+        asked.is_quiet,
+    );
+    let shown = Shown {
+        only: asked.only,
+        has_bytes: false,
+    };
+    let mut input = SliceSource::new(stream);
+    let ended = dump(alloc, shown, &mut input, &mut tree, piece.max(1));
+    let found = tree.has_faults();
+    Ok((ended, found, tree.into_output()))
+}
+
+// The check of this stream ends so, and these faults are its own.
+fn checks(
+    rt: &impl Abort,
+    alloc: Global,
+    asked: Asked<'_>,
+    stream: &[u8],
+    how: Ended,
+    wanted: (bool, &[u8]),
+) -> Result<(), Fail> {
+    let (has_faults, text) = wanted;
+    for piece in [1, 7, 65_536] {
+        let (ended, found, output) = checked(alloc, asked, stream, 200_000, piece)?;
+        assert!(rt; ended == Ok(how), "{piece}");
+        assert!(rt; found == has_faults, "{piece}");
+        assert!(rt; output.written() == text, "{piece}");
+    }
+    Ok(())
+}
+
+/// A stream that the parser reads to its end, and the lines of its faults.
+type Row = (&'static [u8], &'static [u8]);
+
+fn all_checked(rt: &impl Abort, alloc: Global, rows: &[Row]) -> Result<(), Fail> {
+    for (stream, text) in rows {
+        let wanted = (!text.is_empty(), *text);
+        checks(rt, alloc, ALL, stream, Ended::End, wanted)?;
+    }
+    Ok(())
+}
+
+/// A module with an item in each of its sections, and its name.
+const SOUND: &[u8] =
+    b"\0asm\x01\0\0\0\x01\x05\x01\x60\x01\x7f\0\x02\x0a\x01\x03env\x01m\x02\0\x01\x03\x02\x01\0\
+\x07\x05\x01\x01f\0\0\x09\x05\x01\x01\0\x01\0\x0a\x04\x01\x02\0\x0b\x0b\x06\x01\x01\x03a\x22\xff\
+\0\x0b\x04name\0\x04\x03app";
+
+// The name of an import is not UTF-8; an element has no kind; a global's type is cut short; a type has another kind.
+const SECTIONS: [Row; 6] = [
+    (SOUND, b""),
+    (
+        b"\0asm\x01\0\0\0\x02\x07\x01\x01m\x01\xff\0\0",
+        b"0xe: malformed UTF-8 encoding, in section import\n",
+    ),
+    (
+        b"\0asm\x01\0\0\0\x07\x05\x01\x01f\x09\0",
+        b"0xd: invalid leading byte for external kind: 9, in section export\n",
+    ),
+    (
+        b"\0asm\x01\0\0\0\x06\x02\x01\x7f",
+        b"0xc: unexpected end-of-file, in section global\n",
+    ),
+    (
+        b"\0asm\x01\0\0\0\x01\x03\x01\x40\0",
+        b"0xb: invalid leading byte for composite type: 64, in section type\n",
+    ),
+    // A byte after the last item.
+    (
+        b"\0asm\x01\0\0\0\x05\x04\x01\0\x01\0",
+        b"0xd: section size mismatch: unexpected data at the end of the section, in section memory\n",
+    ),
+];
+
+#[test]
+fn finds_faults_in_sections(rt: HostRuntime) -> Result<(), Fail> {
+    all_checked(&rt, rt.alloc(), &SECTIONS)
+}
+
+// The version of a tool is not UTF-8; a local's index is not above the one before; a symbol has another kind; a feature's name
+// is not UTF-8; features without a count; a relocation is missing, in a section whose name has a quote.
+const CUSTOMS: [Row; 7] = [
+    (
+        b"\0asm\x01\0\0\0\0\x14\x09producers\x01\x03sdk\x01\x01a\x01\xff",
+        b"0x1d: malformed UTF-8 encoding, in custom section \"producers\"\n",
+    ),
+    (
+        b"\0asm\x01\0\0\0\0\x10\x04name\x02\x09\x01\0\x02\x01\x01a\0\x01b",
+        b"0x17: names out of order, in custom section \"name\"\n",
+    ),
+    (
+        b"\0asm\x01\0\0\0\0\x0e\x07linking\x02\x08\x03\x01\x06\0",
+        b"0x16: invalid leading byte for symbol kind: 6, in custom section \"linking\"\n",
+    ),
+    (
+        b"\0asm\x01\0\0\0\0\x14\x0ftarget_features\x01+\x01\xff",
+        b"0x1d: malformed UTF-8 encoding, in custom section \"target_features\"\n",
+    ),
+    (
+        b"\0asm\x01\0\0\0\0\x10\x0ftarget_features",
+        b"0x1a: unexpected end-of-file, in custom section \"target_features\"\n",
+    ),
+    (
+        b"\0asm\x01\0\0\0\0\x0a\x07reloc.\"\0\x01",
+        b"0x14: unexpected end-of-file, in custom section \"reloc.\\22\"\n",
+    ),
+    // A section `core` has to begin with the byte 0: this one is not known.
+    (b"\0asm\x01\0\0\0\0\x06\x04core\x01", b""),
+];
+
+#[test]
+fn finds_faults_in_custom_sections(rt: HostRuntime) -> Result<(), Fail> {
+    all_checked(&rt, rt.alloc(), &CUSTOMS)
+}
+
+/// Two names of functions that don't ascend, and a subsection after them whose id doesn't; then a function whose body is missing.
+const SEVERAL: &[u8] =
+    b"\0asm\x01\0\0\0\0\x12\x04name\x01\x07\x02\x01\x01f\0\x01g\x01\x02\0\0\x03\x03\x02\x85\x80";
+
+const FAULTS: &[u8] = b"a.wasm: 0x15: names out of order, in custom section \"name\"
+a.wasm: 0x18: name subsection out of order, in custom section \"name\"
+a.wasm: 0x21: unexpected end-of-file, in section function
+a.wasm: 0x21: function section has non-zero count but code section is absent
+";
+
+#[test]
+fn finds_each_fault(rt: HostRuntime) -> Result<(), Fail> {
+    let how = Ended::Fault(Error::new(Fault::FunctionWithoutCode, 33));
+    let asked = Asked {
+        prefix: "a.wasm: ",
+        ..ALL
+    };
+    checks(&rt, rt.alloc(), asked, SEVERAL, how, (true, FAULTS))?;
+    let quiet = Asked {
+        is_quiet: true,
+        ..ALL
+    };
+    checks(&rt, rt.alloc(), quiet, SEVERAL, how, (true, b""))
+}
+
+// Only the section `name` is looked at, or none.
+#[test]
+fn finds_faults_in_chosen_sections(rt: HostRuntime) -> Result<(), Fail> {
+    let stream = &SEVERAL[..28];
+    let name = Asked {
+        only: &[Only::Name("name")],
+        ..ALL
+    };
+    let text =
+        b"0x15: names out of order, in custom section \"name\"\n0x18: name subsection out of order, in custom section \"name\"\n";
+    checks(&rt, rt.alloc(), name, stream, Ended::End, (true, text))?;
+    let none = Asked { only: &[], ..ALL };
+    checks(&rt, rt.alloc(), none, stream, Ended::End, (false, b""))
+}
+
+#[test]
+fn stops_where_the_sink_is_full(rt: HostRuntime) -> Result<(), Fail> {
+    let asked = Asked {
+        prefix: "a.wasm: ",
+        ..ALL
+    };
+    for room in [0, 1, 60, 200] {
+        let (ended, found, output) = checked(rt.alloc(), asked, SEVERAL, room, 100)?;
+        assert!(rt; ended == Err(ListError::Output), "{room}");
+        assert!(rt; found);
+        assert!(rt; output.written() == &FAULTS[..room], "{room}");
+    }
+    Ok(())
+}
+
+// The prefix and the name of the section are longer than what is buffered.
+#[test]
+fn writes_long_lines(rt: HostRuntime) -> Result<(), Fail> {
+    let alloc = rt.alloc();
+    let mut prefix = String::new(alloc);
+    for _ in 0..70_000 {
+        prefix.push('p')?;
+    }
+    let mut wanted = prefix.clone()?;
+    wanted.push_str("0x1: unexpected end-of-file, in custom section \"")?;
+    wanted.push_str(prefix.as_str())?;
+    wanted.push_str("\"\n")?;
+    let sink = BoundedSink::new(alloc, 300_000)?;
+    let mut out = Faults::new(alloc, sink, prefix.clone()?, false);
+    out.enter(Within::Custom(prefix.as_str()));
+    out.fault(1, &Error::new(Fault::UnexpectedEof, 1));
+    out.write_out();
+    let found = out.has_faults();
+    let output = out.into_output();
+    assert!(rt; found);
+    assert!(rt; output.written() == wanted.as_bytes());
+    Ok(())
+}

@@ -1,0 +1,194 @@
+-- What a tree that keeps faults alone has found of a stream.
+use Rattle.wasm_dumper.proofs.Common.{◌≡◌, ℕ, ◌+◌, Bool, true, false, List, [], ◌∷◌, ◌++◌, Some, None, Result, Ok, Err, refl, sym, ap}
+use Rattle.wasm_dumper.proofs.Common.{subst, ◌∙◌, arith, Option, Outcome, Place, ReadsAs}
+use Rattle.wasm_base.specs.Window.{Window, place}
+use Rattle.wasm_custom.specs.Custom.{Custom}
+use Rattle.std.specs.Io.KnownBytes.{Consumes}
+use Rattle.wasm_base.specs.Features.{all_features}
+use Rattle.wasm_dumper.proofs.Common.{length, drop, Error, seen, lending, beside, feed_of, Feed, Steps, turn_after, Cursor, Step}
+use Rattle.wasm_dumper.proofs.Common.{NeedMoreData, Parsed, Ending, Event, last_event, report_of, Writing, Only}
+use Rattle.wasm_dumper.specs.Checks.{FindsIn, answer_faulty, any_faulty, custom_of, shown_faulty}
+use Rattle.wasm_feeder.specs.Beside.{FillsAlike, ReadsEnough}
+use Rattle.wasm_feeder.specs.Feed.{new_feed}
+use Rattle.wasm_feeder.specs.Progress.{Reached, Asks}
+use Rattle.wasm_feeder.specs.Step.{answer_of, is_request, shown}
+use Rattle.wasm_feeder.specs.declared.turns.Ended.{Ended}
+use Rattle.wasm_feeder.specs.declared.turns.Turn.{Turn}
+use Rattle.wasm_feeder.proofs.ForCallers.{IsEnding, IsEvent, begins, next_asks, next_ends, next_event, reads_on, whole_input}
+use Rattle.wasm_feeder.proofs.ForCallers as progress
+use Rattle.wasm_feeder.specs.declared.turns.Turn.TheVariants as turn
+use Rattle.wasm_parser.specs.ParseAnswer.{ParseAnswer}
+use Rattle.wasm_text.specs.Calls.{from_to}
+use Rattle.wasm_tree.specs.Found.{either, Finds, FindsNone, HasFound, with_more}
+use Rattle.wasm_items.specs.RecGroups.{rec_group_at, rec_group_parts}
+use Rattle.wasm_items.specs.declared.types.RecGroup.{RecGroup}
+use Rattle.std.proofs.Common.{◌-◌}
+use Rattle.wasm_base.specs.Item.{outcome_map}
+use Rattle.wasm_parser.specs.ParseAnswer.{unread}
+use Rattle.wasm_show.specs.Faults.{custom_faulty, no_lists, plainly}
+
+pub plain_reading : (p : Place) (o : Outcome RecGroup) → ReadsAs rec_group_parts rec_group_at p o
+    → ReadsAs no_lists (plainly rec_group_at) p o
+plain_reading p (Ok x) e = ap (outcome_map no_lists) e
+plain_reading p (Err f) e = ap (outcome_map no_lists) e
+
+-- a custom section is what is reported of it
+pub custom_is : (s : Custom) → custom_of s.name (place s.reader).offset (unread s.reader) ≡ s
+custom_is s =
+    let at : (s.reader.start + s.reader.position) - s.reader.start ≡ s.reader.position = omega arith in
+    ap (λ (n : ℕ). record { name = s.name; reader = record s.reader { position = n } }) at
+
+pub custom_found : (s : Custom) → custom_faulty s ≡ custom_faulty (custom_of s.name (place s.reader).offset (unread s.reader))
+custom_found s = ap custom_faulty (sym (custom_is s))
+
+-- ---- events
+
+either_none : (a : Bool) → either a false ≡ a
+either_none true = refl
+either_none false = refl
+
+either_both : (a b c : Bool) → either a (either b c) ≡ either (either a b) c
+either_both true b c = refl
+either_both false b c = refl
+
+pub any_more : (only : List Only) (events : List Event) (e : Event)
+    → any_faulty only (events ++ e ∷ []) ≡ either (any_faulty only events) (shown_faulty only e.report)
+any_more only [] e = either_none (shown_faulty only e.report)
+any_more only (x ∷ events) e = ap (either (shown_faulty only x.report)) (any_more only events e)
+    ∙ either_both (shown_faulty only x.report) (any_faulty only events) (shown_faulty only e.report)
+
+both_more : (a b : Bool) (is : Option Bool) → with_more b (with_more a is) ≡ with_more (either a b) is
+both_more false b is = refl
+both_more true false is = refl
+both_more true true None = refl
+both_more true true (Some is) = refl
+
+finds_both : (a b : Bool) (old mid new : Option Bool) → Finds a old mid → Finds b mid new → Finds (either a b) old new
+finds_both a b old mid new f g is h = subst (λ (x : Option Bool). HasFound x new) (both_more a b is)
+    (g (with_more a is) (f is h))
+
+-- ---- how far a tree has come
+
+-- where the feeder is along what the source gave, and what was found of its events
+pub record Finding (only : List Only) (full rest : Option (List ℕ)) (f : Feed) (old new : Option Bool) : Type 0 where
+  pub events : List Event
+  pub reached : Reached full rest f events
+  pub found : Finds (any_faulty only events) old new
+
+-- the same where the feeder asks for more
+pub record Seeking (only : List Only) (full rest : Option (List ℕ)) (f : Feed) (old new : Option Bool) : Type 0 where
+  pub events : List Event
+  pub asks : Asks full rest f events
+  pub found : Finds (any_faulty only events) old new
+
+-- a step of the feeder, and what was found of it
+pub record FindsStep (only : List Only) (old new : Feed) (before after : Option Bool) (next : Turn) : Type 0 where
+  pub answer : Result Step Error
+  pub steps : Steps old answer new
+  pub turns : next ≡ turn_after answer
+  pub finds : Finds (answer_faulty only answer) before after
+
+pub finds_beside : (only : List Only) (full : Option (List ℕ)) (found : Option Bool) (stored piece : List ℕ) (cursor : Cursor)
+    → stored ≡ [] → piece ≡ [] → feed_of [] cursor ≡ new_feed 0 all_features
+    → Finding only full full (beside (feed_of stored cursor) piece) found found
+finds_beside only full found stored piece cursor none no_piece new = record {
+  events = [];
+  reached = progress.begun_beside full stored piece cursor none no_piece new;
+  found = λ is h. h;
+}
+
+pub finds_step : (only : List Only) (f : Feed) (stored piece items rest bytes : List ℕ) (old new : Cursor) (x : Result Step Error)
+    (now ready after : Option Bool) (next : Turn) → lending stored piece old ≡ f → ReadsEnough stored piece old → bytes ≡ seen items rest
+    → items ≡ stored → rest ≡ piece → ParseAnswer old.parser old.is_finished (drop old.mark bytes) (answer_of x) new.parser
+    → drop old.mark bytes ≡ shown x ++ drop new.mark bytes → new.is_finished ≡ old.is_finished → new.wants_more ≡ is_request x
+    → next ≡ turn_after x → ready ≡ now → Finds (answer_faulty only x) ready after
+    → FindsStep only f (lending stored piece new) now after next
+finds_step only f stored piece items rest bytes old new x now ready after next from sees read items_are rest_is parses shows finished wants
+    turns kept finds = record {
+      answer = x;
+      steps = progress.both f stored piece items rest bytes old new x from sees read items_are rest_is parses shows finished wants;
+      turns = turns;
+      finds = subst (λ (y : Option Bool). Finds (answer_faulty only x) y after) kept finds;
+    }
+
+event_faulty : (only : List Only) (x : Result Step Error) (e : Event) → IsEvent x e → answer_faulty only x ≡ shown_faulty only e.report
+event_faulty only (Ok (Parsed bytes payload)) e (n, says, is) = ap (shown_faulty only) says
+event_faulty only _ e is = absurd is
+
+ending_faulty : (only : List Only) (x : Result Step Error) (end : Ending) → IsEnding x end
+    → answer_faulty only x ≡ shown_faulty only (last_event end).report
+ending_faulty only (Ok (NeedMoreData hint)) end is = absurd is
+ending_faulty only (Ok (Parsed bytes payload)) end is = ap (shown_faulty only) is.1
+ending_faulty only (Err e) end is = ap (λ (y : Ending). shown_faulty only (last_event y).report) (sym is)
+
+module _ (only : List Only) (full rest : Option (List ℕ)) (f : Feed) (old now : Option Bool) (d : Finding only full rest f old now)
+    (g : Feed) (new : Option Bool) (next : Turn) (s : FindsStep only f g now new next) where
+  pub finds_advanced : next ≡ turn.Advance → Finding only full rest g old new
+  finds_advanced t =
+      let (e, is, after, less) = next_event full rest f d.events d.reached g s.answer s.steps (sym t ∙ s.turns) in
+      record {
+        events = d.events ++ e ∷ [];
+        reached = after;
+        found = subst (λ (b : Bool). Finds b old new)
+            (ap (either (any_faulty only d.events)) (event_faulty only s.answer e is) ∙ sym (any_more only d.events e))
+            (finds_both (any_faulty only d.events) (answer_faulty only s.answer) old now new d.found s.finds);
+      }
+
+  pub finds_asked : next ≡ turn.Read → Seeking only full rest g old new
+  finds_asked t =
+      let (hint, is, asks, same) = next_asks full rest f d.events d.reached g s.answer s.steps (sym t ∙ s.turns) in
+      let none : answer_faulty only s.answer ≡ false = ap (answer_faulty only) is in
+      record {
+        events = d.events;
+        asks = asks;
+        found = subst (λ (b : Bool). Finds b old new)
+            (ap (either (any_faulty only d.events)) none ∙ either_none (any_faulty only d.events))
+            (finds_both (any_faulty only d.events) (answer_faulty only s.answer) old now new d.found s.finds);
+      }
+
+  all_finds : (last : Option Bool) (events : List Event) → FindsNone new last
+      → either (any_faulty only d.events) (answer_faulty only s.answer) ≡ any_faulty only events → Finds (any_faulty only events) old last
+  all_finds last events more same is h = more _ (subst (λ (b : Bool). Finds b old new) same
+      (finds_both (any_faulty only d.events) (answer_faulty only s.answer) old now new d.found s.finds) is h)
+
+  some_of : (faulty : Bool) (last : Option Bool) → Finds faulty old last → HasFound (Some false) old → HasFound (Some faulty) last
+  some_of true last k h = k (Some false) h
+  some_of false last k h = k (Some false) h
+
+  pub finds_ended : (how : Ended) → next ≡ turn.End how → (w : Writing) → w.why ≡ None → (last : Option Bool) → FindsNone new last
+      → FindsIn only (from_to full rest) how old w last
+  finds_ended how t w going last more =
+      let (end, a, is) = next_ends full rest f d.events d.reached g s.answer s.steps how (sym t ∙ s.turns) in
+      let same : either (any_faulty only d.events) (answer_faulty only s.answer) ≡ any_faulty only (d.events ++ last_event end ∷ []) =
+      ap (either (any_faulty only d.events)) (ending_faulty only s.answer end is) ∙ sym (any_more only d.events (last_event end)) in
+      record {
+        going = going;
+        finds = λ h. (
+          any_faulty only (d.events ++ last_event end ∷ []),
+          record {
+            given = d.reached.given;
+            first = d.events;
+            end = end;
+            gave = d.reached.gave;
+            ends = a.ends;
+            within = λ l. whole_input full rest f d.events d.reached (d.events ++ last_event end ∷ []) (a.within l);
+            past_the_top = λ l. record { begins = begins full rest f d.events d.reached; is_fault = a.past_the_top l };
+            is = refl;
+          },
+          some_of (any_faulty only (d.events ++ last_event end ∷ [])) last
+              (all_finds last (d.events ++ last_event end ∷ []) more same) h,
+        );
+      }
+
+pub finds_same : (only : List Only) (full rest : Option (List ℕ)) (f g : Feed) (old new : Option Bool) → g ≡ f
+    → Finding only full rest f old new → Finding only full rest g old new
+finds_same only full rest f g old new same p = subst (λ (x : Feed). Finding only full rest x old new) (sym same) p
+
+pub finds_filled : (only : List Only) (full rest : Option (List ℕ)) (f : Feed) (old now last : Option Bool)
+    → Seeking only full rest f old now → FindsNone now last → (rest' : Option (List ℕ)) (g : Feed) → FillsAlike rest rest' f g
+    → Finding only full rest' g old last
+finds_filled only full rest f old now last d more rest' g r = record {
+  events = d.events;
+  reached = (reads_on full rest f d.events d.asks rest' g r).0;
+  found = λ is h. more _ (d.found is h);
+}
