@@ -1,94 +1,66 @@
 """Checks the pages of an HTML reference: links, ids, elements, and that each item has its entry."""
-import html.parser
+import collections
+import html
 import os
 import re
+import subprocess
 import urllib.parse
 
-import api_listing
 import api_names
 import api_pages
 import api_source
 import api_standard
+import common
 
-VOID = frozenset("meta link input br wbr hr img".split())
-# What a paragraph may not have in it.
-FLOW = frozenset("p ul ol dl div section pre details h1 h2 h3 h4 h5 h6 main nav header".split())
+# What tidy says of attributes that it doesn't know yet.
+NEW = re.compile(r"proprietary attribute \"(?:enterkeyhint|autocapitalize|aria-current)\"")
 
 
-class Page(html.parser.HTMLParser):
-    """The ids and the links of a page, and what is wrong with its elements."""
+class Page:
+    """The ids and the links of a page."""
 
     def __init__(self, name, text):
-        super().__init__()
-        self.name, self.ids, self.links, self.faults, self.open = name, set(), set(), [], []
-        self.feed(text)
-        self.close()
-        for tag in self.open:
-            self.faults.append("%s: <%s> is not closed" % (name, tag))
-
-    def handle_starttag(self, tag, attrs):
-        given = dict(attrs)
-        place = "%s:%d" % (self.name, self.getpos()[0])
-        if len(given) != len(attrs):
-            self.faults.append("%s: <%s> has an attribute twice" % (place, tag))
-        if "id" in given:
-            if given["id"] in self.ids:
-                self.faults.append("%s: the id %s is there twice" % (place, given["id"]))
-            self.ids.add(given["id"])
-        for name in ("href", "src"):
-            if name in given:
-                self.links.add((given[name], tag, self.getpos()[0]))
-        if tag in FLOW and {"p", "code", "span", "a"} & set(self.open) or tag == "a" and "a" in self.open:
-            self.faults.append("%s: <%s> in <%s>" % (place, tag, self.open[-1]))
-        if tag == "li" and self.open[-1:] not in (["ul"], ["ol"]) or tag in ("dt", "dd") and self.open[-1:] != ["dl"]:
-            self.faults.append("%s: <%s> outside of a list" % (place, tag))
-        if tag not in VOID:
-            self.open.append(tag)
-
-    def handle_endtag(self, tag):
-        if self.open[-1:] == [tag]:
-            self.open.pop()
-        else:
-            self.faults.append("%s:%d: </%s> closes %s" % (self.name, self.getpos()[0], tag, self.open[-1:] or "nothing"))
+        self.name, self.all_ids = name, re.findall(r'<\w[^>]*? id="([^"]*)"', text)
+        self.ids, self.links = set(self.all_ids), {(href, tag) for tag, href in re.findall(r'<(\w+)[^>]*? (?:href|src)="([^"]*)"', text)}
 
 
 def read_pages(folder):
-    found = {}
-    for name in sorted(os.listdir(folder)):
-        if name.endswith(".html"):
-            with open(os.path.join(folder, name), encoding="utf-8") as file:
-                found[name] = Page(name, file.read())
-    return found
+    return {name: Page(name, common.read(os.path.join(folder, name))) for name in sorted(os.listdir(folder)) if name.endswith(".html") and name != "inspector.html"}
+
+
+def invalid(folder, pages):
+    """Invalid HTML, as tidy finds it, and ids that are there twice."""
+    for page in pages.values():
+        yield from ("%s: the id %s is there twice" % (page.name, one) for one, count in collections.Counter(page.all_ids).items() if count > 1)
+    if common.found("tidy"):
+        for name in pages:
+            done = subprocess.run(["tidy", "-quiet", "-errors", "--drop-empty-elements", "no", os.path.join(folder, name)], stdout=subprocess.DEVNULL, stderr=subprocess.PIPE)
+            yield from ("%s: %s" % (name, line) for line in done.stderr.decode(errors="replace").splitlines() if not NEW.search(line))
 
 
 def wrong_links(folder, pages):
     for page in pages.values():
-        for href, tag, line in sorted(page.links):
-            file, _, anchor = href.partition("#")
-            file = file or page.name
+        for href, tag in sorted(page.links):
+            file, _, anchor = html.unescape(href).partition("#")
+            file = urllib.parse.unquote(file) or page.name
             if re.match(r"\w+:", href):
-                if tag != "a" and not href.startswith("data:"):
-                    yield "%s:%d: it requests %s" % (page.name, line, href)
+                if tag not in ("a", "img") and not href.startswith("data:"):
+                    yield "%s: it requests %s" % (page.name, href)
             elif not os.path.exists(os.path.join(folder, file)):
-                yield "%s:%d: no file %s" % (page.name, line, href)
-            elif anchor and not {anchor, urllib.parse.unquote(anchor)} & pages[file].ids:
-                yield "%s:%d: no place %s" % (page.name, line, href)
+                yield "%s: no file %s" % (page.name, href)
+            elif anchor and file in pages and not {anchor, urllib.parse.unquote(anchor)} & pages[file].ids:
+                yield "%s: no place %s" % (page.name, href)
 
 
 def listed_items():
     """The public items: of each its crate, its owner if it is a member, its name, and what its clauses name."""
-    crate = owner = ""
-    for line in api_listing.lines():
-        if line.startswith("## "):
-            crate = line[3:]
-        found = re.match(r"( *)- `(?:unsafe |const )?(struct|enum|trait|fn|type|const)? ?(?:fn )?(\w+)", line)
-        if found and found[2]:
-            owner = owner if found[1] else found[3]
-            names = re.search(r" \[(`[^`\]]*`(?:, `[^`\]]*`)*)\]$", line)
-            yield crate, owner if found[1] else "", found[3], re.findall(r"`([^`]*)`", names[1]) if names else []
-        elif line.startswith("  - variants: ") or line.startswith("  - fields: "):
-            for part in re.findall(r"`(\w+)[^`]*`", line):
-                yield crate, owner, part, []
+    for crate in api_source.LIBRARIES:
+        for module in api_source.modules(crate):
+            for item in module.items:
+                yield crate, "", item.name, item.specs
+                yield from ((crate, item.name, re.match(r"\w+", part)[0], []) for part in item.parts)
+                for member in module.source.members.get(item.name, []):
+                    yield crate, item.name, api_pages.name_of(member.signature), member.specs
 
 
 def without_clause(site):
@@ -112,7 +84,7 @@ def without_entry(pages):
 def wrong_uses():
     """The names that definitions, sources and the page on a first proof bring in of a file of definitions that has none of this name."""
     page = "docs/FIRST_PROOF.md"
-    yield from missing_names([(page, api_names.uses_of(api_source.read(*page.split("/")), 0)[0])])
+    yield from missing_names([(page, api_names.uses_of(common.read(*page.split("/")), 0)[0])])
     for crate in api_source.LIBRARIES:
         places = [("%s, %s" % (crate, name), specs.names) for name, specs in api_names.all_specs(crate).items()]
         for name in api_source.source_names(crate):
@@ -130,8 +102,7 @@ def missing_names(places):
 
 def faults(folder, site):
     pages = read_pages(folder)
-    for page in pages.values():
-        yield from page.faults
+    yield from invalid(folder, pages)
     yield from wrong_links(folder, pages)
     yield from without_entry(pages)
     yield from without_clause(site)

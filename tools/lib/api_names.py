@@ -4,7 +4,6 @@ import functools
 import os
 import re
 
-import api_source
 import common
 import documents
 
@@ -84,7 +83,7 @@ def all_specs(crate):
     for name in sorted(os.listdir(folder)) if os.path.isdir(folder) else ():
         module, dot = os.path.splitext(name)
         if dot == ".antt" and module != "Lib":
-            found[module] = Specs(crate, module, api_source.read("crates", crate, "specs", name))
+            found[module] = Specs(crate, module, common.read("crates", crate, "specs", name))
     return found
 
 
@@ -174,7 +173,7 @@ def use_paths(tree):
 def origins(crate):
     """The names that a crate re-exports of other libraries, and the libraries that define them."""
     found = {}
-    for path, here in code_uses(api_source.read("crates", crate, "src", "lib.rt"), "pub use"):
+    for path, here in code_uses(common.read("crates", crate, "src", "lib.rt"), "pub use"):
         first, *_, name = path.split("::")
         if first in all_crates():
             found[here] = origins(first).get(name, Target("item", first, (name,)))

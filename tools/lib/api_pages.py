@@ -8,7 +8,9 @@ import api_source
 import api_text
 import common
 from api_source import doc_of, summary
-from api_text import anchor, document, escaped, formula, inline, link, rust, span
+import markdown
+from api_text import anchor, escaped, formula, link, rust, span
+from markdown import inline
 
 # The groups of the items of a crate, with the names of one and of several.
 GROUPS = {
@@ -20,7 +22,7 @@ GROUPS = {
     "const": ("constant", "constants"),
     "law": ("law", "laws"),
 }
-DEFINITIONS, STANDARD = "definitions.html", "standard.html"
+CRATES, DEFINITIONS, STANDARD = "crates.html", "definitions.html", "standard.html"
 ABOUT_LAWS = (
     "Laws state what follows from the contracts: properties of whole iterations, of several calls, of comparisons and copies. "
     "A law does nothing at run time; a program that calls one has its contract, and a proof may cite it."
@@ -165,7 +167,7 @@ def definition_html(site, one):
 
 
 def comment_html(lines):
-    return "<p>%s</p>" % inline(" ".join(lines), lambda name: None) if lines else ""
+    return "<p>%s</p>" % inline(" ".join(lines)) if lines else ""
 
 
 def of_library(targets):
@@ -223,7 +225,7 @@ class Writer:
         return find
 
     def doc(self, at, level, owner):
-        return '<div class="doc">%s</div>' % document(doc_of(self.source, at), level, self.code_link(owner)) if doc_of(self.source, at) else ""
+        return '<div class="doc">%s</div>' % markdown.comment(doc_of(self.source, at), level, self.code_link(owner)) if doc_of(self.source, at) else ""
 
     def ghost_names(self, at, outer):
         """The ghost members that clauses may name here: those of the trait around, and of the traits that bound a type."""
@@ -276,7 +278,7 @@ class Writer:
         known = [target for target in targets if api_names.definition(target.crate, *target.path)]
         shown = api_text.clause(text, scope, self.site.link_of)
         others = api_text.cited(api_text.unlabeled(text), scope, "std")
-        said = "".join("<p>%s</p>" % inline(words, lambda name: None) for words in api_source.proved(self.source, at if place is None else place))
+        said = "".join("<p>%s</p>" % inline(words) for words in api_source.proved(self.source, at if place is None else place))
         return '<div class="clause">%s<pre><code>%s</code></pre>%s</div>' % (said, shown, folded_definitions(self.site, known, others))
 
     def clauses(self, at, outer, owner):
@@ -391,7 +393,7 @@ def implementation(site, module, one):
         out.append('<pre class="sig"><code>%s</code></pre>' % writer.rust("\n".join(types)))
     for name, text, at in api_source.ghosts(module.source, one.at):
         said = api_source.comment_before(module.source, at)
-        out.append(document(said, 5, writer.code_link(one.type)) + writer.clause(text, at, one.at, "%s::%s" % (one.type, name)))
+        out.append(markdown.comment(said, 5, writer.code_link(one.type)) + writer.clause(text, at, one.at, "%s::%s" % (one.type, name)))
     for at in api_source.functions(module.source, one.at):
         if doc_of(module.source, at) or api_source.clauses(module.source, at):
             text = '<pre class="sig"><code>%s</code></pre>' % writer.rust(shown_signature(api_source.declared(module.source, at)))
@@ -425,7 +427,7 @@ def implementations(site, module, item):
 
 def page(title, main, side="", here=""):
     """A whole page."""
-    places = [("index.html", "Crates"), (DEFINITIONS, "Definitions"), (STANDARD, "Standard")]
+    places = [("index.html", "Start"), ("docs.html", "Documents"), (CRATES, "Crates"), (DEFINITIONS, "Definitions"), (STANDARD, "Standard"), ("inspector.html", "Inspector")]
     links = "".join('<a href="%s"%s>%s</a>' % (href, ' aria-current="page"' if href == here else "", text) for href, text in places)
     frame = '<nav class="side" aria-label="On this page">%s</nav>' % side if side else ""
     return PAGE % {"title": escaped(title), "version": escaped(common.version()), "links": links, "side": frame, "main": main}
@@ -451,7 +453,7 @@ def contents(kind, pairs):
     rows = []
     for module, item in pairs:
         href = "#" + anchor(kind, item.name)
-        said = inline(summary(doc_of(module.source, item.at)), lambda name: None)
+        said = inline(summary(doc_of(module.source, item.at)))
         rows.append("<li>%s<span>%s</span></li>" % (link(href, breakable(item.name)), said))
     return '<ul class="contents">%s</ul>' % "".join(rows)
 
@@ -473,7 +475,7 @@ def crate_page(site, crate):
     groups = grouped(site.modules[crate])
     side = ["<p>%s</p>" % escaped(crate)]
     root = Writer(site, api_source.Module(crate, "lib", api_source.source_of(crate, "lib"), []))
-    out = ["<h1>Crate <span>%s</span></h1>" % escaped(crate), document(api_source.about_lines(crate), 2, root.code_link(crate))]
+    out = ["<h1>Crate <span>%s</span></h1>" % escaped(crate), markdown.comment(api_source.about_lines(crate), 2, root.code_link(crate))]
     jump = ['<a href="#%s">%s <span>%d</span></a>' % (kind, title(kind), len(pairs)) for kind, pairs in groups.items()]
     out += ['<p class="jump">%s</p>' % "".join(jump), again_html(site, crate)]
     for kind, pairs in groups.items():
@@ -530,63 +532,22 @@ def definition_entry(site, one):
 
 
 ABOUT_DEFINITIONS = "The definitions of the crates: those that contracts cite, and those that these use in turn."
-ABOUT = (
-    "The Rattle crates of Pulleynavy, a streaming parser for WebAssembly binaries. Each item has its signature, its documentation and its contract: "
-    "the <code>requires</code> and <code>ensures</code> clauses, which are proved. Open <em>Definitions</em> under a clause to see what it cites. "
-    "If you know the standard, begin at <a href=\"standard.html\">its productions</a>, each beside our definition."
-)
-
-
-ABOUT_EXAMPLES = (
-    "An example is the body of a function that has a runtime, <code>rt: HostRuntime</code>, and its allocator, <code>alloc</code>, and that returns a "
-    "<code>Result</code>: <code>?</code> takes any error. The public names of the crate and of the crates below it are imported. "
-    "The assertions of Rattle take the runtime first: <code>assert_eq!(rt; a, b)</code>. All examples are compiled and run as tests."
-)
-ABOUT_CONTRACTS = (
-    "A clause is written with definitions and a few symbols. Arguments follow a definition after spaces: <code>f x y</code> is what C writes <code>f(x, y)</code>."
-)
-SYMBOLS = (
-    ("requires { P }", "A precondition: the caller has to meet P."),
-    ("ensures name { P }", "A postcondition: P is proved for every input, each time the function returns. It may have a name."),
-    ("ensures* name { .. }", "A postcondition in separation logic, about the value behind a returned borrow."),
-    ("ghost name", "A value that a type or a trait has for contracts alone. It does not exist at run time."),
-    ("result", "The returned value."),
-    ("x.old, x.new", "A mutable reference: its value before and after the call."),
-    ("x.now", "A shared reference: its value."),
-    ("x.entry, x.exit", "A parameter as it was passed, and at the return."),
-    ("a ≡ b, a ≢ b", "a equals b; a does not equal b."),
-    ("P → Q, P ↔ Q, ¬ P, P × Q", "If P then Q; P exactly if Q; not P; P and Q."),
-    ("(x : A) → P, (x : A) × P", "P for every x of A; P for some x of A."),
-    ("λ x. y", "The function that maps x to y."),
-    ("x ∷ xs, xs ++ ys, []", "A list by its first element and the others; two lists joined; the empty list."),
-    ("ℕ, 2 ^ 64", "The natural numbers, which do not overflow; a power."),
-    ("T.name, ⟦<T as Trait>⟧.name", "The ghost value with this name, of the type T."),
-    ("«data»", "A parameter whose name is a word of contracts."),
-)
-
-
-def guide_html():
-    """What a reader has to know of the examples and of the contracts."""
-    rows = "".join("<dt><code>%s</code></dt><dd>%s</dd>" % (escaped(symbol), escaped(said)) for symbol, said in SYMBOLS)
-    examples = '<h2 id="examples"><a href="#examples">Examples</a></h2><p>%s</p>' % ABOUT_EXAMPLES
-    return examples + '<h2 id="contracts"><a href="#contracts">Contracts</a></h2><p>%s</p><dl class="parts">%s</dl>' % (ABOUT_CONTRACTS, rows)
 
 
 def index_page(site):
-    rows = []
+    """The crates, and what a reader has to know of the examples and of the contracts."""
+    rows, (guide, _) = [], markdown.document("tools/lib/templates/reference.md", lambda path: path.rpartition("/")[2])
     for crate in api_source.LIBRARIES:
         counts = grouped(site.modules[crate])
         said = ", ".join("%d %s" % (len(pairs), GROUPS[kind][len(pairs) > 1]) for kind, pairs in counts.items())
-        about = inline(api_source.about(crate), lambda name: None)
-        rows.append("<li>%s<span>%s</span><small>%s</small></li>" % (link(crate + ".html", escaped(crate)), about, said))
-    main = "<h1>Pulleynavy API</h1><p>%s</p><ul class=\"contents crates\">%s</ul>" % (ABOUT, "".join(rows))
-    return page("Pulleynavy API", main + guide_html(), here="index.html")
+        rows.append("<li>%s<span>%s</span><small>%s</small></li>" % (link(crate + ".html", escaped(crate)), inline(api_source.about(crate)), said))
+    return page("Pulleynavy API", guide.replace("<p>@CRATES@</p>", '<ul class="contents crates">%s</ul>' % "".join(rows)), here=CRATES)
 
 
 def script(site):
     """The script of the pages, with the index that it searches."""
     index = json.dumps(site.index, ensure_ascii=False, separators=(",", ":"))
-    return "const INDEX = %s;\n%s" % (index, api_source.read("tools", "lib", "api.js"))
+    return "const INDEX = %s;\n%s" % (index, common.read("tools", "lib", "api.js"))
 
 
 def files(more):
@@ -596,7 +557,7 @@ def files(more):
     found = {crate + ".html": crate_page(site, crate) for crate in api_source.LIBRARIES}
     found[DEFINITIONS] = definitions_page(site)
     found.update((name, write(site)) for name, write in more.items())
-    found["index.html"] = index_page(site)
-    found["api.css"] = api_source.read("tools", "lib", "api.css")
+    found[CRATES] = index_page(site)
+    found["api.css"] = common.read("tools", "lib", "api.css")
     found["api.js"] = script(site)
     return found, site

@@ -20,11 +20,6 @@ Member = collections.namedtuple("Member", "owner signature doc specs at")
 Impl = collections.namedtuple("Impl", "header trait type at")
 
 
-def read(*parts):
-    with open(os.path.join(common.TOP, *parts), encoding="utf-8") as file:
-        return file.read()
-
-
 # ---- what a crate gives
 
 
@@ -190,7 +185,7 @@ Module = collections.namedtuple("Module", "crate path source items")
 
 @functools.lru_cache(maxsize=None)
 def source_of(crate, module):
-    return Source(read("crates", crate, "src", module + ".rt"))
+    return Source(common.read("crates", crate, "src", module + ".rt"))
 
 
 @functools.lru_cache(maxsize=None)
@@ -204,7 +199,7 @@ def source_names(crate):
 def given_items(crate, module, names):
     """A module of a crate with the items of it that the crate gives, and the modules under it; all public ones where `names` is None."""
     source, under = source_of(crate, module), []
-    for child, given in sorted(given_names(read("crates", crate, "src", module + ".rt"))[0].items()):
+    for child, given in sorted(given_names(common.read("crates", crate, "src", module + ".rt"))[0].items()):
         if names is not None and os.path.exists(os.path.join(common.TOP, "crates", crate, "src", module, child + ".rt")):
             chosen = [name for name in given if name in names]
             names = [name for name in names if name not in chosen]
@@ -231,7 +226,7 @@ def members(module, name):
 
 def about_lines(crate):
     """The doc comment of a crate."""
-    return [line[4:].rstrip() for line in read("crates", crate, "src", "lib.rt").split("\n") if line.startswith("//!")]
+    return [line[4:].rstrip() for line in common.read("crates", crate, "src", "lib.rt").split("\n") if line.startswith("//!")]
 
 
 def about(crate):
@@ -242,7 +237,7 @@ def about(crate):
 
 def modules(crate):
     """The modules of a crate whose items it gives."""
-    names, public, _ = given_names(read("crates", crate, "src", "lib.rt"))
+    names, public, _ = given_names(common.read("crates", crate, "src", "lib.rt"))
     for module in sorted(set(names) | set(public)):
         yield from given_items(crate, module, None if module in public else names[module])
 

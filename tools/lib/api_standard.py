@@ -166,7 +166,7 @@ def definition_html(site, crate, name):
 def blocks():
     """The blocks of rows, each with the line that it begins at, the sections of the standard that its comment names, and its lines."""
     found, last = [], ""
-    for number, line in enumerate(api_source.read(*ROWS).split("\n"), 1):
+    for number, line in enumerate(common.read(*ROWS).split("\n"), 1):
         title = TITLE.match(line) if not last else None
         if title:
             of_standard = title[1] == "core specification"
@@ -231,7 +231,7 @@ def page(site):
 def sources():
     """The sources of definitions in the tables of DEFINITIONS, by the file and the name of each."""
     found = {}
-    for names, source in re.findall(r"^\| .* \| (`.*`) \| (.*) \|$", api_source.read("docs", "DEFINITIONS.md"), re.M):
+    for names, source in re.findall(r"^\| .* \| (`.*`) \| (.*) \|$", common.read("docs", "DEFINITIONS.md"), re.M):
         module = ""
         for name in re.findall(r"`([\w.]+)`", names):
             module, name = name.split(".", 1) if "." in name else (module, name)

@@ -177,8 +177,7 @@ def main():
         files = [(os.path.basename(path), path) for path in options.files]
         for what, make in [] if files else MADE:
             path = os.path.join(folder, make.__name__ + ".wasm")
-            with open(path, "wb") as file:
-                file.write(make(options.scale))
+            common.write(path, make(options.scale))
             files.append((what, path))
         out = os.path.join(folder, "out")
         crate = original.built(options.original, folder) if options.original else None

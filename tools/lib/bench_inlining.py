@@ -18,7 +18,7 @@ import bench_tables as bench
 import benches
 import common
 import toolchain
-from benches import Failed, run
+from benches import run
 
 MARKS = {"always": "alwaysinline", "never": "noinline"}
 # How many things a made file has. The count of an event hardly depends on it.
@@ -52,8 +52,7 @@ class Module:
     def built(self, marks):
         """The program with these functions marked."""
         module, made, program = (os.path.join(self.folder, name) for name in ("marked.ll", "marked.o", "marked"))
-        with open(module, "w", encoding="utf-8") as file:
-            file.write(self.marked(marks))
+        common.write(module, self.marked(marks))
         run(*toolchain.compile_command(self.folder, module, made))
         run(*toolchain.link_program(program, made))
         return program
@@ -64,8 +63,7 @@ def files(only, folder):
     for what, _, make, ways, by_made in bench.MADE:
         if only in what if only else "parse" in ways:
             path = os.path.join(folder, what.replace(" ", "_"))
-            with open(path, "wb") as file:
-                file.write(make(MANY))
+            common.write(path, make(MANY))
             yield what, path, [way for way in WAYS if way in ways], MANY if by_made else 0
 
 
@@ -119,6 +117,6 @@ def main():
                     changed = ["%s %+.1f" % (row, after[row] - before[row]) for row in before if abs(after[row] - before[row]) > 0.5]
                     if changed:
                         print("%s=%s: %s" % (name, mark, "; ".join(changed)), flush=True)
-        except Failed as failed:
+        except common.Failed as failed:
             common.stop(common.NO_PROGRAM, str(failed))
     return 0

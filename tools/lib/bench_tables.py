@@ -24,7 +24,6 @@ import re
 import shutil
 import statistics
 import subprocess
-import sys
 import tempfile
 import time
 
@@ -44,114 +43,68 @@ RUNS = 5
 
 # ---- the files
 
+# An item of each kind, by its number.
+TYPE, CODE = (lambda i: b"\x60\2\x7f\x7e\1\x7f"), (lambda i: b"\2\0\x0b")
+IMPORT, EXPORT = (lambda i: text("env") + text("import%d" % i) + b"\0\0"), (lambda i: text("export%d" % i) + b"\0" + leb(i))
+GLOBAL, DATA = (lambda i: b"\x7f\1\x41" + leb(i % 64) + b"\x0b"), (lambda i: b"\0\x41" + leb(i % 64) + b"\x0b" + leb(20) + b"d" * 20)
+NAMING, SYMBOL = (lambda i: leb(i) + text("function%d" % i)), (lambda i: b"\0\0" + leb(i) + text("symbol%d" % i))
+RELOCATION = lambda i: b"\0" + leb(7 * i) + leb(i % 1000)
 
-def customs(count):
-    return module(*(custom("custom%d" % (i % 10), b"data") for i in range(count)))
+
+def items(ident, one):
+    """What makes a module with a section of items."""
+    return lambda count: module(listed(ident, map(one, range(count))))
 
 
-def bodies(count, size=1000):
-    """A module with bodies that take this many bytes each, with their size of up to two bytes."""
+def in_custom(name, before, one):
+    """What makes a module with a custom section of items after these bytes; those of names and symbols are in a subsection."""
+    def make(count):
+        content = leb(count) + b"".join(map(one, range(count)))
+        return module(custom(name, before + (section({"name": 1, "linking": 8}[name], content) if name != "reloc.CODE" else content)))
+
+    return make
+
+
+def bodies(size):
+    """What makes a module with bodies that take this many bytes each, with their size of up to two bytes."""
     number = leb(size - len(leb(size - 2)))
     body = number + b"\0" + b"\1" * (size - len(number) - 2) + b"\x0b"
-    types = listed(S.TYPE_SECTION, [b"\x60\0\0"])
-    return module(types, listed(S.FUNCTION_SECTION, [b"\0"] * count), listed(S.CODE_SECTION, [body] * count))
+    return lambda count: module(listed(S.TYPE_SECTION, [b"\x60\0\0"]), listed(S.FUNCTION_SECTION, [b"\0"] * count), listed(S.CODE_SECTION, [body] * count))
 
 
-def small_bodies(count):
-    return bodies(count, 99)
-
-
-def segment(indices):
-    return module(section(S.ELEMENT_SECTION, b"\1\0\x41\0\x0b" + leb(len(indices)) + b"".join(map(leb, indices))))
-
-
-def small_indices(count):
-    return segment([i % 128 for i in range(count)])
-
-
-def mixed_indices(count):
-    return segment([300 if i % 10 == 9 else i % 128 for i in range(count)])
-
-
-def imports(count):
-    return module(listed(S.IMPORT_SECTION, (text("env") + text("import%d" % i) + b"\0\0" for i in range(count))))
-
-
-def exports(count):
-    return module(listed(S.EXPORT_SECTION, (text("export%d" % i) + b"\0" + leb(i) for i in range(count))))
+def segment(index):
+    """What makes a module with an element segment of indices."""
+    return lambda count: module(section(S.ELEMENT_SECTION, b"\1\0\x41\0\x0b" + leb(count) + b"".join(leb(index(i)) for i in range(count))))
 
 
 def functions(count):
     # A module with functions and no code is refused at its end, so these are the bodies too.
-    return module(listed(S.FUNCTION_SECTION, (leb(i % 300) for i in range(count))), listed(S.CODE_SECTION, [b"\2\0\x0b"] * count))
-
-
-def global_variables(count):
-    return module(listed(S.GLOBAL_SECTION, (b"\x7f\1\x41" + leb(i % 64) + b"\x0b" for i in range(count))))
-
-
-def data_segments(count):
-    return module(listed(S.DATA_SECTION, (b"\0\x41" + leb(i % 64) + b"\x0b" + leb(20) + b"d" * 20 for i in range(count))))
-
-
-def function_types(count):
-    return module(listed(S.TYPE_SECTION, [b"\x60\2\x7f\x7e\1\x7f"] * count))
-
-
-def unknowns(count):
-    return module(*(section(14 + i % 100, b"x" * 20) for i in range(count)))
-
-
-def names(count):
-    naming = leb(count) + b"".join(leb(i) + text("function%d" % i) for i in range(count))
-    return module(custom("name", section(1, naming)))
-
-
-def symbols(count):
-    table = leb(count) + b"".join(b"\0\0" + leb(i) + text("symbol%d" % i) for i in range(count))
-    return module(custom("linking", b"\2" + section(8, table)))
-
-
-def relocations(count):
-    entries = b"".join(b"\0" + leb(7 * i) + leb(i % 1000) for i in range(count))
-    return module(custom("reloc.CODE", b"\3" + leb(count) + entries))
+    return module(listed(S.FUNCTION_SECTION, (leb(i % 300) for i in range(count))), listed(S.CODE_SECTION, map(CODE, range(count))))
 
 
 def items_of_each_kind(count):
     """As many types, imports, functions, globals, exports, bodies and data segments, and twice as many names."""
-    naming = leb(2 * count) + b"".join(leb(i) + text("function%d" % i) for i in range(2 * count))
-    parts = [
-        listed(S.TYPE_SECTION, [b"\x60\2\x7f\x7e\1\x7f"] * count),
-        listed(S.IMPORT_SECTION, (text("env") + text("import%d" % i) + b"\0" + leb(i) for i in range(count))),
-        listed(S.FUNCTION_SECTION, map(leb, range(count))),
-        listed(S.GLOBAL_SECTION, (b"\x7f\1\x41" + leb(i % 64) + b"\x0b" for i in range(count))),
-        listed(S.EXPORT_SECTION, (text("export%d" % i) + b"\0" + leb(i) for i in range(count))),
-        listed(S.CODE_SECTION, [b"\x09\0" + b"\1" * 7 + b"\x0b"] * count),
-        listed(S.DATA_SECTION, (b"\0\x41" + leb(i % 64) + b"\x0b" + leb(20) + b"d" * 20 for i in range(count))),
-        custom("name", section(1, naming)),
-    ]
-    return module(*parts)
+    numbers, naming = range(count), leb(2 * count) + b"".join(map(NAMING, range(2 * count)))
+    kinds = [(S.TYPE_SECTION, TYPE), (S.IMPORT_SECTION, lambda i: IMPORT(i)[:-1] + leb(i)), (S.FUNCTION_SECTION, leb), (S.GLOBAL_SECTION, GLOBAL),
+             (S.EXPORT_SECTION, EXPORT), (S.CODE_SECTION, lambda i: b"\x09\0" + b"\1" * 7 + b"\x0b"), (S.DATA_SECTION, DATA)]
+    return module(*(listed(ident, map(one, numbers)) for ident, one in kinds), custom("name", section(1, naming)))
 
 
 # What each made file holds, how many of them, how it is made, and the ways in memory. The last says which count the time is shared
 # among: what the program counted, or the number of things made.
 MADE = [
-    ("custom sections", 200_000, customs, EVENT_WAYS, False),
-    ("bodies of 1,000 bytes", 40_000, bodies, EVENT_WAYS, False),
-    ("bodies of 99 bytes", 200_000, small_bodies, ["parse", "parse_all"], False),
-    ("unknown sections", 200_000, unknowns, ["parse"], False),
-    ("indices of one byte", 1_000_000, small_indices, ["indices", "items"], True),
-    ("indices, a tenth of two bytes", 1_000_000, mixed_indices, ["indices", "items"], True),
-    ("imports", 100_000, imports, ["items"], False),
-    ("exports", 100_000, exports, ["items"], False),
+    ("custom sections", 200_000, lambda count: module(*(custom("custom%d" % (i % 10), b"data") for i in range(count))), EVENT_WAYS, False),
+    ("bodies of 1,000 bytes", 40_000, bodies(1000), EVENT_WAYS, False),
+    ("bodies of 99 bytes", 200_000, bodies(99), ["parse", "parse_all"], False),
+    ("unknown sections", 200_000, lambda count: module(*(section(14 + i % 100, b"x" * 20) for i in range(count))), ["parse"], False),
+    ("indices of one byte", 1_000_000, segment(lambda i: i % 128), ["indices", "items"], True),
+    ("indices, a tenth of two bytes", 1_000_000, segment(lambda i: 300 if i % 10 == 9 else i % 128), ["indices", "items"], True),
     ("functions", 100_000, functions, ["items"], False),
-    ("globals", 100_000, global_variables, ["items"], False),
-    ("data segments", 100_000, data_segments, ["items"], False),
-    ("types of two parameters and a result", 100_000, function_types, ["items"], False),
-    ("names", 100_000, names, ["items"], False),
-    ("symbols", 100_000, symbols, ["items"], False),
-    ("relocations", 100_000, relocations, ["items"], False),
 ]
+MADE += [(name, 100_000, make, ["items"], False) for name, make in [
+    ("imports", items(S.IMPORT_SECTION, IMPORT)), ("exports", items(S.EXPORT_SECTION, EXPORT)), ("globals", items(S.GLOBAL_SECTION, GLOBAL)),
+    ("data segments", items(S.DATA_SECTION, DATA)), ("types of two parameters and a result", items(S.TYPE_SECTION, TYPE)),
+    ("names", in_custom("name", b"", NAMING)), ("symbols", in_custom("linking", b"\2", SYMBOL)), ("relocations", in_custom("reloc.CODE", b"\3", RELOCATION))]]
 WORDS = {
     "parse": "an event, parse",
     "parse_all": "an event, parse_all",
@@ -263,8 +216,7 @@ def print_instructions(given, folder):
         if given.only not in what:
             continue
         count = usual // 10
-        with open(path, "wb") as out:
-            out.write(make(count))
+        common.write(path, make(count))
         for way in ways:
             if way in ("16", "1"):
                 continue
@@ -286,8 +238,7 @@ def print_dumps(only, folder):
     if only not in "dump":
         return
     path, rows = os.path.join(folder, "made.wasm"), []
-    with open(path, "wb") as out:
-        out.write(items_of_each_kind(4000))
+    common.write(path, items_of_each_kind(4000))
     for options in ([], ["--bytes"], ["--json"], ["--color"]):
         wrote, calls = profiled([DUMPER, "dump", *options], path, folder)
         under = max((under for _, _, _, under in calls), default=0)
@@ -311,7 +262,7 @@ def build():
             common.stop(common.NO_PROGRAM, "%s could not be built" % name)
     try:
         benches.build()
-    except benches.Failed as failed:
+    except common.Failed as failed:
         common.stop(common.NO_PROGRAM, "the benchmark could not be built: %s" % failed)
 
 
@@ -322,10 +273,7 @@ def archive_in(folder, given):
     """Puts the C library into this folder, for the linker: the given archive, the prebuilt one if it is of these sources, or one that is built here."""
     path = given or os.path.join(common.PREBUILT, "libpulleynavy-x86_64.a")
     if not given and not common.is_prebuilt():
-        targets = os.path.join(folder, "targets")
-        path = os.path.join(targets, "libwasm_c-x86_64.a")
-        if subprocess.run([os.path.join(common.TOP, "tools", "build_targets"), targets, "x86_64", "--jobs", "4"], stdout=sys.stderr).returncode:
-            common.stop(common.NO_PROGRAM, "the C library could not be built")
+        path = os.path.join(programs.build_targets(os.path.join(folder, "targets"), "x86_64"), "libwasm_c-x86_64.a")
     return shutil.copy(path, os.path.join(folder, "libwasm_c.a"))
 
 
@@ -383,8 +331,7 @@ def print_callers(only, archive, folder):
         if ways is not EVENT_WAYS or only not in what:
             continue
         path = os.path.join(folder, "made.wasm")
-        with open(path, "wb") as out:
-            out.write(make(usual))
+        common.write(path, make(usual))
         ours = timed_in_memory(path, ways)
         # The crate for Rust has no feeder.
         takes = {"C": [way for way in ways if way != "parse_all"], "Rust": ["parse", "parse_all"]}
@@ -474,8 +421,7 @@ def of_made_files(sizes, only, folder):
         for size in sizes:
             count = int(usual * size)
             path = os.path.join(folder, "made.wasm")
-            with open(path, "wb") as out:
-                out.write(make(count))
+            common.write(path, make(count))
             times = timed_in_memory(path, ways)
             for way in ways:
                 counted, took = times.get(way, (0, 0))
@@ -512,15 +458,13 @@ def main():
         ("--sizes", {"metavar": "LIST", "type": sizes_of, "default": "0.1,1,10", "help": "how many times as large the made files are (0.1,1,10 if left out)"}),
         ("--only", {"metavar": "WORD", "default": "", "help": "the rows that contain this"}),
         ("--count", {"action": "store_true", "help": "the instructions alone"}),
-        ("--archive", {"metavar": "FILE", "help": "an archive of the C library, instead of the prebuilt one or one that is built here"}),
+        ("--archive", {"metavar": "FILE", "type": common.existing, "help": "an archive of the C library, instead of the prebuilt one or one that is built here"}),
         ("--original", {"metavar": "FOLDER", "help": "count this source of wasmparser too"}),
     ]
     options = common.arguments(__doc__, files=True, more=more)
     sizes = options.sizes
     if options.count and (options.files or not shutil.which("valgrind")):
         common.stop(common.WRONG_USE, "--count is for made files, and needs valgrind")
-    if options.archive and not os.path.isfile(options.archive):
-        common.stop(common.WRONG_USE, "there is no file %s" % options.archive)
     build()
     with tempfile.TemporaryDirectory() as folder:
         if not options.files and shutil.which("valgrind"):

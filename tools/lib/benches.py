@@ -4,7 +4,6 @@ It is in no crate, so `rt ci` doesn't prove it. `tools/bench` proves it before i
 """
 import os
 import shutil
-import subprocess
 import tempfile
 
 import common
@@ -13,10 +12,6 @@ import trial
 
 CRATE = "wasm_bench"
 PROGRAM = os.path.join(trial.BENCHES, "out", CRATE)
-
-
-class Failed(Exception):
-    """A command failed."""
 
 
 def libraries():
@@ -32,10 +27,8 @@ def written(place):
     return {path: shutil.copyfile(path, os.path.join(source, name)) for path, name in names.items()}
 
 
-def run(*words, **how):
-    done = subprocess.run(words, stdin=subprocess.DEVNULL, stdout=subprocess.PIPE, stderr=subprocess.STDOUT, **how)
-    if done.returncode:
-        raise Failed("%s: status %d\n%s" % (os.path.basename(words[0]), done.returncode, done.stdout.decode(errors="replace")[-2000:]))
+def run(*words, cwd=None):
+    return common.must(words, cwd)
 
 
 def proved(made, real):

@@ -75,8 +75,7 @@ class Browser:
         return self.send_to(element, "computedrole")
 
     def picture(self, path):
-        with open(path, "wb") as file:
-            file.write(base64.b64decode(self.send("screenshot")))
+        common.write(path, base64.b64decode(self.send("screenshot")))
 
 
 class Chromium(Browser):
@@ -150,8 +149,7 @@ class Firefox(Browser):
         profile = os.path.join(folder, "profile")
         os.makedirs(profile)
         preferences = {**PREFERENCES, "browser.download.dir": folder}
-        with open(os.path.join(profile, "user.js"), "w", encoding="ascii") as file:
-            file.writelines("user_pref(%s, %s);\n" % (json.dumps(name), json.dumps(value)) for name, value in preferences.items())
+        common.write(os.path.join(profile, "user.js"), "".join("user_pref(%s, %s);\n" % (json.dumps(name), json.dumps(value)) for name, value in preferences.items()))
         words = [program, "--headless", "--marionette", "--no-remote", "--remote-allow-system-access", "--profile", profile]
         quiet = {"stdout": subprocess.DEVNULL, "stderr": subprocess.DEVNULL}
         self.process = subprocess.Popen(words, env={**os.environ, "HOME": folder, "MOZ_HEADLESS": "1"}, start_new_session=True, **quiet)

@@ -17,8 +17,7 @@ SETTINGS = '[source.crates-io]\nreplace-with = "%s-crates"\n\n[source.%s-crates]
 
 
 def manifest():
-    with open(os.path.join(CRATE, "Cargo.toml"), encoding="utf-8") as file:
-        return file.read()
+    return common.read(os.path.join(CRATE, "Cargo.toml"))
 
 
 def oldest():
@@ -56,8 +55,7 @@ def write_registry(folder, digest=None):
     for name, row in rows.items():
         place = os.path.join(folder, "index", name[:2], name[2:4])
         os.makedirs(place, exist_ok=True)
-        with open(os.path.join(place, name), "w", encoding="ascii") as file:
-            file.write(json.dumps(row) + "\n")
+        common.write(os.path.join(place, name), json.dumps(row) + "\n")
 
 
 def offline(folder, registry=None):
@@ -85,5 +83,4 @@ def settings(kind, path):
 
 def write_settings(folder, kind, path):
     os.makedirs(os.path.join(folder, ".cargo"), exist_ok=True)
-    with open(os.path.join(folder, ".cargo", "config.toml"), "w", encoding="utf-8") as file:
-        file.write(settings(kind, path))
+    common.write(os.path.join(folder, ".cargo", "config.toml"), settings(kind, path))

@@ -21,7 +21,7 @@ COMMANDS = {
         "tests": ("try_tests", "the tests of tests/ and the benchmark, without proofs"),
         "examples": ("try_examples", "the examples of the doc comments, without proofs"),
         "c": ("try_c", "the C library, its examples, and the bindings for Rust and Python"),
-        "cross": ("try_cross", "the C library for aarch64, under qemu"),
+        "cross": ("try_desktops:cross", "the C library for aarch64, under qemu"),
         "desktops": ("try_desktops", "the C library for Windows, macOS, FreeBSD and riscv64, and its packages"),
         "js": ("try_js", "the JavaScript package in Node and browsers, and bundles of it"),
         "documents": ("try_documents", "the programs of docs/CALLING.md, in each language"),
@@ -34,6 +34,7 @@ COMMANDS = {
         "program": ("generate_program", "help texts, the manual page and completions of the program, from tools/lib/program.py"),
         "header": ("generate_header", "the header of the C library, and the declarations of the bindings"),
         "codes": ("generate_codes", "the numbers of enumerations for the crate for Rust, from the header"),
+        "program": ("generate_program", "the help texts, the manual page and the completions of pulleynavy"),
         "manuals": ("generate_manuals", "manual pages of ten calls of the C library, from the header"),
     },
     "bench": {
@@ -55,4 +56,8 @@ def run(tool, about):
         common.stop(common.WRONG_USE, "there is no %s; there are %s" % (words[0], ", ".join(known)))
     sys.argv = ["tools/%s %s" % (tool, words[0]), *words[1:]]
     module, _, name = known[words[0]][0].partition(":")
-    return getattr(importlib.import_module(module), name or "main")()
+    try:
+        return getattr(importlib.import_module(module), name or "main")()
+    except common.Failed as failed:
+        print("FAILED", failed)
+        return common.DIFFERS

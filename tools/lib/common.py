@@ -59,13 +59,20 @@ def write(path, data):
     return path
 
 
+def slug(heading):
+    """The anchor of a heading."""
+    text = re.sub(r"\[([^\]]*)\]\([^)]*\)", r"\1", heading).strip().lower()
+    return re.sub(r"[^\w\- ]", "", text).replace(" ", "-")
+
+
 class Failed(Exception):
     """A command failed, or something differs."""
 
 
 def must(words, folder=None, stream=b"", env=None, **options):
-    """What a command prints, its errors among it. Raises Failed if its status is not 0."""
-    done = subprocess.run(words, cwd=folder, input=stream, stdout=subprocess.PIPE, stderr=subprocess.STDOUT, env={**os.environ, **(env or {})}, **options)
+    """What a command prints, its errors among it. Raises Failed if its status is not 0. A variable that is None is not set."""
+    settings = {name: value for name, value in {**os.environ, **(env or {})}.items() if value is not None}
+    done = subprocess.run(words, cwd=folder, input=stream, stdout=subprocess.PIPE, stderr=subprocess.STDOUT, env=settings, **options)
     if done.returncode:
         raise Failed("%s: status %d\n%s" % (" ".join(map(str, words)), done.returncode, done.stdout.decode(errors="replace")[-4000:]))
     return done.stdout.decode(errors="replace")
@@ -102,6 +109,18 @@ def all_found(names):
     return all([found(name) for name in names])
 
 
+def has_library(name, package):
+    """Whether this Python has a library. If only Debian's own Python has it, that runs the tool instead."""
+    if importlib.util.find_spec(name):
+        return True
+    debian = "/usr/bin/python3"
+    has = os.path.realpath(sys.executable) != os.path.realpath(debian) and os.path.exists(debian)
+    if has and not subprocess.run([debian, "-c", "import " + name], stderr=subprocess.DEVNULL).returncode:
+        os.execv(debian, [debian, *sys.argv])
+    skip("missing: %s" % package)
+    return False
+
+
 # ---- arguments
 
 
@@ -115,6 +134,13 @@ def whole(word):
     if not word.isdecimal():
         raise argparse.ArgumentTypeError("%r is no number" % word)
     return int(word)
+
+
+def existing(path):
+    """The whole path of a file or folder that is there."""
+    if not os.path.exists(path):
+        raise argparse.ArgumentTypeError("there is no %s" % path)
+    return os.path.abspath(path)
 
 
 def arguments(doc, numbers=(), files=False, show=None, more=()):
@@ -140,12 +166,12 @@ def arguments(doc, numbers=(), files=False, show=None, more=()):
     return given
 
 
-def generate(doc, files):
-    """The main part of a tool that writes files, which are texts by their paths: with --check it says which differ. Returns its status."""
+def generate(doc, make):
+    """The main part of a tool that writes files. `make` returns their texts by their paths. With --check it says which differ. Returns its status."""
     line = parser(doc, usage="%(prog)s [--check]")
     line.add_argument("--check", action="store_true", help="write nothing; the status is 1 if a file differs")
     given, status = line.parse_args(), 0
-    for path, text in files.items():
+    for path, text in make().items():
         is_current = os.path.exists(path) and read(path) == text
         if given.check and not is_current:
             print("%s is not what %s writes" % (os.path.relpath(path, TOP), sys.argv[0]))

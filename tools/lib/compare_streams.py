@@ -204,7 +204,7 @@ def message(line):
     return ("%s (at offset 0x%x)\n" % (said, int(offset))).encode()
 
 
-def strip_differs(words, model, data):
+def strip_differs(words, lister, model, data):
     """What differs of a stream that is stripped from its input and from a file, which is read twice; the result must list and strip the same."""
     lines = model.reading(data, 0, True)
     with tempfile.NamedTemporaryFile(suffix=".wasm") as file:
@@ -218,9 +218,9 @@ def strip_differs(words, model, data):
                     return "strip %s %s: %s" % (" ".join(options), "FILE" if way else "", text)
     if programs.status(lines):
         return None
-    left, list_words = stripped(data), programs.command("list", words[0])
+    left = stripped(data)
     return (differing(model.strip(data), left) or differing(programs.run(words, left), (left, 0, b""))
-            or differing(programs.lines_of(list_words, left), (model.reading(left, 0, True), 0, b"")))
+            or differing(programs.lines_of(lister, left), (model.reading(left, 0, True), 0, b"")))
 
 
 def wabt_differs(words, data):
@@ -246,10 +246,11 @@ def strip():
     with a fault nothing is left, and the fault is reported. What is left must list without a fault, and be left by stripping it again.
     """
     given = comparing.arguments(strip.__doc__, "strip", common.MODEL, numbers=[("seed", 1), ("count", 2000)], files=True)
-    others = set(common.modules_of(given.files)) if shutil.which("wasm-strip") else ()
+    others, is_same = set(common.modules_of(given.files)) if shutil.which("wasm-strip") else (), programs.WORDS["list"][0] == programs.WORDS["strip"][0]
+    lister = programs.command("list", given.program if is_same else None)
 
     def differs(data):
-        return strip_differs(given.command, given.known, data) or (wabt_differs(given.command, data) if data in others else None)
+        return strip_differs(given.command, lister, given.known, data) or (wabt_differs(given.command, data) if data in others else None)
 
     return comparing.compare(given, comparing.drawn(given, some_stream), comparing.one_by_one(differs))
 

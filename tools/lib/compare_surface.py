@@ -39,8 +39,7 @@ def pages(folder):
     for name in os.listdir(place):
         item = PAGE.match(name)
         if item:
-            with open(os.path.join(place, name), encoding="utf-8") as file:
-                text = file.read()
+            text = common.read(os.path.join(place, name))
             own = OF_TRAITS.split(text)[0]
             members = {member.replace(".field.", ".") for member in MEMBER.findall(own) if not member.endswith(".fields")}
             traits = set(re.findall(IMPLEMENTED % item[1], text)) | set(re.findall(r'id="impl-(\w+)(?:%3C[^"]*%3E)?-for-%26', text))

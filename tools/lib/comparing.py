@@ -6,13 +6,28 @@ from concurrent.futures import ThreadPoolExecutor
 
 import common
 import programs
+from texts import number_at
 
 # How often a failing stream is made smaller and tried, and how many streams are looked at together.
 TRIES, BATCH = 3000, 4000
 
 
+def sections_in(data):
+    """Where each section of a module begins and ends, as far as they can be read."""
+    place = 8
+    try:
+        while place < len(data):
+            size, start = number_at(data, place + 1)
+            yield place, min(len(data), start + size)
+            place = start + size
+    except IndexError:
+        return
+
+
 def smallest(data, fails):
-    """The smallest bytes that still fail: parts are left out, and bytes become 0, as long as `fails` is true of the rest."""
+    """The smallest bytes that still fail: sections and parts are left out, and bytes become 0, as long as `fails` is true of the rest."""
+    for start, end in reversed(list(sections_in(data))):
+        data = data[:start] + data[end:] if fails(data[:start] + data[end:]) else data
     tries, size = TRIES, max(1, len(data) // 2)
     while size and tries > 0:
         at, has_changed = 0, False

@@ -11,21 +11,9 @@ import wine
 
 TARGET = "x86_64-pc-windows-gnu"
 # Rust takes random numbers from a DLL that wine 8 lacks.
-RANDOM = """#include <windows.h>
-BOOLEAN NTAPI SystemFunction036(PVOID, ULONG);
-__declspec(dllexport) BOOL WINAPI ProcessPrng(PBYTE bytes, SIZE_T size) { return SystemFunction036(bytes, (ULONG)size); }
-"""
+RANDOM = common.read("tools", "lib", "templates", "random.c")
 # Runs the tests of a file, which begin with a line that says how many there are. A run without it is one that wine lost.
-RUNNER = """#!/bin/sh
-for turn in 1 2 3; do
-    WINEPATH='%(dlls)s' %(wine)s "$@" > "$0.$$" 2>&1
-    status=$?
-    grep -q '^running [0-9]' "$0.$$" && break
-    echo "status $status, did not begin: $*" >> '%(folder)s/repeated'
-done
-cat "$0.$$"
-exit $status
-"""
+RUNNER = common.read("tools", "lib", "templates", "runner.sh")
 
 
 def compiler():
@@ -40,28 +28,20 @@ def compiler():
     return None
 
 
-def written(path, text):
-    with open(path, "w", encoding="ascii") as file:
-        file.write(text)
-    return path
-
-
 def runner(place, system):
     """A script that runs a program of cargo under wine."""
     dll = os.path.join(place, "bcryptprimitives.dll")
-    subprocess.run([wine.COMPILERS[0], "-shared", "-static", "-o", dll, written(os.path.join(place, "random.c"), RANDOM), "-ladvapi32"], check=True)
+    subprocess.run([wine.COMPILERS[0], "-shared", "-static", "-o", dll, common.write(os.path.join(place, "random.c"), RANDOM), "-ladvapi32"], check=True)
     dlls = "Z:" + place.replace("/", "\\")
-    script = written(os.path.join(place, "wine"), RUNNER % {"dlls": dlls, "wine": " ".join([*system.words, "wine"]), "folder": system.folder})
+    script = common.write(os.path.join(place, "wine"), RUNNER % {"dlls": dlls, "wine": " ".join([*system.words, "wine"]), "folder": system.folder})
     os.chmod(script, 0o755)
     return script
 
 
 def without_serde(path):
     """Removes the optional dependency from a manifest. Cargo looks for it too, and it isn't among the crates that the standard library needs."""
-    with open(path, encoding="utf-8") as file:
-        text = file.read()
-    with open(path, "w", encoding="utf-8") as file:
-        file.write(re.sub(r"^serde = .*\n", "", text, flags=re.M))
+    text = common.read(path)
+    common.write(path, re.sub(r"^serde = .*\n", "", text, flags=re.M))
 
 
 def differences(library, system):

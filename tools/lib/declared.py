@@ -22,11 +22,6 @@ DEFINITION = re.compile(
 )
 
 
-def read(path):
-    with open(path, encoding="utf-8") as file:
-        return file.read()
-
-
 def without_texts(code):
     """Code with blanks in the place of its comments and texts."""
     return NO_CODE.sub(lambda found: re.sub(r"[^\n]", " ", found[0]), code)
@@ -90,13 +85,13 @@ def functions_of(text):
 
 def definitions_of(path):
     """The names that a file of specs or proofs declares: definitions, records and their fields, cases and their arguments."""
-    code = re.sub(r"(^|\s)--[^\n]*", r"\1", read(path))
+    code = re.sub(r"(^|\s)--[^\n]*", r"\1", common.read(path))
     return set(DEFINITION.findall(code)) | set(re.findall(r"\bpub (?:data |record )?([A-Za-z_][\w-]*)", code))
 
 
 def passed_on(path):
     """The names of other files that a file of proofs passes on, by the names that it gives them."""
-    listed = ",".join(re.findall(r"^pub use\b[^{\n]*\{([^}]*)\}", read(path), re.M))
+    listed = ",".join(re.findall(r"^pub use\b[^{\n]*\{([^}]*)\}", common.read(path), re.M))
     return {word.split(" as ")[-1].strip() for word in listed.split(",") if word}
 
 
@@ -110,8 +105,8 @@ class Crate:
         for path in common.files_of(name):
             folder, module = os.path.relpath(path, top).split(os.sep)[0], os.path.basename(path).partition(".")[0]
             if folder == "src" and path.endswith(".rt"):
-                self.texts |= set(re.findall(r'"(\w+)"', read(path)))
-                self.add_code(without_texts(read(path)))
+                self.texts |= set(re.findall(r'"(\w+)"', common.read(path)))
+                self.add_code(without_texts(common.read(path)))
             elif folder == "specs":
                 self.specs[module] = definitions_of(path)
             elif folder == "proofs":

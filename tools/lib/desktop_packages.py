@@ -52,25 +52,9 @@ NEEDED = {"windows": "pulleynavy.dll", "macos": "@rpath/libpulleynavy.dylib"}
 SW_VERS = "#!/bin/sh\necho 11.0\n"
 
 
-class Failed(Exception):
-    """A command failed."""
-
-
 def must(words, folder=None, **more):
     """What a command prints. No library is named to it."""
-    environment = {name: value for name, value in os.environ.items() if name != "PULLEYNAVY_LIB"}
-    done = subprocess.run(words, cwd=folder, stdin=subprocess.DEVNULL, stdout=subprocess.PIPE, stderr=subprocess.STDOUT, env={**environment, **more})
-    text = done.stdout.decode(errors="replace")
-    if done.returncode:
-        raise Failed("%s: status %d\n%s" % (" ".join(words), done.returncode, text[-3000:]))
-    return text
-
-
-def written(path, text):
-    os.makedirs(os.path.dirname(path), exist_ok=True)
-    with open(path, "w", encoding="ascii") as file:
-        file.write(text)
-    return path
+    return common.must(words, folder, env={"PULLEYNAVY_LIB": None, **more})
 
 
 def make(targets, folder):
@@ -143,7 +127,7 @@ def loader(folder, wheel):
     calls = list(declared.CALLS)
     text = LOADER % (len(calls), ", ".join('"%s"' % name for name in calls)) + "".join(JUMP.format(name, 8 * place) for place, name in enumerate(calls))
     library = os.path.join(folder, "wheel", "pulleynavy", _library.name_on("win32"))
-    return written(os.path.join(folder, "loader.c"), text), "Z:" + library.replace("/", "\\")
+    return common.write(os.path.join(folder, "loader.c"), text), "Z:" + library.replace("/", "\\")
 
 
 # ---- Rust
@@ -174,7 +158,7 @@ def wrong_crate(targets, folder):
             continue
         linked = os.path.join(found.get("rustc-link-search", ""), found.get("rustc-link-lib", ""))
         wanted = os.path.join(targets, CRATE[triple])
-        if os.path.basename(linked) != os.path.basename(wanted) or packages.read(linked) != packages.read(wanted):
+        if os.path.basename(linked) != os.path.basename(wanted) or common.read_bytes(linked) != common.read_bytes(wanted):
             yield "the crate links %s on %s: %s" % (linked, triple, found)
 
 
@@ -191,7 +175,7 @@ def unpacked(folder, target):
 
 def built(place, package, sources, words, **more):
     """Has CMake build both programs in a folder over a package. Returns the folder of the programs."""
-    written(os.path.join(place, "CMakeLists.txt"), CMAKE % (common.version(), " ".join('"%s"' % path for path in sources)))
+    common.write(os.path.join(place, "CMakeLists.txt"), CMAKE % (common.version(), " ".join('"%s"' % path for path in sources)))
     must(["cmake", "-S", place, "-B", place + "/out", "-DCMAKE_PREFIX_PATH=" + package, *words], **more)
     must(["cmake", "--build", place + "/out"], **more)
     return place + "/out"
@@ -220,14 +204,14 @@ def wrongly_linked(folder, target):
     if not common.all_found(["cmake", "clang", "lld", "llvm-ar", "llvm-readobj"]):
         return
     place = os.path.join(folder, "cmake-" + target)
-    os.chmod(written(os.path.join(place, "bin", "sw_vers"), SW_VERS), 0o755)
-    source, stub = written(os.path.join(place, "alone.c"), ALONE), written(os.path.join(place, "libSystem.tbd"), desktops.STUB)
+    os.chmod(common.write(os.path.join(place, "bin", "sw_vers"), SW_VERS), 0o755)
+    source, stub = common.write(os.path.join(place, "alone.c"), ALONE), common.write(os.path.join(place, "libSystem.tbd"), desktops.STUB)
     path = os.path.join(place, "bin") + os.pathsep + os.environ["PATH"]
     out = built(place, unpacked(folder, target), [source], options(target, stub), PATH=path)
     for name in ("pulleynavy", "static"):
         [program] = [path for path in glob.glob("%s/names_%s*" % (out, name)) if path.endswith((name, ".exe"))]
         needed = NEEDED[target.partition("-")[2]] in must(["llvm-readobj", "--needed-libs", program]).split()
-        machine = machine_of(packages.read(program))
+        machine = machine_of(common.read_bytes(program))
         if needed != (name == "pulleynavy") or machine != WHEELS[target][4]:
             yield "CMake for %s: names_%s needs the shared library: %s, its processor: %s" % (target, name, needed, machine)
 

@@ -8,7 +8,6 @@ import itertools
 import os
 import re
 import shutil
-import subprocess
 
 import common
 import toolchain
@@ -33,37 +32,16 @@ LINES = re.compile(r'^target (datalayout|triple) = ".*"$', re.M)
 # The two functions that the library calls, which all systems have. On riscv64 it calls memset too, which LLVM writes as stores elsewhere.
 CALLED = ("memcpy", "memmove")
 # The system library of macOS, as a linker wants to know it.
-STUB = """--- !tapi-tbd
-tbd-version: 4
-targets: [ x86_64-macos, arm64-macos ]
-install-name: '/usr/lib/libSystem.B.dylib'
-exports:
-  - targets: [ x86_64-macos, arm64-macos ]
-    symbols: [ _memcpy, _memmove, dyld_stub_binder ]
-...
-"""
-
-
-class Failed(Exception):
-    """A command failed, or a module differs in other lines."""
+STUB = common.read("tools", "lib", "templates", "libSystem.tbd")
 
 
 def run(*words, folder=None):
-    done = subprocess.run(words, cwd=folder, stdin=subprocess.DEVNULL, stdout=subprocess.PIPE, stderr=subprocess.STDOUT)
-    said = done.stdout.decode(errors="replace")
-    if done.returncode:
-        raise Failed("%s: status %d\n%s" % (" ".join(words), done.returncode, said[-3000:]))
-    return said
-
-
-def read(path):
-    with open(path, "rb") as file:
-        return file.read()
+    return common.must(words, folder)
 
 
 def exports():
     """The names that the header declares."""
-    return sorted(re.findall(r"^\w[^\n(]*?\b(pulleynavy_\w+)\(", read(HEADER).decode(), re.M))
+    return sorted(re.findall(r"^\w[^\n(]*?\b(pulleynavy_\w+)\(", common.read_bytes(HEADER).decode(), re.M))
 
 
 # ---- the module
@@ -88,7 +66,7 @@ def retargeted(text, triple):
     differing = changed(text, made)
     kinds = [LINES.fullmatch(line or "") and LINES.fullmatch(line)[1] for line, _ in differing]
     if sorted(map(str, kinds)) not in (["datalayout", "triple"], ["triple"]) or [there for _, there in differing] != [lines[kind] for kind in kinds]:
-        raise Failed("the module for %s differs from that of Linux in other lines: %s" % (triple, differing[:5]))
+        raise common.Failed("the module for %s differs from that of Linux in other lines: %s" % (triple, differing[:5]))
     return made
 
 
@@ -96,21 +74,20 @@ def retargeted(text, triple):
 def text_of(kept, archive):
     """The kept module as text. Compiled as it is, that must give the object in the archive for Linux."""
     path, made = os.path.join(kept, "module.ll"), os.path.join(kept, "again.o")
-    if read(os.path.join(kept, "module")).startswith(BITCODE):
+    if common.read_bytes(os.path.join(kept, "module")).startswith(BITCODE):
         run(*toolchain.text_command(kept, path))
     else:
         shutil.copyfile(os.path.join(kept, "module"), path)
     run(*toolchain.compile_command(kept, path, made), folder=kept)
-    if read(made) not in read(archive):
-        raise Failed("%s is not in %s" % (made, archive))
-    return read(path).decode()
+    if common.read_bytes(made) not in common.read_bytes(archive):
+        raise common.Failed("%s is not in %s" % (made, archive))
+    return common.read_bytes(path).decode()
 
 
 def compiled(kept, text, triple, made):
     """Compiles a text for this triple with the words of the kept module; for another processor without the word that names it."""
     module = made + ".ll"
-    with open(module, "w", encoding="utf-8") as file:
-        file.write(retargeted(text, triple))
+    common.write(module, retargeted(text, triple))
     words = toolchain.compile_command(kept, module, made)
     if triple.startswith("riscv64"):
         words = [word for word in words if not word.startswith("-march=")]
@@ -125,15 +102,9 @@ def archive(kind, path, made):
     run(os.path.join(toolchain.llvm(), "bin", "llvm-ar"), "--format=" + kind, "rcsD", path, made)
 
 
-def written(path, text):
-    with open(path, "w", encoding="ascii") as file:
-        file.write(text)
-    return path
-
-
 def import_library(folder, name, called, machine):
     """An import library of a DLL with these functions."""
-    names = written(os.path.join(folder, name + ".def"), "LIBRARY %s\nEXPORTS\n%s\n" % (name, "\n".join(called)))
+    names = common.write(os.path.join(folder, name + ".def"), "LIBRARY %s\nEXPORTS\n%s\n" % (name, "\n".join(called)))
     path = os.path.join(folder, name + ".lib")
     run("llvm-dlltool", "-m", machine, "-d", names, "-l", path)
     return path
@@ -151,8 +122,8 @@ def dll(folder, machine, place):
 
 def dylib(folder, machine, place):
     """The dynamic library. For arm64 the linker adds the signature without a certificate that macOS wants."""
-    names = written(os.path.join(place, "exports"), "".join("_%s\n" % name for name in exports()))
-    system = written(os.path.join(place, "libSystem.tbd"), STUB)
+    names = common.write(os.path.join(place, "exports"), "".join("_%s\n" % name for name in exports()))
+    system = common.write(os.path.join(place, "libSystem.tbd"), STUB)
     words = ["-dylib", "-arch", "arm64" if machine == "aarch64" else machine, "-platform_version", "macos", "11.0.0", "11.0.0"]
     words += ["-install_name", "@rpath/libpulleynavy.dylib", "-exported_symbols_list", names, "-all_load"]
     run("lld", "-flavor", "darwin", *words, "-o", os.path.join(folder, "libpulleynavy.dylib"), os.path.join(folder, "libpulleynavy.a"), system)

@@ -45,13 +45,18 @@ def owner_of(line):
     return found[1] if found else ""
 
 
-def said_in(lines, at, names):
-    """The first definition of ours that the clause at a line names, in parentheses."""
+def clause_text(lines, at):
+    """What the clause or the ghost member at a line says."""
     text = lines[at].partition("{")[2] or lines[at].partition("=")[2]
     while text.count("{") >= text.count("}") and at + 1 < len(lines) and lines[at + 1].startswith("      "):
         at += 1
         text += " " + lines[at]
-    found = next((word for word in re.findall(r"\w+", text) if word in names), None)
+    return text
+
+
+def said_in(lines, at, names):
+    """The first definition of ours that the clause at a line names, in parentheses."""
+    found = next((word for word in re.findall(r"\w+", clause_text(lines, at)) if word in names), None)
     return " (`%s`)" % found if found else ""
 
 
@@ -77,6 +82,8 @@ def proved(crate, module):
     imported = re.findall(r"ghost use Rattle\.wasm_\w+\.specs\.[\w.]+?\.\{([^}]*)\}", "\n".join(lines))
     names = {word.split(" as ")[-1].strip() for one in imported for word in one.split(",")} - NOT_SAID
     for text, at in comments(lines, "// Proved: "):
+        if not MEMBER.match(lines[at]) and not CLAUSE.match(lines[at]):
+            common.stop(common.DIFFERS, "crates/%s/src/%s.rt:%d: a comment says what a clause proves, and no clause is below it" % (crate, module, at + 1))
         words, cited = re.fullmatch(r"(.*?)(?: \[(.*)\])?", text).groups()
         yield at, (words, cited or citation(lines, at, module, names))
 
@@ -92,6 +99,8 @@ def defined(crate, module):
     for text, at in comments(lines, "-- | "):
         words, others, source = parts_of_row(text)
         name = DEFINITION.match(lines[at])
+        if not name and not all(line.startswith("--") for line in lines[:at]):
+            common.stop(common.DIFFERS, "crates/%s/specs/%s.antt:%d: a comment says what a definition is, and none is below it" % (crate, module, at + 1))
         cited = "`%s`" % (module.split("/")[-1] + (".%s" % name[1] if name else ""))
         if others:
             cited += {"`": ", ", ";": ""}.get(others[0], " ") + others
@@ -134,9 +143,14 @@ def written(name):
     return "\n".join(made), left
 
 
-def main():
+def made():
+    """Both documents as they are generated."""
     texts = {name: written(name) for name in DOCUMENTS}
     for name, (_, left) in texts.items():
         if left:
             common.stop(common.DIFFERS, "docs/%s: no table has the rows of %s" % (name, ", ".join(left)))
-    return common.generate(__doc__, {os.path.join(common.TOP, "docs", name): text for name, (text, _) in texts.items()})
+    return {os.path.join(common.TOP, "docs", name): text for name, (text, _) in texts.items()}
+
+
+def main():
+    return common.generate(__doc__, made)

@@ -3,7 +3,7 @@
     tools/generate codes            writes the file
     tools/generate codes --check    reports whether the file is what it would write
 
-The header is generated itself, by tools/c_header.
+The header is generated itself, by `tools/generate header`.
 """
 import os
 import re
@@ -35,4 +35,4 @@ def file_of(header):
 
 
 def main():
-    return common.generate(__doc__, {TARGET: file_of(common.read(HEADER))})
+    return common.generate(__doc__, lambda: {TARGET: file_of(common.read(HEADER))})

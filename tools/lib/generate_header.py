@@ -276,18 +276,17 @@ def declared(struct):
     return lines + "} %s;\n" % name
 
 
+def crossing(kind):
+    """What a reference points to, whether it may change, and what a second argument with its length is called; None of a value."""
+    found = re.fullmatch(r"&(mut )?(?:\[(\w+)\]|(\w+))", kind)
+    return found and (found[2] or found[3], bool(found[1]), found[2] and ("size" if found[2] == "u8" else "count"))
+
+
 def argument(name, kind):
-    if kind == "&[u8]":
-        return "const uint8_t *%s, size_t %s_size" % (name, name)
-    if kind == "&mut [u8]":
-        return "uint8_t *%s, size_t %s_size" % (name, name)
-    if kind.startswith("&mut ["):
-        return "%s *%s, size_t %s_count" % (type_of(kind[6:-1]), name, name)
-    if kind.startswith("&mut "):
-        return "%s *%s" % (type_of(kind[5:]), name)
-    if kind.startswith("&"):
-        return "const %s *%s" % (type_of(kind[1:]), name)
-    return "%s %s" % (type_of(kind), name)
+    to, may_change, length = crossing(kind) or (None, None, None)
+    if not to:
+        return "%s %s" % (type_of(kind), name)
+    return "%s%s *%s%s" % ("" if may_change else "const ", type_of(to), name, ", size_t %s_%s" % (name, length) if length else "")
 
 
 def declared_call(name, result, arguments):
@@ -376,17 +375,10 @@ def rust_type(kind):
 
 
 def rust_argument(name, kind):
-    if kind == "&[u8]":
-        return "%s: *const u8, %s_size: usize" % (name, name)
-    if kind == "&mut [u8]":
-        return "%s: *mut u8, %s_size: usize" % (name, name)
-    if kind.startswith("&mut ["):
-        return "%s: *mut %s, %s_count: usize" % (name, rust_type(kind[6:-1]), name)
-    if kind.startswith("&mut "):
-        return "%s: &mut %s" % (name, rust_type(kind[5:]))
-    if kind.startswith("&"):
-        return "%s: &%s" % (name, rust_type(kind[1:]))
-    return "%s: %s" % (name, rust_type(kind))
+    to, may_change, length = crossing(kind) or (None, None, None)
+    if length:
+        return "%s: *%s %s, %s_%s: usize" % (name, "mut" if may_change else "const", rust_type(to), name, length)
+    return "%s: %s%s" % (name, "&mut " if may_change else "&" if to else "", rust_type(to or kind))
 
 
 def rust():
@@ -413,11 +405,10 @@ def python_type(kind):
 
 
 def python_arguments(kind):
-    if kind in ("&[u8]", "&mut [u8]"):
-        return ["ctypes.c_void_p", "ctypes.c_size_t"]
-    if kind.startswith("&mut ["):
-        return ["ctypes.POINTER(%s)" % python_type(kind[6:-1]), "ctypes.c_size_t"]
-    return ["ctypes.POINTER(%s)" % python_type(kind.split()[-1].lstrip("&"))] if kind.startswith("&") else [python_type(kind)]
+    to, _, length = crossing(kind) or (None, None, None)
+    if not to:
+        return [python_type(kind)]
+    return ["ctypes.c_void_p" if to == "u8" else "ctypes.POINTER(%s)" % python_type(to)] + ["ctypes.c_size_t"] * bool(length)
 
 
 def python():
@@ -470,31 +461,27 @@ def pascal(tag):
     return "".join(word.capitalize() for word in tag.split("_")[1:])
 
 
+def in_javascript(comment, enumeration, struct, row):
+    """The enumerations and the layouts for JavaScript, or as its types: the forms of a comment, of both and of a row."""
+    text = ""
+    for said, tag, _, rows in enumerations(True):
+        text += "\n" + comment % (said.split(": ")[0].rstrip(".") + ".") + enumeration % (pascal(tag), "".join(row % one for one in rows))
+    yield text
+    yield "".join(struct % (name, "".join(row % one for one in [("SIZE", size), *((field, at) for field, at, _, _ in fields)])) for name, size, fields in structs())
+
+
 def javascript():
     """The declarations for JavaScript: enumerations, layouts, and the names of the calls."""
-    text = JAVASCRIPT_HEAD + '\nexport const VERSION = "%s";\n' % common.version()
-    for comment, tag, prefix, rows in enumerations(True):
-        values = "".join("    %s: %d,\n" % row for row in rows)
-        text += "\n// %s\nexport const %s = Object.freeze({\n%s});\n" % (comment.split(": ")[0].rstrip(".") + ".", pascal(tag), values)
-    text += JAVASCRIPT_LAYOUTS
-    for name, size, fields in structs():
-        text += "export const %sLayout = Object.freeze({\n    SIZE: %d,\n" % (name, size)
-        text += "".join("    %s: %d,\n" % (field, at) for field, at, _, _ in fields) + "});\n"
-    text += "\n// The calls that the module exports.\nexport const CALLS = Object.freeze([\n"
-    text += "".join('    "%s",\n' % call for name in SOURCES for call, _, _, _ in calls_of(source(name)))
-    return text + "]);\n"
+    found, layouts = in_javascript("// %s\n", "export const %s = Object.freeze({\n%s});\n", "export const %sLayout = Object.freeze({\n%s});\n", "    %s: %d,\n")
+    calls = "".join('    "%s",\n' % call for name in SOURCES for call, _, _, _ in calls_of(source(name)))
+    text = JAVASCRIPT_HEAD + '\nexport const VERSION = "%s";\n' % common.version() + found + JAVASCRIPT_LAYOUTS + layouts
+    return text + "\n// The calls that the module exports.\nexport const CALLS = Object.freeze([\n%s]);\n" % calls
 
 
 def typescript():
     """The types of `javascript`."""
-    text = JAVASCRIPT_HEAD + "\nexport declare const VERSION: string;\n"
-    for comment, tag, prefix, rows in enumerations(True):
-        values = "".join("    readonly %s: %d;\n" % row for row in rows)
-        text += "\n/** %s */\nexport declare const %s: {\n%s};\n" % (comment.split(": ")[0].rstrip(".") + ".", pascal(tag), values)
-    for name, size, fields in structs():
-        text += "\nexport declare const %sLayout: {\n    readonly SIZE: %d;\n" % (name, size)
-        text += "".join("    readonly %s: %d;\n" % (field, at) for field, at, _, _ in fields) + "};\n"
-    return text + "\nexport declare const CALLS: readonly string[];\n"
+    found, layouts = in_javascript("/** %s */\n", "export declare const %s: {\n%s};\n", "\nexport declare const %sLayout: {\n%s};\n", "    readonly %s: %d;\n")
+    return JAVASCRIPT_HEAD + "\nexport declare const VERSION: string;\n" + found + layouts + "\nexport declare const CALLS: readonly string[];\n"
 
 
 def undocumented():
@@ -513,9 +500,14 @@ TARGETS = {TARGET: header, os.path.join(BINDINGS, "rust", "src", "ffi.rs"): rust
 TARGETS.update({os.path.join(BINDINGS, "js", "declared.js"): javascript, os.path.join(BINDINGS, "js", "declared.d.ts"): typescript})
 
 
-def main():
+def made():
+    """The files that are written."""
     for name in forgotten():
         common.stop(common.DIFFERS, "crates/wasm_c/src/%s is not in SOURCES" % name)
     for call in undocumented():
         common.stop(common.DIFFERS, "docs/C.md does not name %s" % call)
-    return common.generate(__doc__, {path: write() for path, write in TARGETS.items()})
+    return {path: write() for path, write in TARGETS.items()}
+
+
+def main():
+    return common.generate(__doc__, made)

@@ -120,8 +120,7 @@ def main():
     try:
         for name, text in made.items() if given.out else ():
             os.makedirs(given.out, exist_ok=True)
-            with open(os.path.join(given.out, name), "w", encoding="utf-8") as file:
-                file.write(text)
+            common.write(os.path.join(given.out, name), text)
     except OSError as error:
         common.stop(common.WRONG_USE, error)
     return 0

@@ -7,7 +7,7 @@ import re
 import struct
 import subprocess
 
-from desktops import read
+import common
 
 ALIGNMENT = 16384
 # What pointers a listing of llvm-objdump names: those into the library, and those to functions of the system.
@@ -25,8 +25,7 @@ class Image:
     def assembly(self, folder, name):
         """The paths of the assembly and of the bytes that it includes."""
         path, data = os.path.join(folder, name + ".s"), os.path.join(folder, name + ".bin")
-        with open(data, "wb") as file:
-            file.write(self.memory)
+        common.write(data, self.memory)
         lines = ['.section .image, "awx", %progbits', ".balign %d" % ALIGNMENT, "image:"]
         at = 0
         for place, target in sorted(self.pointers.items()):
@@ -37,8 +36,7 @@ class Image:
         lines.append('.incbin "%s", %d' % (data, at))
         for export, offset in sorted(self.exports.items()):
             lines += [".globl %s" % export, ".set %s, image + %d" % (export, offset)]
-        with open(path, "w", encoding="ascii") as file:
-            file.write("\n".join(lines + ['.section .note.GNU-stack, "", %progbits', ""]))
+        common.write(path, "\n".join(lines + ['.section .note.GNU-stack, "", %progbits', ""]))
         return path
 
 
@@ -60,7 +58,7 @@ def number(memory, at):
 
 def macho(path):
     """The image of a dylib, whose preferred address is 0."""
-    data, parts, at = read(path), [], 32
+    data, parts, at = common.read_bytes(path), [], 32
     for _ in range(struct.unpack_from("<I", data, 16)[0]):
         kind, size = struct.unpack_from("<II", data, at)
         if kind == 0x19:
@@ -115,7 +113,7 @@ def exported(memory, at):
 
 def pe(path):
     """The image of a DLL."""
-    data = read(path)
+    data = common.read_bytes(path)
     header = struct.unpack_from("<I", data, 60)[0]
     count, optional = struct.unpack_from("<H", data, header + 6)[0], header + 24
     base = number(data, optional + 24)

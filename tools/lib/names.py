@@ -48,7 +48,7 @@ def other_words():
             folders[:] = [name for name in folders if name not in ("__pycache__", "node_modules", "target", "dist")]
             for name in names:
                 if not name.endswith((".md", ".jsonl", ".png", ".html")):
-                    found.update(re.findall(r"\w+", declared.read(os.path.join(folder, name))))
+                    found.update(re.findall(r"\w+", common.read(os.path.join(folder, name))))
     return found | {re.sub("^pulleynavy_", "", word, flags=re.I) for word in found}
 
 
@@ -63,7 +63,7 @@ def all_names():
 def lines_of(path):
     """The lines of a document that are no code, with their numbers."""
     is_code = False
-    for number, line in enumerate(declared.read(path).split("\n"), 1):
+    for number, line in enumerate(common.read(path).split("\n"), 1):
         if line.lstrip().startswith("```"):
             is_code = not is_code
         elif not is_code and not line.startswith("    "):
@@ -149,7 +149,7 @@ def wrong_places(line):
     for names, path in AT_FILE.findall(line):
         found = [file for file in glob.glob(os.path.join(common.TOP, "**", path), recursive=True) if os.path.isfile(file)]
         for name in QUOTED.findall(names):
-            if not any(re.search(r"\b%s\b" % name, declared.read(one)) for one in found):
+            if not any(re.search(r"\b%s\b" % name, common.read(one)) for one in found):
                 yield "no %s in %s" % (name, path)
     for names, crate in OF_CRATE.findall(line):
         for name in QUOTED.findall(names):
@@ -271,7 +271,7 @@ def wrong_statements(path):
     passed_on = declared.crate("wasm_parser").for_callers | declared.crate("wasm_feeder").for_callers
     for name in sorted(set(listed) - passed_on):
         yield listed[name], "no %s in ForCallers" % name
-    told = set(QUOTED.findall(declared.read(path)))
+    told = set(QUOTED.findall(common.read(path)))
     for name in sorted(passed_on - told):
         yield 1, "nothing of %s, which ForCallers passes on" % name
 

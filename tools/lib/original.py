@@ -9,27 +9,12 @@ import common
 
 SOURCE = os.path.join(common.TOP, "bindings", "rust", "examples", "programs", "src", "bin", "bench.rs")
 # The manifest: the crate's folder, name and features.
-MANIFEST = """[package]
-name = "original"
-version = "0.0.0"
-edition = "2024"
-
-[dependencies]
-wasmparser = { path = %s, package = %s, default-features = false, features = %s }
-
-[profile.release]
-lto = "fat"
-codegen-units = 1
-debug = "line-tables-only"
-
-[workspace]
-"""
+MANIFEST = common.read("tools", "lib", "templates", "original.toml")
 
 
 def built(source, folder):
     """The program that reads with the crate in a folder, built with link-time optimization."""
-    with open(os.path.join(source, "Cargo.toml"), encoding="utf-8") as file:
-        manifest = file.read()
+    manifest = common.read(os.path.join(source, "Cargo.toml"))
     package = re.search(r'^name = "(.*)"$', manifest, re.M).group(1)
     features = [name for name in ("std", "features") if re.search("^%s = " % name, manifest, re.M)]
     project = os.path.join(folder, "original")

@@ -57,10 +57,6 @@ class Missing(Exception):
     """What a package needs is not there."""
 
 
-class Broken(Exception):
-    """A command that makes a package failed."""
-
-
 def prebuilt(name):
     return os.path.join(common.PREBUILT, name)
 
@@ -94,12 +90,7 @@ def epoch():
 
 def run(words, folder=None, **more):
     """What a command prints. More names are variables of its environment."""
-    options = {"stdin": subprocess.DEVNULL, "stdout": subprocess.PIPE, "stderr": subprocess.STDOUT}
-    done = subprocess.run(words, cwd=folder, env={**os.environ, **more}, **options)
-    if done.returncode:
-        sys.stderr.write(done.stdout.decode(errors="replace"))
-        raise Broken("%s ended with status %d" % (" ".join(words[:3]), done.returncode))
-    return done.stdout.decode()
+    return common.must(words, folder, env=more)
 
 
 def copy_all(names, folder):
@@ -178,8 +169,7 @@ def wheel(folder, place, library, name, tag):
     copy_tracked("bindings/python", place)
     copy_all(LICENSES, place)
     shutil.copyfile(library, os.path.join(place, "pulleynavy", name))
-    with open(os.path.join(place, "setup.py"), "w", encoding="ascii") as file:
-        file.write(SETUP % tag)
+    common.write(os.path.join(place, "setup.py"), SETUP % tag)
     run([tool, "-m", "build", "--wheel", "--no-isolation", "--outdir", place + "/made", place])
     shutil.copy(glob.glob(place + "/made/*.whl")[0], folder)
 
@@ -216,8 +206,7 @@ def sdist(folder, place):
 def add_module(wasm, place):
     """Adds the module to the package for JavaScript, and a script that has it."""
     shutil.copyfile(wasm, os.path.join(place, "pulleynavy.wasm"))
-    with open(os.path.join(place, "pulleynavy.wasm.js"), "wb") as file:
-        file.write(b'export default "%s";\n' % base64.b64encode(read(wasm)))
+    common.write(os.path.join(place, "pulleynavy.wasm.js"), b'export default "%s";\n' % base64.b64encode(common.read_bytes(wasm)))
 
 
 def npm(folder, place):
@@ -247,11 +236,6 @@ def write_tarball(path, files, links=()):
         packed.write(buffer.getvalue())
 
 
-def read(path):
-    with open(path, "rb") as file:
-        return file.read()
-
-
 def tarball(machine, folder, place):
     """What ./install installs, to be unpacked anywhere."""
     top = "pulleynavy-%s-%s-linux" % (common.version(), machine)
@@ -265,7 +249,7 @@ def tarball(machine, folder, place):
     copy_all((*LICENSES, "README.md", "CHANGELOG.md"), os.path.join(place, "share", "doc", "pulleynavy"))
     paths = sorted(os.path.join(at, name) for at, _, names in os.walk(place) for name in names)
     named = [("%s/%s" % (top, os.path.relpath(path, place)), path) for path in paths]
-    files = [(name, read(path), os.stat(path).st_mode & 0o777) for name, path in named if not os.path.islink(path)]
+    files = [(name, common.read_bytes(path), os.stat(path).st_mode & 0o777) for name, path in named if not os.path.islink(path)]
     links = [(name, os.readlink(path)) for name, path in named if os.path.islink(path)]
     write_tarball(os.path.join(folder, top + ".tar.gz"), files, links)
 
@@ -290,7 +274,7 @@ def repository():
 def source_package(place):
     """Writes the source package: the repository, and debian/ separately. Returns the path of the file that describes it."""
     top, names = "pulleynavy-" + common.version(), repository()
-    files = [("%s/%s" % (top, name), read(source(name)), os.stat(source(name)).st_mode & 0o755) for name in names if not name.startswith("debian/")]
+    files = [("%s/%s" % (top, name), common.read_bytes(source(name)), os.stat(source(name)).st_mode & 0o755) for name in names if not name.startswith("debian/")]
     original = os.path.join(place, "pulleynavy_%s.orig.tar.gz" % common.version())
     write_tarball(original, files)
     shutil.unpack_archive(original, place)
@@ -332,7 +316,7 @@ def write_zip(path, files):
 
 def cmake_version():
     """What CMake asks of the version."""
-    text = read(source("crates", "wasm_c", "pulleynavyConfigVersion.cmake"))
+    text = common.read_bytes(source("crates", "wasm_c", "pulleynavyConfigVersion.cmake"))
     return text.replace(b"@VERSION@", common.version().encode())
 
 
@@ -340,10 +324,10 @@ def for_c(target):
     """What a package for C has, below a folder with its name: the libraries of a target, the header, and what CMake needs to find them."""
     cmake = "lib/cmake/pulleynavy/pulleynavy-config"
     files = [("bin/pulleynavy.dll", "pulleynavy.dll"), *(("lib/" + name, name) for name in (*desktops.LIBRARIES, "libpulleynavy.dylib"))]
-    files = [(name, read(path)) for name, file in files for path in built(target, file)]
-    files += [("include/pulleynavy.h", read(HEADER)), (cmake + ".cmake", read(source("crates", "wasm_c", "pulleynavy-config.cmake")))]
+    files = [(name, common.read_bytes(path)) for name, file in files for path in built(target, file)]
+    files += [("include/pulleynavy.h", common.read_bytes(HEADER)), (cmake + ".cmake", common.read_bytes(source("crates", "wasm_c", "pulleynavy-config.cmake")))]
     files += [(cmake + "-version.cmake", cmake_version())]
-    files += [("doc/" + name, read(source(name))) for name in (*LICENSES, "README.md", "CHANGELOG.md")]
+    files += [("doc/" + name, common.read_bytes(source(name))) for name in (*LICENSES, "README.md", "CHANGELOG.md")]
     top = "pulleynavy-%s-%s" % (common.version(), target)
     return top, [("%s/%s" % (top, name), data) for name, data in files]
 
@@ -377,8 +361,8 @@ def bill_of_materials():
     made = common.made_from()
     files = []
     for number, name in enumerate(sorted(os.listdir(common.PREBUILT))):
-        sums = [{"algorithm": "SHA256", "checksumValue": hashlib.sha256(read(prebuilt(name))).hexdigest()}]
-        sums += [{"algorithm": "SHA1", "checksumValue": hashlib.sha1(read(prebuilt(name))).hexdigest()}]
+        sums = [{"algorithm": "SHA256", "checksumValue": hashlib.sha256(common.read_bytes(prebuilt(name))).hexdigest()}]
+        sums += [{"algorithm": "SHA1", "checksumValue": hashlib.sha1(common.read_bytes(prebuilt(name))).hexdigest()}]
         files.append({"SPDXID": "SPDXRef-File-%d" % number, "fileName": "./prebuilt/" + name, "checksums": sums})
     package = {"SPDXID": "SPDXRef-Package", "name": "pulleynavy", "versionInfo": common.version(), "downloadLocation": "NOASSERTION"}
     package |= {"licenseDeclared": "Apache-2.0 OR MIT", "licenseConcluded": "Apache-2.0 OR MIT", "filesAnalyzed": False}

@@ -47,6 +47,14 @@ def command(task, path=None):
     return [path or built(crate), *words]
 
 
+def build_targets(folder, *targets):
+    """Builds the C library for these targets into a folder. Returns the folder."""
+    words = [os.path.join(common.TOP, "tools", "build_targets"), folder, *targets, "--jobs", "4"]
+    if subprocess.run(words, stdin=subprocess.DEVNULL, stdout=sys.stderr).returncode:
+        common.stop(common.NO_PROGRAM, "the C library could not be built")
+    return folder
+
+
 def run(words, stream=b"", seconds=600, **options):
     """What a command writes, its status, and what it says on standard error."""
     done = subprocess.run(words, input=stream, stdout=subprocess.PIPE, stderr=subprocess.PIPE, timeout=seconds, **options)

@@ -12,20 +12,8 @@ READS = ["const uint8_t *bytes", "size_t bytes_size", "uint64_t offset", "uint32
 WALKS = ["const uint8_t *bytes", "size_t bytes_size"]
 # The calls of both kinds with an argument more, and what is passed for it.
 MORE = {"pulleynavy_read_core_module": ("", ", offset / 2"), "pulleynavy_read_bundled_import": ("&bundle, ", "")}
-READER = """static void %(name)s(const uint8_t *bytes, size_t size, uint64_t offset, uint32_t features, void *out) {
-    %(type)s item = pulleynavy_%(name)s(%(before)sbytes, size, offset, features%(after)s);
-    *(%(type)s *)out = item;
-}
-"""
-WALKER = """static size_t %(name)s(void *cursor, const uint8_t *bytes, size_t size, void *out, size_t count) {
-    return pulleynavy_%(name)s(cursor, bytes, size, out, count);
-}
-"""
-
-
-def text_of(path):
-    with open(path, encoding="utf-8") as file:
-        return file.read()
+READER = common.read("tools", "lib", "templates", "reader.c")
+WALKER = common.read("tools", "lib", "templates", "walker.c")
 
 
 def calls(text):
@@ -59,8 +47,8 @@ def kind_of(result, arguments):
 
 def uncalled():
     """The calls of the header that the program does not make: those of neither table have to be in it by their names."""
-    program = text_of(SOURCE)
-    for result, name, arguments in calls(text_of(HEADER)):
+    program = common.read(SOURCE)
+    for result, name, arguments in calls(common.read(HEADER)):
         if not kind_of(result, arguments)[0] and not re.search(r"\bCALL0?\(%s\b" % name, program):
             yield name
 
@@ -87,6 +75,5 @@ def tables(text):
 def written(folder):
     """Writes the tables into a folder, for `tables.h` of the program."""
     path = os.path.join(folder, "tables.h")
-    with open(path, "w", encoding="utf-8") as file:
-        file.write(tables(text_of(HEADER)))
+    common.write(path, tables(common.read(HEADER)))
     return path

@@ -4,11 +4,9 @@ import os
 import shutil
 import subprocess
 
+import common
+
 CLEAN = {"PATH": "/usr/sbin:/usr/bin:/sbin:/bin", "HOME": "/root", "LC_ALL": "C.UTF-8"}
-
-
-class Failed(Exception):
-    """What a user would see go wrong."""
 
 
 def run(words, folder, more=None, **options):
@@ -17,21 +15,15 @@ def run(words, folder, more=None, **options):
     environment.pop("PULLEYNAVY_LIB", None)
     done = subprocess.run(words, cwd=folder, env=environment, stdout=subprocess.PIPE, stderr=subprocess.PIPE, **options)
     if done.returncode:
-        raise Failed("%s: status %d\n%s%s" % (" ".join(words[:6] + words[-1:]), done.returncode, done.stdout.decode()[-1500:], done.stderr.decode()[-1500:]))
+        raise common.Failed("%s: status %d\n%s%s" % (" ".join(words[:6] + words[-1:]), done.returncode, done.stdout.decode()[-1500:], done.stderr.decode()[-1500:]))
     return done.stdout.decode()
-
-
-def write(path, text):
-    os.makedirs(os.path.dirname(path), exist_ok=True)
-    with open(path, "w", encoding="utf-8") as file:
-        file.write(text)
 
 
 def one(pattern):
     """The one file of this pattern."""
     found = sorted(glob.glob(pattern))
     if len(found) != 1:
-        raise Failed("there are %d files %s" % (len(found), pattern))
+        raise common.Failed("there are %d files %s" % (len(found), pattern))
     return found[0]
 
 
@@ -46,7 +38,7 @@ class System:
     def __init__(self, place, release, packages):
         self.place, self.root = place, os.path.join(place, release)
         run(["debootstrap", "--variant=minbase", "--include=" + ",".join(packages), release, self.root], place)
-        write(os.path.join(self.root, "etc", "hosts"), "127.0.0.1 localhost\n")
+        common.write(os.path.join(self.root, "etc", "hosts"), "127.0.0.1 localhost\n")
 
     def put(self, path, name):
         """Copies a file or a folder to this name in the home of root."""
@@ -55,7 +47,7 @@ class System:
         return shutil.copytree(path, to) if os.path.isdir(path) else shutil.copy(path, to)
 
     def write(self, name, text):
-        write(os.path.join(self.root, "root", name), text)
+        common.write(os.path.join(self.root, "root", name), text)
 
     def inside(self, command):
         """What a command prints in the system, in the home of root."""

@@ -9,7 +9,7 @@ import re
 from collections import Counter
 
 import standard as S
-from expressions import instructions, range_of
+from expressions import range_of
 
 # How many of some raw bytes the lines show, after their count.
 SHOWN = 16
@@ -122,16 +122,6 @@ def with_ranges(row, lines, data, offset):
         return "%s %s=%d..%d%s" % (line[: found.start()], found[1], start + offset, end + offset, line[found.end() :])
 
     return [ranged(line, line.startswith("    ")) for line in lines] if row in WITH_EXPRESSIONS else lines
-
-
-def with_instructions(row, lines, data):
-    """Lines of a stream's items of this row with the instructions of each expression in place of its range."""
-    def told(found):
-        text, end = instructions(data, int(found[2]))
-        assert end == int(found[3]), found[0]
-        return " %s=%s" % (found[1], text)
-
-    return [re.sub(r" (init_expr|offset_expr|init|expr)=(\d+)\.\.(\d+)", told, line) for line in lines] if row in WITH_EXPRESSIONS else lines
 
 
 def named(event):

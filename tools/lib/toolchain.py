@@ -91,9 +91,7 @@ def keeping(kept):
     others += [os.path.join("bin", name) for name in os.listdir(os.path.join(llvm(), "bin")) if name != "clang"]
     for name in others:
         os.symlink(os.path.join(llvm(), name), os.path.join(stand_in, name))
-    with open(os.path.join(stand_in, "bin", "clang"), "w", encoding="utf-8") as file:
-        file.write(KEEPER % {"kept": kept, "clang": clang()})
-    os.chmod(file.name, 0o755)
+    os.chmod(common.write(os.path.join(stand_in, "bin", "clang"), KEEPER % {"kept": kept, "clang": clang()}), 0o755)
     return stand_in
 
 
@@ -104,7 +102,6 @@ def text_command(kept, text):
 
 def compile_command(kept, module, made):
     """The command that compiles a module as the kept one was compiled."""
-    with open(os.path.join(kept, "words"), encoding="utf-8") as file:
-        words = file.read().replace(os.path.join(kept, "toolchain"), llvm()).splitlines()
+    words = common.read(os.path.join(kept, "words")).replace(os.path.join(kept, "toolchain"), llvm()).splitlines()
     words[words.index("ir") + 1], words[words.index("-o") + 1] = module, made
     return [clang(), *words]

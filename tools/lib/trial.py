@@ -31,8 +31,7 @@ def crates_of_tests():
 
 def number_of_tests():
     """How many tests there are, as tools/lib/tests.txt says, so that none is lost unseen."""
-    with open(os.path.join(common.LIB, "tests.txt"), encoding="ascii") as file:
-        return int(file.read())
+    return int(common.read(os.path.join(common.LIB, "tests.txt")))
 
 
 def used(paths):

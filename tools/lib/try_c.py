@@ -42,19 +42,8 @@ PROGRAMS = {"list.c": ("c99", "c11"), "whole.cpp": ("c++11", "c++17")}
 PROGRAMS.update({name: ("c99",) for name in ("items.c", "imports.c", "calls.c", "patterns.c", "strip.c", "fuzz.c", "names.c")})
 
 
-class Failed(Exception):
-    pass
-
-
 def run(command, stream=b"", **options):
     return subprocess.run(command, input=stream, stdout=subprocess.PIPE, stderr=subprocess.STDOUT, **options)
-
-
-def must(command, stream=b"", **options):
-    done = run(command, stream, **options)
-    if done.returncode:
-        raise Failed("%s: status %d\n%s" % (" ".join(command), done.returncode, done.stdout.decode(errors="replace")[-3000:]))
-    return done.stdout
 
 
 # ---- the archives and the programs
@@ -66,7 +55,7 @@ def archives(folder):
         common.stop(common.NO_PROGRAM, "rt is not on the path, and no --archive is given")
     made = {}
     for name, words in (("rattle", ["--backend", "rattle"]), ("llvm", [])):
-        must(["rt", "lib", *words], cwd=CRATE)
+        common.must(["rt", "lib", *words], folder=CRATE)
         made[name] = os.path.join(folder, name + ".a")
         shutil.copy(os.path.join(CRATE, "out", "libwasm_c.a"), made[name])
     return made
@@ -76,7 +65,7 @@ def compiled(folder, compiler, example, standard, flags, archive, name):
     stem = os.path.basename(example).partition(".")[0]
     path = os.path.join(folder, "_".join([stem, os.path.basename(compiler), standard.replace("+", "p"), name]))
     words = [compiler, "-std=" + standard, *WARNINGS, *flags, "-I" + os.path.join(CRATE, "include"), os.path.join(CRATE, "examples", example)]
-    must(words + [archive, "-o", path])
+    common.must(words + [archive, "-o", path])
     return path
 
 
@@ -127,6 +116,12 @@ def modelled(stream):
     return listing(stream)[:-1] + reading(stream, 0, True)[-1:]
 
 
+def drawn(seed, count):
+    """Random streams, half of them modules with items, with the lines of the models."""
+    rng = random.Random(seed)
+    return [(stream, modelled(stream)) for stream in [(stream_of if number % 2 else some_stream)(rng) for number in range(count)]]
+
+
 def difference(command, stream, expected):
     done = run(command, stream, timeout=600)
     lines = programs.lines_in(done.stdout)
@@ -158,7 +153,7 @@ def compared(built, streams):
     for name in ("list", "whole", "items"):
         listed = sum(command[0] in built[name] for command, _, _ in given)
         if built[name] and listed < len(streams):
-            raise Failed("%s lists %d of %d streams" % (name, listed, len(streams)))
+            raise common.Failed("%s lists %d of %d streams" % (name, listed, len(streams)))
     return in_parallel(lambda one: difference(*one), given)
 
 
@@ -269,11 +264,11 @@ def imports(built, streams):
 def patterns(built, streams):
     """Worked calls, every repeated byte as a parser, and each stream whole and in chunks."""
     for path in built["calls"]:
-        must([path])
+        common.must([path])
     for path in built["patterns"]:
         for stream, _ in streams[:: max(1, len(streams) // 20)]:
-            must([path], stream)
-    in_parallel(lambda row: must([built["fuzz"][-1]], row[0]) and None, streams)
+            common.must([path], stream=stream)
+    in_parallel(lambda row: common.must([built["fuzz"][-1]], stream=row[0]) and None, streams)
 
 
 def documented():
@@ -281,25 +276,23 @@ def documented():
     names, text = [], "#include <assert.h>\n#include <string.h>\n#include <pulleynavy.h>\n"
     for path in [*common.files_of("wasm_plain"), *common.files_of("wasm_c")]:
         if path.endswith(".rt"):
-            with open(path, encoding="utf-8") as file:
-                blocks = re.findall(r"^ */// ```c\n((?: *///.*\n)*?) */// ```$", file.read(), re.M)
+            blocks = re.findall(r"^ */// ```c\n((?: *///.*\n)*?) */// ```$", common.read(path), re.M)
             for lines in blocks:
                 names.append("%s_%d" % (os.path.basename(path)[:-3], len(names)))
                 text += "\nstatic void %s(void) {\n%s}\n" % (names[-1], re.sub(r"^ */// ?", "    ", lines, flags=re.M))
     if not names:
-        raise Failed("the sources have no examples for C")
+        raise common.Failed("the sources have no examples for C")
     return text + "\nint main(void) {\n%s    return 0;\n}\n" % "".join("    %s();\n" % name for name in names)
 
 
 def header_examples(folder, made):
     """Builds and runs the examples of the header."""
     path = os.path.join(folder, "documented.c")
-    with open(path, "w", encoding="utf-8") as file:
-        file.write(documented())
+    common.write(path, documented())
     for c, _ in compilers():
         for flags in kinds_of_flags(folder, c):
             for kind, archive in made.items():
-                must([compiled(folder, c, path, "c99", flags, archive, "documented_" + kind)])
+                common.must([compiled(folder, c, path, "c99", flags, archive, "documented_" + kind)])
 
 
 def sequences(folder, made, streams, seed):
@@ -312,7 +305,7 @@ def sequences(folder, made, streams, seed):
     words = [str(seed), str(SECONDS // max(1, len(builds))), path]
     for c, archive, kind in builds:
         program = compiled(folder, c, tables.SOURCE, "c11", [*CHECKED, "-I" + folder], archive, "sequences_" + kind)
-        print("%s, %s: %s" % (c, kind, must([program, *words]).decode().strip()), flush=True)
+        print("%s, %s: %s" % (c, kind, common.must([program, *words]).strip()), flush=True)
 
 
 def under_valgrind(built, streams):
@@ -337,19 +330,17 @@ CALLER = "#include <pulleynavy.h>\n#include <pulleynavy.h>\n\nuint32_t version(v
 
 def header_alone(folder):
     """Compiles the header by each standard without a warning. Where there are assertions, one of a wrong layout is refused."""
-    with open(os.path.join(CRATE, "include", "pulleynavy.h"), encoding="utf-8") as file:
-        wrong = re.sub(r"sizeof\(pulleynavy_event\) == 96\b", "sizeof(pulleynavy_event) == 97", file.read())
+    wrong = re.sub(r"sizeof\(pulleynavy_event\) == 96\b", "sizeof(pulleynavy_event) == 97", common.read(os.path.join(CRATE, "include", "pulleynavy.h")))
     for name, text in (("caller.c", CALLER), ("caller.cpp", CALLER), ("wrong/pulleynavy.h", wrong)):
         os.makedirs(os.path.dirname(os.path.join(folder, name)), exist_ok=True)
-        with open(os.path.join(folder, name), "w", encoding="utf-8") as file:
-            file.write(text)
+        common.write(os.path.join(folder, name), text)
     for pair in compilers():
         for compiler, (kind, standards) in zip(pair, STANDARDS.items()):
             for standard in standards:
                 words = [compiler, "-std=" + standard, *WARNINGS, "-fsyntax-only", os.path.join(folder, "caller." + kind)]
-                must([*words, "-I" + os.path.join(CRATE, "include")])
+                common.must([*words, "-I" + os.path.join(CRATE, "include")])
                 if bool(run([*words, "-I" + os.path.join(folder, "wrong")]).returncode) != (standard in ASSERTING):
-                    raise Failed("%s with %s checks the layout: %s" % (compiler, standard, standard not in ASSERTING))
+                    raise common.Failed("%s with %s checks the layout: %s" % (compiler, standard, standard not in ASSERTING))
 
 
 def with_doxygen(folder):
@@ -357,7 +348,7 @@ def with_doxygen(folder):
     if common.found("doxygen"):
         place = os.path.join(folder, "doxygen")
         os.makedirs(place, exist_ok=True)
-        must(["doxygen"], cwd=CRATE, env={**os.environ, "OUT": place, "VERSION": common.version()})
+        common.must(["doxygen"], folder=CRATE, env={"OUT": place, "VERSION": common.version()})
 
 
 # ---- the bindings
@@ -384,10 +375,10 @@ def with_cargo(folder, archive):
     clippy = shutil.which("cargo-clippy") or common.skip("missing: clippy")
     for place in (crate, with_serde) if cargo.with_debian(with_serde) else (crate,):
         for features in ([], ["--no-default-features"]):
-            must(["cargo", "test", "--offline", "--quiet", *features], cwd=place, env={**os.environ, **settings})
+            common.must(["cargo", "test", "--offline", "--quiet", *features], folder=place, env=settings)
             if clippy:
-                must(["cargo", "clippy", "--offline", "--quiet", "--all-targets", *features, *CLIPPY], cwd=place, env={**os.environ, **settings})
-    must(["cargo", "build", "--offline", "--quiet"], cwd=os.path.join(crate, "examples", "programs"), env={**os.environ, **settings})
+                common.must(["cargo", "clippy", "--offline", "--quiet", "--all-targets", *features, *CLIPPY], folder=place, env=settings)
+    common.must(["cargo", "build", "--offline", "--quiet"], folder=os.path.join(crate, "examples", "programs"), env=settings)
 
 
 def with_python(folder, archive, streams, changed):
@@ -395,26 +386,20 @@ def with_python(folder, archive, streams, changed):
     if not common.found("cc"):
         return
     library = os.path.join(folder, "libpulleynavy.so")
-    must([os.path.join(common.TOP, "tools", "shared_library"), archive, library])
+    common.must([os.path.join(common.TOP, "tools", "shared_library"), archive, library])
     os.environ["PULLEYNAVY_LIB"] = library
     package = os.path.join(common.TOP, "bindings", "python")
     os.environ["PULLEYNAVY_STREAMS"] = os.path.join(folder, "streams.jsonl")
-    with open(os.environ["PULLEYNAVY_STREAMS"], "w", encoding="ascii") as file:
-        file.writelines(json.dumps({"hex": stream.hex(), "lines": lines}) + "\n" for stream, lines in streams + changed)
-    must([sys.executable, "-B", "-m", "unittest", "discover", "-q", "-s", "tests", "-t", "."], cwd=package)
+    common.write(os.environ["PULLEYNAVY_STREAMS"], "".join(json.dumps({"hex": stream.hex(), "lines": lines}) + "\n" for stream, lines in streams + changed))
+    common.must([sys.executable, "-B", "-m", "unittest", "discover", "-q", "-s", "tests", "-t", "."], folder=package)
     if common.found("mypy"):
-        must(["mypy", "--strict", "--cache-dir", os.path.join(folder, "mypy"), "pulleynavy", "tests"], cwd=package)
+        common.must(["mypy", "--strict", "--cache-dir", os.path.join(folder, "mypy"), "pulleynavy", "tests"], folder=package)
 
 
 def main():
-    more = [("--archive", {"metavar": "FILE", "action": "append", "help": "an archive, instead of those that are built here"})]
+    more = [("--archive", {"metavar": "FILE", "type": common.existing, "action": "append", "help": "an archive, instead of those that are built here"})]
     given = common.arguments(__doc__, [("seed", 1), ("count", 300)], show=5, more=more)
-    for path in given.archive or []:
-        if not os.path.isfile(path):
-            common.stop(common.WRONG_USE, "there is no file %s" % path)
-    rng = random.Random(given.seed)
-    drawn = [(stream_of if number % 2 else some_stream)(rng) for number in range(given.count)]
-    streams = common.golden() + [(stream, modelled(stream)) for stream in drawn]
+    streams = common.golden() + drawn(given.seed, given.count)
     with tempfile.TemporaryDirectory() as folder:
         try:
             made = {"given%d" % number: path for number, path in enumerate(given.archive)} if given.archive else archives(folder)
@@ -427,11 +412,11 @@ def main():
             patterns(built, streams)
             sequences(folder, made, streams, given.seed)
             differ = [text for test in (compared, stripped, names, imports, under_valgrind) for text in test(built, streams)]
-            changed = [(stream, modelled(stream)) for stream in mutants(rng, [stream for stream, _ in common.golden()], MUTANTS)]
+            changed = [(stream, modelled(stream)) for stream in mutants(random.Random(given.seed), [stream for stream, _ in common.golden()], MUTANTS)]
             for number, archive in enumerate(made.values()):
                 with_cargo(folder, archive)
                 with_python(folder, archive, streams, changed[number :: len(made)])
-        except Failed as failed:
+        except common.Failed as failed:
             print("FAILED", failed)
             return common.DIFFERS
     count = sum(len(paths) for paths in built.values())

@@ -14,10 +14,8 @@ The packages are made and checked: tags of wheels, what the crate links, and pro
 import collections
 import glob
 import os
-import random
 import re
 import shutil
-import subprocess
 import tempfile
 from concurrent.futures import ThreadPoolExecutor
 
@@ -26,12 +24,10 @@ import crate_on_windows
 import desktop_packages
 import desktops
 import images
+import programs
 import try_c
-import try_cross
 import try_documents
 import wine
-from modules import stream_of
-from streams import some_stream
 
 # How a program for Windows is linked: the file of the library, and the options.
 WINDOWS = {"archive": ("libpulleynavy.a", ["-O2", "-static"]), "lib": ("pulleynavy.lib", ["-O1", "-static"]), "dll": ("libpulleynavy.dll.a", ["-O0", "-static"])}
@@ -62,15 +58,48 @@ def examples(folder, compilers, options, library, name, suffix=""):
         return dict(pool.map(built, try_c.PROGRAMS.items()))
 
 
+def emulated(path, runner):
+    """A program that runs this one under an emulator, or itself if there is none."""
+    if not runner:
+        return path
+    script = common.write(path + ".sh", '#!/bin/sh\nexec %s %s "$@"\n' % (runner, path))
+    os.chmod(script, 0o755)
+    return script
+
+
 def differences(built, streams):
-    """How the examples differ from the models."""
-    return try_cross.differences(built, streams) + try_c.imports(built, streams)
+    """How the examples differ from the models; one stream in ten is tried as a pattern."""
+    try_c.patterns(built, streams[::10])
+    return [text for compare in (try_c.compared, try_c.stripped, try_c.names, try_c.imports) for text in compare(built, streams)]
+
+
+def cross():
+    """Runs the examples of the C library for aarch64 under qemu, against golden streams and a model.
+
+    tools/try cross                  golden streams and 100 random ones from seed 1, half of them modules with items
+    tools/try cross 7 200            200 random streams, from seed 7
+    tools/try cross --archive FILE   the archive FILE, instead of the one that tools/build_targets builds
+
+    The examples are built twice, with -O2 and with -O0, since compilers differ most in how they pass and return structs. Each stream goes to
+    one of the two, in turn.
+    """
+    more = [("--archive", {"metavar": "FILE", "type": common.existing, "help": "an archive for aarch64, instead of one that is built here"})]
+    given, (compilers, runner), differ = common.arguments(cross.__doc__, [("seed", 1), ("count", 100)], show=5, more=more), LINUX["aarch64"], []
+    if not common.all_found([*compilers, runner]):
+        return 0
+    streams = common.golden() + try_c.drawn(given.seed, given.count)
+    with tempfile.TemporaryDirectory() as folder:
+        archive = given.archive or os.path.join(programs.build_targets(folder, "aarch64"), "libwasm_c-aarch64.a")
+        for number, level in enumerate(("-O2", "-O0")):
+            built = examples(folder, compilers, [level, "-static"], archive, level.strip("-"))
+            differ += differences({name: [emulated(path, runner)] for name, path in built.items()}, streams[number::2])
+    return common.tell(differ, given.show, "aarch64: %d streams, %d differ (seed %d)" % (len(streams), len(differ), given.seed))
 
 
 # ---- Windows, under wine
 
 
-def programs(library, folder, system):
+def windows_programs(library, folder, system):
     """Scripts that run each example under wine, linked with each file of the library."""
     shutil.copy(os.path.join(library, "pulleynavy.dll"), folder)
     built = {}
@@ -100,10 +129,9 @@ def documented(library, archive, folder, system):
         os.makedirs(there, exist_ok=True)
         [windows] = page.with_c(there, number, blocks["c"], os.path.join(library, "libpulleynavy.a"), wine.COMPILERS[0], ["-static", wine.WITNESS])
         for stream in [BINARY, *modules, *malformed]:
-            with open(os.path.join(there, "module"), "wb") as file:
-                file.write(stream)
-            wanted = page.run([linux], "stdin", file.name)
-            output, is_good = page.run([system.running(windows + ".exe")], "stdin", file.name)
+            path = common.write(os.path.join(there, "module"), stream)
+            wanted = page.run([linux], "stdin", path)
+            output, is_good = page.run([system.running(windows + ".exe")], "stdin", path)
             if (output if IS_BINARY in blocks["c"] else output.replace(b"\r\n", b"\n"), is_good) != wanted:
                 yield "%s of %s\n  Windows %r\n  Linux   %r" % (page.TASKS[number][0], stream.hex()[:200], (output, is_good), wanted)
 
@@ -113,7 +141,7 @@ def on_windows(library, archive, made, streams):
     if not common.all_found([*wine.PROGRAMS, "lld"]):
         return []
     with tempfile.TemporaryDirectory() as folder, wine.windows(folder) as system:
-        differ = differences(programs(library, folder, system), streams)
+        differ = differences(windows_programs(library, folder, system), streams)
         if common.found("cmake"):
             differ += try_c.names({"names": desktop_packages.under_wine(made, system)}, streams[::SAMPLE])
         if common.found("cc"):
@@ -195,45 +223,28 @@ def on_linux(target, library, streams):
     with tempfile.TemporaryDirectory() as folder:
         code = os.path.join(library, "libpulleynavy.a") if is_elf else shared_library(target, library).assembly(folder, "image")
         paths = examples(folder, compilers, ["-O2", "-static"], code, target)
-        built = {example: [try_cross.emulated(path, emulator) if emulator else path] for example, path in paths.items()}
+        built = {example: [emulated(path, emulator)] for example, path in paths.items()}
         differ = differences(built, streams)
     print("%s, its code on Linux: %d streams, %d differ" % (target, len(streams), len(differ)), flush=True)
     return differ
 
 
-def build(folder):
-    """The folder of the targets, which tools/build_targets builds."""
-    done = subprocess.run([os.path.join(common.TOP, "tools", "build_targets"), folder, *desktops.TARGETS])
-    if done.returncode:
-        common.stop(done.returncode, "the libraries are not built")
-    return folder
-
-
 def main():
-    more = [("--built", {"metavar": "TARGETS", "help": "a folder that tools/build_targets wrote, instead of one that is built here"})]
+    more = [("--built", {"metavar": "TARGETS", "type": common.existing, "help": "a folder that tools/build_targets wrote, instead of one that is built here"})]
     given = common.arguments(__doc__, [("seed", 1), ("count", 300)], show=5, more=more)
-    if given.built and not os.path.isdir(given.built):
-        common.stop(common.WRONG_USE, "there is no folder %s" % given.built)
     if not common.all_found(["llvm-nm", "llvm-objdump"]):
         return 0
-    rng = random.Random(given.seed)
-    drawn = [(stream_of if number % 2 else some_stream)(rng) for number in range(given.count)]
-    pairs = [(stream, try_c.modelled(stream)) for stream in [BINARY, *drawn]]
-    streams = pairs[:1] + common.golden() + pairs[1:]
+    streams = [(BINARY, try_c.modelled(BINARY)), *common.golden(), *try_c.drawn(given.seed, given.count)]
     with tempfile.TemporaryDirectory() as folder, tempfile.TemporaryDirectory() as made:
-        built = os.path.abspath(given.built or build(folder))
-        try:
-            differ = desktop_packages.differences(built, made)
-            for target, (machine, _) in desktops.TARGETS.items():
-                library, archive = os.path.join(built, target), os.path.join(built, "libwasm_c-%s.a" % machine)
-                differ += wrong_symbols(target, library, archive)
-                # LLVM calls memcpy and memset from other places on another processor.
-                differ += wrong_calls(target, library, archive) if target.startswith(machine) else []
-                if target == "x86_64-windows":
-                    differ += on_windows(library, archive, made, streams)
-                else:
-                    differ += on_linux(target, library, streams if target == "riscv64-linux" else streams[::SAMPLE])
-        except (desktop_packages.Failed, try_c.Failed) as failed:
-            print("FAILED", failed)
-            return common.DIFFERS
+        built = given.built or programs.build_targets(folder, *desktops.TARGETS)
+        differ = desktop_packages.differences(built, made)
+        for target, (machine, _) in desktops.TARGETS.items():
+            library, archive = os.path.join(built, target), os.path.join(built, "libwasm_c-%s.a" % machine)
+            differ += wrong_symbols(target, library, archive)
+            # LLVM calls memcpy and memset from other places on another processor.
+            differ += wrong_calls(target, library, archive) if target.startswith(machine) else []
+            if target == "x86_64-windows":
+                differ += on_windows(library, archive, made, streams)
+            else:
+                differ += on_linux(target, library, streams if target == "riscv64-linux" else streams[::SAMPLE])
     return common.tell(differ, given.show, "%d targets, %d differ (seed %d)" % (len(desktops.TARGETS), len(differ), given.seed))

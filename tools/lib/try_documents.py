@@ -37,8 +37,7 @@ MANIFEST = '[package]\nname = "programs"\nversion = "0.0.0"\nedition = "2021"\n\
 
 def sources():
     """The program of each task in each language, by the number of the task."""
-    with open(PAGE, encoding="utf-8") as file:
-        parts = dict(re.findall(r"^## (.*?)\n(.*?)(?=^## |\Z)", file.read(), re.M | re.S))
+    parts = dict(re.findall(r"^## (.*?)\n(.*?)(?=^## |\Z)", common.read(PAGE), re.M | re.S))
     for number, (heading, _) in enumerate(TASKS):
         blocks = re.findall(r"^```(\w+)\n(.*?)^```", parts[heading], re.M | re.S)
         found = {language: code for language, code in blocks if language != "rust" or "fn main" in code and "HostRuntime" not in code}
@@ -46,17 +45,11 @@ def sources():
         yield number, found
 
 
-def write(path, text):
-    with open(path, "w", encoding="utf-8") as file:
-        file.write(text)
-    return path
-
-
 def with_c(folder, number, code, archive, compiler="cc", more=(), ending="c"):
     """A program in C, or in C++ with its compiler."""
     program = os.path.join(folder, "%s%d" % (ending, number))
     include = "-I" + os.path.join(common.TOP, "crates", "wasm_c", "include")
-    words = [compiler, "-O1", "-Wall", "-Wextra", "-Werror", include, write("%s.%s" % (program, ending), code), *more, archive, "-o", program]
+    words = [compiler, "-O1", "-Wall", "-Wextra", "-Werror", include, common.write("%s.%s" % (program, ending), code), *more, archive, "-o", program]
     subprocess.run(words, check=True)
     return [program]
 
@@ -65,9 +58,9 @@ def with_rust(folder, codes, archive):
     """The programs in Rust, which are built together."""
     place = os.path.join(folder, "programs")
     os.makedirs(os.path.join(place, "src", "bin"), exist_ok=True)
-    write(os.path.join(place, "Cargo.toml"), MANIFEST % os.path.join(common.TOP, "bindings", "rust"))
+    common.write(os.path.join(place, "Cargo.toml"), MANIFEST % os.path.join(common.TOP, "bindings", "rust"))
     for number, code in codes.items():
-        write(os.path.join(place, "src", "bin", "r%d.rs" % number), code)
+        common.write(os.path.join(place, "src", "bin", "r%d.rs" % number), code)
     os.makedirs(os.path.join(folder, "lib"), exist_ok=True)
     shutil.copy(archive, os.path.join(folder, "lib", "libwasm_c.a"))
     settings = {"PULLEYNAVY_LIB": os.path.join(folder, "lib"), "CARGO_TARGET_DIR": os.path.join(folder, "programs-target")}
@@ -83,13 +76,12 @@ def with_rattle(folder, code, streams):
         shutil.copytree(os.path.join(common.TOP, "crates", name), os.path.join(place, "crates", name), ignore=shutil.ignore_patterns("out"))
     shutil.copy(os.path.join(common.TOP, "HANDLES"), place)
     libraries = {**{name: common.crates()[name] for name in wanted}, "program": wanted + ["bitflags"]}
-    write(os.path.join(place, "crates.txt"), "".join("%s: %s\n" % (name, " ".join(of)) for name, of in libraries.items()))
+    common.write(os.path.join(place, "crates.txt"), "".join("%s: %s\n" % (name, " ".join(of)) for name, of in libraries.items()))
     os.makedirs(os.path.join(place, "crates", "program", "src"))
-    write(os.path.join(place, "crates", "program", "src", "main.rt"), code)
+    common.write(os.path.join(place, "crates", "program", "src", "main.rt"), code)
     os.mkdir(cases)
     for number, stream in enumerate(streams):
-        with open(os.path.join(cases, str(number)), "wb") as file:
-            file.write(stream)
+        common.write(os.path.join(cases, str(number)), stream)
     words = ["rt", "try", "--cases", cases]
     done = subprocess.run(words, cwd=os.path.join(place, "crates", "program"), stdout=subprocess.PIPE, stderr=subprocess.PIPE)
     outputs = dict(re.findall(rb"^== (\d+)\n(.*?)(?=^== |\Z)", done.stdout, re.M | re.S))
@@ -105,7 +97,7 @@ def with_js(folder, number, code, wasm):
     if not os.path.isdir(package):
         shutil.copytree(os.path.join(common.TOP, "bindings", "js"), package)
         shutil.copy(wasm, os.path.join(package, "pulleynavy.wasm"))
-    return ["node", write(os.path.join(folder, "j%d.mjs" % number), code)]
+    return ["node", common.write(os.path.join(folder, "j%d.mjs" % number), code)]
 
 
 def built(folder, archive, wasm):
@@ -115,7 +107,7 @@ def built(folder, archive, wasm):
         commands[number, "c"] = with_c(folder, number, blocks["c"], archive)
         if "cpp" in blocks and common.found("c++"):
             commands[number, "cpp"] = with_c(folder, number, blocks["cpp"], archive, "c++", ["-std=c++17"], "cpp")
-        commands[number, "python"] = [sys.executable, "-B", write(os.path.join(folder, "p%d.py" % number), blocks["python"])]
+        commands[number, "python"] = [sys.executable, "-B", common.write(os.path.join(folder, "p%d.py" % number), blocks["python"])]
         rust[number] = blocks["rust"]
         if node:
             commands[number, "js"] = with_js(folder, number, blocks["js"], wasm)
@@ -157,8 +149,7 @@ def differences(folder, archive, wasm, streams, malformed):
         if has_rattle and "rattle" in blocks:
             rattle[number] = with_rattle(folder, blocks["rattle"], streams + malformed)
     for stream in streams + malformed:
-        with open(path, "wb") as file:
-            file.write(stream)
+        common.write(path, stream)
         for number, (heading, ways) in enumerate(TASKS):
             if stream in malformed and heading not in ON_FAULTS:
                 continue
@@ -181,16 +172,13 @@ def chosen():
 
 def main():
     line = common.parser(__doc__)
-    line.add_argument("--archive", metavar="FILE", required=True, help="the C library")
-    line.add_argument("--wasm", metavar="FILE", required=True, help="the WebAssembly module")
+    line.add_argument("--archive", metavar="FILE", type=common.existing, required=True, help="the C library")
+    line.add_argument("--wasm", metavar="FILE", type=common.existing, required=True, help="the WebAssembly module")
     given = line.parse_args()
-    for path in (given.archive, given.wasm):
-        if not os.path.isfile(path):
-            common.stop(common.WRONG_USE, "there is no file %s" % path)
     if not common.found("cc"):
         return 0
     streams, malformed = chosen()
     with tempfile.TemporaryDirectory() as folder:
-        differ = list(differences(folder, os.path.abspath(given.archive), os.path.abspath(given.wasm), streams, malformed))
+        differ = list(differences(folder, given.archive, given.wasm, streams, malformed))
     counts = len(TASKS), len(streams), len(malformed), len(differ)
     return common.tell(differ, 5, "%d tasks, %d modules, %d malformed streams, %d differ" % counts)

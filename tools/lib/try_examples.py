@@ -61,8 +61,7 @@ def exported(crate):
     """The public names of a crate, each with the crate that it is imported from, and those that are traits."""
     names, traits = {}, set()
     root = os.path.join(common.TOP, "crates", crate, "src", "lib.rt")
-    with open(root, encoding="utf-8") as file:
-        text = re.sub(r"//.*", "", file.read())
+    text = re.sub(r"//.*", "", common.read(root))
     for _, several, one in re.findall(r"^pub use ([\w:]+)::(?:\{([^}]*)\}|(\w+));", text, re.M):
         names.update({name: crate for name in re.findall(r"\w+", several or one)})
     names.update({name: crate for name in re.findall(r"^pub (?:fn|struct|enum|trait|const|type|mod) (\w+)", text, re.M)})
@@ -105,10 +104,8 @@ def written(folder, crates):
             code = "\n".join("    " + line if line else "" for line in lines)
             before = TEST[: TEST.index("%s\n    Ok")] % (imports(names, traits, "\n".join(lines)), test)
             places[test] = os.path.relpath(path, common.TOP), number, before.count("\n")
-            with open(os.path.join(source, test + ".rt"), "w", encoding="utf-8") as file:
-                file.write(before + code + TEST[TEST.index("\n    Ok") :])
-    with open(os.path.join(source, "lib.rt"), "w", encoding="utf-8") as file:
-        file.write(ROOT % "".join("#[cfg(test)]\nmod %s;\n" % test for test in places))
+            common.write(os.path.join(source, test + ".rt"), before + code + TEST[TEST.index("\n    Ok") :])
+    common.write(os.path.join(source, "lib.rt"), ROOT % "".join("#[cfg(test)]\nmod %s;\n" % test for test in places))
     trial.listed(folder, CRATE, wanted)
     return places
 

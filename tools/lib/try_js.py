@@ -19,25 +19,12 @@ import common
 import packages
 import programs
 import try_c
-from modules import mutants, stream_of
-from streams import some_stream
+from modules import mutants
 
 PACKAGE = os.path.join(common.TOP, "bindings", "js")
 TSC = ["--strict", "--noEmit", "--target", "es2022", "--module", "es2022", "--moduleResolution", "node"]
 OLDEST_NODE = 18
 MUTANTS = 20_000
-
-
-class Failed(Exception):
-    """A command failed."""
-
-
-def must(command, **options):
-    done = subprocess.run(command, stdin=subprocess.DEVNULL, stdout=subprocess.PIPE, stderr=subprocess.STDOUT, **options)
-    text = done.stdout.decode(errors="replace")
-    if done.returncode:
-        raise Failed("%s: status %d\n%s" % (" ".join(map(str, command)), done.returncode, text[-6000:]))
-    return text
 
 
 def stripped(stream, lines):
@@ -48,10 +35,8 @@ def stripped(stream, lines):
 
 def write_streams(path, seed, count, mutant_count=0):
     """Writes the golden streams and random ones, with the lines of the models. Returns how many there are."""
-    rng, modelled = random.Random(seed), try_c.modelled
-    drawn = [(stream_of if number % 2 else some_stream)(rng) for number in range(count)]
-    drawn += mutants(rng, [stream for stream, _ in common.golden()], mutant_count)
-    rows = common.golden() + [(stream, modelled(stream)) for stream in drawn]
+    changed = mutants(random.Random(seed), [stream for stream, _ in common.golden()], mutant_count)
+    rows = common.golden() + try_c.drawn(seed, count) + [(stream, try_c.modelled(stream)) for stream in changed]
     with open(path, "w", encoding="ascii") as file:
         for stream, lines in rows:
             file.write(json.dumps({"hex": stream.hex(), "lines": lines, "stripped": stripped(stream, lines)}) + "\n")
@@ -68,7 +53,7 @@ def installed(folder, name, wasm):
 
 def in_node(node, place, streams):
     """The tests of the package. Returns how many passed."""
-    text = must([node, "--test"], cwd=place, env={**os.environ, "PULLEYNAVY_STREAMS": streams})
+    text = common.must([node, "--test"], folder=place, env={"PULLEYNAVY_STREAMS": streams})
     return sum(int(line.split()[-1]) for line in text.splitlines() if line.startswith(("# pass ", "ℹ pass ")))
 
 
@@ -77,18 +62,18 @@ def with_wide_memory(node, place, streams):
     flags = ["--experimental-wasm-memory64"]
     if subprocess.run([node, *flags, "-e", "0"], stdout=subprocess.DEVNULL, stderr=subprocess.DEVNULL).returncode:
         flags = []
-    must([node, *flags, "tests/streams.test.js"], cwd=place, env={**os.environ, "PULLEYNAVY_STREAMS": streams})
+    common.must([node, *flags, "tests/streams.test.js"], folder=place, env={"PULLEYNAVY_STREAMS": streams})
 
 
 def in_browser(node, browser, place, streams):
     """The comparisons with streams in a browser, where fetch loads the module. Returns what it says."""
-    return must([node, "tests/browser.js", browser, streams], cwd=place).splitlines()[0]
+    return common.must([node, "tests/browser.js", browser, streams], folder=place).splitlines()[0]
 
 
 def with_tsc(place):
     """The declarations with the library dom, and with that of the language alone."""
-    must(["tsc", *TSC, "tests/types.ts"], cwd=place)
-    must(["tsc", *TSC, "--lib", "es2022", "tests/plain.ts"], cwd=place)
+    common.must(["tsc", *TSC, "tests/types.ts"], folder=place)
+    common.must(["tsc", *TSC, "--lib", "es2022", "tests/plain.ts"], folder=place)
 
 
 # The entry of the package, the platform of a bundle, and whether the bundle needs the module beside it.
@@ -103,51 +88,48 @@ def bundled(node, place, folder):
         os.makedirs(os.path.join(project, "node_modules"))
         os.makedirs(alone)
         os.symlink(place, os.path.join(project, "node_modules", "pulleynavy"))
-        with open(os.path.join(project, "use.js"), "w", encoding="utf-8") as file:
-            file.write(BUNDLED % entry)
+        common.write(os.path.join(project, "use.js"), BUNDLED % entry)
         path = os.path.join(alone, "use.mjs")
-        must(["esbuild", "use.js", "--bundle", "--format=esm", "--platform=" + platform, "--log-limit=0", "--outfile=" + path], cwd=project)
+        common.must(["esbuild", "use.js", "--bundle", "--format=esm", "--platform=" + platform, "--log-limit=0", "--outfile=" + path], folder=project)
         with open(path, encoding="utf-8") as file:
             if platform == "browser" and "node:" in file.read():
-                raise Failed("a bundle of %s for browsers imports modules of Node" % entry)
+                raise common.Failed("a bundle of %s for browsers imports modules of Node" % entry)
         if needs_module:
             shutil.copy(os.path.join(place, "pulleynavy.wasm"), alone)
         # Node's fetch reads no files, so a bundle for browsers gets the bytes.
         bytes_of = 'import { readFileSync } from "node:fs"; globalThis.source = readFileSync("pulleynavy.wasm"); await import("./use.mjs");'
         words = ["--input-type=module", "-e", bytes_of] if needs_module and platform == "browser" else ["use.mjs"]
-        if must([node, *words], cwd=alone) != "UNEXPECTED_EOF\n":
-            raise Failed("a bundle of %s for %s finds no fault" % (entry, platform))
+        if common.must([node, *words], folder=alone) != "UNEXPECTED_EOF\n":
+            raise common.Failed("a bundle of %s for %s finds no fault" % (entry, platform))
     return len(BUNDLES)
 
 
 def packed(npm, node, place, folder):
     """Packs the package, installs it into an empty directory, and uses it there as a program and as a library."""
-    must([npm, "pack", "--silent", "--pack-destination", folder], cwd=place)
+    common.must([npm, "pack", "--silent", "--pack-destination", folder], folder=place)
     archive = os.path.join(folder, "pulleynavy-%s.tgz" % common.version())
     empty = os.path.join(folder, "empty")
     os.mkdir(empty)
-    must([npm, "install", "--offline", "--no-audit", "--no-fund", "--loglevel=error", archive], cwd=empty)
-    with open(os.path.join(empty, "a.wasm"), "wb") as file:
-        file.write(b"\0asm\1\0\0\0\3\2\1\0\x0a\4\1\2\0\x0b")
-    said = must([os.path.join("node_modules", ".bin", "pulleynavy"), "a.wasm"], cwd=empty).split()
+    common.must([npm, "install", "--offline", "--no-audit", "--no-fund", "--loglevel=error", archive], folder=empty)
+    common.write(os.path.join(empty, "a.wasm"), b"\0asm\1\0\0\0\3\2\1\0\x0a\4\1\2\0\x0b")
+    said = common.must([os.path.join("node_modules", ".bin", "pulleynavy"), "a.wasm"], folder=empty).split()
     if said != ["2", "0xa", "function", "(1)", "4", "0xe", "code", "(1)"]:
-        raise Failed("pulleynavy a.wasm: %s" % said)
+        raise common.Failed("pulleynavy a.wasm: %s" % said)
     use = "import { load } from 'pulleynavy'; import { readFileSync } from 'fs';"
     use += " const { parse } = await load(); console.log([...parse(readFileSync('a.wasm'))].map(one => one.kind).join());"
-    said = must([node, "--input-type=module", "-e", use], cwd=empty).strip()
+    said = common.must([node, "--input-type=module", "-e", use], folder=empty).strip()
     if said != "version,section,code,body,end":
-        raise Failed("the installed package: %s" % said)
+        raise common.Failed("the installed package: %s" % said)
     return os.path.getsize(archive)
 
 
 def built(folder):
     """The modules that tools/build_targets builds: that of 32 bits, and that of 64."""
-    must([os.path.join(common.TOP, "tools", "build_targets"), folder, "wasm32"])
-    return [os.path.join(folder, name) for name in ("pulleynavy32.wasm", "pulleynavy64.wasm")]
+    return [os.path.join(programs.build_targets(folder, "wasm32"), name) for name in ("pulleynavy32.wasm", "pulleynavy64.wasm")]
 
 
 def is_old(node):
-    version = must([node, "--version"]).strip()
+    version = common.must([node, "--version"]).strip()
     if int(version[1:].split(".")[0]) >= OLDEST_NODE:
         return False
     common.skip("missing: node %d or later, not %s" % (OLDEST_NODE, version))
@@ -165,7 +147,7 @@ def tried(given, folder, node):
     said = "%d tests, %d streams (seed %d)" % (in_node(node, place, streams), count, given.seed)
     mutated = os.path.join(folder, "mutated.jsonl")
     said += ", %d with changed bytes" % write_streams(mutated, given.seed, 0, MUTANTS)
-    must([node, "--expose-gc", "tests/streams.test.js"], cwd=place, env={**os.environ, "PULLEYNAVY_STREAMS": mutated})
+    common.must([node, "--expose-gc", "tests/streams.test.js"], folder=place, env={"PULLEYNAVY_STREAMS": mutated})
     if wasm64:
         with_wide_memory(node, installed(folder, "wide", wasm64), streams)
         said += ", also with 64-bit memory"
@@ -185,19 +167,12 @@ def tried(given, folder, node):
 
 
 def main():
-    more = [("--wasm", {"metavar": "FILE", "help": "the module with 32-bit memory"})]
-    more += [("--wasm64", {"metavar": "FILE", "help": "the module with 64-bit memory"})]
+    more = [("--wasm", {"metavar": "FILE", "type": common.existing, "help": "the module with 32-bit memory"})]
+    more += [("--wasm64", {"metavar": "FILE", "type": common.existing, "help": "the module with 64-bit memory"})]
     given = common.arguments(__doc__, [("seed", 1), ("count", 1000)], more=more)
-    for path in (given.wasm, given.wasm64):
-        if path and not os.path.isfile(path):
-            common.stop(common.WRONG_USE, "there is no file %s" % path)
     node = common.found("node")
     if not node or is_old(node):
         return 0
     with tempfile.TemporaryDirectory() as folder:
-        try:
-            print(tried(given, folder, node))
-        except Failed as failed:
-            print("FAILED", failed)
-            return common.DIFFERS
+        print(tried(given, folder, node))
     return 0

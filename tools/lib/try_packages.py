@@ -16,7 +16,6 @@ import os
 import re
 import shutil
 import subprocess
-import sys
 import tempfile
 import time
 
@@ -26,7 +25,8 @@ import desktops
 import generate_manuals
 import packages
 import try_js
-from systems import Failed, System, one, run, this_release, write
+from common import Failed, write
+from systems import System, one, run, this_release
 
 RUST = common.read("tools", "lib", "templates", "package.rs")
 PYTHON = common.read("tools", "lib", "templates", "package.py")
@@ -37,12 +37,7 @@ EXPORTS = common.read("tools", "lib", "templates", "exports.js")
 # Loads the library under a C library that is not glibc.
 LOADER = common.read("tools", "lib", "templates", "loader.c")
 C = common.read("tools", "lib", "templates", "package.c")
-CMAKE = """cmake_minimum_required(VERSION 3.13)
-project(t C)
-find_package(pulleynavy %s REQUIRED)
-add_executable(t t.c)
-target_link_libraries(t pulleynavy::%s)
-"""
+CMAKE = common.read("tools", "lib", "templates", "package.cmake")
 MANIFEST = '[package]\nname = "t"\nversion = "0.0.0"\nedition = "2021"\n\n[dependencies]\npulleynavy = "%s"\n' % common.version()
 # What stands in for pandas: a Parquet file that is a CSV file.
 PANDAS = """import csv
@@ -82,8 +77,7 @@ class Trial:
         self.dist, self.place = dist, place
         self.stream, self.wanted, self.end = example()
         self.file = os.path.join(place, "a.wasm")
-        with open(self.file, "wb") as file:
-            file.write(self.stream)
+        common.write(self.file, self.stream)
 
     def expect(self, output, what):
         if [line for line in output.split("\n") if line.startswith("section ")] != self.wanted:
@@ -171,8 +165,7 @@ class Trial:
         streams = common.golden()
         os.mkdir(self.place + "/registry")
         for number in range(FILES):
-            with open("%s/registry/%05d.wasm" % (self.place, number), "wb") as file:
-                file.write(streams[number % len(streams)][0])
+            common.write("%s/registry/%05d.wasm" % (self.place, number), streams[number % len(streams)][0])
         example, out = packages.source("bindings", "python", "examples", "scan.py"), self.place + "/out.csv"
         said = run([python, example, out, self.place + "/registry", "--workers", "2"], self.place)
         if not said.startswith("%d files" % FILES):
@@ -187,8 +180,7 @@ class Trial:
 
     def parquet(self, python, example):
         """The rows that it has pandas write as Parquet are those of a CSV. Debian has no pyarrow, so a module stands in for pandas."""
-        with open(self.place + "/few", "w", encoding="utf-8") as file:
-            file.writelines("%s/registry/%05d.wasm\n" % (self.place, number) for number in range(100))
+        common.write(self.place + "/few", "".join("%s/registry/%05d.wasm\n" % (self.place, number) for number in range(100)))
         words = ["--list", self.place + "/few", "--workers", "2"]
         alone = subprocess.run([python, "-c", "import pandas, pyarrow"], stderr=subprocess.DEVNULL)
         if alone.returncode:
@@ -414,7 +406,7 @@ def attempt(kind, dist, absent):
     with tempfile.TemporaryDirectory() as place:
         try:
             getattr(Trial(dist, place), kind)()
-        except (Failed, packages.Broken) as failed:
+        except (Failed, common.Failed) as failed:
             print("FAILED %s: %s" % (kind, failed))
             return False
     print("%s: works, %.0f s" % (kind, time.time() - start), flush=True)

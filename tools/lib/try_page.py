@@ -13,7 +13,6 @@ import http.server
 import os
 import random
 import re
-import subprocess
 import tempfile
 import threading
 import time
@@ -21,6 +20,7 @@ import unicodedata
 
 import browsers
 import common
+import programs
 from browsers import waited
 from common import leb
 from made import NAMES, custom, module, named_module, other_names, text, vector
@@ -38,13 +38,9 @@ LONGEST_WAIT = 10
 MODULE = b"\0asm\1\0\0\0"
 
 
-class Failed(Exception):
-    """The page does something else than it should."""
-
-
 def same(found, wanted, what):
     if found != wanted:
-        raise Failed("%s\n  page   %s\n  wanted %s" % (what, str(found)[:600], str(wanted)[:600]))
+        raise common.Failed("%s\n  page   %s\n  wanted %s" % (what, str(found)[:600], str(wanted)[:600]))
 
 
 def becomes(find, wanted, what):
@@ -61,22 +57,8 @@ def becomes(find, wanted, what):
 # ---- scripts in the page
 
 HELPERS = common.read("tools", "lib", "templates", "page.js")
-OPEN_ALL = """for (let i = 0; i < 400; i++) {
-    const row = document.querySelector('.row[aria-expanded=false]');
-    if (!row) break;
-    row.click();
-    await until(() => row.ariaExpanded === 'true');
-}
-return rows();"""
 # The lowest contrast of a visible text with what is behind it, and its place.
 CONTRAST = common.read("tools", "lib", "templates", "contrast.js")
-# Starts to measure how long the page does not react.
-MEASURE = """window.last = performance.now(); window.longest = 0;
-setInterval(() => {
-    const now = performance.now();
-    window.longest = Math.max(window.longest, now - window.last);
-    window.last = now;
-}, 5);"""
 # What is shown if there is no chosen row.
 NO_ROW = {"row": -1, "level": 0, "size": 0, "place": 0, "offset": -1, "isOpen": None, "isBad": False, "texts": []}
 
@@ -93,6 +75,12 @@ class Page:
     def start(self, anchor=""):
         self.browser.open("about:blank")
         self.browser.open(self.url + anchor)
+
+    def opened(self, folder, name, stream):
+        """Starts anew with a file of these bytes. Returns what the page says of it."""
+        path = common.write(os.path.join(folder, name), stream)
+        self.start()
+        return self.load(path)
 
     def said(self):
         return self.run("return $('said').textContent")
@@ -166,15 +154,14 @@ def count_faults(said, lines, stream):
     more, unknown = re.search(r"and ([\d,]+) more faults?\.", said), sum(bool(re.match("  x[0-9a-f]* unknown", line)) for line in lines)
     shown = 0 if said.endswith("No faults.") else 1 + int(more[1] if more else 0)
     if not len(faults) <= shown <= len(faults) + unknown:
-        raise Failed("%d faults, not %d: %s: %s" % (shown, len(faults), said, stream.hex()[:400]))
+        raise common.Failed("%d faults, not %d: %s: %s" % (shown, len(faults), said, stream.hex()[:400]))
 
 
 def compare(page, path, stream, lines):
     """Compares what the page shows of a stream with the lines of a model. Returns how many rows it has."""
-    with open(path, "wb") as file:
-        file.write(stream)
+    common.write(path, stream)
     said = page.load(path)
-    rows = page.run(OPEN_ALL) if len(stream) else page.rows()
+    rows = page.run("return openAll()") if len(stream) else page.rows()
     found, inside = shown_rows(rows)
     wanted = expected_rows(lines)
     same(found, wanted, stream.hex()[:400])
@@ -206,22 +193,18 @@ def streams(page, folder, given):
 
 def names(page, folder):
     """The names of the name section are on every index."""
-    path = os.path.join(folder, "named.wasm")
-    with open(path, "wb") as file:
-        file.write(named_module())
     page.browser.resize(1280, TALL)
-    page.start()
-    page.load(path)
-    found = [" ".join(filter(None, row["texts"][:2])) for row in page.run(OPEN_ALL)]
+    page.opened(folder, "named.wasm", named_module())
+    found = [" ".join(filter(None, row["texts"][:2])) for row in page.run("return openAll()")]
     for space, (_, words) in NAMES.items():
         for index, word in enumerate(words):
             if "%s %d %s" % (space, index, word) not in found:
-                raise Failed("%s %d has no name %s: %s" % (space, index, word, found))
+                raise common.Failed("%s %d has no name %s: %s" % (space, index, word, found))
     said = page.run("return rows().map(row => row.texts.slice(0, 3).filter(Boolean).join(' '))")
     rows = ("export dice func 2 roll", "export mem memory 0 heap", "start func 1 next", "local 0 sides name", "func 1 next body, 2 bytes")
     for wanted in rows:
         if wanted not in said:
-            raise Failed("no row %r: %s" % (wanted, said))
+            raise common.Failed("no row %r: %s" % (wanted, said))
     page.browser.resize(1280, USUAL)
 
 
@@ -230,28 +213,19 @@ def first_names(page, folder):
     exports = section(7, vector([text(name) + b"\0\0" for name in ("first", "second")]))
     exported = module(section(1, vector([b"\x60\0\0"])), section(3, vector([b"\0"])), exports, section(10, vector([b"\2\0\x0b"])))
     for stream, wanted in ((exported, "func 0 first"), (named_module() + other_names(), "func 1 next")):
-        path = os.path.join(folder, "names.wasm")
-        with open(path, "wb") as file:
-            file.write(stream)
-        page.start()
-        page.load(path)
-        said = [" ".join(filter(None, row["texts"][:2])) for row in page.run(OPEN_ALL)]
+        page.opened(folder, "names.wasm", stream)
+        said = [" ".join(filter(None, row["texts"][:2])) for row in page.run("return openAll()")]
         if wanted not in said:
-            raise Failed("no row %r: %s" % (wanted, said))
+            raise common.Failed("no row %r: %s" % (wanted, said))
 
 
 def letters(page, folder):
     """Each byte is shown in hexadecimal and, if it is a visible character of ASCII, as that."""
-    path, stream = os.path.join(folder, "letters.wasm"), module(custom("all bytes", bytes(range(256))))
-    with open(path, "wb") as file:
-        file.write(stream)
+    stream = module(custom("all bytes", bytes(range(256))))
     page.browser.resize(1280, TALL)
-    page.start()
-    page.load(path)
-    shown = """await until(() => $('hex').querySelector(`[data-at='${arguments[0]}']`)?.textContent.trim());
-        return [...Array(arguments[0]).keys()].map(at => [...$('hex').querySelectorAll(`[data-at='${at}']`)].map(it => it.textContent.trim()))"""
+    page.opened(folder, "letters.wasm", stream)
     wanted = [["%02x" % byte, chr(byte) if 0x21 <= byte <= 0x7E else "·"] for byte in stream]
-    same([pair for pair in zip(page.run(shown, len(stream)), wanted) if pair[0] != pair[1]], [], "the letters of bytes")
+    same([pair for pair in zip(page.run("return letters(arguments[0])", len(stream)), wanted) if pair[0] != pair[1]], [], "the letters of bytes")
     page.browser.resize(1280, USUAL)
 
 
@@ -300,7 +274,7 @@ def labels(page):
     for element in found:
         if page.browser.role(element) != "status" and not page.browser.label(element).strip():
             html = page.browser.run("return arguments[0].outerHTML.slice(0, 200)", {browsers.ELEMENT: element})
-            raise Failed("no accessible name: %s" % html)
+            raise common.Failed("no accessible name: %s" % html)
     for selector, role in ROLES.items():
         same(page.browser.role(page.browser.element(selector)), role, selector)
     return len(found)
@@ -316,7 +290,7 @@ def contrast(page, paths):
             page.run("$('theme').value = arguments[0]; $('theme').dispatchEvent(new Event('change')); await pause(50);", theme)
             lowest = min(lowest, page.run(CONTRAST))
             if lowest[0] < LEAST_CONTRAST:
-                raise Failed("contrast %.2f (%s, %s): %s" % (lowest[0], theme, said, lowest[1]))
+                raise common.Failed("contrast %.2f (%s, %s): %s" % (lowest[0], theme, said, lowest[1]))
     return lowest[0]
 
 
@@ -332,10 +306,7 @@ def narrow(page, folder, path, picture):
     page.load(path)
     excess = page.run("const it = document.documentElement; return [innerWidth, it.scrollWidth - it.clientWidth]")
     same(excess, [NARROW, 0], "the width of the page")
-    wide = page.run("""return [...document.querySelectorAll('header, header *, #bar, #notice, .pane, .scroll, #details, footer, footer *')]
-        .filter(it => it.checkVisibility() && (it.getBoundingClientRect().right > innerWidth || it.getBoundingClientRect().left < 0))
-        .map(it => it.outerHTML.slice(0, 80))""")
-    same(wide, [], "what is cut off")
+    same(page.run("return cutOff()"), [], "what is cut off")
     same(page.run("const it = $('hex').querySelector('.list > div'); return it.scrollWidth <= it.clientWidth"), True, "a row of bytes fits")
     if picture:
         page.browser.picture(picture)
@@ -347,16 +318,12 @@ def narrow(page, folder, path, picture):
 def highlighted(page, stream):
     """The bytes of the chosen row are highlighted, and no others. Returns how many rows were looked at."""
     count = 0
-    for row in page.run(OPEN_ALL):
+    for row in page.run("return openAll()"):
         if row["level"] == 1:
             continue
-        title = page.run("""document.querySelector(`.row[data-row='${arguments[0]}']`).click();
-            await until(() => $('hex-title').textContent.startsWith(`Bytes 0x${arguments[1].toString(16)} `));
-            await pause(60);
-            return $('hex-title').textContent""", row["row"], row["offset"])
+        title = page.run("return clicked(...arguments)", row["row"], row["offset"])
         start, end = (int(number, 16) for number in re.findall(r"0x([0-9a-f]+)", title))
-        cells = page.run("""return [...$('hex').querySelectorAll('.chosen, .before')]
-            .map(it => [Number(it.dataset.at), it.textContent.trim()])""")
+        cells = page.run("return highlighted()")
         same(sorted({at for at, _ in cells}), list(range(start, end)), title)
         same({at for at, word in cells if "%02x" % stream[at] == word}, set(range(start, end)), title)
         same(start, row["offset"], title)
@@ -370,13 +337,10 @@ def faults(page, path):
     page.load(path)
     with open(path, "rb") as file:
         lines = common.load(common.MODEL_OF_ITEMS).listing(file.read())
-    for _, offset, text in [row for row in expected_rows(lines) if row[2]]:
+    for _, offset, said in [row for row in expected_rows(lines) if row[2]]:
         chosen = lambda: [page.chosen()[name] for name in ("offset", "isBad")] + page.chosen()["texts"][:1]
-        becomes(chosen, [offset, True, "fault: " + text], "the fault that is chosen")
-        becomes(lambda: page.run("""const box = $('hex').getBoundingClientRect();
-            const it = $('hex').querySelector(`.fault[data-at='${arguments[0]}']`);
-            return it && it.getBoundingClientRect().top >= box.top && it.getBoundingClientRect().bottom <= box.bottom""", offset), True,
-             "the byte of the fault at %d" % offset)
+        becomes(chosen, [offset, True, "fault: " + said], "the fault that is chosen")
+        becomes(lambda: page.run("return isFaultInSight(arguments[0])", offset), True, "the byte of the fault at %d" % offset)
         page.run("$('next').click()")
 
 
@@ -446,17 +410,16 @@ def big(page, folder):
     """A file of 40 MB is shown soon, and the page reacts meanwhile. Returns the times."""
     count, stream = big_module()
     path = os.path.join(folder, "big.wasm")
-    with open(path, "wb") as file:
-        file.write(stream)
+    common.write(path, stream)
     page.start()
-    page.run(MEASURE)
+    page.run("measure()")
     began = time.time()
     said = page.load(path)
     took = time.time() - began
     longest = page.run("return window.longest") / 1000
     same(said.endswith("No faults."), True, said)
     if longest > LONGEST_PAUSE:
-        raise Failed("the page did not react for %.2f s" % longest)
+        raise common.Failed("the page did not react for %.2f s" % longest)
     found = page.search("function%d" % (count - 1))
     same([row["texts"][:2] for row in found], [["func %d" % (count - 1), "function%d" % (count - 1)]] * 3, "a search in 40 MB")
     reach(page, len(stream), lambda at: stream[at])
@@ -486,11 +449,7 @@ def reach(page, size, byte_at):
 
 def looked(page, offset, byte_at):
     """A byte is in sight, as it is in the file."""
-    cell = page.run("""await until(() => $('hex').querySelector(`[data-at='${arguments[0]}']`)?.textContent.trim());
-        const it = $('hex').querySelector(`[data-at='${arguments[0]}']`);
-        if (!it) return [$('hex').querySelector('[data-at]').dataset.at, 'not there'];
-        const box = $('hex').getBoundingClientRect(), own = it.getBoundingClientRect();
-        return [it.textContent.trim(), own.top >= box.top - 1 && own.bottom <= box.bottom + 1]""", offset)
+    cell = page.run("return byteInSight(arguments[0])", offset)
     same(cell, ["%02x" % byte_at(offset), True], "the byte at %d" % offset)
 
 
@@ -610,28 +569,17 @@ def tried(browser, given, made, folder):
     return "%s %s: %s" % (browser.name, browser.version, ", ".join(said))
 
 
-def built(folder):
-    """The module that tools/build_targets builds."""
-    done = subprocess.run([os.path.join(common.TOP, "tools", "build_targets"), folder, "wasm32"], stdin=subprocess.DEVNULL)
-    path = os.path.join(folder, "pulleynavy32.wasm")
-    if done.returncode or not os.path.exists(path):
-        common.stop(common.NO_PROGRAM, "there is no module with 32-bit memory")
-    return path
-
-
 def main():
-    more = [("--wasm", {"metavar": "FILE", "help": "the module with 32-bit memory"})]
+    more = [("--wasm", {"metavar": "FILE", "type": common.existing, "help": "the module with 32-bit memory"})]
     more += [("--pictures", {"metavar": "DIR", "help": "where pictures of the page go"})]
     given = common.arguments(__doc__, [("seed", 1), ("count", 20)], more=more)
-    if given.wasm and not os.path.isfile(given.wasm):
-        common.stop(common.WRONG_USE, "there is no file %s" % given.wasm)
     if given.pictures:
         os.makedirs(given.pictures, exist_ok=True)
     if not common.found("esbuild"):
         return 0
     status = 0
     with tempfile.TemporaryDirectory() as folder:
-        given.wasm = os.path.abspath(given.wasm or built(folder))
+        given.wasm = given.wasm or os.path.join(programs.build_targets(folder, "wasm32"), "pulleynavy32.wasm")
         made = common.load(os.path.join(common.TOP, "page", "pack"), "pack").pack(folder, given.wasm)
         for kind in (browsers.Chromium, browsers.Firefox):
             own = os.path.join(folder, kind.name)
@@ -640,7 +588,7 @@ def main():
                     continue
                 try:
                     print(tried(browser, given, made, own))
-                except (Failed, browsers.BrowserError) as failed:
+                except (common.Failed, browsers.BrowserError) as failed:
                     print("FAILED %s: %s" % (kind.name, failed))
                     status = common.DIFFERS
     return status

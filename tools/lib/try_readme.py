@@ -41,8 +41,7 @@ class Reader:
     def write(self, name, data):
         path = os.path.join(self.place, name)
         os.makedirs(os.path.dirname(path), exist_ok=True)
-        with open(path, "wb") as file:
-            file.write(data)
+        common.write(path, data)
         return path
 
     def run(self, words, **options):
@@ -156,6 +155,5 @@ def main():
         return 0
     if not common.found("git"):
         return 0
-    with open(PAGE, encoding="utf-8") as file:
-        found = list(faults(file.read()))
+    found = list(faults(common.read(PAGE)))
     return common.tell(found, 20, "README: %d faults" % len(found))

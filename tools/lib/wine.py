@@ -30,8 +30,7 @@ class Wine:
     def running(self, program):
         """The path of a script that runs this program."""
         script = program + ".sh"
-        with open(script, "w", encoding="utf-8") as file:
-            file.write(SCRIPT % {"folder": self.folder, "wine": " ".join([*self.words, "wine"]), "program": program, "lost": LOST})
+        common.write(script, SCRIPT % {"folder": self.folder, "wine": " ".join([*self.words, "wine"]), "program": program, "lost": LOST})
         os.chmod(script, 0o755)
         return script
 

@@ -13,6 +13,7 @@ is refused as soon as its size has been read; without, once its bytes are there.
 As a module: reading(S, o, at_once), status(lines), feed(S, n, o, at_once, hints), prefix(S, o, at_once),
 state_of(C, o, at_once), short(state, d), ending(state, d), next_event(state, d), strip(S, keep).
 """
+import argparse
 import os
 import sys
 
@@ -530,56 +531,28 @@ def laws(depth=3):
 
 
 def main():
-    a = sys.argv[1:]
-    o, at_once, pieces, hints, pre, cut = 0, False, None, False, False, []
-    while a:
-        x = a.pop(0)
-        if x == "--offset":
-            o = int(a.pop(0))
-        elif x == "--at-once":
-            at_once = True
-        elif x == "--pieces":
-            pieces = int(a.pop(0))
-        elif x == "--hints":
-            hints = True
-        elif x in ("--strip", "--keep-names"):
-            cut.append(x)
-        elif x == "--prefix":
-            pre = True
-        elif x == "--rows":
-            n, bad = rows()
-            for b in bad:
-                print("DIFFERS", b)
-            print("%d agree, %d differ" % (n - len(bad), len(bad)))
-            return 1 if bad else 0
-        elif x == "--laws":
-            n, wrong = laws(int(a.pop(0)) if a else 3)
-            for w in wrong[:40]:
-                print("BROKEN", w)
-            print("%d cases, %d broken" % (n, len(wrong)))
-            return 1 if wrong else 0
-        elif x in ("-h", "--help"):
-            print(__doc__.strip())
-            return 0
-        else:
-            sys.stderr.write(__doc__)
-            return 2
+    line = argparse.ArgumentParser(description=__doc__.strip(), formatter_class=argparse.RawDescriptionHelpFormatter)
+    for name in ("at-once", "hints", "prefix", "strip", "keep-names", "rows"):
+        line.add_argument("--" + name, action="store_true")
+    line.add_argument("--offset", type=int, default=0)
+    line.add_argument("--pieces", type=int)
+    line.add_argument("--laws", type=int, nargs="?", const=3)
+    a = line.parse_args()
+    if a.rows or a.laws is not None:
+        n, bad = rows() if a.rows else laws(a.laws)
+        for b in bad[:40]:
+            print("DIFFERS", b)
+        print("%d agree, %d differ" % (n - len(bad), len(bad)))
+        return 1 if bad else 0
     S = sys.stdin.buffer.read()
-    if cut:
-        got = strip(S, "--keep-names" in cut)
-        if isinstance(got, str):
-            sys.stderr.write(got + "\n")
-            return 1
-        sys.stdout.buffer.write(got)
-        return 0
-    if pre:
-        out = prefix(S, o, at_once)
-    elif pieces:
-        out = feed(S, pieces, o, at_once, hints)
-    else:
-        out = reading(S, o, at_once)
+    if a.strip:
+        got = strip(S, a.keep_names)
+        sys.stdout.buffer.write(b"" if isinstance(got, str) else got)
+        sys.stderr.write(got + "\n" if isinstance(got, str) else "")
+        return int(isinstance(got, str))
+    out = feed(S, a.pieces, a.offset, a.at_once, a.hints) if a.pieces else (prefix if a.prefix else reading)(S, a.offset, a.at_once)
     sys.stdout.write("".join(l + "\n" for l in out))
-    return status(out) if not pre else 0
+    return 0 if a.prefix else status(out)
 
 
 if __name__ == "__main__":

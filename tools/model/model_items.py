@@ -9,6 +9,7 @@ Written from the standard, from the conventions of the custom sections, and from
 knowing nothing of any reader. The features are 1 for memories and tables of 64 bits, and 2 for compact imports.
 Behind a fault of a subsection's id or size nothing more is said: there the text ends with a star, and what a reader says
 behind it isn't compared."""
+import argparse
 import os
 import sys
 
@@ -861,27 +862,23 @@ def dump(s):
 
 
 def main():
-    a = sys.argv[1:]
-    if not a:
-        sys.stderr.write(__doc__ + "\n")
-        return 2
-    if a[0] in ("-h", "--help"):
-        print(__doc__.strip())
-        return 0
-    opt = lambda n, d: a[a.index(n) + 1] if n in a else d
-    if a[0] == "--rows":
+    line = argparse.ArgumentParser(description=__doc__.strip(), formatter_class=argparse.RawDescriptionHelpFormatter)
+    line.add_argument("reader", nargs="?", choices=[*ITEMS, *SECTIONS], metavar="READER")
+    line.add_argument("--rows", action="store_true")
+    line.add_argument("--listing", action="store_true")
+    line.add_argument("--offset", type=int, default=0)
+    line.add_argument("--features", type=int, default=3)
+    a = line.parse_args()
+    if a.rows:
         n, bad = rows()
         for b in bad:
             print("DIFFERS", b)
         print("%d agree, %d differ" % (n - len(bad), len(bad)))
         return 1 if bad else 0
-    if a[0] == "--listing":
-        sys.stdout.write("".join(l + "\n" for l in listing(sys.stdin.buffer.read())))
-        return 0
-    if a[0] not in ITEMS and a[0] not in SECTIONS:
-        sys.stderr.write("model_items.py: no reader has the name %s; there are %s\n" % (a[0], ", ".join([*ITEMS, *SECTIONS])))
-        return 2
-    print(outcome(a[0], sys.stdin.buffer.read(), int(opt("--offset", 0)), int(opt("--features", 3))))
+    if not a.listing and not a.reader:
+        line.error("a reader, --rows or --listing is needed")
+    data = sys.stdin.buffer.read()
+    print("\n".join(listing(data)) if a.listing else outcome(a.reader, data, a.offset, a.features))
     return 0
 
 

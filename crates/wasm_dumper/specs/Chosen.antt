@@ -47,6 +47,9 @@ is_chosen_with Parts section name = true
 is_chosen_with (Id id) section name = is_id id section
 is_chosen_with (Name text) section name = is_name text.now name
 
+-- | which events a dump shows, by one choice and by several; the line of each: its text in a listing, and the name of
+--   its section [`is_chosen`, `chosen_line`, `shown_line`, `numbered_line`, `BeginAlike`] <Modules, Sections (the ids
+--   and names); this project>
 -- whether this choice alone chooses what is reported
 abbrev pub is_chosen_by : Only → Report → Bool
 is_chosen_by choice report = is_chosen_with choice (id_of report) (name_of report)

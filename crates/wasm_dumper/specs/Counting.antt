@@ -32,6 +32,8 @@ use Rattle.wasm_tree.specs.declared.numbers.Space.TheVariants.{Globals, Elements
 abbrev pub no_counts : Counts
 no_counts = record { functions = 0; tables = 0; memories = 0; tags = 0; globals = 0; bodies = 0 }
 
+-- | how many imports and bodies came before; what each report adds to that [`after`, `with_imports`] <Import Section,
+--   Code Section, Indices>
 -- how many imports there were of an index space; nothing of the others can be imported
 abbrev pub count_of : Counts → Space → ℕ
 count_of c Functions = c.functions
@@ -130,6 +132,8 @@ after_found index (Err e) = index
 abbrev pub one_at : {A : Type 0} → (Place → Outcome A) → Place → Outcome ℕ
 one_at reading p = outcome_map one_number (reading p)
 
+-- | an item of a section with an id, and how many numbers the items of such a section have [`numbers_in`] <Sections;
+--   this project>
 -- the reading of an item of the section with this id
 abbrev pub item_at : (id : ℕ) → Place → Outcome ℕ
 item_at id =
@@ -157,6 +161,8 @@ abbrev pub AreOfSection : (why : Option ListError) (imports : Bool) → Counts �
 AreOfSection why true c id count window shown = AreShown why shown (import_numbers c (imports_in count window))
 AreOfSection why false c id count window shown = AreNext why c (space_defined id) (numbers_in id count window) shown
 
+-- | the numbers of the items of a report, of events, and of what a source returned [; `Dump.AreOf`, `AreOfEvents`,
+--   `AreOfSource`] <Indices; this project>
 -- The numbers are those of the items that are reported, up to the first fault, or where the dump has stopped.
 abbrev pub AreOfItems : (why : Option ListError) → Counts → Report → List Number → Type 0
 AreOfItems why c (counted id count window) shown = AreOfSection why (nat_eq id import_id) c id count window shown

@@ -82,6 +82,7 @@ Writes style (Err Memory) taken written outline numbers bytes = WritesSome style
 abbrev pub bytes_of_event : List Only → Event → List ℕ
 bytes_of_event only e = if is_chosen only e.report then e.consumed else []
 
+-- | the bytes that are shown
 -- those of events, if bytes are shown
 abbrev pub bytes_of_events : (has_bytes : Bool) → List Only → List Event → List ℕ
 bytes_of_events true only events = flat_map (λ e. bytes_of_event only e) events
@@ -108,6 +109,7 @@ pub record AreOfSource (why : Option ListError) (whole : Bool) (only : List Only
   pub are_of : AreOfEvents why only no_counts events numbers
   pub are_bytes : bytes ≡ bytes_of_events has_bytes only events
 
+-- | what a dump has written: a text whose outline is a listing by the lines that are shown [`Writes`]
 -- The lines of the first level are those of the source's listing that are shown, with offsets in the base of the style;
 -- all others begin with two blanks. The numbers of items count preceding ones, and rows of bytes show those of the
 -- events that are shown, each once and in order. In the style of objects each line is one object, and the dump ends as

@@ -27,6 +27,9 @@ abbrev pub is_body_head : Head → Bool
 is_body_head body = true
 is_body_head other = false
 
+-- | a part that is skipped because a dump shows nothing of it: which ones, what is counted of it, what dropping its
+--   bytes reads, and how far that came when the source failed [`HidesIfAny`, `after_hidden`, `DropsPart`,
+--   `FailsWithin`]
 -- whether a dump shows nothing of a part with these first fields, and counts none of its items
 abbrev pub is_hidden : List Only → Head → Bool
 is_hidden only head =

@@ -180,6 +180,8 @@ fn collect_into<R: Source>(
     input: &mut R,
     buffer: &mut [u8],
 ) -> Result<(), ListError>
+    // Proved: whatever comes in a stream after a name was collected, its item keeps it [`keeps` (`KeepsNames`) of
+    //   `collected::collect_into`, and of all that it calls]
     ensures keeps { KeepsNames names.old names.new }
     ensures memory { IfErr result (λ why. why ≡ Memory) }
 {
@@ -214,6 +216,7 @@ fn collect_into<R: Source>(
 /// assert_eq!(rt; names.of(Space::Functions, 5), Some("f"));
 /// ```
 pub fn collect_names<R: Source>(alloc: Global, input: &mut R) -> Result<ItemNames, ListError>
+    // Proved: the only error of `collect_names` is out of memory
     ensures { IfErr result (λ why. why ≡ Memory) }
 {
     let mut names = ItemNames::new(alloc);

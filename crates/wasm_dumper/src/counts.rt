@@ -120,6 +120,8 @@ impl Counts {
 
     /// Counts the items of a payload: the imports of an import section without errors, or a body.
     pub fn pass(&mut self, payload: &Payload<'_>)
+        // Proved: what is counted of a payload whose reader is at its items is the imports of its section, or one
+        //   body [`Counts::pass` (`after`, `with_imports`)]
         ensures { ItemsBegin payload.now → self.new ≡ after self.old (report_of payload.now) }
     {
         match payload {

@@ -69,6 +69,9 @@ fn is_body(head: &PartHead<'_>) -> bool
 
 /// Skips the part at the cursor if a dump shows nothing of it and its first fields are in these bytes.
 pub(crate) fn skip_hidden(only: &[Only<'_>], cursor: &mut Cursor, bytes: &[u8]) -> Option<Hidden>
+    // Proved: a part is skipped exactly if nothing of it is chosen, it is no import section and `skip_next` skips it;
+    //   of such parts the bodies are counted [`hidden::skip_hidden` (`HidesIfAny`), `Counts::pass_hidden`
+    //   (`after_hidden`)]
     ensures { HidesIfAny only.now cursor.old bytes.now result cursor.new }
 {
     let start = cursor.offset();
@@ -101,6 +104,8 @@ pub(crate) fn drop_hidden<R: Source>(
 ) -> Result<Option<Error>, ListError>
     requires held { length (drop cursor.old.mark (seen stored.old.items ahead.old)) < hidden.passing.size }
     requires drops { hidden.passing.stays ≡ false }
+    // Proved: dropping it leaves what follows it: what was held and then read is the part and these bytes; or the
+    //   source ended or failed before all of the part had come [`hidden::drop_hidden` (`DropsPart`, `FailsWithin`)]
     ensures drops { IfOk result (λ fault. DropsPart (R.remaining input.old) (R.remaining input.new)
         hidden.passing (held_by cursor.old stored.old.items ahead.old) fault ahead.new) }
     ensures none { stored.new.items ≡ [] }

@@ -59,6 +59,9 @@ pub(crate) fn show_numbered<'a, T: FromReader<'a> + Show, O: Tree>(
 )
     ensures next { AddsNext space (count_of counts.now space)
         (O.writing out.old) (O.writing out.new) }
+    // Proved: no number of a shown section is missing up to its first fault, unless the output or an allocation
+    //   failed; for a type section this is not stated [`DumpsByTree` (`AreOfSection`, `AreShown`, `import_numbers`,
+    //   `numbers_in`); `numbered::show_numbered` (`AddsItems`)]
     ensures all { AddsItems T.meaning one_number space (count_of counts.now space) section.now
         (O.writing out.old) (O.writing out.new) }
     ensures found { (reading : Place → Outcome Bool) → Agrees T.meaning no_lists reading

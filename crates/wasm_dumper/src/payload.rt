@@ -41,6 +41,8 @@ fn within<'a>(payload: &Payload<'a>) -> Within<'a> {
 /// assert_eq!(rt; out.into_output().written(), wanted.as_slice());
 /// ```
 pub fn show_payload<O: Tree>(alloc: Global, counts: &Counts, payload: &Payload<'_>, out: &mut O)
+    // Proved: the numbers of the items of a payload whose reader is at them, and that of one item [`show_payload`
+    //   (`ShowsItems`, `AreOfItems`), `Tree::item_number` (`AddsNumber`)]
     ensures shows { ItemsBegin payload.now
         → ShowsItems counts.now (report_of payload.now) (O.writing out.old) (O.writing out.new) }
     ensures found { ItemsBegin payload.now

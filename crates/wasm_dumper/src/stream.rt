@@ -261,6 +261,36 @@ pub fn dump<R: Source, O: Tree>(
     piece: usize,
 ) -> Result<Ended, ListError>
     requires { 1 ≤ piece }
+    // Proved: `dump` writes lines whose first level is the listing with names of sections
+    // Proved: an item's number counts what came before; rows of bytes show each byte once, in order; as JSON each
+    //   line is one object: see below [the same]
+    // Proved: what the clause of `list` says of the source holds for `dump` too [`DumpsByTree` (`Dumps`, `ListsBy`)]
+    // Proved: in the style of lines, with a tree that has written nothing yet, its lines of the first level are the
+    //   listing's, for the events that are chosen [the same (`chosen_line`, `IsOutlined`)]
+    // Proved: each of these has the name of its section, and then perhaps numbers and one name in quotes [the same
+    //   (`chosen_line`)]
+    // Proved: each offset in these lines and at the start of a row of bytes is in the base of the tree, decimal or
+    //   hexadecimal, and all other numbers are decimal [the same (`report_text`, `row_text`)]
+    // Proved: all other lines begin with two spaces, or are rows of bytes, and none has a second line feed [the same
+    //   (`IsOutlined`)]
+    // Proved: if bytes are shown, those of its rows, joined, are those that the shown events consumed: each once and
+    //   in order [`DumpsByTree` (`AreOfSource`: `consumed`, `are_bytes`; `bytes_of_events`)]
+    // Proved: what the source returned is what all events consumed plus the rest: nothing, if the dump ended at the
+    //   stream's end. So the rows of a dump of a whole stream are the stream [the same (`none_left`)]
+    // Proved: in the style of objects each line is one JSON object, whatever the bytes of names and of other texts
+    //   are [the same (`IsShaped`, `AreObjects`)]
+    // Proved: a dump in this style that is given up writes a prefix of such lines [the same]
+    // Proved: the numbers of items in a dump, in order, are those of the events that the source returned [the same
+    //   (`AreOfSource`, `AreOfEvents`, `AreOf`)]
+    // Proved: an import's number is how many imports of its index space came before; a body's, how many imported
+    //   functions and bodies did [the same]
+    // Proved: the numbers of another section's items continue from the imports of its space [the same]
+    // Proved: of each section that is shown a dump has the first numbers, up to a fault or where the dump stopped,
+    //   and of others none [the same]
+    // Proved: a dump ends as the listing does: at the end, at the fault of the stream, or when a device or an
+    //   allocation failed, which it reports [`DumpsByTree` (`ListsBy`)]
+    // Proved: if the source failed, all but the last event is written [the same (`Writes`)]
+    // Proved: at another error a prefix is written [the same (`WritesSome`)]
     ensures dumps { DumpsByTree shown.entry.only.now shown.entry.has_bytes
         (device_of R.remaining R.has_failed input.old input.new)
         (O.writing out.old) result (O.writing out.new) }

@@ -100,6 +100,8 @@ type_ref_fields (types.Memory ty) = named (codes "ty") (word (codes "memory")) �
 type_ref_fields (types.Global ty) = named (codes "ty") (word (codes "global")) ∷ global_type_fields ty
 type_ref_fields (types.Tag ty) = named (codes "ty") (word (codes "tag")) ∷ tag_fields ty
 
+-- | the fields of an import, an export, the type of a table, a memory, a global's type, a tag, a function's index, a
+--   table, a global, a data segment; of a symbol [`export_fields` and the others there; `SymbolText.symbol_fields`]
 abbrev pub import_fields : ImportParts → List Field
 import_fields i = named (codes "module") (quoted i.from)
     ∷ named (codes "name") (quoted i.name) ∷ type_ref_fields i.ty

@@ -43,6 +43,7 @@ ref_start false = codes "(ref "
 abbrev pub ref_text : RefType → List ℕ
 ref_text r = ref_start r.nullable ++ (heap_text r.heap ++ codes ")")
 
+-- | the text of a type [`func_text`, `sub_text` and the others there] <Text format, Types>
 abbrev pub val_text : ValType → List ℕ
 val_text values.I32 = codes "i32"
 val_text values.I64 = codes "i64"
@@ -101,7 +102,7 @@ abbrev pub supertype_text : Option ℕ → List ℕ
 supertype_text (Some index) = decimal index ++ codes " "
 supertype_text None = []
 
--- whether a type is final and extends none, so that the text format has its composite type alone
+-- | whether a type is final and extends none, so that its text is its composite type's <Text Format, Types>
 abbrev pub is_plain : (is_final : Bool) → Option ℕ → Bool
 is_plain true None = true
 is_plain is_final supertype = false

@@ -86,6 +86,7 @@ impl Show for TypeRef {
 impl Show for Import<'_> {
     fn show<O: Tree>(&self, level: usize, out: &mut O)
         ensures adds { Adds (O.writing out.old) (O.writing out.new) }
+        // Proved: what the line of an import of the flattened reading says, field by field
         ensures says { SaysFields (import_fields (import_parts self.now))
             (O.writing out.old) (O.writing out.new) }
     {
@@ -150,6 +151,7 @@ impl Show for GlobalItem<'_> {
 impl Show for Export<'_> {
     fn show<O: Tree>(&self, _level: usize, out: &mut O)
         ensures adds { Adds (O.writing out.old) (O.writing out.new) }
+        // Proved: what the line of an export says
         ensures says { SaysFields (export_fields (export_parts self.now))
             (O.writing out.old) (O.writing out.new) }
     {
@@ -230,6 +232,9 @@ fn show_data_kind<O: Tree>(kind: &DataKind<'_>, out: &mut O)
 impl Show for Data<'_> {
     fn show<O: Tree>(&self, _level: usize, out: &mut O)
         ensures adds { Adds (O.writing out.old) (O.writing out.new) }
+        // Proved: what the line of a table, a global or a data segment says, with some text in the place of an
+        //   expression [`says` of `show` of `Table`, `Global`, `Data` (`SaysWith`, `table_item_fields`, `global_fields`,
+        //   `data_fields`)]
         ensures says { SaysWith (data_fields (data_parts self.now))
             (O.writing out.old) (O.writing out.new) }
     {

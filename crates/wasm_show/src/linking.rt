@@ -122,6 +122,7 @@ fn show_section_symbol<O: Tree>(flags: u32, section: u32, out: &mut O)
 impl Show for SymbolInfo<'_> {
     fn show<O: Tree>(&self, _level: usize, out: &mut O)
         ensures adds { Adds (O.writing out.old) (O.writing out.new) }
+        // Proved: what the line of a symbol of the `linking` section says
         ensures says { SaysFields (symbol_fields self.now) (O.writing out.old) (O.writing out.new) }
     {
         match self {

@@ -44,6 +44,7 @@ pub trait Text: Drop {
     /// Writes the part on the current line. It has no line feed.
     fn text<O: Tree>(&self, out: &mut O)
         ensures adds { Adds (O.writing out.old) (O.writing out.new) }
+        // Proved: the text of a type [`says` of `text` of each type (`val_text`, `func_text` and the like)]
         ensures says { Says (words self.now) (O.writing out.old) (O.writing out.new) };
 }
 
@@ -61,6 +62,8 @@ impl Text for u32 {
 impl Show for u32 {
     fn show<O: Tree>(&self, _level: usize, out: &mut O)
         ensures adds { Adds (O.writing out.old) (O.writing out.new) }
+        // Proved: what the line of a function's index says in the style of lines after its offset, number and name
+        //   [`says` of `show` of `u32` (`SaysFields`, `index_fields`)]
         ensures says { SaysFields (index_fields self.now) (O.writing out.old) (O.writing out.new) }
     {
         out.number("index", u64::from(*self));

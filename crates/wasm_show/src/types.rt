@@ -287,6 +287,8 @@ impl Show for ValType {
 impl Show for TableType {
     fn show<O: Tree>(&self, _level: usize, out: &mut O)
         ensures adds { Adds (O.writing out.old) (O.writing out.new) }
+        // Proved: what the line of the type of a table, memory, global or tag says [`says` of `show` of
+        //   `TableType`, `MemoryType`, `GlobalType`, `TagType` (`SaysFields` and the fields of each)]
         ensures says { SaysFields (table_fields self.now) (O.writing out.old) (O.writing out.new) }
     {
         show_type("element_type", &self.element_type, out);

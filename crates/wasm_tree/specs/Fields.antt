@@ -23,6 +23,8 @@ pub data Value : Type 0 where
   -- bytes that are not text
   raw : List ℕ → Value
 
+-- | a field of a line, and its text: a number, a text in quotes, a word, a range, raw bytes. A field that is `false`
+--   or has no value has none [`field_text`, `value_text`, `is_default`]
 -- a field with its name, or a word that has none
 pub data Field : Type 0 where
   named : (name : List ℕ) → Value → Field

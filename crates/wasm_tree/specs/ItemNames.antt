@@ -47,6 +47,7 @@ Names = List ((ℕ × ℕ) × List ℕ)
 abbrev pub names_in : {A : Type 0} → BTreeMap (ℕ × ℕ) (String A) → Names
 names_in m = map (λ e. (e.0, string_bytes e.1)) m.entries
 
+-- | the name of an item; names after one was added, and names that were only added to [`AddsName`, `KeepsNames`]
 -- the name of an item, if it has one; an index has 32 bits, so nothing has one beyond
 unfoldable pub named : Names → Number → Option (List ℕ)
 named names number =

@@ -143,6 +143,8 @@ abbrev pub after_all : State → List ℕ → State
 after_all s [] = s
 after_all s (b ∷ bytes) = after_all (after_byte s.place s.inside b) bytes
 
+-- | a text that is made of lines of JSON, each one object; what may follow some bytes of it [`after_byte`] <RFC 8259,
+--   sections 4 to 7>
 -- The text is lines, each of which is one object.
 abbrev pub AreObjects : List ℕ → Type 0
 AreObjects text = after_all start text ≡ start
@@ -164,6 +166,8 @@ IsAt InName s = s ≡ here (string true) (object ∷ [])
 IsAt AtValue s = s ≡ here value (object ∷ [])
 IsAt InText s = s ≡ here (string false) (object ∷ [])
 
+-- | what leads from one position in an object to another; what represents a byte in a string [`escaped_byte`] <RFC
+--   8259, section 7; this project>
 -- These bytes lead from one spot to another.
 abbrev pub Leads : (old : Spot) → List ℕ → (new : Spot) → Type 0
 Leads old bytes new = (s : State) → IsAt old s → IsAt new (after_all s bytes)
@@ -186,6 +190,7 @@ StaysInString bytes = (spot : Spot) → is_in_string spot ≡ true → Leads spo
 
 -- ---- what is put at once
 
+-- | the texts of an object that are put at once [`object_end`, `member_start`, `item_start`, `number_members`]
 -- what leads into the name of the next member
 abbrev pub name_start : Spot → List ℕ
 name_start Outside = codes "{\""

@@ -8,6 +8,7 @@ use Rattle.wasm_tree.specs.declared.numbers.Space.{Space}
 use Rattle.wasm_tree.specs.declared.numbers.Space.TheVariants.{Types, Functions, Tables, Memories, Tags}
 use Rattle.wasm_tree.specs.declared.numbers.Space.TheVariants.{Globals, Elements, DataSegments}
 
+-- | an item's number: its index in an index space, in which imports come first [`number_text`] <Modules, Indices>
 -- an item's number: its index in an index space
 pub record Number : Type 0 where
   pub space : Space
@@ -47,6 +48,7 @@ abbrev pub with_later : (Place → ℕ) → Outcome ℕ → ℕ
 with_later later (Ok x) = x.0 + later x.1
 with_later later (Err f) = 0
 
+-- | how many numbers items have, as they are read up to the first fault <Sections; this project>
 -- how many numbers the items from a place on have, of `left` announced ones, up to the first fault; the reading says
 -- how many an item has
 abbrev pub numbers_read : (reading : Place → Outcome ℕ) (left : ℕ) → Place → ℕ
@@ -65,6 +67,7 @@ AreUpTo space first next shown = (count : ℕ) × (shown ≡ numbers_from space 
 abbrev pub Begin : (shown all : List Number) → Type 0
 Begin shown all = (later : List Number) × (all ≡ shown ++ later)
 
+-- | all of some numbers, or a prefix of them if the dump stopped <Indices; this project>
 -- The numbers are all of these; or they begin these, where the dump has stopped.
 abbrev pub AreShown : (why : Option ListError) → (shown all : List Number) → Type 0
 AreShown None shown all = shown ≡ all

@@ -21,6 +21,8 @@ PutsText (Some why) after text since now = now ≡ since
 PutsText None None text since now = IsPushed text since now
 PutsText None (Some why) text since now = StopsIn text why since now
 
+-- | what is put on the line at hand: a text, one with offsets, fields, fields with some text among them [`Says`,
+--   `SaysInBase`, `SaysFields`, `SaysWith`]
 -- A line was begun, and this is what was put on it since. In the style of objects there are none.
 pub record HasLine (since : Writing) (text : List ℕ) (now : Writing) : Type 0 where
   pub begun : since.is_begun ≡ true

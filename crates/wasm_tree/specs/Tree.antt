@@ -64,6 +64,7 @@ abbrev pub name_text : Option (List ℕ) → List ℕ
 name_text (Some name) = codes " " ++ quoted_text name
 name_text None = []
 
+-- | a row of bytes, and the bytes that have to be shown before what comes next [`AddsBytes`; `Rows.BeginsWithRow`]
 -- the text of a row, with its offset in this base
 abbrev pub row_text : Base → (offset : ℕ) (bytes : List ℕ) → List ℕ
 row_text base offset bytes = (offset_text base offset ++ codes " |") ++ (flat_map after_blank bytes ++ codes "\n")
@@ -101,6 +102,8 @@ pub record IsFirst (text outline : List ℕ) (numbers : List Number) : Type 0 wh
   pub parts : text ≡ front ++ blank_numbers numbers (codes "\n")
   pub outlines : outline ≡ front ++ codes "\n"
 
+-- | a text that is made of lines, its outline, those of the first level, and the numbers of items and the bytes of
+--   the stream in it; the name of an item after one [`IsFirst`, `name_text`]
 -- The text is made of lines, and its outline is those of the first level, without numbers and names: the others begin
 -- with two blanks, but for rows of bytes. The numbers are those that its lines show, in order, and the bytes those of
 -- its rows, which have their offsets in this base.
@@ -112,6 +115,7 @@ pub record IsOutlined (base : Base) (text outline : List ℕ) (numbers : List Nu
   pub numbered : numbers ≡ flat_map numbers_of lines
   pub rowed : bytes ≡ flat_map bytes_of lines
 
+-- | what a text is, by its style; whether these are lines, and the base of their offsets [`are_lines`, `base_of`]
 -- A text is what it is to be: lines with this outline that show these numbers and bytes; or lines of JSON, each one
 -- object.
 abbrev pub IsShaped : Style → (text outline : List ℕ) → List Number → (bytes : List ℕ) → Type 0
@@ -252,6 +256,8 @@ abbrev pub IsWrittenAs : Option ListError → Origin → Writing → Type 0
 IsWrittenAs None o w = IsGoingIn o.style o w
 IsWrittenAs (Some why) o w = IsCutShort o why w
 
+-- | what a writer has written, and what a call adds below a line, with which numbers, or as a line of the first level
+--   [`Adds`, `AddsNumber`, `AddsFirst`]
 abbrev pub IsWritten : Origin → Writing → Type 0
 IsWritten o w = (w.style ≡ o.style) × IsWrittenAs w.why o w
 

@@ -22,6 +22,8 @@ of_lines base is_begun unshown =
 abbrev pub lines_rest : {W : Type 0} → Lines W → Rest
 lines_rest t = of_lines t.base t.is_begun t.rows
 
+-- | what a tree has written, whether lines, objects or neither; what is recorded of where items begin [`objects`,
+--   `offsets`, `NotesStart`]
 abbrev pub lines : {W : Type 0} → Lines W → Writing
 lines t = with_rest (lines_rest t) t.output
 

@@ -75,8 +75,12 @@ impl<A: Allocator> ItemNames<A> {
     pub fn add(&mut self, alloc: A, space: Space, index: u32, name: &str) -> Result<(), ListError>
     where
         A: Clone,
+        // Proved: an item has the name that was added for it first, and none before one was [`ItemNames::new`, `add`
+        //   (`added`: `AddsName`), `of` (`named`)]
+        // Proved: adding a name changes no other item's
         ensures added { OnOk result (AddsName self.old (item space index) name.now self.new) }
         ensures keeps { KeepsNames self.old self.new }
+        // Proved: if an allocation failed, all names are unchanged
         ensures refused { OnErr result (self.new ≡ self.old) }
         ensures memory { IfErr result (λ why. why ≡ Memory) }
     {

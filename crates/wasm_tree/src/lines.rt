@@ -56,6 +56,8 @@ impl<W: Sink> Lines<W> {
 
     /// Creates a tree of lines with offsets in this base, and with names for items if there are any.
     pub fn with_names(alloc: Global, output: W, base: Base, names: Option<ItemNames>) -> Lines<W>
+        // Proved: what holds for a tree holds for one that has names of items, with offsets in either base
+        //   [`with_names` of `Lines` and `Objects` (`starts`, `starts_objects`), `Tree::item_number` (`AddsNumber`)]
         ensures { lines result ≡ starts base (W.taken output) (W.has_failed output) }
     {
         Lines {
@@ -85,6 +87,8 @@ impl<W: Sink> Lines<W> {
     /// Returns the number of buffered bytes, at most 65,536.
     pub fn waits(&self) -> usize
         ensures waits { result ≡ length (lines self.now).waiting }
+        // Proved: at most 65,536 bytes of a tree wait to be written [`bounded` of `waits` of `Lines` and `Objects`,
+        //   by the invariant of a `Page`]
         ensures bounded { result ≤ 65536 }
     {
         self.output.waits()

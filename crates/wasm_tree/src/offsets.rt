@@ -89,6 +89,8 @@ impl Tree for Offsets {
 
     fn begin_line(&mut self, _level: usize, start: Start<'_>)
         ensures adds { Adds (offsets self.old) (offsets self.new) }
+        // Proved: a tree of `Offsets` records the offset of each item's line after the others, unless an allocation
+        //   failed [`begin_line` of `Offsets` (`NotesStart`, `Notes`), `Offsets::into_noted` (`noted_by`)]
         ensures notes { NotesStart start.entry self.old self.new }
     {
         if let Start::Item(offset) = start {

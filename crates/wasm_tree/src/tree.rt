@@ -147,6 +147,8 @@ pub trait Tree {
 
     /// Stops the tree because an allocation failed.
     fn out_of_memory(&mut self)
+        // Proved: what a writer has written below a line stays below it [`adds`, or the clause of each call of `Tree`
+        //   and of each call that shows (`Adds`); `first` of `Lines` (`AddsFirst`)]
         ensures adds { Adds (writing self.old) (writing self.new) }
         ensures style { (writing self.new).style ≡ (writing self.old).style }
         ensures stops { is_some (writing self.new).why ≡ true }
@@ -156,6 +158,7 @@ pub trait Tree {
     /// `begin_part`.
     fn write_out(&mut self)
         ensures adds { Adds (writing self.old) (writing self.new) }
+        // Proved: a writer stops if its sink fails or an allocation does
         ensures out { IsOut (writing self.new) }
         ensures found { FindsNone (found self.old) (found self.new) };
 
@@ -210,6 +213,10 @@ pub trait Tree {
         requires name_line { has_line_feed name.now ≡ false }
         requires value_line { breaks_line value ≡ false }
         ensures adds { Adds (writing self.old) (writing self.new) }
+        // Proved: in the style of lines each field is a space, its name, `=` and its value, including text in quotes
+        //   with its escapes, and ranges in the base of the tree [`says` of each call of `Tree` that writes a field
+        //   (`SaysInBase`, `field_text`)]
+        // Proved: a field that is `false` or has no value is left out [the same]
         ensures says { SaysInBase (field_text (named name.now (value_of value.entry)))
             (writing self.old) (writing self.new) }
         ensures found { FindsNone (found self.old) (found self.new) };
@@ -219,6 +226,8 @@ pub trait Tree {
         requires name_line { has_line_feed name.now ≡ false }
         requires word_line { has_line_feed word.now ≡ false }
         ensures adds { Adds (writing self.old) (writing self.new) }
+        // Proved: a word or a label is a space and the word [`says` of `Tree::word` and `Tree::label` (`SaysInBase`,
+        //   `field_text`)]
         ensures says { SaysInBase (field_text (alone word.now)) (writing self.old) (writing self.new) }
         ensures found { FindsNone (found self.old) (found self.new) };
 
