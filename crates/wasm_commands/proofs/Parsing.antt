@@ -1,6 +1,6 @@
 -- Arguments that were read before others.
-use Rattle.std.proofs.Common.{◌≡◌, ℕ, ◌-◌, ◌≤◌, ◌∷◌, ◌++◌, [], List, length, take, drop, take_all, get_or, map, string_bytes, Result, Ok, Err}
-use Rattle.std.proofs.Common.{String, Global, le_refl, arith, refl, sym, ap, ◌∙◌}
+use Rattle.std.proofs.Common.{◌≡◌, ℕ, ◌-◌, ◌≤◌, ◌∷◌, ◌++◌, [], List, length, take, drop, take_all, get_or, map, Result}
+use Rattle.std.proofs.Common.{Ok, Err, string_bytes, String, Global, le_refl, arith, refl, sym, ap, ◌∙◌}
 use Rattle.std.proofs.lemmas.List.{map-append}
 use Rattle.wasm_commands.specs.ArgumentLists.{Read, Wrong, arguments_of, with_first}
 use Rattle.wasm_commands.specs.Parsing.{read_of}
@@ -35,7 +35,8 @@ front_of (x ∷ xs) first is some =
     rw (is, one, take_all (length xs) xs (le_refl (length xs))) refl
 
 -- what is read of the arguments when an argument was read from the front of the rest
-module _ (verb : Verb) (all rest after : List (String Global)) (word : String Global) (text : List ℕ) (reads : List Argument) (read : Argument)
+module _ (verb : Verb) (all rest after : List (String Global)) (word : String Global) (text : List ℕ) (reads : List Argument)
+    (read : Argument)
     (so_far : arguments_of verb (map string_bytes all) ≡ after_some (map read_of reads) (arguments_of verb (map string_bytes rest)))
     (is : word ≡ get_or rest 0 word) (some : 1 ≤ length rest) (text_is : text ≡ string_bytes word)
     (step : arguments_of verb (text ∷ map string_bytes (take (length rest - 1) (drop 1 rest)))

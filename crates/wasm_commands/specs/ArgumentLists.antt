@@ -1,4 +1,4 @@
--- How the arguments of a command are read: options and operands in any order, as the conventions of GNU programs have it.
+-- How the arguments of a command are read: options and operands in any order, as GNU programs read them.
 use Rattle.std.specs.Prelude.{ℕ, Bool, true, false, ◌==◌, ◌&&◌, List, [], ◌∷◌, codes, bytes_eq, map, nat_eq, nat_lt}
 use Rattle.std.specs.Prelude.{length, flat_map, Option, Some, None, Result, Ok, Err, if◌then◌else◌}
 use Rattle.std.specs.List.{after_first, before_first, list_any, position_or_len}
@@ -42,8 +42,8 @@ name_of word = if is_long word then before_first is_equals word else word
 abbrev pub attached_of : List ℕ → Option (List ℕ)
 attached_of word =
     if is_long word
-        then (if nat_lt (position_or_len is_equals word) (length word) then Some (after_first is_equals word) else None)
-        else None
+    then (if nat_lt (position_or_len is_equals word) (length word) then Some (after_first is_equals word) else None)
+    else None
 
 -- An option that was read, by the value that is attached to it, and the argument after it; and whether that is its
 -- value.
@@ -81,7 +81,8 @@ joined (Err wrong) rest later = Err wrong
 abbrev pub is_last_option : List ℕ → Bool
 is_last_option word = bytes_eq word (codes "--")
 
--- | what the arguments of a command are read as, or what is wrong with the first one that is wrong [`read_one`, `has_option`, `last_value`, `values_in`, `operands_in`] <GNU Coding Standards, Command-Line Interfaces>
+-- | what the arguments of a command are read as, or what is wrong with the first one that is wrong [`read_one`,
+--   `has_option`, `last_value`, `values_in`, `operands_in`] <GNU Coding Standards, Command-Line Interfaces>
 -- what the arguments of a command are read as, or what is wrong with the first one that is wrong; after `--` all are
 -- operands
 abbrev pub arguments_of : Verb → List (List ℕ) → Result (List Read) Wrong

@@ -10,7 +10,8 @@ use Rattle.wasm_dumper.specs.declared.events.Only.TheVariants.{All, Id, Name}
 abbrev pub IsNumber : List ℕ → Type 0
 IsNumber word = IsNumeral 10 (without_leading_plus word) × (digits_value 10 (without_leading_plus word) < 2 ^ 8)
 
--- | which sections a value of `--section` chooses: by their id, else by their name in the standard, else custom sections by theirs [`ChooseInTurn`; `wasm_grammar`: `Ids.id_named`] <Modules, Sections (the names and ids)>
+-- | which sections a value of `--section` chooses: by their id, else by their name in the standard, else custom
+--   sections by theirs [`ChooseInTurn`; `wasm_grammar`: `Ids.id_named`] <Modules, Sections (the names and ids)>
 -- These sections are those that a word chooses: by their id, else by their name in the standard, else custom sections
 -- by theirs.
 abbrev pub Chooses : (word : List ℕ) → Only → Type 0

@@ -29,7 +29,9 @@ abbrev pub without_from : Where → List ℕ → List ℕ
 without_from at [] = []
 without_from at (b ∷ bs) = given_by at b ++ without_from (where_after_byte at b) bs
 
--- | a text without its colors: sequences from an ESC to an `m` are left out, and an ESC and a `\` are an ESC; the same if there are colors, and with a number before it that says so [`plain`, `seen`, `marked`] <ECMA-48, Select Graphic Rendition>
+-- | a text without its colors: sequences from an ESC to an `m` are left out, and an ESC and a `\` are an ESC; the
+--   same if there are colors, and with a number before it that says so [`plain`, `seen`, `marked`] <ECMA-48, Select
+--   Graphic Rendition>
 -- a text without its colors
 abbrev pub without_colors : List ℕ → List ℕ
 without_colors bytes = without_from Outside bytes

@@ -32,4 +32,3 @@ pub record RunsDump (format : Format) (shown : Shown) (input output : Device) (f
   pub dumps : Dumps (style_of format) shown.only.now shown.has_bytes (bytes_of input) (bytes_of output) how
   pub source : input.has_failed ≡ input_failed how input.had_failed
   pub ends : Flushes how (output_failed how output.had_failed) output.has_failed forwarded result
-

@@ -31,7 +31,8 @@ reason_if_any None = reason_of_kind Other
 abbrev pub file_text : (name reason : List ℕ) → List ℕ
 file_text name reason = codes "pulleynavy: " ++ (name ++ (codes ": " ++ (reason ++ codes "\n")))
 
--- | the messages of `pulleynavy`: why a file or device failed, and what is wrong with arguments [`file_text`, `complaint_text`]
+-- | the messages of `pulleynavy`: why a file or device failed, and what is wrong with arguments [`file_text`,
+--   `complaint_text`]
 -- why a run over the input with this name failed
 abbrev pub failure_text : (name : List ℕ) → ListError → Causes → List ℕ
 failure_text name Input causes = file_text (name_shown name) (reason_if_any causes.input)

@@ -1,7 +1,8 @@
 -- The commands and their options.
 use Rattle.std.specs.Prelude.{ℕ, Bool, true, false, List, codes, bytes_eq, nat_eq, Option, Some, None, if◌then◌else◌}
 use Rattle.wasm_commands.specs.declared.options.Flag.{Flag}
-use Rattle.wasm_commands.specs.declared.options.Flag.TheVariants.{Help, Version, Json, Names, Bytes, Hex, Color, Section}
+use Rattle.wasm_commands.specs.declared.options.Flag.TheVariants.{Help, Version, Json, Names, Bytes, Hex, Color}
+use Rattle.wasm_commands.specs.declared.options.Flag.TheVariants.{Section}
 use Rattle.wasm_commands.specs.declared.options.Flag.TheVariants.{Quiet, KeepNames, Keep, Only, Output, NoProgress}
 use Rattle.wasm_commands.specs.declared.options.Takes.{Takes}
 use Rattle.wasm_commands.specs.declared.options.Takes.TheVariants.{Nothing, Value, Attached}
@@ -17,7 +18,8 @@ verb_named word =
     else if bytes_eq word (codes "strip") then Some verb.Strip
     else None
 
--- | the options of the commands of `pulleynavy`, and whether each takes a value [`verb_named`, `accepts_option`, `takes_of`]
+-- | the options of the commands of `pulleynavy`, and whether each takes a value [`verb_named`, `accepts_option`,
+--   `takes_of`]
 -- the option with this name
 abbrev pub option_named : List ℕ → Option Flag
 option_named word =

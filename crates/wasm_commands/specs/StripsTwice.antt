@@ -21,7 +21,7 @@ GoesOnAs keeps (Err why) second output how = IsUntouched second × IsUntouched o
 -- | a file that is stripped: it is read once to its end, and if there is no fault, again to be written
 -- a file that was stripped
 pub record StripsTwice (keeps : List ℕ → Bool) (first second output : Device) (how : Result Ended ListError) : Type 0
-    where
-  pub checked : Result Ended ListError
-  pub checks : StripsSource keeps first dropped checked
-  pub goes_on : GoesOnAs keeps checked second output how
+  where
+    pub checked : Result Ended ListError
+    pub checks : StripsSource keeps first dropped checked
+    pub goes_on : GoesOnAs keeps checked second output how

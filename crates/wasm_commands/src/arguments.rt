@@ -136,11 +136,7 @@ fn read_option<'a>(
 }
 
 // Reads an argument that is not `--`.
-fn read_one<'a>(
-    verb: Verb,
-    word: &'a str,
-    next: Option<&'a str>,
-) -> Result<One<'a>, Refusal<'a>>
+fn read_one<'a>(verb: Verb, word: &'a str, next: Option<&'a str>) -> Result<One<'a>, Refusal<'a>>
     ensures { one_of result ≡ one_read verb word.now (text_if_any next.entry) }
 {
     if !is_option(word) {
@@ -177,7 +173,13 @@ fn read_last<'a>(verb: Verb, word: &'a str, none: &'a [String]) -> Step<'a>
 }
 
 // Reads an argument before others.
-fn read_before<'a>(verb: Verb, word: &'a str, next: &'a str, rest: &'a [String], later: &'a [String]) -> Step<'a>
+fn read_before<'a>(
+    verb: Verb,
+    word: &'a str,
+    next: &'a str,
+    rest: &'a [String],
+    later: &'a [String],
+) -> Step<'a>
     requires { map string_bytes rest.now ≡ next.now ∷ map string_bytes later.now }
     ensures { Steps verb (word.now ∷ map string_bytes rest.now) result }
 {
@@ -201,10 +203,7 @@ fn next_step<'a>(verb: Verb, word: &'a str, rest: &'a [String]) -> Step<'a>
 }
 
 // Adds arguments that are all operands.
-fn push_operands<'a>(
-    words: &'a [String],
-    parsed: &mut Vec<Argument<'a>>,
-) -> Result<(), AllocError>
+fn push_operands<'a>(words: &'a [String], parsed: &mut Vec<Argument<'a>>) -> Result<(), AllocError>
     ensures { OnOk result (map read_of parsed.new.items
         ≡ map read_of parsed.old.items ++ map operand (map string_bytes words.now)) }
 {
@@ -254,13 +253,7 @@ fn value_of<'a>(argument: &Argument<'a>, flag: Flag) -> Option<Option<&'a str>>
     ensures { option_map text_if_any result ≡ value_in flag (read_of argument.now) }
 {
     match argument {
-        Argument::Option(one, value) => {
-            if flag.is(*one) {
-                Some(*value)
-            } else {
-                None
-            }
-        }
+        Argument::Option(one, value) => { if flag.is(*one) { Some(*value) } else { None } }
         Argument::Operand(_) => None,
     }
 }

@@ -101,7 +101,10 @@ fn check_file<S: System, W: Write, E: Sink>(
     errors: &mut E,
 ) -> (u8, WriteSink<W>) {
     let Ok(prefix) = prefix_of(alloc, name) else {
-        return (refuse_run(name, ListError::Memory, system.causes(), errors), output);
+        return (
+            refuse_run(name, ListError::Memory, system.causes(), errors),
+            output,
+        );
     };
     match system.open(name) {
         Ok(mut input) => {
@@ -150,6 +153,10 @@ pub(crate) fn check<S: System, W: Write + Drop, E: Sink>(
 ) -> Result<u8, AllocError> {
     let names = arguments.operands(alloc)?;
     let is_quiet = arguments.has(Flag::Quiet);
-    let names: &[&str] = if names.is_empty() { &["-"] } else { names.as_slice() };
+    let names: &[&str] = if names.is_empty() {
+        &["-"]
+    } else {
+        names.as_slice()
+    };
     Ok(check_files(alloc, is_quiet, system, names, output, errors))
 }

@@ -7,17 +7,16 @@ mod inks;
 mod plain;
 mod run;
 
-pub use colored::Colored;
-pub use format::Format;
-pub use run::dump_as;
-
 use crate::arguments::Arguments;
 use crate::files::write_heading;
 use crate::messages::{Complaint, complain, refuse_file, refuse_run, report, warn_of_missing};
 use crate::options::{Flag, Verb};
 use crate::system::System;
 use choices::chosen_by;
+pub use colored::Colored;
+pub use format::Format;
 use format::format_of;
+pub use run::dump_as;
 use std::alloc::{AllocError, Global};
 use std::cell::Cell;
 use std::io::Write;

@@ -26,7 +26,10 @@ pub(crate) struct Host<'a> {
 
 // Returns the progress of a file, if it is large, and standard error a terminal that shows nothing else.
 fn progress_of(host: &Host<'_>, file: &fs::File) -> Option<Progress> {
-    if !host.has_progress.get() || !host.rt.stderr().is_terminal() || host.rt.stdout().is_terminal() {
+    if !host.has_progress.get()
+        || !host.rt.stderr().is_terminal()
+        || host.rt.stdout().is_terminal()
+    {
         return None;
     }
     match file.metadata() {

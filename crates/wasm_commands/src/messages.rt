@@ -40,7 +40,13 @@ pub(crate) fn refuse_file<E: Sink>(name: &str, cause: Cause, errors: &mut E) -> 
 {
     say(
         errors,
-        &[b"pulleynavy: ".as_slice(), name.as_bytes(), b": ", cause.words(), b"\n"],
+        &[
+            b"pulleynavy: ".as_slice(),
+            name.as_bytes(),
+            b": ",
+            cause.words(),
+            b"\n",
+        ],
     );
     3
 }
@@ -173,7 +179,16 @@ fn complain_of<E: Sink>(verb: Verb, before: &[u8], word: &str, after: &[u8], err
     let words = command_words(verb);
     say(
         errors,
-        &[words, b": ".as_slice(), before, word.as_bytes(), after, b"\nTry '", words, b" --help'.\n"],
+        &[
+            words,
+            b": ".as_slice(),
+            before,
+            word.as_bytes(),
+            after,
+            b"\nTry '",
+            words,
+            b" --help'.\n",
+        ],
     );
 }
 
@@ -244,11 +259,15 @@ pub(crate) fn complain<E: Sink>(complaint: Complaint<'_>, errors: &mut E) -> u8
         ),
         Complaint::NoCommand => say(
             errors,
-            &[b"usage: pulleynavy COMMAND [OPTION]... [FILE]...\nTry 'pulleynavy --help'.\n".as_slice()],
+            &[
+                b"usage: pulleynavy COMMAND [OPTION]... [FILE]...\nTry 'pulleynavy --help'.\n".as_slice(),
+            ],
         ),
         Complaint::NamesOfInput => say(
             errors,
-            &[b"pulleynavy dump: --names reads each file twice, and standard input can't be: name files\n".as_slice()],
+            &[
+                b"pulleynavy dump: --names reads each file twice, and standard input can't be: name files\n".as_slice(),
+            ],
         ),
         Complaint::NotUtf8 => say(
             errors,

@@ -55,7 +55,11 @@ fn create_beside(rt: &HostRuntime, alloc: Global, target: &str) -> io::Result<(F
     let id = process::id(rt.process());
     for attempt in 0..ATTEMPTS {
         let name = format!(in alloc; "{target}.{id}-{attempt}.tmp")?;
-        match OpenOptions::new().write(true).create_new(true).open(rt, name.as_str()) {
+        match OpenOptions::new()
+            .write(true)
+            .create_new(true)
+            .open(rt, name.as_str())
+        {
             Ok(file) => return Ok((file, name)),
             Err(error) => {
                 if error.kind() != ErrorKind::AlreadyExists {

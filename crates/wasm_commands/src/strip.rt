@@ -41,7 +41,10 @@ fn strip_named<S: System, W: Sink>(
 }
 
 // Flushes the output if all was written.
-fn flushed<W: Write>(how: Result<Ended, ListError>, output: &mut WriteSink<W>) -> Result<Ended, ListError> {
+fn flushed<W: Write>(
+    how: Result<Ended, ListError>,
+    output: &mut WriteSink<W>,
+) -> Result<Ended, ListError> {
     match how {
         Ok(Ended::End) => match output.flush() {
             Ok(()) => Ok(Ended::End),

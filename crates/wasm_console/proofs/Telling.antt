@@ -1,6 +1,6 @@
 -- Two texts that are written one after the other.
-use Rattle.std.proofs.Common.{◌≡◌, ◌∙◌, ◌++◌, ◌+◌, ◌-◌, ◌≤◌, ◌∷◌, [], ℕ, List, Option, length, take, take_all, drop, get_or, Result, Ok, Err}
-use Rattle.std.proofs.Common.{Bor, OnErr, ap, arith, le_refl, refl, subst, sym}
+use Rattle.std.proofs.Common.{◌≡◌, ◌∙◌, ◌++◌, ◌+◌, ◌-◌, ◌≤◌, ◌∷◌, [], ℕ, List, Option, length, take, take_all, drop, get_or, Result}
+use Rattle.std.proofs.Common.{Ok, Err, Bor, OnErr, ap, arith, le_refl, refl, subst, sym}
 use Rattle.std.proofs.lemmas.List.{append_assoc, take-append-drop}
 use Rattle.std.proofs.Math.Seq.{take-append_seam, take-append-add}
 use Rattle.std.proofs.KnownBytes.{Appends-trans}

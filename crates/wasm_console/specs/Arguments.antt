@@ -27,7 +27,8 @@ abbrev pub WantsMemory : {A : Type 0} → (A → List (List ℕ)) → Result A E
 WantsMemory words (Ok arguments) = ¬ (drop 1 (words arguments) ≡ [])
 WantsMemory words (Err e) = is_not_utf8 (error_kind e) ≡ false
 
--- | the arguments of a program: those after its name, that one is not valid UTF-8, or that an allocation failed [`AreWords`, `IsNotUtf8`, `WantsMemory`]
+-- | the arguments of a program: those after its name, that one is not valid UTF-8, or that an allocation failed
+--   [`AreWords`, `IsNotUtf8`, `WantsMemory`]
 -- What was stored are the arguments, unless an allocation failed.
 abbrev pub IsGiven : {A : Type 0} → (A → List (List ℕ)) → Result A Error → Given → Type 0
 IsGiven words arguments (Words stored) = AreWords words arguments (map string_bytes stored.items)

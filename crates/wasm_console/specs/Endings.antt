@@ -9,7 +9,8 @@ use Rattle.wasm_text.specs.declared.devices.ListError.TheVariants.{Output, Memor
 use Rattle.wasm_console.specs.Devices.{IsUntouched}
 use Rattle.wasm_text.specs.Messages.{Says, complaint_of}
 
--- | how a run ends: the exit status, what it prints, and what the output has forwarded; a run that refuses its arguments, or cannot begin [`Reports`, `Finishes`, `RunsUsage`, `CannotBegin`]
+-- | how a run ends: the exit status, what it prints, and what the output has forwarded; a run that refuses its
+--   arguments, or cannot begin [`Reports`, `Finishes`, `RunsUsage`, `CannotBegin`]
 -- the exit status of a run that went along a stream
 abbrev pub status_of : Result Ended ListError → ℕ
 status_of (Ok End) = 0

@@ -35,8 +35,8 @@ ReadsAll source rest (Err Output) = ⊥
 
 -- The stream without the sections that do not stay was written, as far as the output took it; nothing of a stream that
 -- isn't accepted, whose reading ends with this fault.
-abbrev pub WritesStripped : (keeps : List ℕ → Bool) (stream : List ℕ) (taken written : Option (List ℕ)) → Result Ended ListError
-    → Type 0
+abbrev pub WritesStripped : (keeps : List ℕ → Bool) (stream : List ℕ) (taken written : Option (List ℕ))
+    → Result Ended ListError → Type 0
 WritesStripped keeps stream taken written (Ok End) =
     (kept : List ℕ) × IsStripped keeps stream kept × Appends taken written kept
 WritesStripped keeps stream taken written (Ok (Fault e)) =
@@ -65,7 +65,8 @@ StripsAs keeps input output (Err Output) = StripsAll keeps input output (Err Out
 StripsAs keeps input output (Err Input) = CannotRead input output
 StripsAs keeps input output (Err Memory) = CannotRead input output
 
--- | an input that is stripped and can be read only once: all that it has is read before anything is written [`WritesStripped`, `ReadsAll`]
+-- | an input that is stripped and can be read only once: all that it has is read before anything is written
+--   [`WritesStripped`, `ReadsAll`]
 -- an input that was stripped, and whether each device has failed
 pub record StripsInput (keeps : List ℕ → Bool) (input output : Device) (how : Result Ended ListError) : Type 0 where
   pub strips : StripsAs keeps input output how

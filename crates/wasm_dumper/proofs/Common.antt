@@ -45,7 +45,8 @@ pub use Rattle.wasm_tree.specs.declared.numbers.Space.TheVariants.{Types}
 pub use Rattle.wasm_dumper.specs.Chosen.{chosen_line, is_chosen, shown_line, numbered_line}
 pub use Rattle.wasm_dumper.specs.Counting.{one_number, after, after_all, no_counts, numbers_in_line, Found, import_numbers, count_of}
 pub use Rattle.wasm_dumper.specs.Counting.{item_at}
-pub use Rattle.wasm_dumper.specs.Dump.{AreOfItemsIf, AreOfShown, ShowsItemsIf, DumpsInto, ShowsAnswer, bytes_of_events, origin, shown_bytes, AreOf, AreOfEvents}
+pub use Rattle.wasm_dumper.specs.Dump.{AreOfItemsIf, ShowsItemsIf}
+pub use Rattle.wasm_dumper.specs.Dump.{AreOfShown, DumpsInto, ShowsAnswer, bytes_of_events, origin, shown_bytes, AreOf, AreOfEvents}
 pub use Rattle.wasm_dumper.specs.Hiding.{FailsWithin, Hides}
 pub use Rattle.wasm_dumper.specs.declared.counts.Counts.{Counts}
 pub use Rattle.wasm_dumper.specs.declared.events.Only.{Only}

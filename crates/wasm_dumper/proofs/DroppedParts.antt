@@ -3,7 +3,8 @@ use Rattle.wasm_dumper.proofs.Common.{◌≡◌, ℕ, ◌+◌, ◌^◌, ◌<◌,
 use Rattle.wasm_dumper.proofs.Common.{◌∙◌, append-nil, arith, nat_eq, length, Option, append_assoc, length-append, drop, Consumes-trans}
 use Rattle.wasm_dumper.proofs.Common.{list_any, if◌then◌else◌, fault_at, Error, seen, lending, Feed, pushed, weight, Steps, Cursor, Fault}
 use Rattle.wasm_dumper.proofs.Common.{fault, import_id, Report, counted, Event, last_event, input_failed, ListError, Input, Writing, Adds}
-use Rattle.wasm_dumper.proofs.Common.{IsOut, base_of, chosen_line, is_chosen, shown_line, after, after_all, no_counts, shows_items, AreOfShown}
+use Rattle.wasm_dumper.proofs.Common.{IsOut, base_of, chosen_line, is_chosen, shown_line, after, after_all, no_counts}
+use Rattle.wasm_dumper.proofs.Common.{shows_items, AreOfShown}
 use Rattle.wasm_dumper.proofs.Common.{DumpsInto, ShowsAnswer, bytes_of_events, origin, shown_bytes, FailsWithin, Hides, Counts, Only}
 use Rattle.std.proofs.Common.{not, ◌&&◌, nat_lt}
 use Rattle.std.proofs.lemmas.Bool.Decides.{nat_tests}

@@ -6,7 +6,8 @@ use Rattle.wasm_dumper.proofs.Common.{turn_after, Step, NeedMoreData, Parsed, En
 use Rattle.wasm_dumper.proofs.Common.{stream_end, line_in, report_of, ListError, Base, Number, more, numbers_from, numbers_read, Writing}
 use Rattle.wasm_dumper.proofs.Common.{IsWritten, with_numbers, AddsThese, AddsNumbers, Adds, base_of, Origin, AddsFirst, AddsUpTo, Space}
 use Rattle.wasm_dumper.proofs.Common.{Types, is_chosen, shown_line, numbered_line, one_number, after, after_all, numbers_in_line, Found}
-use Rattle.wasm_dumper.proofs.Common.{import_numbers, count_of, item_at, shows_items, AreOfItemsIf, ShowsItemsIf, AreOfShown, ShowsAnswer, shown_bytes, AreOf, AreOfEvents, Counts}
+use Rattle.wasm_dumper.proofs.Common.{shows_items, AreOfItemsIf, ShowsItemsIf}
+use Rattle.wasm_dumper.proofs.Common.{import_numbers, count_of, item_at, AreOfShown, ShowsAnswer, shown_bytes, AreOf, AreOfEvents, Counts}
 use Rattle.wasm_dumper.proofs.Common.{Only}
 use Rattle.std.proofs.Common.{add-zero, add-suc}
 use Rattle.std.proofs.Math.Nat.{min-eq_left}

@@ -34,7 +34,8 @@ pub record RunsStripping (input output errors : Device) (status : ℕ) : Type 0 
   pub strips : StripsInput (custom_stays false) input output how
   pub answers : AnswersAs how errors status
 
--- | what a run of `wasm_list` does, also with the program's own name and arguments that might not be available [`RunsProgram`, `RunsThenFlushes`]
+-- | what a run of `wasm_list` does, also with the program's own name and arguments that might not be available
+--   [`RunsProgram`, `RunsThenFlushes`]
 -- a run that was asked for this
 pub record Runs (asked : Asked) (input output errors : Device) (status : ℕ) : Type 0 where
   pub lists : asked ≡ listing → RunsListing input output errors status

@@ -6,8 +6,8 @@ mod run;
 #[cfg(test)]
 mod tests;
 
-use run::run_program;
 pub use run::run;
+use run::run_program;
 use std::env;
 use std::process::ExitCode;
 use wasm_feed::{ReadSource, WriteSink};

@@ -1,10 +1,10 @@
 // The statuses and messages of runs.
+use crate::run::{run, run_program};
 use std::alloc::Global;
 use std::env::Args;
 use std::io::{self, Read, Write};
 use std::process::{Abort, ExitCode};
 use std::test::Fail;
-use crate::run::{run, run_program};
 use wasm_console::finish;
 use wasm_feed::{BoundedSink, ReadSource, Sink, SliceSource, Source, WriteSink};
 use wasm_testing::Measuring;

@@ -50,7 +50,8 @@ fn names_the_option_that_is_wrong(rt: HostRuntime) -> Result<(), Fail> {
     all_refused(&rt, alloc, &[&["check", "--json"]], said)?;
     let said = b"pulleynavy strip: unknown option '-o=a'\nTry 'pulleynavy strip --help'.\n";
     all_refused(&rt, alloc, &[&["strip", "-o=a"]], said)?;
-    let said = b"pulleynavy dump: option '--section' needs a value\nTry 'pulleynavy dump --help'.\n";
+    let said =
+        b"pulleynavy dump: option '--section' needs a value\nTry 'pulleynavy dump --help'.\n";
     all_refused(&rt, alloc, &NO_VALUE, said)?;
     let said = b"pulleynavy strip: option '-o' needs a value\nTry 'pulleynavy strip --help'.\n";
     all_refused(&rt, alloc, &[&["strip", "-o"]], said)?;
@@ -62,7 +63,10 @@ fn names_the_option_that_is_wrong(rt: HostRuntime) -> Result<(), Fail> {
 fn refuses_what_excludes_each_other(rt: HostRuntime) -> Result<(), Fail> {
     let alloc = rt.alloc();
     let said = b"pulleynavy dump: options '--json' and '--color' exclude each other\n";
-    let rows: [&[&str]; 2] = [&["dump", "--json", "--color"], &["dump", "--color=always", "--json"]];
+    let rows: [&[&str]; 2] = [
+        &["dump", "--json", "--color"],
+        &["dump", "--color=always", "--json"],
+    ];
     all_refused(&rt, alloc, &rows, said)?;
     let said = b"pulleynavy dump: options '--json' and '--bytes' exclude each other\n";
     all_refused(&rt, alloc, &[&["dump", "--bytes", "--json"]], said)?;
@@ -71,9 +75,19 @@ fn refuses_what_excludes_each_other(rt: HostRuntime) -> Result<(), Fail> {
     let said = b"pulleynavy dump: wrong value 'red' of option '--color'\n";
     all_refused(&rt, alloc, &[&["dump", "--color=red"]], said)?;
     let said = b"pulleynavy strip: unexpected argument 'b'\nTry 'pulleynavy strip --help'.\n";
-    all_refused(&rt, alloc, &[&["strip", "a", "b"], &["strip", "a", "--", "b", "c"]], said)?;
-    let said = b"pulleynavy dump: --names reads each file twice, and standard input can't be: name files\n";
-    let rows: [&[&str]; 3] = [&["dump", "--names"], &["dump", "--names", "-"], &["dump", "--names", "--"]];
+    all_refused(
+        &rt,
+        alloc,
+        &[&["strip", "a", "b"], &["strip", "a", "--", "b", "c"]],
+        said,
+    )?;
+    let said =
+        b"pulleynavy dump: --names reads each file twice, and standard input can't be: name files\n";
+    let rows: [&[&str]; 3] = [
+        &["dump", "--names"],
+        &["dump", "--names", "-"],
+        &["dump", "--names", "--"],
+    ];
     all_refused(&rt, alloc, &rows, said)
 }
 

@@ -109,7 +109,10 @@ fn shows_custom_sections_by_their_names(rt: HostRuntime) -> Result<(), Fail> {
 
 // The id of each of the standard's names.
 const STANDARD: [Row; 13] = [
-    (&["dump", "--section", "type"], b"section 1 10 11 0 type\nend 47\n"),
+    (
+        &["dump", "--section", "type"],
+        b"section 1 10 11 0 type\nend 47\n",
+    ),
     (
         &["dump", "--section", "import"],
         b"section 2 13 14 0 import\nend 47\n",
@@ -126,7 +129,10 @@ const STANDARD: [Row; 13] = [
         &["dump", "--section", "memory"],
         b"section 5 22 23 0 memory\nend 47\n",
     ),
-    (&["dump", "--section", "tag"], b"section 13 25 26 0 tag\nend 47\n"),
+    (
+        &["dump", "--section", "tag"],
+        b"section 13 25 26 0 tag\nend 47\n",
+    ),
     (
         &["dump", "--section", "global"],
         b"section 6 28 29 0 global\nend 47\n",
@@ -140,9 +146,15 @@ const STANDARD: [Row; 13] = [
         &["dump", "--section", "element"],
         b"section 9 37 38 0 element\nend 47\n",
     ),
-    (&["dump", "--section", "datacount"], b"datacount 40 41 0\nend 47\n"),
+    (
+        &["dump", "--section", "datacount"],
+        b"datacount 40 41 0\nend 47\n",
+    ),
     (&["dump", "--section", "code"], b"code 43 44 0 0\nend 47\n"),
-    (&["dump", "--section", "data"], b"section 11 46 47 0 data\nend 47\n"),
+    (
+        &["dump", "--section", "data"],
+        b"section 11 46 47 0 data\nend 47\n",
+    ),
 ];
 
 #[test]
@@ -161,11 +173,31 @@ fn answers_a_fault_of_the_stream(rt: HostRuntime) -> Result<(), Fail> {
 
 // A choice that chooses nothing is named.
 const MISSING: [(&[&str], &[u8], &[u8]); 5] = [
-    (&["dump", "--section", "type"], b"end 26\n", b"pulleynavy dump: standard input: no section 'type'\n"),
-    (&["dump", "--section", "256"], b"end 26\n", b"pulleynavy dump: standard input: no section '256'\n"),
-    (&["dump", "--section=13", "--section", "3"], THIRD, b"pulleynavy dump: standard input: no section '13'\n"),
-    (&["dump", "--section", "3", "--section", "--section"], THIRD, b"pulleynavy dump: standard input: no section '--section'\n"),
-    (&["dump", "--section", "--", "--section", "3"], THIRD, b"pulleynavy dump: standard input: no section '--'\n"),
+    (
+        &["dump", "--section", "type"],
+        b"end 26\n",
+        b"pulleynavy dump: standard input: no section 'type'\n",
+    ),
+    (
+        &["dump", "--section", "256"],
+        b"end 26\n",
+        b"pulleynavy dump: standard input: no section '256'\n",
+    ),
+    (
+        &["dump", "--section=13", "--section", "3"],
+        THIRD,
+        b"pulleynavy dump: standard input: no section '13'\n",
+    ),
+    (
+        &["dump", "--section", "3", "--section", "--section"],
+        THIRD,
+        b"pulleynavy dump: standard input: no section '--section'\n",
+    ),
+    (
+        &["dump", "--section", "--", "--section", "3"],
+        THIRD,
+        b"pulleynavy dump: standard input: no section '--'\n",
+    ),
 ];
 
 #[test]
@@ -194,13 +226,26 @@ end 8
 #[test]
 fn dumps_several_files(rt: HostRuntime) -> Result<(), Fail> {
     let files = Files::new(&MODULE[..8], &ONE);
-    let said = b"pulleynavy: none: No such file or directory\npulleynavy dump: standard input: no section '3'\n";
+    let said =
+        b"pulleynavy: none: No such file or directory\npulleynavy dump: standard input: no section '3'\n";
     let words = ["dump", "one", "--section", "3", "none", "-"];
     answers(&rt, rt.alloc(), &words, &files, (3, SEVERAL, said))?;
     let said = b"pulleynavy: --help: No such file or directory\n";
-    answers(&rt, rt.alloc(), &["dump", "--", "--help"], &files, (3, b"", said))?;
+    answers(
+        &rt,
+        rt.alloc(),
+        &["dump", "--", "--help"],
+        &files,
+        (3, b"", said),
+    )?;
     let said = b"pulleynavy: broken: Is a directory\n";
-    answers(&rt, rt.alloc(), &["dump", "--names", "broken"], &files, (3, b"", said))
+    answers(
+        &rt,
+        rt.alloc(),
+        &["dump", "--names", "broken"],
+        &files,
+        (3, b"", said),
+    )
 }
 
 /// A writer that takes all bytes, and cannot hand them on.
@@ -219,7 +264,13 @@ impl Write for Stuck {
 
 // The status of a run whose output fails at its end.
 fn run_stuck(alloc: Global, words: &[String], errors: &mut BoundedSink) -> u8 {
-    run(alloc, words, &Files::of_input(MODULE), WriteSink::new(Stuck), errors)
+    run(
+        alloc,
+        words,
+        &Files::of_input(MODULE),
+        WriteSink::new(Stuck),
+        errors,
+    )
 }
 
 #[test]

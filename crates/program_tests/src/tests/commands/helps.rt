@@ -10,7 +10,12 @@ const VERSION: &[u8] = b"pulleynavy 0.15.0 (follows wasmparser 0.263.0)\n";
 
 #[test]
 fn prints_its_version(rt: HostRuntime) -> Result<(), Fail> {
-    let rows: [&[&str]; 4] = [&["--version"], &["-V"], &["list", "--version"], &["strip", "a", "-V"]];
+    let rows: [&[&str]; 4] = [
+        &["--version"],
+        &["-V"],
+        &["list", "--version"],
+        &["strip", "a", "-V"],
+    ];
     for words in rows {
         runs(&rt, rt.alloc(), words, MODULE, (0, VERSION, b""))?;
     }
@@ -37,8 +42,28 @@ fn prints_help(rt: HostRuntime) -> Result<(), Fail> {
     begins(&rt, alloc, &["--help"], start)?;
     begins(&rt, alloc, &["-h"], start)?;
     begins(&rt, alloc, &["help"], start)?;
-    begins(&rt, alloc, &["help", "list"], b"usage: pulleynavy list [--json] ")?;
-    begins(&rt, alloc, &["dump", "-h"], b"usage: pulleynavy dump [--names] ")?;
-    begins(&rt, alloc, &["check", "a", "--help"], b"usage: pulleynavy check [--quiet] ")?;
-    begins(&rt, alloc, &["help", "strip"], b"usage: pulleynavy strip [--keep-names] ")
+    begins(
+        &rt,
+        alloc,
+        &["help", "list"],
+        b"usage: pulleynavy list [--json] ",
+    )?;
+    begins(
+        &rt,
+        alloc,
+        &["dump", "-h"],
+        b"usage: pulleynavy dump [--names] ",
+    )?;
+    begins(
+        &rt,
+        alloc,
+        &["check", "a", "--help"],
+        b"usage: pulleynavy check [--quiet] ",
+    )?;
+    begins(
+        &rt,
+        alloc,
+        &["help", "strip"],
+        b"usage: pulleynavy strip [--keep-names] ",
+    )
 }

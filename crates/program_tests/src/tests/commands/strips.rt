@@ -20,9 +20,15 @@ const ROWS: [Row; 8] = [
     (&["strip", "--keep", "name"], NAME),
     (&["strip", "--only=a"], NAME_AND_B),
     (&["strip", "--keep", "b", "-", "--keep-names"], NAME_AND_B),
-    (&["strip", "--only", "a", "--only", "b", "--keep=b"], NAME_AND_B),
+    (
+        &["strip", "--only", "a", "--only", "b", "--keep=b"],
+        NAME_AND_B,
+    ),
     // The values of options are no options.
-    (&["strip", "--only", "--keep-names", "--keep", "--only"], CUSTOM),
+    (
+        &["strip", "--only", "--keep-names", "--keep", "--only"],
+        CUSTOM,
+    ),
     (&["strip", "-o", "-", "--only", "a"], NAME_AND_B),
 ];
 
@@ -59,8 +65,20 @@ const NAMED: [Named<'static>; 3] = [
 fn strips_files(rt: HostRuntime) -> Result<(), Fail> {
     let alloc = rt.alloc();
     let files = Files::new(CUSTOM, &NAMED);
-    answers(&rt, alloc, &["strip", "a", "--keep-names"], &files, (0, NAME, b""))?;
-    answers(&rt, alloc, &["strip", "pipe", "--keep-names"], &files, (0, NAME, b""))?;
+    answers(
+        &rt,
+        alloc,
+        &["strip", "a", "--keep-names"],
+        &files,
+        (0, NAME, b""),
+    )?;
+    answers(
+        &rt,
+        alloc,
+        &["strip", "pipe", "--keep-names"],
+        &files,
+        (0, NAME, b""),
+    )?;
     answers(&rt, alloc, &["strip", "bad"], &files, (1, b"", FAULT))?;
     let said = b"pulleynavy: none: No such file or directory\n";
     answers(&rt, alloc, &["strip", "none"], &files, (3, b"", said))?;
@@ -87,13 +105,48 @@ fn writes(
 #[test]
 fn replaces_a_file_once_it_is_complete(rt: HostRuntime) -> Result<(), Fail> {
     let alloc = rt.alloc();
-    writes(&rt, alloc, &["strip", "a", "-o", "out"], (0, b""), Some(8), 0)?;
-    writes(&rt, alloc, &["strip", "--output=a", "a"], (0, b""), Some(8), 0)?;
-    writes(&rt, alloc, &["strip", "bad", "-o", "out"], (1, FAULT), None, 1)?;
+    writes(
+        &rt,
+        alloc,
+        &["strip", "a", "-o", "out"],
+        (0, b""),
+        Some(8),
+        0,
+    )?;
+    writes(
+        &rt,
+        alloc,
+        &["strip", "--output=a", "a"],
+        (0, b""),
+        Some(8),
+        0,
+    )?;
+    writes(
+        &rt,
+        alloc,
+        &["strip", "bad", "-o", "out"],
+        (1, FAULT),
+        None,
+        1,
+    )?;
     let said = b"pulleynavy: none: No such file or directory\n";
-    writes(&rt, alloc, &["strip", "none", "-o", "out"], (3, said), None, 1)?;
+    writes(
+        &rt,
+        alloc,
+        &["strip", "none", "-o", "out"],
+        (3, said),
+        None,
+        1,
+    )?;
     let said = b"pulleynavy: denied: Permission denied\n";
-    writes(&rt, alloc, &["strip", "a", "-o", "denied"], (3, said), None, 0)?;
+    writes(
+        &rt,
+        alloc,
+        &["strip", "a", "-o", "denied"],
+        (3, said),
+        None,
+        0,
+    )?;
     let said = b"pulleynavy: full: No space left on device\n";
     let words = ["strip", "a", "--keep-names", "-o", "full"];
     writes(&rt, alloc, &words, (3, said), None, 1)

@@ -30,7 +30,12 @@ const ROWS: [Row; 11] = [
     (&["dump", "--json"], FAULTS, 1, FAULT_OBJECTS),
     (&["dump", "--bytes"], MODULE, 0, BYTES),
     // Sixteen bytes a row, and only those of the sections that are chosen.
-    (&["dump", "--section", "custom", "--bytes"], LONG, 1, SIXTEEN),
+    (
+        &["dump", "--section", "custom", "--bytes"],
+        LONG,
+        1,
+        SIXTEEN,
+    ),
     (&["dump", "--hex"], MODULE, 0, HEX),
     // Offsets that don't count from the start of the stream stay decimal.
     (&["dump", "--hex"], ADDENDS, 0, HEX_RANGES),

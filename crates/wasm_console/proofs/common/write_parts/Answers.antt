@@ -12,7 +12,8 @@ parts-preserved g c = record {
   written = _;
   wrote = wrote_more _ _ _ _ c.parts.invariant.written c.parts.rest.now (record { ref_ptr = (0, 0); now = [] })
       c.in-len1-up.len_at_least c.parts.invariant.parts c.parts.invariant.wrote c.in_ok-write_all.ensures.ok;
-  parts = one_more _ _ (g.E.Sink.taken c.write_all.new.output) _ c.parts.invariant.written c.parts.rest.now (record { ref_ptr = (0, 0); now = [] })
+  parts = one_more _ _ (g.E.Sink.taken c.write_all.new.output) _ c.parts.invariant.written c.parts.rest.now
+      (record { ref_ptr = (0, 0); now = [] })
       c.in-len1-up.len_at_least c.parts.invariant.parts c.parts.invariant.wrote;
   failed = c.in_ok-write_all.ensures.failed ∙ c.parts.invariant.failed;
 }
