@@ -299,9 +299,9 @@ class Trial:
         if system.inside("command -v rt rattle || true"):
             raise Failed("the clean system has a toolchain")
         start = time.time()
-        if self.end not in system.inside("cd /; ~/pulleynavy/wasm_dump ~/a.wasm"):
-            raise Failed("./wasm_dump does not dump the stream")
-        print("chroot: a clone's ./wasm_dump took %.1f s" % (time.time() - start))
+        if self.end not in system.inside("cd /; ~/pulleynavy/pulleynavy dump ~/a.wasm"):
+            raise Failed("./pulleynavy does not dump the stream")
+        print("chroot: a clone's ./pulleynavy dump took %.1f s" % (time.time() - start))
         system.inside("cd pulleynavy; ./install /opt/pulleynavy")
         build = "export PKG_CONFIG_PATH=/opt/pulleynavy/lib/pkgconfig; cc -Wall -Werror t.c $(pkg-config --cflags --libs pulleynavy) -o t"
         self.expect(system.inside(build + "; LD_LIBRARY_PATH=/opt/pulleynavy/lib ./t < a.wasm; rm t"), "the C program after ./install")
@@ -311,9 +311,9 @@ class Trial:
             system.put(path, os.path.basename(path))
         system.inside("dpkg -i *.deb")
         self.expect(system.inside("cc -Wall -Werror t.c $(pkg-config --cflags --libs pulleynavy) -o t; ./t < a.wasm"), "the C program of the packages for Debian")
-        if self.end not in system.inside("cd /; wasm_list < ~/a.wasm; wasm_list strip ~/a.wasm | wasm_dump"):
-            raise Failed("wasm_list of the package does not list the stream")
-        for page, heading in (("wasm_list", "EXIT STATUS"), ("wasm_dump", "EXIT STATUS"), ("pulleynavy_parse", "ERRORS")):
+        if self.end not in system.inside("cd /; pulleynavy list ~/a.wasm; wasm_list strip ~/a.wasm | wasm_dump"):
+            raise Failed("pulleynavy of the package does not list the stream")
+        for page, heading in (("wasm_list", "EXIT STATUS"), ("pulleynavy", "EXIT STATUS"), ("wasm_dump", "EXIT STATUS"), ("pulleynavy_parse", "ERRORS")):
             if heading not in system.inside("man %s | cat" % page):
                 raise Failed("there is no manual page %s" % page)
         system.inside("dpkg -r pulleynavy libpulleynavy-dev libpulleynavy" + packages.soname().partition(".so.")[2])

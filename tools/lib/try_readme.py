@@ -19,7 +19,7 @@ import common
 PAGE = os.path.join(common.TOP, "README.md")
 MOST_BYTES = 8192
 # Commands that are the gate itself, and those that tools/try packages runs.
-ELSEWHERE = ["rt ci", ".ci/run", "pip install dist/", "npm install dist/", "dpkg -i dist/", "wasm_dump --names m.wasm"]
+ELSEWHERE = ["rt ci", ".ci/run", "pip install dist/", "npm install dist/", "dpkg -i dist/", "pulleynavy dump --names m.wasm"]
 OPTIONS = [["--json"], ["--names"], ["--bytes"], ["--hex"], ["--color"], ["--section", "import"], []]
 C = "#include <pulleynavy.h>\n#include <stdbool.h>\n#include <stdio.h>\n\nstatic unsigned char bytes[1 << 16];\n\nint main(void) {\n"
 C += "size_t size = fread(bytes, 1, sizeof bytes, stdin);\n%sreturn event.kind == PULLEYNAVY_EVENT_FAULT;\n}\n"
@@ -56,15 +56,21 @@ class Reader:
 
     def list(self):
         events = [line for line in self.lines if not line.startswith("  ")]
-        assert self.run([self.clone + "/wasm_list"]).decode().splitlines() == events, "wasm_list does not list the module"
+        said = self.run([self.clone + "/pulleynavy", "list", self.file]).decode().splitlines()
+        assert [re.sub(r" \".*\"$", "", line) for line in said] == events, "pulleynavy list does not list the module"
 
     def strip(self):
-        kept = self.run([self.clone + "/wasm_list", "strip", self.file])
-        assert kept == common.load(common.MODEL).strip(self.stream), "wasm_list strip writes something else"
+        other = os.path.join(self.place, "other.wasm")
+        self.run([self.clone + "/pulleynavy", "strip", self.file, "-o", other])
+        with open(other, "rb") as file:
+            assert file.read() == common.load(common.MODEL).strip(self.stream), "pulleynavy strip writes something else"
 
     def dump(self):
         for words in OPTIONS:
-            assert self.run([self.clone + "/wasm_dump", *words, self.file]), "wasm_dump %s writes nothing" % words
+            assert self.run([self.clone + "/pulleynavy", "dump", *words, self.file]), "pulleynavy dump %s writes nothing" % words
+
+    def check(self):
+        assert self.run([self.clone + "/pulleynavy", "check", self.file]) == b"", "pulleynavy check reports items of a module that has no malformed one"
 
     def install(self):
         self.run([self.clone + "/install", self.prefix])
@@ -109,7 +115,8 @@ class Reader:
         assert done.stdout and not done.returncode, "the program in Rust: %s" % done.stderr.decode()[-400:]
 
 
-COMMANDS = {"./wasm_list < FILE": Reader.list, "./wasm_list strip FILE > OTHER": Reader.strip, "./wasm_dump [OPTION]... FILE...": Reader.dump}
+COMMANDS = {"./pulleynavy list FILE...": Reader.list, "./pulleynavy dump FILE...": Reader.dump, "./pulleynavy check FILE...": Reader.check}
+COMMANDS |= {"./pulleynavy strip FILE -o OTHER": Reader.strip, "./pulleynavy help dump": lambda reader: reader.run([reader.clone + "/pulleynavy", "help", "dump"])}
 COMMANDS |= {"./install PREFIX": Reader.install, "tools/package": Reader.package}
 PROGRAMS = {"c": Reader.c, "js": Reader.js, "python": Reader.python, "rust": Reader.rust}
 # What the machine needs for a program. `./install` makes the library for Python with a C compiler.
@@ -119,7 +126,7 @@ NEEDED = {"c": ["cc", "pkg-config"], "js": ["node"], "python": ["cc"], "rust": [
 def commands(text):
     """The commands of the page: lines of blocks, and words in code that begin with a program."""
     plain = re.sub(r"^```.*?^```$", "", text, flags=re.M | re.S)
-    for line in re.findall(r"^    (?:\$ )?((?:\./|rt |\.ci/|wasm_dump ).*)$", plain, re.M):
+    for line in re.findall(r"^    (?:\$ )?((?:\./|rt |\.ci/|pulleynavy ).*)$", plain, re.M):
         yield re.split(r" {3,}", line)[0]
     yield from re.findall(r"`((?:\./|tools/package|pip |npm |dpkg )[^`]*)`", plain)
 

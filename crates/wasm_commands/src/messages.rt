@@ -3,7 +3,7 @@ ghost use Rattle.std.specs.Prelude.{◌≡◌};
 ghost use Rattle.wasm_commands.specs.Messages.{Reports, command_text, complaint_text, failure_text, file_text, missing_text, name_shown, reason_if_any, refusal_text};
 ghost use Rattle.wasm_commands.specs.Messages.{about_word};
 ghost use Rattle.wasm_commands.specs.Reasons.{reason_of};
-ghost use Rattle.wasm_console.specs.Endings.{status_of as status_for};
+ghost use Rattle.wasm_console.specs.Endings.status_for;
 ghost use Rattle.wasm_text.specs.Calls.{device_of};
 ghost use Rattle.wasm_text.specs.Messages.{Says};
 

@@ -12,10 +12,10 @@ use Rattle.wasm_text.specs.Messages.{Says, complaint_of}
 -- | how a run ends: the exit status, what it prints, and what the output has forwarded; a run that refuses its
 --   arguments, or cannot begin [`Reports`, `Finishes`, `RunsUsage`, `CannotBegin`]
 -- the exit status of a run that went along a stream
-abbrev pub status_of : Result Ended ListError → ℕ
-status_of (Ok End) = 0
-status_of (Ok (Fault e)) = 1
-status_of (Err e) = 3
+abbrev pub status_for : Result Ended ListError → ℕ
+status_for (Ok End) = 0
+status_for (Ok (Fault e)) = 1
+status_for (Err e) = 3
 
 -- the message of such a run: none, or why it failed
 abbrev pub Reports : Result Ended ListError → Device → Type 0

@@ -1,7 +1,7 @@
 // The size of a read, messages, and the end of a run.
 ghost use Rattle.std.specs.Prelude.{◌≡◌, IfOk, OnOk, OnErr, ℕ, take, true, is_ok, if◌then◌else◌, vec_len};
 ghost use Rattle.std.specs.Io.KnownBytes.{Appends};
-ghost use Rattle.wasm_console.specs.Endings.{Finishes, status_of as status_for};
+ghost use Rattle.wasm_console.specs.Endings.{Finishes, status_for};
 ghost use Rattle.wasm_console.specs.Messages.{joined};
 ghost use Rattle.wasm_text.specs.Calls.{device_of, writer_device};
 ghost use Rattle.wasm_text.specs.Messages.{Says};

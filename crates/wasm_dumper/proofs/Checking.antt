@@ -7,7 +7,7 @@ use Rattle.std.specs.Io.KnownBytes.{Consumes}
 use Rattle.wasm_base.specs.Features.{all_features}
 use Rattle.wasm_dumper.proofs.Common.{length, drop, Error, seen, lending, beside, feed_of, Feed, Steps, turn_after, Cursor, Step}
 use Rattle.wasm_dumper.proofs.Common.{NeedMoreData, Parsed, Ending, Event, last_event, report_of, Writing, Only}
-use Rattle.wasm_dumper.specs.Checks.{FindsIn, answer_faulty, any_faulty, custom_of, shown_faulty}
+use Rattle.wasm_dumper.specs.Checks.{FindsIn, answer_faulty, any_faulty, custom_of, faulty_if, report_faulty, shown_faulty}
 use Rattle.wasm_feeder.specs.Beside.{FillsAlike, ReadsEnough}
 use Rattle.wasm_feeder.specs.Feed.{new_feed}
 use Rattle.wasm_feeder.specs.Progress.{Reached, Asks}
@@ -18,6 +18,9 @@ use Rattle.wasm_feeder.proofs.ForCallers.{IsEnding, IsEvent, begins, next_asks, 
 use Rattle.wasm_feeder.proofs.ForCallers as progress
 use Rattle.wasm_feeder.specs.declared.turns.Turn.TheVariants as turn
 use Rattle.wasm_parser.specs.ParseAnswer.{ParseAnswer}
+use Rattle.wasm_parser.specs.declared.payload.Payload.{Payload}
+use Rattle.wasm_parser.specs.declared.payload.Payload.TheVariants.{End}
+use Rattle.wasm_grammar.specs.Reading.{Report, stream_end}
 use Rattle.wasm_text.specs.Calls.{from_to}
 use Rattle.wasm_tree.specs.Found.{either, Finds, FindsNone, HasFound, with_more}
 use Rattle.wasm_items.specs.RecGroups.{rec_group_at, rec_group_parts}
@@ -40,6 +43,19 @@ custom_is s =
 
 pub custom_found : (s : Custom) → custom_faulty s ≡ custom_faulty (custom_of s.name (place s.reader).offset (unread s.reader))
 custom_found s = ap custom_faulty (sym (custom_is s))
+
+-- ---- with items, or without
+
+pub found_all : (r : Report) (old new : Option Bool) → Finds (report_faulty r) old new → Finds (faulty_if true r) old new
+found_all (stream_end end) old new f = f
+found_all other old new f = f
+
+none_faulty : (p : Payload) → faulty_if false (report_of p) ≡ false
+none_faulty (End at) = refl
+none_faulty other = refl
+
+pub found_none : (p : Payload) (x : Option Bool) → Finds (faulty_if false (report_of p)) x x
+found_none p x = subst (λ (b : Bool). Finds b x x) (sym (none_faulty p)) (λ is h. h)
 
 -- ---- events
 

@@ -7,7 +7,7 @@ use Rattle.wasm_text.specs.Calls.{Device, from_to}
 use Rattle.std.proofs.KnownBytes.{Appends-kept}
 use Rattle.wasm_console.specs.Devices.{over, Follows, IsUntouched}
 use Rattle.wasm_text.specs.Messages.{Says}
-use Rattle.wasm_console.specs.Endings.{RunsUsage, Flushes, FailsToFlush, LeavesAlone, Finishes, status_of}
+use Rattle.wasm_console.specs.Endings.{RunsUsage, Flushes, FailsToFlush, LeavesAlone, Finishes, status_for}
 use Rattle.wasm_list.specs.ListCommands.{Asked}
 use Rattle.wasm_list.specs.ListRuns.{RunsListingAs, Runs, EndsAs, ListsAll, RunsThenFlushes, RunsWhole, usage}
 use Rattle.wasm_feeder.specs.declared.turns.Ended.{Ended}
@@ -28,7 +28,7 @@ lists_kept source rest taken written kept how h k = record {
   past_the_top = h.past_the_top;
 }
 
-below_two : (how : Ended) → status_of (Ok how) < 2
+below_two : (how : Ended) → status_for (Ok how) < 2
 below_two End = omega arith
 below_two (Fault e) = omega arith
 
@@ -59,7 +59,7 @@ untouched_twice first second f u v = record { bytes = v.bytes ∙ (f.bytes ∙ u
 -- the listing ended, and the output was then flushed, or failed
 passes_on : (first second first_errors second_errors : Device) (how : Ended) (forwarded : Bool) (status result : ℕ) → Follows first second
     → Follows first_errors second_errors
-    → first.has_failed ≡ first.had_failed → IsUntouched first_errors → status ≡ status_of (Ok how)
+    → first.has_failed ≡ first.had_failed → IsUntouched first_errors → status ≡ status_for (Ok how)
     → Flushes status forwarded second second_errors result ⊎ FailsToFlush second second_errors result
     → EndsAs (Ok how) forwarded (over first second) (over first_errors second_errors) result
 passes_on first second first_errors second_errors how forwarded status result f fe sink silent answers (inl h) = inl (record {

@@ -7,7 +7,7 @@ use Rattle.wasm_feed.specs.ListStream.{Lists, ListsSource}
 use Rattle.wasm_feeder.specs.Fates.{custom_stays}
 use Rattle.wasm_feeder.specs.declared.turns.Ended.{Ended}
 use Rattle.wasm_console.specs.Devices.{over, Follows}
-use Rattle.wasm_console.specs.Endings.{status_of, Reports, RunsUsage, CannotBegin, Flushes, FailsToFlush, Finishes}
+use Rattle.wasm_console.specs.Endings.{status_for, Reports, RunsUsage, CannotBegin, Flushes, FailsToFlush, Finishes}
 use Rattle.wasm_console.specs.Strips.{AnswersAs, StripsInput}
 use Rattle.wasm_console.specs.declared.arguments.Given.{Given}
 use Rattle.wasm_console.specs.declared.arguments.Given.TheVariants.{Words, NotUtf8, Nothing}
@@ -20,7 +20,7 @@ usage = codes "usage: wasm_list [strip]\n"
 -- a run whose listing ended so
 pub record RunsListingAs (how : Result Ended ListError) (input output errors : Device) (status : ℕ) : Type 0 where
   pub lists : ListsSource input output how
-  pub answers : status ≡ status_of how
+  pub answers : status ≡ status_for how
   pub reports : Reports how errors
 
 -- a run that listed its input
@@ -51,7 +51,7 @@ pub record GivesUp (why : ListError) (output errors : Device) (status : ℕ) : T
 -- The end of a run whose listing ended so: the listing is flushed before the status is 0 or 1.
 abbrev pub EndsAs : Result Ended ListError → (forwarded : Bool) (output errors : Device) (status : ℕ) → Type 0
 EndsAs (Ok how) forwarded output errors status =
-    Flushes (status_of (Ok how)) forwarded output errors status ⊎ FailsToFlush output errors status
+    Flushes (status_for (Ok how)) forwarded output errors status ⊎ FailsToFlush output errors status
 EndsAs (Err why) forwarded output errors status = GivesUp why output errors status
 
 -- the whole program, where it lists its input

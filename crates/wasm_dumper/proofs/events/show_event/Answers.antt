@@ -10,7 +10,7 @@ returns-in-Lines-clause-adds g c =
     let same : base ≡ base_of (writing c.args.out.now).style = ap base_of (sym c.in-Lines.is ∙ c.style.ensures) in
     let line = rw (text_fed base c.args.counts.now report) at c.write_first.ensures.adds in
     subst (λ (b : Base). AddsFirst (numbered_line b c.args.counts.now report) (writing c.args.out.now)
-    (writing c.write_first.new.self)) same line
+    (writing c.write_first.new.out)) same line
 
 pub returns-in-Objects-clause-adds : goal.returns-in-Objects-clause-adds
 returns-in-Objects-clause-adds g c =
