@@ -4,7 +4,7 @@ use Rattle.std.specs.Borrow.{Bor}
 use Rattle.std.specs.Str.Parse.{IsNumeral, digits_value, without_leading_plus}
 use Rattle.wasm_grammar.specs.Ids.{id_named}
 use Rattle.wasm_dumper.specs.declared.events.Only.{Only}
-use Rattle.wasm_dumper.specs.declared.events.Only.TheVariants.{All, Id, Name}
+use Rattle.wasm_dumper.specs.declared.events.Only.TheVariants.{All, Parts, Id, Name}
 
 -- whether a word is the number of an id: decimal digits, with an optional plus before them, of less than 256
 abbrev pub IsNumber : List ℕ → Type 0
@@ -16,6 +16,7 @@ IsNumber word = IsNumeral 10 (without_leading_plus word) × (digits_value 10 (wi
 -- by theirs.
 abbrev pub Chooses : (word : List ℕ) → Only → Type 0
 Chooses word All = ⊥
+Chooses word Parts = ⊥
 Chooses word (Id id) = (IsNumber word × (id ≡ digits_value 10 (without_leading_plus word)))
     ⊎ ((¬ IsNumber word) × (id_named word ≡ Some id))
 Chooses word (Name name) = (¬ IsNumber word) × (id_named word ≡ None) × (name.now ≡ word)

@@ -1,5 +1,5 @@
 -- Why a file can't be opened, or a device failed, in the words of the system.
-use Rattle.std.specs.Prelude.{ℕ, ℤ, List, codes, Option, Some, None}
+use Rattle.std.specs.Prelude.{ℕ, List, codes, if◌then◌else◌}
 use Rattle.std.specs.declared.io.ErrorKind.{ErrorKind}
 use Rattle.std.specs.declared.io.ErrorKind.TheVariants as kind
 use Rattle.wasm_commands.specs.declared.reasons.Cause.{Cause}
@@ -22,11 +22,6 @@ reason_of_kind kind.ExecutableFileBusy = codes "Text file busy"
 reason_of_kind kind.BrokenPipe = codes "Broken pipe"
 reason_of_kind _ = codes "Input/output error"
 
--- the words for a cause: the number 9 is that of a closed standard stream, for which there is no kind
-abbrev pub words_of_code : Option ℤ → (otherwise : List ℕ) → List ℕ
-words_of_code (Some (pos 9)) otherwise = codes "Bad file descriptor"
-words_of_code _ otherwise = otherwise
-
 -- | why a file can't be opened, or a device failed, in the words of the system
 abbrev pub reason_of : Cause → List ℕ
-reason_of cause = words_of_code cause.code (reason_of_kind cause.kind)
+reason_of cause = if cause.is_closed then codes "Bad file descriptor" else reason_of_kind cause.kind

@@ -180,17 +180,17 @@ pub(crate) fn show<S: System, W: Write + Drop, E: Sink>(
     };
     let names = arguments.operands(alloc)?;
     let words = arguments.values(alloc, Flag::Section)?;
-    let chosen = chosen_by(alloc, words.as_slice())?;
-    let only: &[Only<'_>] = match verb {
-        Verb::List => &[Only::Parts],
-        _ if chosen.is_empty() => &[Only::All],
-        _ => chosen.as_slice(),
-    };
+    let mut only = chosen_by(alloc, words.as_slice())?;
+    match verb {
+        Verb::List => only.push(Only::Parts)?,
+        _ if words.is_empty() => only.push(Only::All)?,
+        _ => {}
+    }
     let found = vec![in alloc; Cell::new(false); words.len()]?;
     let plan = Plan {
         words: words.as_slice(),
         shown: Shown {
-            only,
+            only: only.as_slice(),
             has_bytes: arguments.has(Flag::Bytes),
             found: found.as_slice(),
         },

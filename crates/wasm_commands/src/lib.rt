@@ -3,6 +3,7 @@
 
 mod arguments;
 mod check;
+mod commands;
 mod dump;
 mod files;
 mod help;
@@ -11,15 +12,14 @@ mod messages;
 mod options;
 mod reasons;
 mod replacement;
-mod run;
 mod streams;
 mod strip;
 mod system;
 
 pub use check::check_as;
+pub use commands::{run, run_host, run_program};
 pub use dump::{Colored, Format, dump_as};
 pub use messages::Causes;
 pub use reasons::Cause;
-pub use run::{run, run_host, run_program};
 pub use streams::{Messages, Noting};
 pub use system::System;

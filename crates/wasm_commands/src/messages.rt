@@ -3,7 +3,7 @@ ghost use Rattle.std.specs.Prelude.{◌≡◌};
 ghost use Rattle.wasm_commands.specs.Messages.{Reports, command_text, complaint_text, failure_text, file_text, missing_text, name_shown, reason_if_any, refusal_text};
 ghost use Rattle.wasm_commands.specs.Messages.{about_word};
 ghost use Rattle.wasm_commands.specs.Reasons.{reason_of};
-ghost use Rattle.wasm_console.specs.Endings.status_for;
+ghost use Rattle.wasm_console.specs.Endings.{status_for};
 ghost use Rattle.wasm_text.specs.Calls.{device_of};
 ghost use Rattle.wasm_text.specs.Messages.{Says};
 
@@ -137,7 +137,7 @@ pub(crate) fn report<E: Sink>(
 }
 
 // The words before a message about the arguments of a command.
-fn command_words(verb: Verb) -> &'static [u8]
+fn command_words<'a>(verb: Verb) -> &'a [u8]
     ensures { result.now ≡ command_text verb }
 {
     match verb {
@@ -172,7 +172,13 @@ pub(crate) enum Complaint<'a> {
 }
 
 // Says what is wrong with an argument, and where to look.
-fn complain_of<E: Sink>(verb: Verb, before: &[u8], word: &str, after: &[u8], errors: &mut E)
+fn complain_of<'a, E: Sink>(
+    verb: Verb,
+    before: &'a [u8],
+    word: &'a str,
+    after: &'a [u8],
+    errors: &mut E,
+)
     ensures says { Says (device_of E.taken E.has_failed errors.old errors.new)
         (about_word verb before.now word.now after.now) }
 {

@@ -10,7 +10,8 @@ use std::io::{Error, ErrorKind};
 #[derive(Clone, Copy)]
 pub struct Cause {
     kind: ErrorKind,
-    code: Option<i32>,
+    // Whether a standard stream is closed.
+    is_closed: bool,
 }
 
 // The number of "Bad file descriptor", which a closed standard stream gives, and for which `std` has no kind.
@@ -23,7 +24,7 @@ impl Cause {
     {
         Cause {
             kind: error.kind(),
-            code: error.raw_os_error(),
+            is_closed: matches!(error.raw_os_error(), Some(BAD_FILE_DESCRIPTOR)),
         }
     }
 
@@ -35,18 +36,19 @@ impl Cause {
     /// Returns the words of the system for the cause.
     ///
     /// The texts of `Error` itself would be a twentieth of the program.
-    pub(crate) fn words(self) -> &'static [u8]
+    pub(crate) fn words<'a>(self) -> &'a [u8]
         ensures { result.now ≡ reason_of self }
     {
-        match self.code {
-            Some(BAD_FILE_DESCRIPTOR) => b"Bad file descriptor",
-            _ => words_of(self.kind),
+        if self.is_closed {
+            b"Bad file descriptor"
+        } else {
+            words_of(self.kind)
         }
     }
 }
 
 /// Returns the words for a device that did not say why it failed.
-pub(crate) fn words_if_any(cause: Option<Cause>) -> &'static [u8]
+pub(crate) fn words_if_any<'a>(cause: Option<Cause>) -> &'a [u8]
     ensures { result.now ≡ reason_if_any cause }
 {
     match cause {
@@ -56,7 +58,7 @@ pub(crate) fn words_if_any(cause: Option<Cause>) -> &'static [u8]
 }
 
 // Returns the words of the system for an error of this kind.
-fn words_of(kind: ErrorKind) -> &'static [u8]
+fn words_of<'a>(kind: ErrorKind) -> &'a [u8]
     ensures { result.now ≡ reason_of_kind kind }
 {
     match kind {
