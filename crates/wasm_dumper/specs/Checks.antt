@@ -58,6 +58,8 @@ counted_faulty id count w =
 abbrev pub custom_of : (name : List ℕ) (data_offset : ℕ) → Window → Custom
 custom_of name data_offset w = record { name = name; reader = record w { position = data_offset - w.start } }
 
+-- | whether what is reported, or a stream, has a malformed item or is a fault; what a dump on a tree of faults alone
+--   has found [`any_faulty`, `IsFaulty`, `FindsAt`]
 -- whether what is reported has a malformed item, or is a fault
 abbrev pub report_faulty : Report → Bool
 report_faulty (counted id count w) = counted_faulty id count w

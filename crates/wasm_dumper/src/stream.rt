@@ -225,7 +225,8 @@ fn dump_into<R: Source, O: Tree>(
 /// Each chosen event has its line, as `list` writes it, with the name of its section or the number of its function.
 /// Under it each item has a line, indented by two blanks a level, with its number in its index space. Offsets are in
 /// bytes from the start of the stream. If bytes are shown, they are in rows before the lines that are read from them.
-/// On a tree of objects each line is a JSON object.
+/// On a tree of objects each line is a JSON object. On one that keeps faults alone, only malformed items have lines, and
+/// the fault at which the stream ends.
 ///
 /// It reads at most `piece` bytes at once, which must be at least 1. The tree must not have written anything. It
 /// buffers the last chunk, the undecided bytes, which are less than a part, and the lines that are not written yet, at

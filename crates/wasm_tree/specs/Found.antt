@@ -5,6 +5,8 @@ use Rattle.wasm_tree.specs.Tree.{Writing}
 use Rattle.wasm_tree.specs.declared.tree.Style.{Style}
 use Rattle.wasm_tree.specs.declared.tree.Style.TheVariants.{Objects}
 
+-- | what a tree of faults alone has found, and what a call adds to that [`Finds`, `FindsNone`, `KnowsFaults`;
+--   `Written.faults`]
 -- Whether a fault was found is this, unless that is unknown by now.
 abbrev pub HasFound : (is : Option Bool) → (found : Option Bool) → Type 0
 HasFound None found = found ≡ None

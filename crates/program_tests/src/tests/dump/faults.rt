@@ -205,6 +205,36 @@ fn stops_where_the_sink_is_full(rt: HostRuntime) -> Result<(), Fail> {
     Ok(())
 }
 
+// The check ends so and has these faults, or an allocation failed after a prefix of them.
+fn is_as_ever(
+    rt: &impl Abort,
+    alloc: Global,
+    stream: &[u8],
+    how: Ended,
+    text: &[u8],
+) -> Result<(), Fail> {
+    for piece in [1, 7, 65_536] {
+        let (ended, found, output) = checked(alloc, ALL, stream, 1_000, piece)?;
+        if ended == Err(ListError::Memory) {
+            assert!(rt; text.starts_with(output.written()), "{piece}");
+        } else {
+            assert!(rt; ended == Ok(how), "{piece}");
+            assert!(rt; found == !text.is_empty(), "{piece}");
+            assert!(rt; output.written() == text, "{piece}");
+        }
+    }
+    Ok(())
+}
+
+// In a run in which an allocation fails, no assertion here fails either.
+#[test]
+fn reports_out_of_memory_or_all_faults(rt: HostRuntime) -> Result<(), Fail> {
+    let end = Ended::End;
+    is_as_ever(&rt, rt.alloc(), SOUND, end, b"")?;
+    let (stream, text) = CUSTOMS[0];
+    is_as_ever(&rt, rt.alloc(), stream, end, text)
+}
+
 // The prefix and the name of the section are longer than what is buffered.
 #[test]
 fn writes_long_lines(rt: HostRuntime) -> Result<(), Fail> {
