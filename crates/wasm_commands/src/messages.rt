@@ -32,11 +32,10 @@ pub(crate) fn shown_name(name: &str) -> &str
     }
 }
 
-/// Says why a file can't be opened, read or written. Returns the exit status 3.
-pub(crate) fn refuse_file<E: Sink>(name: &str, cause: Cause, errors: &mut E) -> u8
-    ensures status { result ≡ 3 }
-    ensures says { Says (device_of E.taken E.has_failed errors.old errors.new)
-        (file_text name.now (reason_of cause)) }
+// Says why a file or device can't be used.
+fn say_why<'a, E: Sink>(name: &'a str, words: &'a [u8], errors: &mut E)
+    ensures { Says (device_of E.taken E.has_failed errors.old errors.new)
+        (file_text name.now words.now) }
 {
     say(
         errors,
@@ -44,10 +43,28 @@ pub(crate) fn refuse_file<E: Sink>(name: &str, cause: Cause, errors: &mut E) -> 
             b"pulleynavy: ".as_slice(),
             name.as_bytes(),
             b": ",
-            cause.words(),
+            words,
             b"\n",
         ],
     );
+}
+
+// Says why a device failed, if that is known.
+fn say_cause<E: Sink>(name: &str, cause: Option<Cause>, errors: &mut E)
+    ensures { Says (device_of E.taken E.has_failed errors.old errors.new)
+        (file_text name.now (reason_if_any cause)) }
+{
+    let words = words_if_any(cause);
+    say_why(name, words, errors);
+}
+
+/// Says why a file can't be opened, read or written. Returns the exit status 3.
+pub(crate) fn refuse_file<E: Sink>(name: &str, cause: Cause, errors: &mut E) -> u8
+    ensures status { result ≡ 3 }
+    ensures says { Says (device_of E.taken E.has_failed errors.old errors.new)
+        (file_text name.now (reason_of cause)) }
+{
+    say_why(name, cause.words(), errors);
     3
 }
 
@@ -58,24 +75,8 @@ pub(crate) fn refuse_run<E: Sink>(name: &str, why: ListError, causes: Causes, er
         (failure_text name.now why causes) }
 {
     match why {
-        ListError::Input => say(
-            errors,
-            &[
-                b"pulleynavy: ".as_slice(),
-                shown_name(name).as_bytes(),
-                b": ",
-                words_if_any(causes.input),
-                b"\n",
-            ],
-        ),
-        ListError::Output => say(
-            errors,
-            &[
-                b"pulleynavy: standard output: ".as_slice(),
-                words_if_any(causes.output),
-                b"\n",
-            ],
-        ),
+        ListError::Input => say_cause(shown_name(name), causes.input, errors),
+        ListError::Output => say_cause("standard output", causes.output, errors),
         ListError::Memory => say(errors, &[b"pulleynavy: out of memory\n".as_slice()]),
     }
     3
@@ -87,16 +88,7 @@ pub(crate) fn refuse_target<E: Sink>(name: &str, causes: Causes, errors: &mut E)
     ensures says { Says (device_of E.taken E.has_failed errors.old errors.new)
         (file_text name.now (reason_if_any causes.output)) }
 {
-    say(
-        errors,
-        &[
-            b"pulleynavy: ".as_slice(),
-            name.as_bytes(),
-            b": ",
-            words_if_any(causes.output),
-            b"\n",
-        ],
-    );
+    say_cause(name, causes.output, errors);
     3
 }
 

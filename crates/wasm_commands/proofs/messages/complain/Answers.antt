@@ -1,0 +1,35 @@
+use Rattle.wasm_commands.proofs.messages.complain.Goals as goal
+
+pub returns-in-Excluded-clause-says : goal.returns-in-Excluded-clause-says
+returns-in-Excluded-clause-says g c =
+    rw c.in-Excluded.is
+    (rw (c.command_words.ensures, c.as_slice.ensures, c.as_bytes.ensures.value, c.as_bytes-in-Excluded.ensures.value) at c.say.ensures)
+
+pub returns-in-WrongValue-clause-says : goal.returns-in-WrongValue-clause-says
+returns-in-WrongValue-clause-says g c =
+    rw c.in-WrongValue.is
+    (rw (c.command_words-in-WrongValue.ensures, c.as_slice-in-WrongValue.ensures, c.as_bytes-in-WrongValue.ensures.value,
+    c.as_bytes-in-WrongValue-2.ensures.value) at c.say-in-WrongValue.ensures)
+
+pub returns-in-Extra-clause-says : goal.returns-in-Extra-clause-says
+returns-in-Extra-clause-says g c = rw c.in-Extra.is c.complain_of.ensures.says
+
+pub returns-in-UnknownCommand-clause-says : goal.returns-in-UnknownCommand-clause-says
+returns-in-UnknownCommand-clause-says g c =
+    rw c.in-UnknownCommand.is
+    (rw (c.as_slice-in-UnknownCommand.ensures, c.as_bytes-in-UnknownCommand.ensures.value) at c.say-in-UnknownCommand.ensures)
+
+pub returns-in-UnknownOption-clause-says : goal.returns-in-UnknownOption-clause-says
+returns-in-UnknownOption-clause-says g c =
+    rw c.in-UnknownOption.is
+    (rw (c.as_slice-in-UnknownOption.ensures, c.as_bytes-in-UnknownOption.ensures.value) at c.say-in-UnknownOption.ensures)
+
+pub returns-in-NoCommand-clause-says : goal.returns-in-NoCommand-clause-says
+returns-in-NoCommand-clause-says g c = rw c.in-NoCommand.is (rw c.as_slice-in-NoCommand.ensures at c.say-in-NoCommand.ensures)
+
+pub returns-in-NamesOfInput-clause-says : goal.returns-in-NamesOfInput-clause-says
+returns-in-NamesOfInput-clause-says g c =
+    rw c.in-NamesOfInput.is (rw c.as_slice-in-NamesOfInput.ensures at c.say-in-NamesOfInput.ensures)
+
+pub returns-in-NotUtf8-clause-says : goal.returns-in-NotUtf8-clause-says
+returns-in-NotUtf8-clause-says g c = rw c.in-NotUtf8.is (rw c.as_slice-in-NotUtf8.ensures at c.say-in-NotUtf8.ensures)
