@@ -8,8 +8,12 @@ returns-in-Excluded-clause-says g c =
 pub returns-in-WrongValue-clause-says : goal.returns-in-WrongValue-clause-says
 returns-in-WrongValue-clause-says g c =
     rw c.in-WrongValue.is
-    (rw (c.command_words-in-WrongValue.ensures, c.as_slice-in-WrongValue.ensures, c.as_bytes-in-WrongValue.ensures.value,
-    c.as_bytes-in-WrongValue-2.ensures.value) at c.say-in-WrongValue.ensures)
+    (rw (
+      c.command_words-in-WrongValue.ensures,
+      c.as_slice-in-WrongValue.ensures,
+      c.as_bytes-in-WrongValue.ensures.value,
+      c.as_bytes-in-WrongValue-2.ensures.value,
+    ) at c.say-in-WrongValue.ensures)
 
 pub returns-in-Extra-clause-says : goal.returns-in-Extra-clause-says
 returns-in-Extra-clause-says g c = rw c.in-Extra.is c.complain_of.ensures.says
