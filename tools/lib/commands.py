@@ -7,6 +7,7 @@ import common
 COMMANDS = {
     "compare": {
         "listings": ("compare_streams:listings", "listings of random streams"),
+        "check": ("compare_dumps:check", "the malformed items of random streams and of modules"),
         "dump": ("compare_dumps:dump", "dumps of random streams and of modules"),
         "forms": ("compare_forms", "dumps as JSON, with names, bytes, colors and hexadecimal offsets, with those in lines"),
         "golden": ("compare_dumps:golden", "listings and dumps with what wasmparser 0.263.0 says of the streams of tools/golden.jsonl"),
@@ -34,7 +35,6 @@ COMMANDS = {
         "program": ("generate_program", "help texts, the manual page and completions of the program, from tools/lib/program.py"),
         "header": ("generate_header", "the header of the C library, and the declarations of the bindings"),
         "codes": ("generate_codes", "the numbers of enumerations for the crate for Rust, from the header"),
-        "program": ("generate_program", "the help texts, the manual page and the completions of pulleynavy"),
         "manuals": ("generate_manuals", "manual pages of ten calls of the C library, from the header"),
     },
     "bench": {
