@@ -20,6 +20,7 @@ reason_of_kind kind.InvalidInput = codes "Invalid argument"
 reason_of_kind kind.ResourceBusy = codes "Device or resource busy"
 reason_of_kind kind.ExecutableFileBusy = codes "Text file busy"
 reason_of_kind kind.BrokenPipe = codes "Broken pipe"
+reason_of_kind kind.OutOfMemory = codes "Cannot allocate memory"
 reason_of_kind _ = codes "Input/output error"
 
 -- | why a file can't be opened, or a device failed, in the words of the system

@@ -77,6 +77,7 @@ fn words_of<'a>(kind: ErrorKind) -> &'a [u8]
         ErrorKind::ResourceBusy => b"Device or resource busy",
         ErrorKind::ExecutableFileBusy => b"Text file busy",
         ErrorKind::BrokenPipe => b"Broken pipe",
+        ErrorKind::OutOfMemory => b"Cannot allocate memory",
         _ => b"Input/output error",
     }
 }
