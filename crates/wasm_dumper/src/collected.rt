@@ -1,8 +1,9 @@
-// Collects the names of items from the custom sections `name` of a stream.
+// Collects the names of items from the custom sections of a stream: `name`, or else `linking`.
 ghost use Rattle.std.specs.Prelude.{◌≡◌, IfErr};
 ghost use Rattle.wasm_text.specs.declared.devices.ListError.TheVariants.{Memory};
 ghost use Rattle.wasm_tree.specs.ItemNames.{KeepsNames};
 
+use crate::linked::Linked;
 use std::alloc::Global;
 use wasm_custom::{CustomSectionReader, Name, NameMap, NameSectionReader};
 use wasm_feeder::{Feeder, Step};
@@ -95,61 +96,104 @@ fn add_subsections(
     Ok(true)
 }
 
-// Adds the names of a custom section if it is called `name`. Returns false if it has a fault.
-fn add_section(
-    alloc: Global,
-    names: &mut ItemNames,
-    section: &CustomSectionReader<'_>,
-) -> Result<bool, ListError>
-    ensures keeps { KeepsNames names.old names.new }
-    ensures memory { IfErr result (λ why. why ≡ Memory) }
-{
-    if section.name() != "name" {
-        return Ok(true);
-    }
-    let section = NameSectionReader::new(alloc, section.data_reader());
-    add_subsections(alloc, names, section)
+// The names that were collected.
+#[derive(Drop)]
+struct Collected {
+    // The names in sections called `name`, and those of symbols.
+    named: ItemNames,
+    // Whether there is such a section.
+    has_section: bool,
+    // The names that symbols give, for a stream without such a section.
+    linked: Linked,
 }
 
-// Adds the names of a payload. Returns what to do next.
-fn add_payload(
-    alloc: Global,
-    names: &mut ItemNames,
-    payload: &Payload<'_>,
-) -> Result<Next, ListError>
-    ensures keeps { KeepsNames names.old names.new }
-    ensures memory { IfErr result (λ why. why ≡ Memory) }
-{
-    match payload {
-        Payload::CustomSection(section) => Ok(after_names(add_section(alloc, names, section)?)),
-        Payload::End(_) => Ok(Next::End),
-        _ => Ok(Next::Step),
+impl Collected {
+    // Adds the names of a section `name`. Returns what to do next.
+    fn add_names(&mut self, alloc: Global, section: NameSectionReader<'_>) -> Result<Next, ListError>
+        ensures keeps { KeepsNames self.old.named self.new.named }
+        ensures linked { self.new.linked ≡ self.old.linked }
+        ensures memory { IfErr result (λ why. why ≡ Memory) }
+    {
+        self.has_section = true;
+        Ok(after_names(add_subsections(
+            alloc,
+            &mut self.named,
+            section,
+        )?))
     }
-}
 
-// Adds the names of the payload that a step returned. Returns what to do next.
-fn add_answer(
-    alloc: Global,
-    names: &mut ItemNames,
-    answer: &ParserResult<Step<'_>>,
-) -> Result<Next, ListError>
-    ensures keeps { KeepsNames names.old names.new }
-    ensures memory { IfErr result (λ why. why ≡ Memory) }
-{
-    match answer {
-        Ok(Step::NeedMoreData(_)) => Ok(Next::Read),
-        Ok(Step::Parsed { payload, .. }) => add_payload(alloc, names, payload),
-        Err(_) => Ok(Next::End),
+    // Adds the names of a custom section. Returns what to do next.
+    fn add_custom(
+        &mut self,
+        alloc: Global,
+        section: &CustomSectionReader<'_>,
+    ) -> Result<Next, ListError>
+        ensures keeps { KeepsNames self.old.named self.new.named }
+        ensures linked { KeepsNames self.old.linked.names self.new.linked.names }
+        ensures memory { IfErr result (λ why. why ≡ Memory) }
+    {
+        self.linked.pass_custom(alloc, &mut self.named, section)?;
+        if section.name() != "name" {
+            return Ok(Next::Step);
+        }
+        self.add_names(alloc, NameSectionReader::new(alloc, section.data_reader()))
     }
-}
 
-// Performs one step and adds the names of its payload. Returns what to do next.
-fn add_step(alloc: Global, names: &mut ItemNames, feeder: &mut Feeder) -> Result<Next, ListError>
-    ensures keeps { KeepsNames names.old names.new }
-    ensures memory { IfErr result (λ why. why ≡ Memory) }
-{
-    let answer = feeder.step();
-    add_answer(alloc, names, &answer)
+    // Adds the names of a payload. Returns what to do next.
+    fn add_payload(&mut self, alloc: Global, payload: &Payload<'_>) -> Result<Next, ListError>
+        ensures keeps { KeepsNames self.old.named self.new.named }
+        ensures linked { KeepsNames self.old.linked.names self.new.linked.names }
+        ensures memory { IfErr result (λ why. why ≡ Memory) }
+    {
+        match payload {
+            Payload::CustomSection(section) => return self.add_custom(alloc, section),
+            Payload::ImportSection(section) => self.linked.pass_imports(alloc, section)?,
+            Payload::End(_) => return Ok(Next::End),
+            _ => {}
+        }
+        if payload.as_section().is_some() {
+            self.linked.pass_section(alloc, "")?;
+        }
+        Ok(Next::Step)
+    }
+
+    // Adds the names of the payload that a step returned. Returns what to do next.
+    fn add_answer(
+        &mut self,
+        alloc: Global,
+        answer: &ParserResult<Step<'_>>,
+    ) -> Result<Next, ListError>
+        ensures keeps { KeepsNames self.old.named self.new.named }
+        ensures linked { KeepsNames self.old.linked.names self.new.linked.names }
+        ensures memory { IfErr result (λ why. why ≡ Memory) }
+    {
+        match answer {
+            Ok(Step::NeedMoreData(_)) => Ok(Next::Read),
+            Ok(Step::Parsed { payload, .. }) => self.add_payload(alloc, payload),
+            Err(_) => Ok(Next::End),
+        }
+    }
+
+    // Performs one step and adds the names of its payload. Returns what to do next.
+    fn add_step(&mut self, alloc: Global, feeder: &mut Feeder) -> Result<Next, ListError>
+        ensures keeps { KeepsNames self.old.named self.new.named }
+        ensures linked { KeepsNames self.old.linked.names self.new.linked.names }
+        ensures memory { IfErr result (λ why. why ≡ Memory) }
+    {
+        let answer = feeder.step();
+        self.add_answer(alloc, &answer)
+    }
+
+    // The names of a section called `name`, if there is one, or else those that symbols give. Symbols have theirs anyway.
+    fn into_names(self) -> ItemNames
+        ensures { result ≡ (if self.has_section then self.named else self.linked.names) }
+    {
+        if self.has_section {
+            self.named
+        } else {
+            self.linked.names
+        }
+    }
 }
 
 // Reads the source once. Returns false if it failed or the feeder wants no more.
@@ -176,18 +220,20 @@ fn read_more<R: Source>(
 // Adds the names of a stream, up to its first fault.
 fn collect_into<R: Source>(
     alloc: Global,
-    names: &mut ItemNames,
+    names: &mut Collected,
     input: &mut R,
     buffer: &mut [u8],
 ) -> Result<(), ListError>
-    // Proved: whatever comes in a stream after a name was collected, its item keeps it [`keeps` (`KeepsNames`) of
-    //   `collected::collect_into`, and of all that it calls]
-    ensures keeps { KeepsNames names.old names.new }
+    // Proved: whatever comes in a stream after a name was collected from a section called `name`, its item keeps it
+    //   [`keeps` (`KeepsNames`) of `collected::collect_into`, and of all that it calls]
+    // Proved: so does an item that has a name by its symbol [`linked`, the same]
+    ensures keeps { KeepsNames names.old.named names.new.named }
+    ensures linked { KeepsNames names.old.linked.names names.new.linked.names }
     ensures memory { IfErr result (λ why. why ≡ Memory) }
 {
     let mut feeder = Feeder::new(alloc, 0, Parser::new(0).features());
     'steps: for _ in 0..u64::MAX {
-        match add_step(alloc, names, &mut feeder)? {
+        match names.add_step(alloc, &mut feeder)? {
             Next::Step => {}
             Next::Read => {
                 if !read_more(&mut feeder, input, buffer)? {
@@ -200,10 +246,15 @@ fn collect_into<R: Source>(
     Ok(())
 }
 
-/// Reads a whole stream, and returns the names that its custom sections `name` have for items.
+/// Reads a whole stream, and returns the names of its items and symbols.
 ///
-/// These are the names before the first fault of the stream, of a name section or of the source. If an item has two
-/// names, the first one counts. It reads at most 65,536 bytes at once.
+/// Items have the names in the custom sections `name`. In a stream without such a section they have those of their symbols
+/// in the custom section `linking`, and data segments those of its segments (tool conventions, Linking). A symbol without a
+/// name has that of its import, or of its section.
+///
+/// These are the names before the first fault of the stream, of a name section or of the source. Those of a section
+/// `linking` end at its first fault, those of imports at theirs. If an item has two names, the first one counts. It reads
+/// at most 65,536 bytes at once.
 ///
 /// # Errors
 ///
@@ -219,8 +270,12 @@ pub fn collect_names<R: Source>(alloc: Global, input: &mut R) -> Result<ItemName
     // Proved: the only error of `collect_names` is out of memory
     ensures { IfErr result (λ why. why ≡ Memory) }
 {
-    let mut names = ItemNames::new(alloc);
+    let mut names = Collected {
+        named: ItemNames::new(alloc),
+        has_section: false,
+        linked: Linked::new(alloc),
+    };
     let mut buffer = vec![in alloc; 0u8; PIECE]?;
     collect_into(alloc, &mut names, input, buffer.as_mut_slice())?;
-    Ok(names)
+    Ok(names.into_names())
 }

@@ -77,7 +77,7 @@ impl Counts {
             Space::Memories => self.memories,
             Space::Tags => self.tags,
             Space::Globals => self.globals,
-            Space::Types | Space::Elements | Space::DataSegments => 0,
+            Space::Types | Space::Elements | Space::DataSegments | Space::Symbols => 0,
         }
     }
 
@@ -94,7 +94,7 @@ impl Counts {
             Space::Memories => self.memories = self.memories.saturating_add(1),
             Space::Tags => self.tags = self.tags.saturating_add(1),
             Space::Globals => self.globals = self.globals.saturating_add(1),
-            Space::Types | Space::Elements | Space::DataSegments => {}
+            Space::Types | Space::Elements | Space::DataSegments | Space::Symbols => {}
         }
     }
 

@@ -7,6 +7,7 @@ mod counts;
 mod events;
 mod hidden;
 pub mod laws;
+mod linked;
 mod numbered;
 mod payload;
 mod stream;

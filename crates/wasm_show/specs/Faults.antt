@@ -237,6 +237,10 @@ field_reading p = outcome_map (λ field. values_faulty field.values) (field_at p
 abbrev pub OwesFields : Items → Bool → Type 0
 OwesFields s faulty = faulty ≡ left_faulty field_reading s
 
+-- the symbols of an object file
+abbrev pub OwesSymbols : Items → Bool → Type 0
+OwesSymbols s faulty = faulty ≡ left_faulty (plainly symbol_at) s
+
 abbrev pub producers_faulty : Section → Bool
 producers_faulty s = section_faulty field_reading s
 

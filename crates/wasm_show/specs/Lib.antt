@@ -1,4 +1,5 @@
 pub mod Faults
+pub mod FlagText
 pub mod ItemText
 pub mod SymbolText
 pub mod TypeText

@@ -8,11 +8,13 @@
 mod coredumps;
 mod custom;
 mod expressions;
+mod flags;
 mod items;
 mod linking;
 mod lists;
 mod names;
 mod show;
+mod symbols;
 mod types;
 
 pub use custom::show_custom;

@@ -1,41 +1,59 @@
 // Texts of the sections `linking`, `reloc.*` and `dylink.0`, and of their items.
 ghost use Rattle.std.specs.Prelude.{◌≡◌, false};
-ghost use Rattle.wasm_custom.specs.Linking.{text_if_any};
 ghost use Rattle.wasm_show.specs.Faults.{dylink_faulty, linking_faulty, linking_section_faulty, relocations_faulty};
 ghost use Rattle.wasm_tree.specs.Found.{Finds, FindsNone};
 ghost use Rattle.wasm_tree.specs.Said.{SaysFields};
-ghost use Rattle.wasm_show.specs.SymbolText.{data_symbol_fields, defined_fields, indexed_fields, section_symbol_fields, symbol_fields};
+ghost use Rattle.wasm_show.specs.SymbolText.{comdat_kind_word, comdat_symbol_fields, export_info_fields, import_info_fields, init_fields, relocation_fields, relocation_type_word, segment_fields};
 ghost use Rattle.wasm_tree.specs.Tree.{Adds, has_line_feed};
 
-use crate::lists::{Items, placed, show_items, show_lines, show_list, show_section, under};
+use crate::flags::{show_segment_flags, show_symbol_flags};
+use crate::lists::{
+    Items, placed, show_extent, show_items, show_lines, show_list, show_section, under,
+};
 use crate::names::show_unknown;
 use crate::show::Show;
+use crate::symbols::show_symbols;
 use bitflags::Flags;
 use wasm_base::{Result, Subsections};
 use wasm_custom::{
-    Comdat, ComdatSymbol, ComdatSymbolKind, DefinedDataSymbol, Dylink0SectionReader,
-    Dylink0Subsection, ExportInfo, ImportInfo, InitFunc, Linking, LinkingSectionReader, MemInfo,
-    RelocSectionReader, RelocationEntry, RelocationType, Segment, SymbolInfo,
+    Comdat, ComdatSymbol, ComdatSymbolKind, Dylink0SectionReader, Dylink0Subsection, ExportInfo,
+    ImportInfo, InitFunc, Linking, LinkingSectionReader, MemInfo, RelocSectionReader,
+    RelocationEntry, RelocationType, Segment,
 };
-use wasm_tree::Tree;
+use wasm_tree::{Space, Tree};
 
 impl Show for Segment<'_> {
-    fn show<O: Tree>(&self, _level: usize, out: &mut O) {
+    fn show<O: Tree>(&self, _level: usize, out: &mut O)
+        ensures adds { Adds (O.writing out.old) (O.writing out.new) }
+        // Proved: what the line of the information about a data segment says
+        ensures says { SaysFields (segment_fields self.now) (O.writing out.old) (O.writing out.new) }
+    {
         out.quoted("name", self.name);
         out.number("alignment", u64::from(self.alignment));
-        out.number("flags", u64::from(self.flags.bits()));
+        show_segment_flags(self.flags.bits(), out);
     }
 }
 
+// Writes the fields of a function to call at startup.
+fn show_init<O: Tree>(function: &InitFunc, out: &mut O)
+    ensures adds { Adds (O.writing out.old) (O.writing out.new) }
+    ensures says { SaysFields (init_fields function.now) (O.writing out.old) (O.writing out.new) }
+{
+    out.number("priority", u64::from(function.priority));
+    out.number("symbol_index", u64::from(function.symbol_index));
+}
+
+/// Writes the fields of the item, and the name of its symbol, if the tree has it.
 impl Show for InitFunc {
     fn show<O: Tree>(&self, _level: usize, out: &mut O) {
-        out.number("priority", u64::from(self.priority));
-        out.number("symbol_index", u64::from(self.symbol_index));
+        show_init(self, out);
+        out.item_name(Space::Symbols, u64::from(self.symbol_index));
     }
 }
 
 // Returns the name of the kind of a COMDAT symbol.
 fn comdat_word(kind: &ComdatSymbolKind) -> &'static str
+    ensures word { result.now ≡ comdat_kind_word kind.now }
     ensures one_line { has_line_feed result.now ≡ false }
 {
     match kind {
@@ -49,7 +67,11 @@ fn comdat_word(kind: &ComdatSymbolKind) -> &'static str
 }
 
 impl Show for ComdatSymbol {
-    fn show<O: Tree>(&self, _level: usize, out: &mut O) {
+    fn show<O: Tree>(&self, _level: usize, out: &mut O)
+        ensures adds { Adds (O.writing out.old) (O.writing out.new) }
+        // Proved: what the line of a symbol of a comdat says
+        ensures says { SaysFields (comdat_symbol_fields self.now) (O.writing out.old) (O.writing out.new) }
+    {
         out.begin_field("kind");
         out.text(comdat_word(&self.kind));
         out.number("index", u64::from(self.index));
@@ -65,91 +87,6 @@ impl Show for Comdat<'_> {
     }
 }
 
-// Writes a symbol that has an index and perhaps a name.
-fn show_indexed<O: Tree>(kind: &str, flags: u32, index: u32, name: &Option<&str>, out: &mut O)
-    requires one_line { has_line_feed kind.now ≡ false }
-    ensures adds { Adds (O.writing out.old) (O.writing out.new) }
-    ensures says { SaysFields (indexed_fields kind.now flags index (text_if_any name.now (λ text. text.now)))
-        (O.writing out.old) (O.writing out.new) }
-{
-    out.label("kind", kind);
-    out.number("flags", u64::from(flags));
-    out.number("index", u64::from(index));
-    match name {
-        Some(name) => out.quoted("name", name),
-        None => out.nothing("name"),
-    }
-}
-
-// Writes the position of the data of a symbol, if it is defined in this module.
-fn show_defined<O: Tree>(symbol: &Option<DefinedDataSymbol>, out: &mut O)
-    ensures adds { Adds (O.writing out.old) (O.writing out.new) }
-    ensures says { SaysFields (defined_fields symbol.now) (O.writing out.old) (O.writing out.new) }
-{
-    match symbol {
-        Some(symbol) => {
-            out.number("index", u64::from(symbol.index));
-            out.number("offset", u64::from(symbol.offset));
-            out.number("size", u64::from(symbol.size));
-        }
-        None => out.label("symbol", "undefined"),
-    }
-}
-
-// Writes a data symbol.
-fn show_data<O: Tree>(flags: u32, name: &str, symbol: &Option<DefinedDataSymbol>, out: &mut O)
-    ensures adds { Adds (O.writing out.old) (O.writing out.new) }
-    ensures says { SaysFields (data_symbol_fields flags name.now symbol.now)
-        (O.writing out.old) (O.writing out.new) }
-{
-    out.label("kind", "data");
-    out.number("flags", u64::from(flags));
-    out.quoted("name", name);
-    show_defined(symbol, out);
-}
-
-// Writes a section symbol.
-fn show_section_symbol<O: Tree>(flags: u32, section: u32, out: &mut O)
-    ensures adds { Adds (O.writing out.old) (O.writing out.new) }
-    ensures says { SaysFields (section_symbol_fields flags section)
-        (O.writing out.old) (O.writing out.new) }
-{
-    out.label("kind", "section");
-    out.number("flags", u64::from(flags));
-    out.number("section", u64::from(section));
-}
-
-impl Show for SymbolInfo<'_> {
-    fn show<O: Tree>(&self, _level: usize, out: &mut O)
-        ensures adds { Adds (O.writing out.old) (O.writing out.new) }
-        // Proved: what the line of a symbol of the `linking` section says
-        ensures says { SaysFields (symbol_fields self.now) (O.writing out.old) (O.writing out.new) }
-    {
-        match self {
-            SymbolInfo::Func { flags, index, name } => {
-                show_indexed("func", flags.bits(), *index, name, out);
-            }
-            SymbolInfo::Global { flags, index, name } => {
-                show_indexed("global", flags.bits(), *index, name, out);
-            }
-            SymbolInfo::Event { flags, index, name } => {
-                show_indexed("event", flags.bits(), *index, name, out);
-            }
-            SymbolInfo::Table { flags, index, name } => {
-                show_indexed("table", flags.bits(), *index, name, out);
-            }
-            SymbolInfo::Data {
-                flags,
-                name,
-                symbol,
-            } => show_data(flags.bits(), name, symbol, out),
-            SymbolInfo::Section { flags, section } => {
-                show_section_symbol(flags.bits(), *section, out);
-            }
-        }
-    }
-}
-
 /// Writes the fields of the item, and the items of a list on lines under it.
 impl Show for Linking<'_> {
     fn show<O: Tree>(&self, level: usize, out: &mut O) {
@@ -157,7 +94,10 @@ impl Show for Linking<'_> {
             Linking::SegmentInfo(segments) => show_list("segment_info", level, segments, out),
             Linking::InitFuncs(functions) => show_list("init_funcs", level, functions, out),
             Linking::ComdatInfo(comdats) => show_list("comdat_info", level, comdats, out),
-            Linking::SymbolTable(symbols) => show_list("symbol_table", level, symbols, out),
+            Linking::SymbolTable(symbols) => {
+                show_extent("symbol_table", symbols, out);
+                show_symbols(under(level), symbols, out);
+            }
             Linking::TargetArch(name) => out.quoted("target_arch", name),
             Linking::Unknown {
                 ty,
@@ -206,7 +146,7 @@ fn show_listed<O: Tree>(level: usize, item: &Linking<'_>, out: &mut O)
         Linking::SegmentInfo(segments) => show_section(level, segments, out),
         Linking::InitFuncs(functions) => show_section(level, functions, out),
         Linking::ComdatInfo(comdats) => show_section(level, comdats, out),
-        Linking::SymbolTable(symbols) => show_section(level, symbols, out),
+        Linking::SymbolTable(symbols) => show_symbols(level, symbols, out),
         Linking::TargetArch(_) => {}
         Linking::Unknown { .. } => {}
     }
@@ -269,17 +209,25 @@ impl Show for MemInfo {
 }
 
 impl Show for ExportInfo<'_> {
-    fn show<O: Tree>(&self, _level: usize, out: &mut O) {
+    fn show<O: Tree>(&self, _level: usize, out: &mut O)
+        ensures adds { Adds (O.writing out.old) (O.writing out.new) }
+        // Proved: what the line of the flags of an export says
+        ensures says { SaysFields (export_info_fields self.now) (O.writing out.old) (O.writing out.new) }
+    {
         out.quoted("name", self.name);
-        out.number("flags", u64::from(self.flags.bits()));
+        show_symbol_flags(self.flags.bits(), out);
     }
 }
 
 impl Show for ImportInfo<'_> {
-    fn show<O: Tree>(&self, _level: usize, out: &mut O) {
+    fn show<O: Tree>(&self, _level: usize, out: &mut O)
+        ensures adds { Adds (O.writing out.old) (O.writing out.new) }
+        // Proved: what the line of the flags of an import says
+        ensures says { SaysFields (import_info_fields self.now) (O.writing out.old) (O.writing out.new) }
+    {
         out.quoted("module", self.module);
         out.quoted("field", self.field);
-        out.number("flags", u64::from(self.flags.bits()));
+        show_symbol_flags(self.flags.bits(), out);
     }
 }
 
@@ -322,6 +270,7 @@ impl Show for Dylink0Subsection<'_> {
 
 // Returns the name of a relocation type in the tool conventions.
 fn relocation_word(ty: &RelocationType) -> &'static str
+    ensures word { result.now ≡ relocation_type_word ty.now }
     ensures one_line { has_line_feed result.now ≡ false }
 {
     match ty {
@@ -355,13 +304,31 @@ fn relocation_word(ty: &RelocationType) -> &'static str
     }
 }
 
+// Writes the fields of a relocation.
+fn show_entry<O: Tree>(entry: &RelocationEntry, out: &mut O)
+    ensures adds { Adds (O.writing out.old) (O.writing out.new) }
+    // Proved: what the line of a relocation says before a name
+    ensures says { SaysFields (relocation_fields entry.now) (O.writing out.old) (O.writing out.new) }
+{
+    out.word_field("type", relocation_word(&entry.ty));
+    out.number("offset", u64::from(entry.offset));
+    out.number("index", u64::from(entry.index));
+    out.signed("addend", entry.addend);
+}
+
+// Returns what the index of a relocation counts: symbols, or types.
+fn indexed_space(ty: &RelocationType) -> Space {
+    match ty {
+        RelocationType::TypeIndexLeb => Space::Types,
+        _ => Space::Symbols,
+    }
+}
+
+/// Writes the fields of the item, and the name of its symbol or type, if the tree has it.
 impl Show for RelocationEntry {
     fn show<O: Tree>(&self, _level: usize, out: &mut O) {
-        out.begin_field("type");
-        out.text(relocation_word(&self.ty));
-        out.number("offset", u64::from(self.offset));
-        out.number("index", u64::from(self.index));
-        out.signed("addend", self.addend);
+        show_entry(self, out);
+        out.item_name(indexed_space(&self.ty), u64::from(self.index));
     }
 }
 

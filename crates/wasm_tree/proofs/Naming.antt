@@ -13,6 +13,7 @@ use Rattle.std.specs.String.{string_bytes}
 use Rattle.std.specs.declared.string.String.{String}
 use Rattle.wasm_tree.specs.ItemNames.{Names, rank_of, key_of, KeepsNames}
 use Rattle.wasm_tree.specs.declared.numbers.Space.TheVariants.{Types, Functions, Tables, Memories, Tags, Globals, Elements, DataSegments}
+use Rattle.wasm_tree.specs.declared.numbers.Space.TheVariants.{Symbols}
 
 -- ---- each item has a key of its own
 
@@ -25,7 +26,8 @@ space_at rank =
     else if nat_eq rank 4 then Tags
     else if nat_eq rank 5 then Globals
     else if nat_eq rank 6 then Elements
-    else DataSegments
+    else if nat_eq rank 7 then DataSegments
+    else Symbols
 
 space_of_rank : (space : Space) → space_at (rank_of space) ≡ space
 space_of_rank space = grind arith

@@ -10,7 +10,7 @@ use Rattle.std.specs.declared.string.String.{String}
 use Rattle.wasm_tree.specs.Numbers.{Number}
 use Rattle.wasm_tree.specs.declared.numbers.Space.{Space}
 use Rattle.wasm_tree.specs.declared.numbers.Space.TheVariants.{Types, Functions, Tables, Memories, Tags}
-use Rattle.wasm_tree.specs.declared.numbers.Space.TheVariants.{Globals, Elements, DataSegments}
+use Rattle.wasm_tree.specs.declared.numbers.Space.TheVariants.{Globals, Elements, DataSegments, Symbols}
 
 -- ---- keys
 
@@ -24,6 +24,7 @@ rank_of Tags = 4
 rank_of Globals = 5
 rank_of Elements = 6
 rank_of DataSegments = 7
+rank_of Symbols = 8
 
 -- the item with this index in an index space
 abbrev pub item : Space → (index : ℕ) → Number

@@ -6,7 +6,7 @@ use Rattle.wasm_base.specs.Window.{Place}
 use Rattle.wasm_text.specs.declared.devices.ListError.{ListError}
 use Rattle.wasm_tree.specs.declared.numbers.Space.{Space}
 use Rattle.wasm_tree.specs.declared.numbers.Space.TheVariants.{Types, Functions, Tables, Memories, Tags}
-use Rattle.wasm_tree.specs.declared.numbers.Space.TheVariants.{Globals, Elements, DataSegments}
+use Rattle.wasm_tree.specs.declared.numbers.Space.TheVariants.{Globals, Elements, DataSegments, Symbols}
 
 -- | an item's number: its index in an index space, in which imports come first [`number_text`] <Modules, Indices>
 -- an item's number: its index in an index space
@@ -24,6 +24,7 @@ word_of Tags = codes "tag"
 word_of Globals = codes "global"
 word_of Elements = codes "elem"
 word_of DataSegments = codes "data"
+word_of Symbols = codes "symbol"
 
 -- the text of a number, before the rest of a line
 abbrev pub number_text : Number → (rest : List ℕ) → List ℕ

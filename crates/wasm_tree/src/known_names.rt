@@ -45,6 +45,7 @@ fn rank_of(space: Space) -> u8
         Space::Globals => 5,
         Space::Elements => 6,
         Space::DataSegments => 7,
+        Space::Symbols => 8,
     }
 }
 

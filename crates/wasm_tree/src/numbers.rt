@@ -5,7 +5,7 @@ ghost use Rattle.wasm_tree.specs.Numbers.{number_text, word_of};
 use crate::padded::{Padded, write_padded};
 use wasm_text::{ShortText, write_number, write_word};
 
-/// An index space (core specification, Binary format, Modules, Indices).
+/// An index space (core specification, Binary format, Modules, Indices), or the symbols of an object file.
 #[derive(Clone, Copy)]
 pub enum Space {
     /// The index space of types.
@@ -24,6 +24,8 @@ pub enum Space {
     Elements,
     /// The index space of data segments.
     DataSegments,
+    /// The symbols of an object file (tool conventions, Linking, Symbol Table Subsection).
+    Symbols,
 }
 
 // The word of an index space.
@@ -41,6 +43,7 @@ fn space_word(space: Space) -> Padded
         Space::Globals => Padded::of("global  ", 6),
         Space::Elements => Padded::of("elem    ", 4),
         Space::DataSegments => Padded::of("data    ", 4),
+        Space::Symbols => Padded::of("symbol  ", 6),
     }
 }
 

@@ -1,0 +1,247 @@
+// The names that an object file has: those of its symbols, and by them of its items.
+ghost use Rattle.std.specs.Prelude.{◌≡◌, IfErr};
+ghost use Rattle.wasm_text.specs.declared.devices.ListError.TheVariants.{Memory};
+ghost use Rattle.wasm_tree.specs.ItemNames.{KeepsNames};
+
+use crate::counts::{Counts, import_space};
+use std::alloc::Global;
+use wasm_custom::{
+    CustomSectionReader, Linking, LinkingSectionReader, SegmentMap, SymbolInfo, SymbolInfoMap,
+};
+use wasm_items::{Import, ImportSection, ImportSectionReader};
+use wasm_text::ListError;
+use wasm_tree::{ItemNames, Space};
+
+/// The names that the symbols of an object file have and give to items (tool conventions, Linking).
+#[derive(Drop)]
+pub(crate) struct Linked {
+    /// The names of symbols, of the items that they are for, and of data segments.
+    pub(crate) names: ItemNames,
+    // The names of imports in their modules. The symbol of an import has no other, unless its flags say so.
+    imports: ItemNames,
+    // The name of each section so far, in their order. It is empty for a section that is not custom.
+    sections: Vec<String>,
+    counts: Counts,
+}
+
+// Returns the index space of the item that a symbol is for, and its index. The symbol of a section or of data has none.
+fn item_of(symbol: &SymbolInfo<'_>) -> Option<(Space, u32)> {
+    match symbol {
+        SymbolInfo::Func { index, .. } => Some((Space::Functions, *index)),
+        SymbolInfo::Global { index, .. } => Some((Space::Globals, *index)),
+        SymbolInfo::Event { index, .. } => Some((Space::Tags, *index)),
+        SymbolInfo::Table { index, .. } => Some((Space::Tables, *index)),
+        SymbolInfo::Data { .. } | SymbolInfo::Section { .. } => None,
+    }
+}
+
+// Returns the name that a symbol has in the symbol table, if it has one there.
+fn own_name<'a>(symbol: &SymbolInfo<'a>) -> Option<&'a str> {
+    match symbol {
+        SymbolInfo::Func { name, .. } => *name,
+        SymbolInfo::Global { name, .. } => *name,
+        SymbolInfo::Event { name, .. } => *name,
+        SymbolInfo::Table { name, .. } => *name,
+        SymbolInfo::Data { name, .. } => Some(name),
+        SymbolInfo::Section { .. } => None,
+    }
+}
+
+impl Linked {
+    /// Creates it without names. Allocates nothing yet.
+    pub(crate) fn new(alloc: Global) -> Linked {
+        Linked {
+            names: ItemNames::new(alloc),
+            imports: ItemNames::new(alloc),
+            sections: Vec::new(alloc),
+            counts: Counts::new(),
+        }
+    }
+
+    /// Passes a section: one with this name, or one without a name.
+    pub(crate) fn pass_section(&mut self, alloc: Global, name: &str) -> Result<(), ListError>
+        ensures keeps { KeepsNames self.old.names self.new.names }
+        ensures memory { IfErr result (λ why. why ≡ Memory) }
+    {
+        match self.sections.push(String::from_str(alloc, name)?) {
+            Ok(()) => Ok(()),
+            Err(_) => Err(ListError::Memory),
+        }
+    }
+
+    // Adds the name of an import.
+    fn pass_import(&mut self, alloc: Global, import: &Import<'_>) -> Result<(), ListError>
+        ensures keeps { KeepsNames self.old.names self.new.names }
+        ensures memory { IfErr result (λ why. why ≡ Memory) }
+    {
+        let space = import_space(&import.ty);
+        let index = self.counts.of(space);
+        self.counts.add(space);
+        match u32::try_from(index) {
+            Ok(index) => self.imports.add(alloc, space, index, import.name),
+            Err(_) => Ok(()),
+        }
+    }
+
+    /// Passes the imports of a section, up to its first fault.
+    pub(crate) fn pass_imports(
+        &mut self,
+        alloc: Global,
+        section: &ImportSectionReader<'_>,
+    ) -> Result<(), ListError>
+        ensures keeps { KeepsNames self.old.names self.new.names }
+        ensures memory { IfErr result (λ why. why ≡ Memory) }
+    {
+        for import in section.clone().unwrap().into_imports_with_offsets() {
+            if let Ok((_, import)) = import {
+                self.pass_import(alloc, &import)?;
+            }
+        }
+        Ok(())
+    }
+
+    // Returns the name of a symbol: its own, that of its import, or that of its section.
+    fn name_of<'s>(&'s self, symbol: &SymbolInfo<'s>) -> Option<&'s str> {
+        if let Some(name) = own_name(symbol) {
+            return Some(name);
+        }
+        if let Some((space, index)) = item_of(symbol) {
+            return self.imports.of(space, u64::from(index));
+        }
+        match symbol {
+            SymbolInfo::Section { section, .. } => match self.sections.get(*section as usize) {
+                Some(name) => Some(name.as_str()),
+                None => None,
+            },
+            _ => None,
+        }
+    }
+
+    // Adds the name of a symbol, also as that of its item.
+    fn add_symbol(
+        &mut self,
+        alloc: Global,
+        named: &mut ItemNames,
+        index: u32,
+        symbol: &SymbolInfo<'_>,
+    ) -> Result<(), ListError>
+        ensures keeps { KeepsNames self.old.names self.new.names }
+        ensures others { KeepsNames named.old named.new }
+        ensures memory { IfErr result (λ why. why ≡ Memory) }
+    {
+        let name = match self.name_of(symbol) {
+            Some(name) => String::from_str(alloc, name)?,
+            None => return Ok(()),
+        };
+        named.add(alloc, Space::Symbols, index, name.as_str())?;
+        self.names.add(alloc, Space::Symbols, index, name.as_str())?;
+        match item_of(symbol) {
+            Some((space, item)) => self.names.add(alloc, space, item, name.as_str()),
+            None => Ok(()),
+        }
+    }
+
+    // Adds the names of a symbol table, up to its first fault.
+    fn add_symbols(
+        &mut self,
+        alloc: Global,
+        named: &mut ItemNames,
+        symbols: &SymbolInfoMap<'_>,
+    ) -> Result<(), ListError>
+        ensures keeps { KeepsNames self.old.names self.new.names }
+        ensures others { KeepsNames named.old named.new }
+        ensures memory { IfErr result (λ why. why ≡ Memory) }
+    {
+        let mut symbols = symbols.clone().unwrap().into_iter();
+        'symbols: for index in 0..u32::MAX {
+            match symbols.next() {
+                Some(Ok(symbol)) => self.add_symbol(alloc, named, index, &symbol)?,
+                Some(Err(_)) => break,
+                None => break,
+            }
+        }
+        Ok(())
+    }
+
+    // Adds the names of data segments, up to the first fault.
+    fn add_segments(&mut self, alloc: Global, segments: &SegmentMap<'_>) -> Result<(), ListError>
+        ensures keeps { KeepsNames self.old.names self.new.names }
+        ensures memory { IfErr result (λ why. why ≡ Memory) }
+    {
+        let mut segments = segments.clone().unwrap().into_iter();
+        'segments: for index in 0..u32::MAX {
+            match segments.next() {
+                Some(Ok(segment)) => {
+                    self.names
+                        .add(alloc, Space::DataSegments, index, segment.name)?
+                }
+                Some(Err(_)) => break,
+                None => break,
+            }
+        }
+        Ok(())
+    }
+
+    // Adds the names of a subsection, if it has any.
+    fn add_subsection(
+        &mut self,
+        alloc: Global,
+        named: &mut ItemNames,
+        subsection: &Linking<'_>,
+    ) -> Result<(), ListError>
+        ensures keeps { KeepsNames self.old.names self.new.names }
+        ensures others { KeepsNames named.old named.new }
+        ensures memory { IfErr result (λ why. why ≡ Memory) }
+    {
+        match subsection {
+            Linking::SymbolTable(symbols) => self.add_symbols(alloc, named, symbols),
+            Linking::SegmentInfo(segments) => self.add_segments(alloc, segments),
+            _ => Ok(()),
+        }
+    }
+
+    // Adds the names of a section `linking`, up to the first fault of its subsections. The names of its symbols are added to
+    // `named` as well.
+    fn add_subsections(
+        &mut self,
+        alloc: Global,
+        named: &mut ItemNames,
+        section: &LinkingSectionReader<'_>,
+    ) -> Result<(), ListError>
+        ensures keeps { KeepsNames self.old.names self.new.names }
+        ensures others { KeepsNames named.old named.new }
+        ensures memory { IfErr result (λ why. why ≡ Memory) }
+    {
+        let mut subsections = section.subsections();
+        'subsections: for _ in 0..u64::MAX {
+            match subsections.next() {
+                Some(Ok(subsection)) => self.add_subsection(alloc, named, &subsection)?,
+                Some(Err(_)) => break,
+                None => break,
+            }
+        }
+        Ok(())
+    }
+
+    /// Passes a custom section, and adds the names that it has if it is called `linking`, up to a fault. The names of
+    /// symbols are added to `named` as well.
+    pub(crate) fn pass_custom(
+        &mut self,
+        alloc: Global,
+        named: &mut ItemNames,
+        section: &CustomSectionReader<'_>,
+    ) -> Result<(), ListError>
+        ensures keeps { KeepsNames self.old.names self.new.names }
+        ensures others { KeepsNames named.old named.new }
+        ensures memory { IfErr result (λ why. why ≡ Memory) }
+    {
+        self.pass_section(alloc, section.name())?;
+        if section.name() != "linking" {
+            return Ok(());
+        }
+        match LinkingSectionReader::new(section.data_reader()) {
+            Ok(section) => self.add_subsections(alloc, named, &section),
+            Err(_) => Ok(()),
+        }
+    }
+}
