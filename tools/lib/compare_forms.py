@@ -5,7 +5,7 @@
 
 Each line of a dump as JSON must be an object as Python reads it, with no name twice, in UTF-8; there are as many as lines. The line that an
 object has by docs/DUMP.md is the line of the dump: each value is the same, and a field that the line leaves out is false or null. With --names
-the lines are the same but for the names that the model reads in the custom sections `name`, also as JSON. Of two files each object follows
+the lines are the same but for the names that the model reads in the custom sections `name` or, if there is none, in `linking`, also as JSON. Of two files each object follows
 that of its file. Of a dump with bytes the rows must go on where the one before ends, show sixteen bytes at most and together the stream, up
 to the fault that ends it, and the rest must be the dump in lines. With --hex the offsets of lines and rows must be the same in hexadecimal,
 and with --color the text must be the same. tools/compare dump compares the dump in lines with a model.
@@ -14,6 +14,7 @@ import json
 import random
 import re
 import tempfile
+from collections import Counter
 from itertools import zip_longest
 
 import common
@@ -23,7 +24,7 @@ import standard
 from made import module, named_module, other_names
 from modules import section, stream_of
 from streams import COMPONENT, some_stream
-from texts import in_decimal, value_end
+from texts import SEGMENT_FLAGS, SYMBOL_FLAGS, flags_text, in_decimal, value_end
 
 # The line of an object of the first level. A section has the form of its name, if that is here.
 EVENTS = {
@@ -37,10 +38,17 @@ ROW = re.compile(r"(\d+) \|((?: [0-9a-f]{2}){1,16})\Z")
 # What sets a color. No dump has such bytes of its own: texts in quotes escape them.
 COLOR = re.compile(rb"\x1b\[[0-9;]*m")
 # The number of an item in its line.
-NUMBER = re.compile(r"((?:  \d+|   |body \d+ \d+) (type|func|table|memory|tag|global|elem|data)\[(\d+)\])(.*)\Z")
+NUMBER = re.compile(r"((?:  \d+|   |body \d+ \d+) (type|func|table|memory|tag|global|elem|data)\[(\d+)\]|      \d+ (symbol)\[(\d+)\])(.*)\Z")
 # The index spaces that subsections of names are for, and what a model writes of such a section: subsections in braces, and lists in them.
 SPACES = {1: "func", 4: "type", 5: "table", 6: "memory", 7: "global", 8: "elem", 9: "data", 11: "tag"}
 NAME = re.compile(r"(\d*)([{}])|name\((\d+) x([0-9a-f]*) |(fault)")
+# What a model writes of imports, of the lists of a section `linking`, and of symbols and segments in them. The index space of each.
+IMPORT = re.compile(r"  \d+ import\(x[0-9a-f]* (x[0-9a-f]*) ([a-z]+)")
+LIST = re.compile(r"(\d+) \d+\.\.\d+ #\d+\[|\[|\]")
+LINKED = re.compile(r"\d+:(?:(func|global|event|table|section) \d+ (\d+)(?: (x[0-9a-f]*))?|data \d+ (x[0-9a-f]*)|segment\((x[0-9a-f]*))|(fault)")
+IMPORTED = {"func": "func", "funcexact": "func", "global": "global", "tag": "tag", "event": "tag", "table": "table", "memory": "memory"}
+# The lines that name a symbol or a type at their end, by its index.
+REFERS = re.compile(r" +\d+ (?:type=(R_WASM_\w+) offset=\d+ index=(\d+) addend=-?\d+|priority=\d+ symbol_index=(\d+))\Z")
 
 
 def once(pairs):
@@ -67,7 +75,7 @@ def plain(value):
 def numbered(said):
     """The number of an item or a body, and its name."""
     if "space" not in said:
-        assert "number" not in said and "item_name" not in said, said
+        assert "number" not in said, said
         return ""
     return "%s[%d]" % (said["space"], said["number"]) + (" " + quoted(said["item_name"]) if "item_name" in said else "")
 
@@ -120,8 +128,15 @@ def check_item(line, said):
     start = indent + " ".join(filter(None, words + [said.get("line", ""), numbered(said)]))
     assert line.startswith(start) and line[len(start) :][:1] in ("", " ") or start == indent, line
     shown = list(fields_of(line[len(start) :].lstrip(" ")))
+    if "item_name" in said and "space" not in said:
+        assert shown.pop() == quoted(said["item_name"]), line
     for name, value in said.items():
         if name in START:
+            continue
+        if "flag_words" in said and name == "flags":
+            value = flags_text(value, SEGMENT_FLAGS if "alignment" in said else SYMBOL_FLAGS)
+            assert value == said["flag_words"], line
+        elif name == "flag_words":
             continue
         texts = {plain(value), quoted(value)} if isinstance(value, str) else {plain(value)}
         forms = {"%s=%s" % (name, text) for text in texts} | (texts if name in WORDS else set())
@@ -151,28 +166,101 @@ def check_objects(lines, objects):
 # ---- names
 
 
-def names_in(stream):
-    """The names of items, each by its index space and its number: the first of each. They end at the first fault of such a section, or of a
-    list of these names: faults of others, as of locals, don't matter."""
-    names, space, depth = {}, None, 0
-    sections_of_names = [line for line in common.load(common.MODEL_OF_ITEMS).listing(stream) if line.startswith("  x6e616d65 ")]
-    for ident, brace, number, name, fault in NAME.findall(" ".join(sections_of_names)):
+def add_names(names, section):
+    """Adds the names of a section `name`, up to the first fault of it, or of a list of names of items: faults of others, as of locals, don't
+    matter. Returns whether there is none."""
+    space, depth = None, 0
+    for ident, brace, number, name, fault in NAME.findall(section):
         if fault and (space or depth == 0):
-            break
+            return False
         if brace:
             space = SPACES.get(int(ident)) if ident else space if depth > 1 else None
             depth += 1 if brace == "{" else -1
         elif space and not fault:
             names.setdefault((space, int(number)), bytes.fromhex(name).decode())
-    return names
+    return True
+
+
+def lists_of(section):
+    """The lists in the subsections of a section `linking`, each with the id of its subsection."""
+    depth = 0
+    for found in LIST.finditer(section):
+        if found[0] != "]":
+            if depth == 0 and found[1]:
+                ident, start = int(found[1]), found.end()
+            depth += 1
+        else:
+            depth -= 1
+            if depth == 0:
+                yield ident, section[start : found.start()]
+
+
+class Linked:
+    """The names of symbols, by their indices, and those that symbols and segments give to items."""
+
+    def __init__(self):
+        self.symbols, self.items, self.imports, self.counts, self.sections = {}, {}, {}, Counter(), []
+
+    def add_import(self, name, kind):
+        space = IMPORTED[kind]
+        self.imports[space, self.counts[space]] = name
+        self.counts[space] += 1
+
+    def add_list(self, ident, text):
+        for index, (kind, item, name, data, segment, fault) in enumerate(LINKED.findall(text)):
+            if fault:
+                break
+            if ident == 5:
+                self.items.setdefault(("data", index), segment)
+            elif ident == 8:
+                self.add_symbol(index, kind, int(item or 0), name or data)
+
+    def add_symbol(self, index, kind, item, name):
+        space = IMPORTED.get(kind)
+        if kind == "section":
+            name = self.sections[item] if item < len(self.sections) and self.sections[item] != "x" else ""
+        name = name or self.imports.get((space, item), "")
+        if name:
+            self.symbols.setdefault(("symbol", index), name)
+            if space:
+                self.items.setdefault((space, item), name)
+
+
+def names_in(stream):
+    """The names of items and symbols, each by its index space and its number: the first of each."""
+    names, linked, has_names = {}, Linked(), False
+    for line in common.load(common.MODEL_OF_ITEMS).listing(stream):
+        found = IMPORT.match(line)
+        if found:
+            linked.add_import(found[1], found[2])
+        elif line.split(" ")[0] in ("section", "code", "start", "datacount", "unknown", "custom"):
+            linked.sections.append("x")
+        elif line.startswith("  x"):
+            title = line.split(" ")[2]
+            linked.sections[-1] = title
+            if title == "x6c696e6b696e67":
+                for ident, text in lists_of(line):
+                    linked.add_list(ident, text)
+            elif title == "x6e616d65":
+                has_names = True
+                if not add_names(names, line):
+                    break
+    others = linked.symbols if has_names else {**linked.symbols, **linked.items}
+    return {**names, **{item: bytes.fromhex(name[1:]).decode() for item, name in others.items()}}
 
 
 def with_names(lines, names):
-    """The lines of a dump, with the name of each numbered item."""
+    """The lines of a dump, with the name of each numbered item, and of what a relocation or a function for the start refers to."""
     for line in lines:
-        found = NUMBER.match(line)
-        name = names.get((found[2], int(found[3]))) if found else None
-        yield line if name is None else "%s %s%s" % (found[1], quoted(name), found[4])
+        found, refers = NUMBER.match(line), REFERS.match(line)
+        if found:
+            name = names.get((found[2] or found[4], int(found[3] or found[5])))
+            line = line if name is None else "%s %s%s" % (found[1], quoted(name), found[6])
+        elif refers:
+            space = "type" if refers[1] == "R_WASM_TYPE_INDEX_LEB" else "symbol"
+            name = names.get((space, int(refers[2] or refers[3])))
+            line = line if name is None else "%s %s" % (line, quoted(name))
+        yield line
 
 
 def check_names(lines, named, stream):

@@ -21,6 +21,11 @@ RELOCATIONS = ["R_WASM_" + name for name in """FUNCTION_INDEX_LEB TABLE_INDEX_SL
     TABLE_INDEX_SLEB64 TABLE_INDEX_I64 TABLE_NUMBER_LEB MEMORY_ADDR_TLS_SLEB FUNCTION_OFFSET_I64 MEMORY_ADDR_LOCREL_I32
     TABLE_INDEX_REL_SLEB64 MEMORY_ADDR_TLS_SLEB64 FUNCTION_INDEX_I32""".split()]
 
+# The names of flags, each with its bit.
+SYMBOL_FLAGS = {"BINDING_WEAK": 1, "BINDING_LOCAL": 2, "VISIBILITY_HIDDEN": 4, "UNDEFINED": 16, "EXPORTED": 32, "EXPLICIT_NAME": 64, "NO_STRIP": 128,
+                "TLS": 256, "ABSOLUTE": 512}
+SEGMENT_FLAGS = {"STRINGS": 1, "TLS": 2, "RETAIN": 4}
+
 # The subsections of names in the order of their ids.
 NAMES = "module function local label type table memory global element data field tag parameter tag_parameter".split()
 INDIRECT = ("local", "label", "field", "parameter", "tag_parameter")
@@ -69,14 +74,31 @@ class Node:
 
 
 def value_end(text, place):
-    """Where a value ends: a text in quotes, an expression in parentheses, or what has no blank."""
+    """Where a value ends: a text in quotes, an expression in parentheses, or what has no blank; flags have bars between them."""
     if text.startswith('"', place):
         return text.index('"', place + 1) + 1
     depth = 0
     while place < len(text) and (depth or text[place] != " "):
         depth += {"(": 1, ")": -1}.get(text[place], 0)
         place += 1
-    return place
+    return value_end(text, place + 3) if text.startswith(" | ", place) else place
+
+
+def flags_text(bits, names):
+    """Flags as a line has them: the names of those that are set, and other bits as a number, which is also 0 alone."""
+    words = [name for name, bit in names.items() if bits & bit]
+    others = bits & ~sum(names.values())
+    return " | ".join(words + [str(others)] * (others > 0 or not words))
+
+
+def bits_of(names):
+    """Reads flags with these names."""
+    def bits(text):
+        total = sum(names[word] if word in names else int(word) for word in text.split(" | "))
+        assert flags_text(total, names) == text, text
+        return str(total)
+
+    return bits
 
 
 def as_hex(quoted):
@@ -361,14 +383,21 @@ def symbol(node):
     kind = node.words[0]
     if kind == "data":
         where = "-" if node.words[1:] == ["undefined"] else "defined(%s %s %s )" % (node["index"], node["offset"], node["size"])
-        return "data %s %s %s" % (node["flags"], node["name"], where)
-    return "%s %s" % (kind, form("{flags} {section}" if kind == "section" else "{flags} {index} {name?}")(node))
+        return form("data {flags:symbolflags} {name} ")(node) + where
+    return "%s %s" % (kind, form("{flags:symbolflags} {section}" if kind == "section" else "{flags:symbolflags} {index} {name?}")(node))
+
+
+def numbered_symbol(node):
+    """A symbol of a table: its index is a word before the others."""
+    node.words.pop(0)
+    return symbol(node)
 
 
 # The word of a field as a model has it.
 WORDS = {
     "type": lambda word: value_type(expression_of(word)), "mutable": lambda word: "%s %s" % may_change(expression_of(word)), "raw": raw,
     "plain": lambda word: word.replace("_", ""), "relocation": lambda word: str(RELOCATIONS.index(word)),
+    "symbolflags": bits_of(SYMBOL_FLAGS), "segmentflags": bits_of(SEGMENT_FLAGS),
 }
 FORMS = {name: form(text) for name, text in {
     "tabletype": "table({element_type:type} {table64} {initial} {maximum?} {shared} )",
@@ -382,12 +411,13 @@ FORMS = {name: form(text) for name, text in {
     "constexpr": "{expr}", "index": "{index}", "name": "{name}", "hint": "hint({func_offset} {taken} )", "function": "function({func} {hints#hint} )",
     "producersvalue": "value({name} {version} )", "producersfield": "field({name} {values#producersvalue} )",
     "unknown": "unknown {ty} {contents:raw} {range}", "naming": "name({index} {name} )",
-    "meminfo": "meminfo({memory_size} {memory_alignment} {table_size} {table_alignment} )", "exportinfo": "export({name} {flags} )",
-    "importinfo": "import({module} {field} {flags} )", "segment": "segment({name} {alignment} {flags} )", "init": "init({priority} {symbol_index} )",
+    "meminfo": "meminfo({memory_size} {memory_alignment} {table_size} {table_alignment} )", "exportinfo": "export({name} {flags:symbolflags} )",
+    "importinfo": "import({module} {field} {flags:symbolflags} )", "segment": "segment({name} {alignment} {flags:segmentflags} )", "init": "init({priority} {symbol_index} )",
     "comdatsymbol": "symbol({kind} {index} )", "comdat": "comdat({name} {flags} {symbols#comdatsymbol} )",
     "relocation": "reloc({type:relocation} {offset} {index} {addend} )", "reloc": "section {section} {range} {entries#relocation}",
 }.items()}
 FORMS |= {"typeref": type_ref, "imports": imports, "element": element, "data": data, "recgroup": rec_group, "symbol": symbol}
+FORMS["numberedsymbol"] = numbered_symbol
 
 
 # ---- custom sections
@@ -427,7 +457,7 @@ def words_below(node, word, item):
 
 # The subsections of dylink.0 by their words: the number, and the word and the form of what is below.
 DYLINK = {"export_info": (3, "export", "exportinfo"), "import_info": (4, "import", "importinfo"), "needed": (2, "library", "name"), "runtime_path": (5, "folder", "name")}
-LINKING = {"segment_info": (5, "segment"), "init_funcs": (6, "init"), "comdat_info": (7, "comdat"), "symbol_table": (8, "symbol")}
+LINKING = {"segment_info": (5, "segment"), "init_funcs": (6, "init"), "comdat_info": (7, "comdat"), "symbol_table": (8, "numberedsymbol")}
 
 
 def dylink_part(node):
@@ -445,6 +475,9 @@ def linking_part(node):
     if node.words == ["unknown"]:
         return FORMS["unknown"](node)
     name = next(iter(node.fields))
+    if name == "symbol_table":
+        indices = [one.words[0] for one in node.under if one.words]
+        assert indices == ["symbol[%d]" % index for index in range(len(indices))], indices
     return "%d %s" % (LINKING[name][0], listed(node, name, FORMS[LINKING[name][1]]))
 
 

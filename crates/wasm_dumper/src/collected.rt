@@ -188,10 +188,15 @@ impl Collected {
     fn into_names(self) -> ItemNames
         ensures { result ≡ (if self.has_section then self.named else self.linked.names) }
     {
-        if self.has_section {
-            self.named
+        let Collected {
+            named,
+            has_section,
+            linked,
+        } = self;
+        if has_section {
+            named
         } else {
-            self.linked.names
+            linked.into_names()
         }
     }
 }

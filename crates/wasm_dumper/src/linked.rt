@@ -58,6 +58,19 @@ impl Linked {
         }
     }
 
+    /// Returns the names of symbols, of the items that they are for, and of data segments.
+    pub(crate) fn into_names(self) -> ItemNames
+        ensures { result ≡ self.names }
+    {
+        let Linked {
+            names,
+            imports: _imports,
+            sections: _sections,
+            counts: _counts,
+        } = self;
+        names
+    }
+
     /// Passes a section: one with this name, or one without a name.
     pub(crate) fn pass_section(&mut self, alloc: Global, name: &str) -> Result<(), ListError>
         ensures keeps { KeepsNames self.old.names self.new.names }
@@ -100,24 +113,26 @@ impl Linked {
         Ok(())
     }
 
-    // Returns the name of a symbol: its own, that of its import, or that of its section.
-    fn name_of<'s>(&'s self, symbol: &SymbolInfo<'s>) -> Option<&'s str> {
-        if let Some(name) = own_name(symbol) {
-            return Some(name);
-        }
-        if let Some((space, index)) = item_of(symbol) {
-            return self.imports.of(space, u64::from(index));
-        }
-        match symbol {
-            SymbolInfo::Section { section, .. } => match self.sections.get(*section as usize) {
-                Some(name) => Some(name.as_str()),
-                None => None,
-            },
+    // Returns the name of the section with this index, if it is a custom one.
+    fn section_name(&self, section: u32) -> Option<&str> {
+        match self.sections.get(section as usize) {
+            Some(name) if name.len() > 0 => Some(name.as_str()),
             _ => None,
         }
     }
 
-    // Adds the name of a symbol, also as that of its item.
+    // Returns the name that a symbol has by what it is for: that of an import, or of a section.
+    fn given_name(&self, symbol: &SymbolInfo<'_>) -> Option<&str> {
+        match symbol {
+            SymbolInfo::Section { section, .. } => self.section_name(*section),
+            _ => match item_of(symbol) {
+                Some((space, index)) => self.imports.of(space, u64::from(index)),
+                None => None,
+            },
+        }
+    }
+
+    // Adds the name of a symbol, its own or a given one.
     fn add_symbol(
         &mut self,
         alloc: Global,
@@ -129,14 +144,33 @@ impl Linked {
         ensures others { KeepsNames named.old named.new }
         ensures memory { IfErr result (λ why. why ≡ Memory) }
     {
-        let name = match self.name_of(symbol) {
+        if let Some(name) = own_name(symbol) {
+            return self.add_name(alloc, named, index, item_of(symbol), name);
+        }
+        let given = match self.given_name(symbol) {
             Some(name) => String::from_str(alloc, name)?,
             None => return Ok(()),
         };
-        named.add(alloc, Space::Symbols, index, name.as_str())?;
-        self.names.add(alloc, Space::Symbols, index, name.as_str())?;
-        match item_of(symbol) {
-            Some((space, item)) => self.names.add(alloc, space, item, name.as_str()),
+        self.add_name(alloc, named, index, item_of(symbol), given.as_str())
+    }
+
+    // Adds the name of the symbol with this index, also as that of its item.
+    fn add_name(
+        &mut self,
+        alloc: Global,
+        named: &mut ItemNames,
+        index: u32,
+        item: Option<(Space, u32)>,
+        name: &str,
+    ) -> Result<(), ListError>
+        ensures keeps { KeepsNames self.old.names self.new.names }
+        ensures others { KeepsNames named.old named.new }
+        ensures memory { IfErr result (λ why. why ≡ Memory) }
+    {
+        named.add(alloc, Space::Symbols, index, name)?;
+        self.names.add(alloc, Space::Symbols, index, name)?;
+        match item {
+            Some((space, item)) => self.names.add(alloc, space, item, name),
             None => Ok(()),
         }
     }
@@ -239,7 +273,7 @@ impl Linked {
         if section.name() != "linking" {
             return Ok(());
         }
-        match LinkingSectionReader::new(section.data_reader()) {
+        match LinkingSectionReader::new(alloc, section.data_reader()) {
             Ok(section) => self.add_subsections(alloc, named, &section),
             Err(_) => Ok(()),
         }

@@ -7,4 +7,5 @@ mod golden;
 mod named;
 mod names;
 mod naming;
+mod symbols;
 mod trees;

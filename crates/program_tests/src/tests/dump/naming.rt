@@ -6,7 +6,7 @@ use wasm_feed::ListError;
 use wasm_testing::Sparing;
 use wasm_tree::{ItemNames, Space};
 
-const SPACES: [Space; 8] = [
+const SPACES: [Space; 9] = [
     Space::Types,
     Space::Functions,
     Space::Tables,
@@ -15,12 +15,13 @@ const SPACES: [Space; 8] = [
     Space::Globals,
     Space::Elements,
     Space::DataSegments,
+    Space::Symbols,
 ];
 
 // Two names of one item in each index space; the second ones are not kept.
-const FIRST: [&str; 8] = ["a", "bc", "", "d\n", "\0", "e", "f", "g"];
+const FIRST: [&str; 9] = ["a", "bc", "", "d\n", "\0", "e", "f", "g", "p"];
 
-const SECOND: [&str; 8] = ["h", "i", "j", "k", "l", "m", "n", "o"];
+const SECOND: [&str; 9] = ["h", "i", "j", "k", "l", "m", "n", "o", "q"];
 
 // More blocks than these names take.
 const AMPLE: u64 = 100;
@@ -43,11 +44,11 @@ fn name_of<A: Allocator>(names: &ItemNames<A>, space: Space, index: u64) -> Opti
 fn an_item_has_its_first_name(rt: HostRuntime) -> Result<(), Fail> {
     let mut names = ItemNames::new(rt.alloc());
     for text in [FIRST, SECOND] {
-        for i in 0..8 {
+        for i in 0..9 {
             assert!(rt; add(rt.alloc(), &mut names, SPACES[i], u32::MAX, text[i]).is_ok());
         }
     }
-    for i in 0..8 {
+    for i in 0..9 {
         assert!(rt; name_of(&names, SPACES[i], 4_294_967_295) == Some(FIRST[i]));
         for other in [0, 4_294_967_294, 4_294_967_296, 8_589_934_591, u64::MAX] {
             assert!(rt; name_of(&names, SPACES[i], other).is_none());
@@ -60,9 +61,9 @@ fn an_item_has_its_first_name(rt: HostRuntime) -> Result<(), Fail> {
 // whether none was.
 fn adds_all(rt: &impl Abort, heap: &Sparing<Global>) -> bool {
     let mut names = ItemNames::new_in(heap);
-    for i in 0..8 {
+    for i in 0..9 {
         let added = add(heap, &mut names, SPACES[i], 7, FIRST[i]);
-        for k in 0..8 {
+        for k in 0..9 {
             let is_there = k < i || (k == i && added.is_ok());
             let wanted = if is_there { Some(FIRST[k]) } else { None };
             assert!(rt; name_of(&names, SPACES[k], 7) == wanted, "{i} {k}");
@@ -85,6 +86,6 @@ fn names_whose_memory_runs_out(rt: HostRuntime) -> Result<(), Fail> {
             break;
         }
     }
-    assert!(rt; refused >= 8, "{refused}");
+    assert!(rt; refused >= 9, "{refused}");
     Ok(())
 }

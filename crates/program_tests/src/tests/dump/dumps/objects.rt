@@ -172,11 +172,11 @@ const LINKING: &[u8] = b"{\"event\":\"version\",\"range\":[0,8],\"num\":1,\"enco
 {\"level\":3,\"line\":\"library\",\"name\":\"a.so\"}
 {\"level\":3,\"line\":\"library\",\"name\":\"b.so\"}
 {\"level\":2,\"at\":39,\"kind\":\"export_info\"}
-{\"level\":3,\"line\":\"export\",\"name\":\"e\",\"flags\":5}
-{\"level\":3,\"line\":\"export\",\"name\":\"f\",\"flags\":260}
+{\"level\":3,\"line\":\"export\",\"name\":\"e\",\"flags\":5,\"flag_words\":\"BINDING_WEAK | VISIBILITY_HIDDEN\"}
+{\"level\":3,\"line\":\"export\",\"name\":\"f\",\"flags\":260,\"flag_words\":\"VISIBILITY_HIDDEN | TLS\"}
 {\"level\":2,\"fault\":\"unexpected end-of-file\",\"offset\":53,\"number\":null}
 {\"level\":2,\"at\":53,\"kind\":\"import_info\"}
-{\"level\":3,\"line\":\"import\",\"module\":\"m\",\"field\":\"g\",\"flags\":16}
+{\"level\":3,\"line\":\"import\",\"module\":\"m\",\"field\":\"g\",\"flags\":16,\"flag_words\":\"UNDEFINED\"}
 {\"level\":2,\"at\":61,\"kind\":\"runtime_path\"}
 {\"level\":3,\"line\":\"folder\",\"name\":\"/x\"}
 {\"level\":3,\"line\":\"folder\",\"name\":\"/y\"}
@@ -185,8 +185,8 @@ const LINKING: &[u8] = b"{\"event\":\"version\",\"range\":[0,8],\"num\":1,\"enco
 {\"event\":\"section\",\"range\":[85,200],\"id\":0,\"name\":\"custom\",\"custom_name\":\"linking\",\"data_offset\":93}
 {\"level\":1,\"line\":\"section\",\"name\":\"linking\",\"version\":2,\"range\":[93,200],\"subsections\":94}
 {\"level\":2,\"at\":94,\"segment_info\":[96,106],\"count\":2}
-{\"level\":3,\"at\":97,\"name\":\"p\",\"alignment\":12,\"flags\":13}
-{\"level\":3,\"at\":101,\"name\":\"q\",\"alignment\":14,\"flags\":300}
+{\"level\":3,\"at\":97,\"name\":\"p\",\"alignment\":12,\"flags\":13,\"flag_words\":\"STRINGS | RETAIN | 8\"}
+{\"level\":3,\"at\":101,\"name\":\"q\",\"alignment\":14,\"flags\":300,\"flag_words\":\"RETAIN | 296\"}
 {\"level\":2,\"at\":106,\"init_funcs\":[108,113],\"count\":2}
 {\"level\":3,\"at\":109,\"priority\":15,\"symbol_index\":16}
 {\"level\":3,\"at\":111,\"priority\":17,\"symbol_index\":18}
@@ -201,15 +201,15 @@ const LINKING: &[u8] = b"{\"event\":\"version\",\"range\":[0,8],\"num\":1,\"enco
 {\"level\":3,\"at\":132,\"name\":\"s\",\"flags\":26,\"symbols\":[135,136],\"count\":0}
 {\"level\":2,\"fault\":\"unexpected end-of-file\",\"offset\":139,\"number\":null}
 {\"level\":2,\"at\":139,\"symbol_table\":[141,188],\"count\":10}
-{\"level\":3,\"at\":142,\"kind\":\"func\",\"flags\":1,\"index\":2,\"name\":\"h\"}
-{\"level\":3,\"at\":147,\"kind\":\"func\",\"flags\":16,\"index\":3,\"name\":null}
-{\"level\":3,\"at\":150,\"kind\":\"func\",\"flags\":80,\"index\":4,\"name\":\"i\"}
-{\"level\":3,\"at\":155,\"kind\":\"data\",\"flags\":128,\"name\":\"j\",\"index\":5,\"offset\":6,\"size\":7}
-{\"level\":3,\"at\":163,\"kind\":\"data\",\"flags\":16,\"name\":\"k\",\"symbol\":\"undefined\"}
-{\"level\":3,\"at\":167,\"kind\":\"global\",\"flags\":4,\"index\":8,\"name\":\"l\"}
-{\"level\":3,\"at\":172,\"kind\":\"section\",\"flags\":2,\"section\":9}
-{\"level\":3,\"at\":175,\"kind\":\"event\",\"flags\":32,\"index\":10,\"name\":\"n\"}
-{\"level\":3,\"at\":180,\"kind\":\"table\",\"flags\":512,\"index\":11,\"name\":\"o\"}
+{\"level\":3,\"at\":142,\"space\":\"symbol\",\"number\":0,\"kind\":\"func\",\"flags\":1,\"flag_words\":\"BINDING_WEAK\",\"index\":2,\"name\":\"h\"}
+{\"level\":3,\"at\":147,\"space\":\"symbol\",\"number\":1,\"kind\":\"func\",\"flags\":16,\"flag_words\":\"UNDEFINED\",\"index\":3,\"name\":null}
+{\"level\":3,\"at\":150,\"space\":\"symbol\",\"number\":2,\"kind\":\"func\",\"flags\":80,\"flag_words\":\"UNDEFINED | EXPLICIT_NAME\",\"index\":4,\"name\":\"i\"}
+{\"level\":3,\"at\":155,\"space\":\"symbol\",\"number\":3,\"kind\":\"data\",\"flags\":128,\"flag_words\":\"NO_STRIP\",\"name\":\"j\",\"index\":5,\"offset\":6,\"size\":7}
+{\"level\":3,\"at\":163,\"space\":\"symbol\",\"number\":4,\"kind\":\"data\",\"flags\":16,\"flag_words\":\"UNDEFINED\",\"name\":\"k\",\"symbol\":\"undefined\"}
+{\"level\":3,\"at\":167,\"space\":\"symbol\",\"number\":5,\"kind\":\"global\",\"flags\":4,\"flag_words\":\"VISIBILITY_HIDDEN\",\"index\":8,\"name\":\"l\"}
+{\"level\":3,\"at\":172,\"space\":\"symbol\",\"number\":6,\"kind\":\"section\",\"flags\":2,\"flag_words\":\"BINDING_LOCAL\",\"section\":9}
+{\"level\":3,\"at\":175,\"space\":\"symbol\",\"number\":7,\"kind\":\"event\",\"flags\":32,\"flag_words\":\"EXPORTED\",\"index\":10,\"name\":\"n\"}
+{\"level\":3,\"at\":180,\"space\":\"symbol\",\"number\":8,\"kind\":\"table\",\"flags\":512,\"flag_words\":\"ABSOLUTE\",\"index\":11,\"name\":\"o\"}
 {\"level\":3,\"fault\":\"invalid leading byte for symbol kind\",\"offset\":186,\"number\":6}
 {\"level\":2,\"at\":188,\"target_arch\":\"wasm32\"}
 {\"level\":2,\"at\":197,\"kind\":\"unknown\",\"ty\":10,\"contents\":\"1:01\",\"range\":[199,200]}

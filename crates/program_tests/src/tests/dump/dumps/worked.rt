@@ -212,11 +212,11 @@ custom 10 83 19
       library name=\"a.so\"
       library name=\"b.so\"
     39 export_info
-      export name=\"e\" flags=5
-      export name=\"f\" flags=260
+      export name=\"e\" flags=BINDING_WEAK | VISIBILITY_HIDDEN
+      export name=\"f\" flags=VISIBILITY_HIDDEN | TLS
     fault 53 unexpected end-of-file
     53 import_info
-      import module=\"m\" field=\"g\" flags=16
+      import module=\"m\" field=\"g\" flags=UNDEFINED
     61 runtime_path
       folder name=\"/x\"
       folder name=\"/y\"
@@ -225,8 +225,8 @@ custom 10 83 19
 custom 85 200 93
   section name=\"linking\" version=2 range=93..200 subsections=94
     94 segment_info=96..106 count=2
-      97 name=\"p\" alignment=12 flags=13
-      101 name=\"q\" alignment=14 flags=300
+      97 name=\"p\" alignment=12 flags=STRINGS | RETAIN | 8
+      101 name=\"q\" alignment=14 flags=RETAIN | 296
     106 init_funcs=108..113 count=2
       109 priority=15 symbol_index=16
       111 priority=17 symbol_index=18
@@ -241,15 +241,15 @@ custom 85 200 93
       132 name=\"s\" flags=26 symbols=135..136 count=0
     fault 139 unexpected end-of-file
     139 symbol_table=141..188 count=10
-      142 func flags=1 index=2 name=\"h\"
-      147 func flags=16 index=3
-      150 func flags=80 index=4 name=\"i\"
-      155 data flags=128 name=\"j\" index=5 offset=6 size=7
-      163 data flags=16 name=\"k\" undefined
-      167 global flags=4 index=8 name=\"l\"
-      172 section flags=2 section=9
-      175 event flags=32 index=10 name=\"n\"
-      180 table flags=512 index=11 name=\"o\"
+      142 symbol[0] func flags=BINDING_WEAK index=2 name=\"h\"
+      147 symbol[1] func flags=UNDEFINED index=3
+      150 symbol[2] func flags=UNDEFINED | EXPLICIT_NAME index=4 name=\"i\"
+      155 symbol[3] data flags=NO_STRIP name=\"j\" index=5 offset=6 size=7
+      163 symbol[4] data flags=UNDEFINED name=\"k\" undefined
+      167 symbol[5] global flags=VISIBILITY_HIDDEN index=8 name=\"l\"
+      172 symbol[6] section flags=BINDING_LOCAL section=9
+      175 symbol[7] event flags=EXPORTED index=10 name=\"n\"
+      180 symbol[8] table flags=ABSOLUTE index=11 name=\"o\"
       fault 186 invalid leading byte for symbol kind: 6
     188 target_arch=\"wasm32\"
     197 unknown ty=10 contents=1:01 range=199..200

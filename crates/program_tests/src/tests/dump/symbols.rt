@@ -1,0 +1,89 @@
+// Dumps of an object file with the names that its symbols give.
+use super::named::{Form, dumped};
+use super::names::names_in;
+use std::test::Fail;
+use wasm_tree::Space;
+
+/// An imported function without a name of its own, a function of the module, data of another module, and a section.
+const OBJECT: &[u8] =
+    b"\0asm\x01\0\0\0\x01\x04\x01`\0\0\x02\x0b\x01\x03env\x03log\0\0\x03\x02\x01\0\x0a\x0a\x01\x08\0\x10\x80\x80\x80\x80\0\x0b\0\x07\x06.debug\0$\x07linking\x02\x08\x12\x04\0\x10\0\0\0\x01\x03run\x01\x10\x01s\x03\x02\x04\x06\x05\x01\xff\xff\x03\x01\0\x1b\x0areloc.CODE\x03\x04\0\x04\0\x06\x04\0\x05\x14\x02\x08\x09\0\x03\0";
+
+const OBJECT_NAMED: &[u8] = b"version 0 8 1 module
+section 1 10 14 1 type
+  11 type[0] type=(func)
+section 2 16 27 1 import
+  17 func[0] \"log\" module=\"env\" name=\"log\" ty=func index=0
+section 3 29 31 1 function
+  30 func[1] \"run\" index=0
+code 33 43 1 9
+body 35 43 func[1] \"run\"
+custom 45 52 52
+  section name=\".debug\" unknown
+custom 54 90 62
+  section name=\"linking\" version=2 range=62..90 subsections=63
+    63 symbol_table=65..83 count=4
+      66 symbol[0] \"log\" func flags=UNDEFINED index=0
+      69 symbol[1] \"run\" func flags=0 index=1 name=\"run\"
+      76 symbol[2] \"s\" data flags=UNDEFINED name=\"s\" undefined
+      80 symbol[3] \".debug\" section flags=BINDING_LOCAL section=4
+    83 init_funcs=85..90 count=1
+      86 priority=65535 symbol_index=1 \"run\"
+custom 92 119 103
+  section name=\"reloc.CODE\" section=3 range=103..119 entries=104..119 count=4
+    105 type=R_WASM_FUNCTION_INDEX_LEB offset=4 index=0 addend=0 \"log\"
+    108 type=R_WASM_TYPE_INDEX_LEB offset=4 index=0 addend=0
+    111 type=R_WASM_MEMORY_ADDR_I32 offset=20 index=2 addend=8 \"s\"
+    115 type=R_WASM_SECTION_OFFSET_I32 offset=0 index=3 addend=0 \".debug\"
+end 119
+";
+
+#[test]
+fn symbols_name_items_and_relocations(rt: HostRuntime) -> Result<(), Fail> {
+    let text = dumped(rt.alloc(), OBJECT, Form::Named)?;
+    assert_eq!(rt; text.as_slice(), OBJECT_NAMED);
+    Ok(())
+}
+
+// A relocation has the name of its symbol as a member too.
+#[test]
+fn objects_have_the_names_of_symbols(rt: HostRuntime) -> Result<(), Fail> {
+    let text = dumped(rt.alloc(), OBJECT, Form::NamedObjects)?;
+    let wanted = b"{\"level\":2,\"at\":111,\"type\":\"R_WASM_MEMORY_ADDR_I32\",\"offset\":20,\"index\":2,\"addend\":8,\"item_name\":\"s\"}
+{\"level\":2,\"at\":115,\"type\":\"R_WASM_SECTION_OFFSET_I32\",\"offset\":0,\"index\":3,\"addend\":0,\"item_name\":\".debug\"}
+{\"event\":\"end\",\"offset\":119}
+"
+    .as_slice();
+    assert!(rt; text.as_slice().ends_with(wanted));
+    Ok(())
+}
+
+// A section `name`, before or after, has the only names of items. Symbols have theirs anyway.
+#[test]
+fn a_section_of_names_comes_first(rt: HostRuntime) -> Result<(), Fail> {
+    let names = b"\0\x0b\x04name\x01\x04\x01\0\x01n".as_slice();
+    let (header, sections) = OBJECT.split_at(8);
+    for parts in [[header, names, sections], [header, sections, names]] {
+        let stream = parts.concat(rt.alloc())?;
+        let found = names_in(rt.alloc(), stream.as_slice())?;
+        assert_eq!(rt; found.of(Space::Functions, 0), Some("n"));
+        assert_eq!(rt; found.of(Space::Functions, 1), None);
+        assert_eq!(rt; found.of(Space::Symbols, 0), Some("log"));
+        assert_eq!(rt; found.of(Space::Symbols, 1), Some("run"));
+        assert_eq!(rt; found.of(Space::Symbols, 4), None);
+    }
+    Ok(())
+}
+
+// Names of symbols end at the first fault of their table, those of segments at that of theirs.
+#[test]
+fn names_of_symbols_end_at_a_fault(rt: HostRuntime) -> Result<(), Fail> {
+    // Two symbols are announced, and the second has a kind that is not known. The second segment has no name.
+    let stream = b"\0asm\x01\0\0\0\0\x1f\x07linking\x02\x08\x07\x02\0\0\x05\x01f\x06\x05\x0b\x02\x02.d\0\0\x02\x80\x80\0\0";
+    let found = names_in(rt.alloc(), stream)?;
+    assert_eq!(rt; found.of(Space::Symbols, 0), Some("f"));
+    assert_eq!(rt; found.of(Space::Functions, 5), Some("f"));
+    assert_eq!(rt; found.of(Space::Symbols, 1), None);
+    assert_eq!(rt; found.of(Space::DataSegments, 0), Some(".d"));
+    assert_eq!(rt; found.of(Space::DataSegments, 1), None);
+    Ok(())
+}
