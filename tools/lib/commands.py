@@ -12,6 +12,7 @@ COMMANDS = {
         "forms": ("compare_forms", "dumps as JSON, with names, bytes, colors and hexadecimal offsets, with those in lines"),
         "golden": ("compare_dumps:golden", "listings and dumps with what wasmparser 0.263.0 says of the streams of tools/golden.jsonl"),
         "items": ("compare_dumps:items", "items of random bytes and of modules"),
+        "objects": ("compare_objects", "dumps of object files with llvm-readobj and wasm-objdump"),
         "pieces": ("compare_streams:chunks", "chunked streams, and each step of a feeder"),
         "pipe": ("compare_streams:pipe", "a stream that comes byte by byte through a pipe, line by line"),
         "strip": ("compare_streams:strip", "stripped streams, also with wasm-strip of wabt"),

@@ -1,5 +1,5 @@
 // Collects the names of items from the custom sections of a stream: `name`, or else `linking`.
-ghost use Rattle.std.specs.Prelude.{◌≡◌, IfErr};
+ghost use Rattle.std.specs.Prelude.{◌≡◌, IfErr, if◌then◌else◌};
 ghost use Rattle.wasm_text.specs.declared.devices.ListError.TheVariants.{Memory};
 ghost use Rattle.wasm_tree.specs.ItemNames.{KeepsNames};
 
@@ -109,17 +109,17 @@ struct Collected {
 
 impl Collected {
     // Adds the names of a section `name`. Returns what to do next.
-    fn add_names(&mut self, alloc: Global, section: NameSectionReader<'_>) -> Result<Next, ListError>
+    fn add_names(
+        &mut self,
+        alloc: Global,
+        section: NameSectionReader<'_>,
+    ) -> Result<Next, ListError>
         ensures keeps { KeepsNames self.old.named self.new.named }
         ensures linked { self.new.linked ≡ self.old.linked }
         ensures memory { IfErr result (λ why. why ≡ Memory) }
     {
         self.has_section = true;
-        Ok(after_names(add_subsections(
-            alloc,
-            &mut self.named,
-            section,
-        )?))
+        Ok(after_names(add_subsections(alloc, &mut self.named, section)?))
     }
 
     // Adds the names of a custom section. Returns what to do next.

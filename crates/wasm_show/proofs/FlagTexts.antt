@@ -1,11 +1,11 @@
 -- The text of flags, as its parts are written one after the other.
-use Rattle.std.proofs.Common.{◌≡◌, ℕ, Bool, true, false, nat_eq, ◌||◌, List, [], ◌∷◌, ◌++◌, codes, decimal, refl, ap, sym, ◌∙◌, append_assoc, append-nil, arith, if◌then◌else◌}
-use Rattle.std.proofs.lemmas.Grind.{flat_map-append}
+use Rattle.std.proofs.Common.{◌≡◌, ℕ, Bool, true, false, nat_eq, ◌||◌, List, [], ◌∷◌, ◌++◌, codes, decimal, ap, append_assoc}
+use Rattle.std.proofs.Common.{append-nil, arith, if◌then◌else◌}
 use Rattle.std.specs.List.{flat_map}
 use Rattle.wasm_tree.specs.Said.{Says}
 use Rattle.wasm_tree.specs.Tree.{Writing}
 use Rattle.wasm_tree.proofs.ForCallers.{says_then, says_same}
-use Rattle.wasm_show.specs.FlagText.{Flags, has_flag, names_set, with_unnamed, joined, words_text, unnamed, after_bar, flag_after, unnamed_after}
+use Rattle.wasm_show.specs.FlagText.{Flags, has_flag, names_set, with_unnamed, joined, flag_after, unnamed_after}
 
 -- the parts of a text of flags, after names or not
 abbrev pub parts : (has_names : Bool) → Flags → (bits rest : ℕ) → List ℕ
@@ -28,7 +28,8 @@ parts_after_names (flag ∷ later) bits rest = grind (arith, parts_after_names l
 
 pub parts_in_all : (flags : Flags) (bits rest : ℕ) → parts false flags bits rest ≡ joined (with_unnamed (names_set flags bits) rest)
 parts_in_all [] bits rest = grind (arith, append-nil)
-parts_in_all (flag ∷ later) bits rest = grind (arith, parts_after_names later bits rest, parts_in_all later bits rest, append_assoc, append-nil)
+parts_in_all (flag ∷ later) bits rest =
+    grind (arith, parts_after_names later bits rest, parts_in_all later bits rest, append_assoc, append-nil)
 
 -- a flag, and what is put after it
 pub says_flag : (has_names has_later : Bool) (flag : ℕ × List ℕ) (later : Flags) (bits rest : ℕ) (old mid new : Writing)

@@ -1,5 +1,5 @@
 -- The words of sets of flags. Tool conventions, Linking, Symbol Table Subsection and Segment Info Subsection.
-use Rattle.std.specs.Prelude.{ℕ, ◌+◌, ◌-◌, ◌^◌, Bool, true, false, not, ◌||◌, List, [], ◌∷◌, ◌++◌, codes, decimal}
+use Rattle.std.specs.Prelude.{ℕ, ◌+◌, ◌-◌, ◌^◌, Bool, true, false, not, ◌&&◌, List, [], ◌∷◌, ◌++◌, codes, decimal}
 use Rattle.std.specs.Prelude.{nat_eq, sum_by, if◌then◌else◌}
 use Rattle.std.specs.Int.RustNames.{bit_and}
 use Rattle.std.specs.List.{flat_map}
@@ -40,7 +40,7 @@ abbrev pub joined : List (List ℕ) → List ℕ
 joined [] = []
 joined (first ∷ later) = first ++ flat_map (λ text. codes " | " ++ text) later
 
--- | the text of flags: the names of those that are set, and other bits as a number [`words_text`]
+-- | the text of flags: the names of those that are set, and other bits as a number
 abbrev pub words_text : Flags → (bits : ℕ) → List ℕ
 words_text flags bits = joined (with_unnamed (names_set flags bits) (unnamed flags bits))
 
@@ -59,4 +59,4 @@ flag_after has_names bits flag name = if has_flag bits flag then after_bar has_n
 
 -- the bits without a name
 abbrev pub unnamed_after : (has_names : Bool) → (bits : ℕ) → List ℕ
-unnamed_after has_names bits = if has_names then (if nat_eq bits 0 then [] else codes " | " ++ decimal bits) else decimal bits
+unnamed_after has_names bits = if nat_eq bits 0 && has_names then [] else after_bar has_names (decimal bits)

@@ -90,6 +90,9 @@ fn write_segment_flags<O: Tree>(bits: u32, out: &mut O)
 /// Writes the flags of a symbol as a field.
 pub(crate) fn show_symbol_flags<O: Tree>(bits: u32, out: &mut O)
     ensures adds { Adds (O.writing out.old) (O.writing out.new) }
+    // Proved: the flags of a symbol, in the style of lines, are the names of those that are set with bars between them,
+    //   and other bits as a number; those of a segment too [`says` of `flags::show_symbol_flags` and
+    //   `flags::show_segment_flags` (`words_text`)]
     ensures says { SaysFields (flags_field symbol_words bits) (O.writing out.old) (O.writing out.new) }
 {
     begin_flags(bits, out);

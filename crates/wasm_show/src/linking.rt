@@ -37,6 +37,7 @@ impl Show for Segment<'_> {
 // Writes the fields of a function to call at startup.
 fn show_init<O: Tree>(function: &InitFunc, out: &mut O)
     ensures adds { Adds (O.writing out.old) (O.writing out.new) }
+    // Proved: what the line of a function to call at startup says before a name
     ensures says { SaysFields (init_fields function.now) (O.writing out.old) (O.writing out.new) }
 {
     out.number("priority", u64::from(function.priority));

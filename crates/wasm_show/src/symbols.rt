@@ -110,6 +110,7 @@ struct NumberedSymbol<'a> {
 // Writes the index of a symbol, as other items have their numbers.
 fn show_number<O: Tree>(index: u64, out: &mut O)
     ensures adds { Adds (O.writing out.old) (O.writing out.new) }
+    // Proved: a symbol of a table has its index in brackets
     ensures says { SaysFields (symbol_number index ∷ []) (O.writing out.old) (O.writing out.new) }
 {
     match out.style() {

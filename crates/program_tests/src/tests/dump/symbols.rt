@@ -48,11 +48,12 @@ fn symbols_name_items_and_relocations(rt: HostRuntime) -> Result<(), Fail> {
 #[test]
 fn objects_have_the_names_of_symbols(rt: HostRuntime) -> Result<(), Fail> {
     let text = dumped(rt.alloc(), OBJECT, Form::NamedObjects)?;
-    let wanted = b"{\"level\":2,\"at\":111,\"type\":\"R_WASM_MEMORY_ADDR_I32\",\"offset\":20,\"index\":2,\"addend\":8,\"item_name\":\"s\"}
+    let wanted =
+        b"{\"level\":2,\"at\":111,\"type\":\"R_WASM_MEMORY_ADDR_I32\",\"offset\":20,\"index\":2,\"addend\":8,\"item_name\":\"s\"}
 {\"level\":2,\"at\":115,\"type\":\"R_WASM_SECTION_OFFSET_I32\",\"offset\":0,\"index\":3,\"addend\":0,\"item_name\":\".debug\"}
 {\"event\":\"end\",\"offset\":119}
 "
-    .as_slice();
+            .as_slice();
     assert!(rt; text.as_slice().ends_with(wanted));
     Ok(())
 }
@@ -78,7 +79,8 @@ fn a_section_of_names_comes_first(rt: HostRuntime) -> Result<(), Fail> {
 #[test]
 fn names_of_symbols_end_at_a_fault(rt: HostRuntime) -> Result<(), Fail> {
     // Two symbols are announced, and the second has a kind that is not known. The second segment has no name.
-    let stream = b"\0asm\x01\0\0\0\0\x1f\x07linking\x02\x08\x07\x02\0\0\x05\x01f\x06\x05\x0b\x02\x02.d\0\0\x02\x80\x80\0\0";
+    let stream =
+        b"\0asm\x01\0\0\0\0\x1f\x07linking\x02\x08\x07\x02\0\0\x05\x01f\x06\x05\x0b\x02\x02.d\0\0\x02\x80\x80\0\0";
     let found = names_in(rt.alloc(), stream)?;
     assert_eq!(rt; found.of(Space::Symbols, 0), Some("f"));
     assert_eq!(rt; found.of(Space::Functions, 5), Some("f"));
