@@ -1,3 +1,5 @@
+pub mod CustomText
+pub mod ExprText
 pub mod Faults
 pub mod FlagText
 pub mod ItemText

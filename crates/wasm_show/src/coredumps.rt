@@ -1,4 +1,8 @@
 // Texts of core dumps.
+ghost use Rattle.wasm_show.specs.CustomText.{core_value_fields};
+ghost use Rattle.wasm_tree.specs.Said.{SaysFields};
+ghost use Rattle.wasm_tree.specs.Tree.{Adds};
+
 use crate::lists::{show_lines, under, write_lines};
 use crate::show::Show;
 use wasm_custom::{
@@ -39,7 +43,11 @@ impl Show for CoreDumpInstancesSection {
 }
 
 impl Show for CoreDumpValue {
-    fn show<O: Tree>(&self, _level: usize, out: &mut O) {
+    fn show<O: Tree>(&self, _level: usize, out: &mut O)
+        ensures adds { Adds (O.writing out.old) (O.writing out.new) }
+        // Proved: what the line of a value of a core dump says
+        ensures says { SaysFields (core_value_fields self.now) (O.writing out.old) (O.writing out.new) }
+    {
         match self {
             CoreDumpValue::Missing => out.label("value", "missing"),
             CoreDumpValue::I32(number) => out.signed("i32", i64::from(*number)),

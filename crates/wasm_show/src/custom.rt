@@ -1,8 +1,10 @@
 // Texts of custom sections.
-ghost use Rattle.std.specs.Prelude.{true};
+ghost use Rattle.std.specs.Prelude.{[], ◌∷◌, true};
 ghost use Rattle.wasm_custom.specs.Known.{known_parts};
+ghost use Rattle.wasm_show.specs.CustomText.{feature_fields, hint_fields, prefix_field, value_fields};
 ghost use Rattle.wasm_show.specs.Faults.{custom_faulty, features_faulty, known_faulty, name_section_faulty, producers_faulty};
 ghost use Rattle.wasm_tree.specs.Found.{Finds, FindsNone};
+ghost use Rattle.wasm_tree.specs.Said.{SaysFields};
 ghost use Rattle.wasm_tree.specs.Tree.{Adds};
 
 use crate::linking::{show_dylink, show_linking, show_relocations};
@@ -20,7 +22,11 @@ use wasm_custom::{
 use wasm_tree::Tree;
 
 impl Show for BranchHint {
-    fn show<O: Tree>(&self, _level: usize, out: &mut O) {
+    fn show<O: Tree>(&self, _level: usize, out: &mut O)
+        ensures adds { Adds (O.writing out.old) (O.writing out.new) }
+        // Proved: what the line of a branch hint says
+        ensures says { SaysFields (hint_fields self.now) (O.writing out.old) (O.writing out.new) }
+    {
         out.number("func_offset", u64::from(self.func_offset));
         out.flag("taken", self.taken);
     }
@@ -35,7 +41,11 @@ impl Show for BranchHintFunction<'_> {
 }
 
 impl Show for ProducersFieldValue<'_> {
-    fn show<O: Tree>(&self, _level: usize, out: &mut O) {
+    fn show<O: Tree>(&self, _level: usize, out: &mut O)
+        ensures adds { Adds (O.writing out.old) (O.writing out.new) }
+        // Proved: what the line of a value of a producer says
+        ensures says { SaysFields (value_fields self.now) (O.writing out.old) (O.writing out.new) }
+    {
         out.quoted("name", self.name);
         out.quoted("version", self.version);
     }
@@ -88,7 +98,8 @@ fn show_producers<O: Tree>(level: usize, section: &ProducersSectionReader<'_>, o
 
 // Writes the byte that says how a feature is used: the signs of the standard as they are, others as numbers.
 fn show_prefix<O: Tree>(prefix: u8, out: &mut O)
-    ensures { Adds (O.writing out.old) (O.writing out.new) }
+    ensures adds { Adds (O.writing out.old) (O.writing out.new) }
+    ensures says { SaysFields (prefix_field prefix ∷ []) (O.writing out.old) (O.writing out.new) }
 {
     match prefix {
         b'+' => out.label("prefix", "+"),
@@ -99,7 +110,11 @@ fn show_prefix<O: Tree>(prefix: u8, out: &mut O)
 }
 
 impl Show for TargetFeature<'_> {
-    fn show<O: Tree>(&self, _level: usize, out: &mut O) {
+    fn show<O: Tree>(&self, _level: usize, out: &mut O)
+        ensures adds { Adds (O.writing out.old) (O.writing out.new) }
+        // Proved: what the line of a feature says
+        ensures says { SaysFields (feature_fields self.now) (O.writing out.old) (O.writing out.new) }
+    {
         show_prefix(self.prefix, out);
         out.quoted("name", self.name);
     }

@@ -1,7 +1,10 @@
 // Texts of constant expressions, by the names of the text format.
-ghost use Rattle.std.specs.Prelude.{◌≡◌, false};
+ghost use Rattle.std.specs.Fmt.{signed_decimal};
+ghost use Rattle.std.specs.Prelude.{◌≡◌, ◌++◌, codes, decimal, false};
+ghost use Rattle.wasm_show.specs.ExprText.{operands_text, operator_text, operator_word as word_of_operator};
 ghost use Rattle.wasm_show.specs.ItemText.{expression_field};
-ghost use Rattle.wasm_tree.specs.Said.{SaysSome, SaysWith};
+ghost use Rattle.wasm_show.specs.TypeText.{after_blank};
+ghost use Rattle.wasm_tree.specs.Said.{Says, SaysSome, SaysWith};
 ghost use Rattle.wasm_tree.specs.Tree.{Adds, has_line_feed};
 
 use crate::lists::write_word;
@@ -12,6 +15,7 @@ use wasm_tree::Tree;
 
 // Returns the name of an operator.
 fn operator_word(operator: &ConstOperator) -> &'static str
+    ensures word { result.now ≡ word_of_operator operator.now }
     ensures one_line { has_line_feed result.now ≡ false }
 {
     match operator {
@@ -44,7 +48,7 @@ fn operator_word(operator: &ConstOperator) -> &'static str
 // Writes a blank and a number.
 fn write_integer<O: Tree>(number: i64, out: &mut O)
     ensures adds { Adds (O.writing out.old) (O.writing out.new) }
-    ensures some { SaysSome (O.writing out.old) (O.writing out.new) }
+    ensures says { Says (after_blank (signed_decimal number)) (O.writing out.old) (O.writing out.new) }
 {
     out.text(" ");
     out.integer(number);
@@ -53,7 +57,7 @@ fn write_integer<O: Tree>(number: i64, out: &mut O)
 // Writes the bits of a float, as a number.
 fn write_bits<O: Tree>(bits: u64, out: &mut O)
     ensures adds { Adds (O.writing out.old) (O.writing out.new) }
-    ensures some { SaysSome (O.writing out.old) (O.writing out.new) }
+    ensures says { Says (codes " bits=" ++ decimal bits) (O.writing out.old) (O.writing out.new) }
 {
     out.text(" bits=");
     out.digits(bits);
@@ -62,7 +66,7 @@ fn write_bits<O: Tree>(bits: u64, out: &mut O)
 // Writes the operands of an operator, each after a blank.
 fn write_operands<O: Tree>(operator: &ConstOperator, out: &mut O)
     ensures adds { Adds (O.writing out.old) (O.writing out.new) }
-    ensures some { SaysSome (O.writing out.old) (O.writing out.new) }
+    ensures says { Says (operands_text operator.now) (O.writing out.old) (O.writing out.new) }
 {
     match operator {
         ConstOperator::GlobalGet { global_index } => write_word(global_index, out),
@@ -95,6 +99,17 @@ fn write_operands<O: Tree>(operator: &ConstOperator, out: &mut O)
     }
 }
 
+// Writes an operator with its operands.
+fn write_operator<O: Tree>(operator: &ConstOperator, out: &mut O)
+    ensures adds { Adds (O.writing out.old) (O.writing out.new) }
+    // Proved: the text of an instruction of a constant expression has its word and its numbers
+    ensures says { Says (operator_text operator.now) (O.writing out.old) (O.writing out.new) }
+    ensures some { SaysSome (O.writing out.old) (O.writing out.new) }
+{
+    out.text(operator_word(operator));
+    write_operands(operator, out);
+}
+
 // Writes an instruction, or the fault in its place, in parentheses. A blank precedes all but the first.
 fn write_instruction<O: Tree>(is_first: bool, read: &Result<ConstInstruction>, out: &mut O)
     ensures adds { Adds (O.writing out.old) (O.writing out.new) }
@@ -102,10 +117,7 @@ fn write_instruction<O: Tree>(is_first: bool, read: &Result<ConstInstruction>, o
 {
     out.text(if is_first { "(" } else { " (" });
     match read {
-        Ok(instruction) => {
-            out.text(operator_word(&instruction.operator));
-            write_operands(&instruction.operator, out);
-        }
+        Ok(instruction) => write_operator(&instruction.operator, out),
         Err(error) => out.fault_text(error),
     }
     out.text(")");

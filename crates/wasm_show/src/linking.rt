@@ -1,5 +1,6 @@
 // Texts of the sections `linking`, `reloc.*` and `dylink.0`, and of their items.
 ghost use Rattle.std.specs.Prelude.{◌≡◌, false};
+ghost use Rattle.wasm_show.specs.CustomText.{mem_info_fields};
 ghost use Rattle.wasm_show.specs.Faults.{dylink_faulty, linking_faulty, linking_section_faulty, relocations_faulty};
 ghost use Rattle.wasm_tree.specs.Found.{Finds, FindsNone};
 ghost use Rattle.wasm_tree.specs.Said.{SaysFields};
@@ -200,7 +201,11 @@ impl Show for Dylink0SectionReader<'_> {
 }
 
 impl Show for MemInfo {
-    fn show<O: Tree>(&self, _level: usize, out: &mut O) {
+    fn show<O: Tree>(&self, _level: usize, out: &mut O)
+        ensures adds { Adds (O.writing out.old) (O.writing out.new) }
+        // Proved: what the line of the memory and tables of a dynamic library says
+        ensures says { SaysFields (mem_info_fields self.now) (O.writing out.old) (O.writing out.new) }
+    {
         out.label("kind", "mem_info");
         out.number("memory_size", u64::from(self.memory_size));
         out.number("memory_alignment", u64::from(self.memory_alignment));

@@ -1,7 +1,9 @@
 // Texts of names.
 ghost use Rattle.std.specs.Prelude.{◌≡◌, false};
+ghost use Rattle.wasm_show.specs.CustomText.{naming_fields};
 ghost use Rattle.wasm_show.specs.Faults.{name_faulty};
 ghost use Rattle.wasm_tree.specs.Found.{Finds};
+ghost use Rattle.wasm_tree.specs.Said.{SaysFields};
 ghost use Rattle.wasm_tree.specs.Tree.{Adds, has_line_feed};
 
 use crate::lists::{show_items, under};
@@ -11,7 +13,11 @@ use wasm_custom::{IndirectNameMap, IndirectNaming, Name, NameMap, Naming};
 use wasm_tree::Tree;
 
 impl Show for Naming<'_> {
-    fn show<O: Tree>(&self, _level: usize, out: &mut O) {
+    fn show<O: Tree>(&self, _level: usize, out: &mut O)
+        ensures adds { Adds (O.writing out.old) (O.writing out.new) }
+        // Proved: what the line of a name says
+        ensures says { SaysFields (naming_fields self.now) (O.writing out.old) (O.writing out.new) }
+    {
         out.number("index", u64::from(self.index));
         out.quoted("name", self.name);
     }

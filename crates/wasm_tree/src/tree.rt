@@ -1,6 +1,7 @@
 // What items are written to.
 ghost use Rattle.std.specs.Prelude.{◌≡◌, ◌++◌, None, codes, decimal, false, take, true};
 ghost use Rattle.std.specs.List.{flat_map};
+ghost use Rattle.std.specs.Fmt.{signed_decimal};
 ghost use Rattle.std.specs.Option.{is_some};
 ghost use Rattle.wasm_tree.specs.Fields.{alone, field_start, field_text, named, number as number_value, word as word_value, quoted, raw};
 ghost use Rattle.wasm_tree.specs.Fields.{range, signed as signed_value, flag as flag_value, number_if_any as optional, hexadecimal, is_default as is_default_value};
@@ -333,6 +334,7 @@ pub trait Tree {
     /// Writes a signed number in decimal digits.
     final fn integer(&mut self, number: i64)
         ensures adds { Adds (writing self.old) (writing self.new) }
+        ensures says { Says (signed_decimal number) (writing self.old) (writing self.new) }
         ensures some { SaysSome (writing self.old) (writing self.new) }
     {
         if number < 0 {
