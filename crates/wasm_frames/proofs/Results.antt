@@ -94,8 +94,8 @@ decided p eof rest l w = grind (arith, below)
 pub goes_on : (features from to : ℕ) (shape : Shape) → is_end (tile_report features from to shape) ≡ false
 goes_on features from to shape = grind arith
 
-pub gives_tile : (p q : ParserState) (eof : Bool) (rest : List ℕ) (report : Report) (consumed : ℕ) (t : Tile) → p.offset + length rest < 2 ^ 64
-    → verdict (grammar_of p) rest ≡ tile t → consumed ≡ length t.bytes
+pub gives_tile : (p q : ParserState) (eof : Bool) (rest : List ℕ) (report : Report) (consumed : ℕ) (t : Tile)
+    → p.offset + length rest < 2 ^ 64 → verdict (grammar_of p) rest ≡ tile t → consumed ≡ length t.bytes
     → report ≡ tile_report p.features p.offset (p.offset + length t.bytes) t.shape → q ≡ state_after_tile p t
     → GivesFrame p eof rest (Parsed report consumed) q
 gives_tile p q eof rest report consumed t l v n same s =

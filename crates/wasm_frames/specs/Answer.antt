@@ -1,4 +1,4 @@
--- What one call of `next` returns, and the parser afterwards. Core specification, Binary format, Modules.
+-- What one call of `next` returns, and the parser afterwards.
 use Rattle.std.specs.Prelude.{◌≡◌, ℕ, ◌+◌, ◌^◌, Bool, true, false, List, length, nat_lt, if◌then◌else◌}
 use Rattle.wasm_base.specs.FaultAt.{FaultAt, fault_at, at_offset}
 use Rattle.wasm_base.specs.declared.fault.Fault.TheVariants.{OffsetRange}

@@ -1,4 +1,4 @@
--- A frame is its report. Core specification, Binary format, Modules.
+-- A frame is its report.
 use Rattle.std.specs.Prelude.{◌≡◌, ℕ, ◌+◌, List, [], length, Ok}
 use Rattle.std.specs.declared.ops.Range.{Range}
 use Rattle.wasm_base.specs.Number.{unsigned_at}
@@ -136,9 +136,15 @@ Reads (report.custom_section name data_offset window) reader = custom_in name re
 Reads (report.unknown_section id contents from to) reader = (place reader).rest ≡ contents
 Reads other reader = Unit {0}
 
+-- A part of a stream, or its end, is reported, and no fault.
+abbrev pub IsPart : Report → Type 0
+IsPart (report.stream_end (fault f)) = ⊥
+IsPart other = Unit {0}
+
 -- The fields are those of the report that they are.
 pub record IsFrame (f : Fields) : Type 0 where
   pub kind : f.kind ≡ kind_in (report_of f)
+  pub part : IsPart (report_of f)
   pub range : record { start = f.start; end = f.end } ≡ range_in (report_of f)
   pub reads : Reads (report_of f) f.reader
   pub name : f.name ≡ name_in (report_of f)

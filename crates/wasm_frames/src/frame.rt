@@ -1,7 +1,7 @@
 // One part of a stream.
 ghost use Rattle.std.specs.Prelude.{◌≡◌, ◌+◌, ◌<◌, ◌^◌};
 ghost use Rattle.wasm_base.specs.Window.{place};
-ghost use Rattle.wasm_frames.specs.Frame.{HoldsCount, Reads, counted_in, count_in, custom_in, encoding_in, id_in, kind_in, name_in, range_in, size_in, unknown_in, unread, version_in};
+ghost use Rattle.wasm_frames.specs.Frame.{HoldsCount, IsPart, Reads, counted_in, count_in, custom_in, encoding_in, id_in, kind_in, name_in, range_in, size_in, unknown_in, unread, version_in};
 ghost use Rattle.wasm_grammar.specs.Content.{ended};
 ghost use Rattle.wasm_grammar.specs.Reading.{version, start_section, data_count_section, code_start, code_entry, stream_end};
 
@@ -250,7 +250,8 @@ impl<'a> Frame<'a> {
     pub fn kind(&self) -> FrameKind
         // Proved: a frame is its report: its kind, id, count and all other fields are those of the
         //   report, and 0 or empty where the report has none [the clause of each getter of `Frame`]
-        ensures { result ≡ kind_in self.now }
+        ensures is { result ≡ kind_in self.now }
+        ensures part { IsPart self.now }
     {
         self.kind
     }

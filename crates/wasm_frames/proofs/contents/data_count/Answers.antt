@@ -16,6 +16,6 @@ returns-in_err-count c =
     c.in_err-count.ensures.hints)
 
 pub returns : goal.returns
-returns c = λ context. rw c.data_count.ensures (single_section DataCountContent data_count data_count_section data_count_single context c.args.id c.args.size
-    (place c.args.reader.now) c.in_ok-window.window _ c.in_ok-count.count _ c.in_ok-window.ensures.gives c.in_ok-count.ensures.reads
-    (rw c.range-range.ensures refl))
+returns c = λ context. rw c.data_count.ensures
+    (single_section DataCountContent data_count data_count_section data_count_single context c.args.id c.args.size (place c.args.reader.now)
+    c.in_ok-window.window _ c.in_ok-count.count _ c.in_ok-window.ensures.gives c.in_ok-count.ensures.reads (rw c.range-range.ensures refl))

@@ -16,6 +16,6 @@ returns-in_err-func c =
     c.in_err-func.ensures.hints)
 
 pub returns : goal.returns
-returns c = λ context. rw c.start.ensures (single_section StartContent index start_section start_single context c.args.id c.args.size (place c.args.reader.now)
-    c.in_ok-window.window _ c.in_ok-func.func _ c.in_ok-window.ensures.gives c.in_ok-func.ensures.reads
-    (rw c.range-range.ensures refl))
+returns c = λ context. rw c.start.ensures
+    (single_section StartContent index start_section start_single context c.args.id c.args.size (place c.args.reader.now)
+    c.in_ok-window.window _ c.in_ok-func.func _ c.in_ok-window.ensures.gives c.in_ok-func.ensures.reads (rw c.range-range.ensures refl))

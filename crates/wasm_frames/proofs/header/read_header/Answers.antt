@@ -11,9 +11,10 @@ pub overflow_add-start : goal.overflow_add-start
 overflow_add-start c = grind (arith, header_read)
 
 pub returns-in-Some : goal.returns-in-Some
-returns-in-Some c = rw c.header.ensures (header_report (place c.args.reader.now) c.in_ok-bits.bits (place c.read_header_version.new.self) c.in-Some.encoding _
-    c.in_ok-bits.ensures.gives c.in-Some.ensures (rw (c.original_position-start.ensures.offset, c.original_position.ensures.offset)
-    refl))
+returns-in-Some c = rw c.header.ensures
+    (header_report (place c.args.reader.now) c.in_ok-bits.bits (place c.read_header_version.new.self) c.in-Some.encoding _
+    c.in_ok-bits.ensures.gives c.in-Some.ensures
+    (rw (c.original_position-start.ensures.offset, c.original_position.ensures.offset) refl))
 
 pub returns-in-None : goal.returns-in-None
 returns-in-None c = header_unnamed (place c.args.reader.now) c.in_ok-bits.bits (place c.read_header_version.new.self) c.with_number.result

@@ -13,6 +13,6 @@ returns-then-lacks-2-clause-answers c =
     (c.if-lacks-2.ensures ∙ (λ i. is_lacking (c.data_counts.ensures i) (c.datas.ensures i))) c.new-then-lacks-2.ensures.report
 
 pub returns-clause-answers : goal.returns-clause-answers
-returns-clause-answers c =
-    rw c.end.ensures (nothing_lacks _ _ _ refl (omega arith) c.requires (c.if-lacks.ensures ∙ (λ i. is_lacking (c.functions.ensures i) (c.codes.ensures i)))
+returns-clause-answers c = rw c.end.ensures
+    (nothing_lacks _ _ _ refl (omega arith) c.requires (c.if-lacks.ensures ∙ (λ i. is_lacking (c.functions.ensures i) (c.codes.ensures i)))
     (c.if-lacks-2.ensures ∙ (λ i. is_lacking (c.data_counts.ensures i) (c.datas.ensures i))) refl)
