@@ -18,7 +18,7 @@ TABLE = common.read("tools", "lib", "templates", "productions.txt")
 OTHERS = {
     ("wasm_items", "TypeHeads"): "the heads of groups of types and of subtypes, for callers that read their lists one by one",
     ("wasm_items", "TypeLaws"): "that these are the heads of RecGroups",
-    ("wasm_parser", "SkipNext"): "skipping a part by its first fields",
+    ("wasm_frames", "SkipNext"): "skipping a part by its first fields",
     ("wasm_feeder", "Fates"): "what stripping does to a part",
     ("wasm_feed", "Stripped"): "what remains of a stripped stream",
 }

@@ -12,7 +12,7 @@ import re
 
 import common
 
-CRATE, STRUCTS, PARSER = (os.path.join(common.TOP, "crates", name) for name in ("wasm_c", "wasm_plain", "wasm_parser"))
+CRATE, STRUCTS, PARSER = (os.path.join(common.TOP, "crates", name) for name in ("wasm_c", "wasm_plain", "wasm_frames"))
 TARGET = os.path.join(CRATE, "include", "pulleynavy.h")
 TYPES = {"u8": ("uint8_t", 1), "u32": ("uint32_t", 4), "u64": ("uint64_t", 8), "i64": ("int64_t", 8), "usize": ("size_t", 8), "bool": ("bool", 1)}
 # The order of the sources, which is that of the declarations.
@@ -35,7 +35,7 @@ DETAILS = [
 
 
 def source(name):
-    """The structs and the calls of a module. The struct of a parser is the one that wasm_parser parses with."""
+    """The structs and the calls of a module. The struct of a parser is the one that wasm_frames parses with."""
     paths = (os.path.join(crate, "src", name + ".rt") for crate in ((PARSER,) if name == "stored" else (STRUCTS, CRATE)))
     return "".join(common.read(path) for path in paths if os.path.exists(path))
 

@@ -18,6 +18,10 @@ pub record Section : Type 0 where
   pub reader : Window
   pub count : ℕ
 
+-- the section whose count was read, by the reader after the count
+abbrev pub section_after : Window → (count : ℕ) → Section
+section_after reader count = record { reader = reader; count = count }
+
 -- The section at a place was read: its count, a u32, and its reader is after that. Or the count has this fault.
 abbrev pub ReadsSection : Place → Result Section Error → Type 0
 ReadsSection p (Ok section) = unsigned_at VarU32 p ≡ Ok (section.count, place section.reader)

@@ -6,7 +6,7 @@ ghost use Rattle.wasm_base.specs.Hints.{NotOutOfMemory, Hints};
 ghost use Rattle.wasm_base.specs.Item.{Means};
 ghost use Rattle.wasm_base.specs.Outcome.{GivesResult};
 ghost use Rattle.wasm_base.specs.Owned.{UnlessMemory};
-ghost use Rattle.wasm_base.specs.Section.{Section, ReadsSection, section_in, Items, NextItem, NextItemIn, EndsAtFault, AtItsOffset, all_items, most_items};
+ghost use Rattle.wasm_base.specs.Section.{Section, ReadsSection, section_after, section_in, Items, NextItem, NextItemIn, EndsAtFault, AtItsOffset, all_items, most_items};
 ghost use Rattle.wasm_base.specs.Window.{place, KeepsWindow, range_of};
 
 use crate::error::{Error, Result};
@@ -106,6 +106,18 @@ impl<'a, T> SectionLimited<'a, T> {
             count,
             item: PhantomData,
         })
+    }
+
+    /// Returns the section of a window whose count was read: the reader is after this count. No item is read.
+    pub fn after_count(reader: BinaryReader<'a>, count: u32) -> Self
+        // Proved: `after_count` is the section with this reader and this count
+        ensures { result ≡ section_after reader.entry count }
+    {
+        SectionLimited {
+            reader,
+            count,
+            item: PhantomData,
+        }
     }
 
     /// Returns the number of items that the section announces, which may be more than it has.

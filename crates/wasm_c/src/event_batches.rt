@@ -1,6 +1,6 @@
 // Many events by one call.
 ghost use Rattle.wasm_plain.specs.EventBatches.{StoresEvents};
-ghost use Rattle.wasm_parser.specs.Stored.{parser_of};
+ghost use Rattle.wasm_frames.specs.Stored.{parser_of};
 
 use wasm_parser::StoredParser;
 use wasm_plain::{PlainEvent, next_events};

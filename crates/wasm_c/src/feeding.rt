@@ -1,5 +1,5 @@
 // A feeder over memory of the caller.
-ghost use Rattle.wasm_parser.specs.ParserState.{initial_state};
+ghost use Rattle.wasm_frames.specs.ParserState.{initial_state};
 ghost use Rattle.wasm_plain.specs.Feeds.{IsFinished, IsNewFeed, PushesPlain, StepsPlain};
 
 use wasm_plain::{PlainEvent, StoredFeed, finish_feed, new_feed, push_to_feed, step_feed};

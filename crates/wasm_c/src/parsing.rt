@@ -1,8 +1,8 @@
 // A parser: each call takes plain numbers and bytes of the caller, and none has a condition.
 ghost use Rattle.std.specs.Prelude.{◌≡◌};
-ghost use Rattle.wasm_parser.specs.ParserState.{initial_state};
+ghost use Rattle.wasm_frames.specs.ParserState.{initial_state};
 ghost use Rattle.wasm_plain.specs.Events.{ParsesPlain};
-ghost use Rattle.wasm_parser.specs.Stored.{parser_of, skipped_of};
+ghost use Rattle.wasm_frames.specs.Stored.{parser_of, skipped_of};
 ghost use Rattle.wasm_plain.specs.Skips.{SkipsPlain};
 ghost use Rattle.wasm_plain.specs.Texts.{SaysFault};
 

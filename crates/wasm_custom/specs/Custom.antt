@@ -10,6 +10,10 @@ pub record Custom : Type 0 where
   pub name : List ℕ
   pub reader : Window
 
+-- the custom section whose name was read, by the reader after the name
+abbrev pub custom_after : (name : List ℕ) → Window → Custom
+custom_after name reader = record { name = name; reader = reader }
+
 -- | a custom section is its name and the window after it [`ReadsCustom`] <Custom Section>
 -- The custom section begins with its name at the window's place, and its reader is after the name.
 pub record IsCustom (w : Window) (section : Custom) : Type 0 where

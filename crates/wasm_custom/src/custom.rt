@@ -50,7 +50,7 @@ impl<'a> Clone for CustomSectionReader<'a> {
 }
 
 impl<'a> CustomSectionReader<'a> {
-    ghost use Rattle.wasm_custom.specs.Custom.{ReadsCustom};
+    ghost use Rattle.wasm_custom.specs.Custom.{ReadsCustom, custom_after};
 
     /// Reads the name, a text of at most 100,000 bytes. The remaining bytes of the window are the data, which is not
     /// read.
@@ -72,6 +72,14 @@ impl<'a> CustomSectionReader<'a> {
     {
         let name = reader.read_string()?;
         Ok(CustomSectionReader { name, reader })
+    }
+
+    /// Returns the custom section of a window whose name was read: the reader is after this name.
+    pub fn after_name(name: &'a str, reader: BinaryReader<'a>) -> Self
+        // Proved: `after_name` is the custom section with this name and this reader
+        ensures { result ≡ custom_after name.now reader.entry }
+    {
+        CustomSectionReader { name, reader }
     }
 
     /// Returns the name of the section.

@@ -7,7 +7,7 @@ use Rattle.wasm_dumper.specs.Checks.{any_faulty, faulty_if, shown_faulty}
 use Rattle.wasm_dumper.specs.Hiding.{DropsPart}
 use Rattle.wasm_dumper.specs.declared.hidden.Hidden.{Hidden}
 use Rattle.wasm_feeder.specs.Passing.{SkipsHere, held_by}
-use Rattle.wasm_parser.specs.SkipNext.{Head}
+use Rattle.wasm_frames.specs.SkipNext.{Head}
 use Rattle.wasm_tree.specs.Found.{either, Finds, FindsNone}
 use Rattle.wasm_dumper.proofs.Checking.{Finding, FindsStep, Seeking, any_more}
 use Rattle.wasm_dumper.proofs.DroppedParts.{not_chosen}

@@ -27,7 +27,7 @@ use Rattle.wasm_items.specs.RecGroups.{rec_group_at, rec_group_parts}
 use Rattle.wasm_items.specs.declared.types.RecGroup.{RecGroup}
 use Rattle.std.proofs.Common.{◌-◌}
 use Rattle.wasm_base.specs.Item.{outcome_map}
-use Rattle.wasm_parser.specs.ParseAnswer.{unread}
+use Rattle.wasm_frames.specs.Frame.{unread}
 use Rattle.wasm_show.specs.Faults.{custom_faulty, no_lists, plainly}
 
 pub plain_reading : (p : Place) (o : Outcome RecGroup) → ReadsAs rec_group_parts rec_group_at p o

@@ -18,8 +18,8 @@ use Rattle.wasm_feeder.specs.Beside.{unseen}
 use Rattle.wasm_feeder.specs.Passing.{SkipsHere, held_by}
 use Rattle.wasm_grammar.specs.Grammar.{final, verdict}
 use Rattle.wasm_grammar.specs.Reading.{code_entry, custom_section, unknown_section}
-use Rattle.wasm_parser.specs.ParserState.{grammar_of}
-use Rattle.wasm_parser.specs.SkipNext.{Head, Skip, items, body, report_with, skip_in}
+use Rattle.wasm_frames.specs.ParserState.{grammar_of}
+use Rattle.wasm_frames.specs.SkipNext.{Head, Skip, items, body, report_with, skip_in}
 use Rattle.wasm_dumper.proofs.Dumping.{Dumping, HasWritten, ShowsStep, Wanting, all, bytes_more, dumped, has_failed, numbers_of, outline_of}
 use Rattle.wasm_dumper.proofs.Dumping.{not_whole, source, whole}
 use Rattle.wasm_dumper.proofs.Numbering.{all_more, events_more, no_numbers}

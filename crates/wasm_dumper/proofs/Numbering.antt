@@ -19,7 +19,9 @@ use Rattle.wasm_dumper.specs.Dump.{ShowsItems, ShowsReport}
 use Rattle.wasm_grammar.specs.Content.{ended}
 use Rattle.wasm_items.specs.Flattened.{NextImport, found_at}
 use Rattle.wasm_items.specs.declared.imports.Import.{Import}
-use Rattle.wasm_parser.specs.ParseAnswer.{BeginsAfterCount, counted_by, is_end, unread}
+use Rattle.wasm_parser.specs.ParseAnswer.{BeginsAfterCount, counted_by}
+use Rattle.wasm_frames.specs.Answer.{is_end}
+use Rattle.wasm_frames.specs.Frame.{unread}
 use Rattle.wasm_parser.specs.declared.payload.Payload.{Payload}
 use Rattle.wasm_parser.specs.declared.payload.Payload.TheVariants.{TypeSection, ImportSection, FunctionSection, TableSection, MemorySection}
 use Rattle.wasm_parser.specs.declared.payload.Payload.TheVariants.{TagSection, GlobalSection, ElementSection, DataSection}

@@ -5,7 +5,7 @@ use Rattle.std.specs.List.{list_any}
 use Rattle.std.specs.Io.KnownBytes.{Consumes}
 use Rattle.wasm_base.specs.declared.error.Error.{Error}
 use Rattle.wasm_grammar.specs.Ids.{import_id}
-use Rattle.wasm_parser.specs.SkipNext.{Head, items, body, report_with}
+use Rattle.wasm_frames.specs.SkipNext.{Head, items, body, report_with}
 use Rattle.wasm_feeder.specs.Passing.{PartEnds, SkipsHere}
 use Rattle.wasm_feeder.specs.declared.feeder.Cursor.{Cursor}
 use Rattle.wasm_feeder.specs.declared.passing.Passing.{Passing}

@@ -4,7 +4,7 @@ ghost use Rattle.wasm_dumper.specs.Chosen.{id_of as id_reported, name_of as name
 ghost use Rattle.wasm_dumper.specs.Hiding.{DropsPart, FailsWithin, HidesIfAny, is_body_head, is_hidden as hides};
 ghost use Rattle.wasm_feeder.specs.Beside.{seen};
 ghost use Rattle.wasm_feeder.specs.Passing.{held_by};
-ghost use Rattle.wasm_parser.specs.SkipNext.{head_is, report_with};
+ghost use Rattle.wasm_frames.specs.SkipNext.{head_is, report_with};
 ghost use Rattle.wasm_text.specs.Calls.{input_failed};
 
 use crate::events::{Only, is_chosen_by_any};

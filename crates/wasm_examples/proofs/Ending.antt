@@ -5,8 +5,9 @@ use Rattle.std.proofs.lemmas.List.{take-append-drop, length-take-le}
 use Rattle.wasm_base.specs.declared.error.Error.{Error}
 use Rattle.wasm_parser.specs.Along.{Along, Came}
 use Rattle.wasm_grammar.specs.Content.{ended}
-use Rattle.wasm_parser.specs.ParseAnswer.{report_of, is_end, ParseAnswer}
-use Rattle.wasm_parser.specs.ParserState.{ParserState, initial_state}
+use Rattle.wasm_parser.specs.ParseAnswer.{report_of, ParseAnswer}
+use Rattle.wasm_frames.specs.Answer.{is_end}
+use Rattle.wasm_frames.specs.ParserState.{ParserState, initial_state}
 use Rattle.wasm_grammar.specs.Reading.{Event, last_event, Reading}
 use Rattle.wasm_parser.specs.declared.payload.Chunk.TheVariants.{NeedMoreData, Parsed}
 use Rattle.wasm_parser.specs.declared.payload.Payload.{Payload}

@@ -5,7 +5,7 @@ use Rattle.wasm_base.specs.declared.error.Error.{Error}
 use Rattle.wasm_parser.specs.Along.{ReadingBegins}
 use Rattle.wasm_grammar.specs.Content.{fault}
 use Rattle.wasm_parser.specs.ParseAll.{Walk, walk_over, NextPayload, event_report}
-use Rattle.wasm_parser.specs.ParserState.{initial_state}
+use Rattle.wasm_frames.specs.ParserState.{initial_state}
 use Rattle.wasm_parser.specs.ParseAnswer.{report_of, ItemsBegin}
 use Rattle.wasm_grammar.specs.Reading.{Report, Event, last_event, stream_end}
 use Rattle.wasm_parser.specs.declared.payload.Payload.{Payload}

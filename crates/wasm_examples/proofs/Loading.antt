@@ -13,7 +13,8 @@ use Rattle.wasm_items.specs.Flattened.{NextImport, found}
 use Rattle.wasm_items.specs.Imports.{ImportParts, import_parts}
 use Rattle.wasm_items.specs.declared.exports.Export.{Export}
 use Rattle.wasm_items.specs.declared.imports.Import.{Import}
-use Rattle.wasm_parser.specs.ParseAnswer.{unread, BeginsAfterCount}
+use Rattle.wasm_frames.specs.Frame.{unread}
+use Rattle.wasm_parser.specs.ParseAnswer.{BeginsAfterCount}
 use Rattle.wasm_parser.proofs.ForCallers.{gives, item_came, fault_came}
 use Rattle.wasm_examples.specs.Folding.{unless_refused, ReadsTo}
 use Rattle.wasm_examples.specs.Outside.{OutsideParts, no_parts, Refused, at_fault, no_such, with_import, with_export, imported, exported}

@@ -1,6 +1,7 @@
 -- Which payloads are the last.
 use Rattle.std.proofs.Common.{◌≡◌, ℕ, false, refl}
-use Rattle.wasm_parser.specs.ParseAnswer.{report_of, is_end}
+use Rattle.wasm_parser.specs.ParseAnswer.{report_of}
+use Rattle.wasm_frames.specs.Answer.{is_end}
 use Rattle.wasm_parser.specs.declared.payload.Payload.{Payload}
 use Rattle.wasm_parser.specs.declared.payload.Payload.TheVariants.{End}
 

@@ -7,7 +7,7 @@ use Rattle.wasm_base.specs.declared.error.Error.{Error}
 use Rattle.wasm_parser.specs.ParseAnswer.{report_of}
 use Rattle.wasm_grammar.specs.Content.{fault}
 use Rattle.wasm_grammar.specs.Reading.{Report, stream_end, Event, Reading}
-use Rattle.wasm_parser.specs.ParserState.{ParserState, initial_state}
+use Rattle.wasm_frames.specs.ParserState.{ParserState, initial_state}
 use Rattle.wasm_parser.specs.ParseAll.{Walk, NextPayload, given_report, event_report, GivesReading, WalksWhole}
 use Rattle.wasm_parser.specs.declared.payload.Payload.{Payload}
 use Rattle.wasm_parser.specs.declared.payload.Payload.TheVariants.{Version, TypeSection, ImportSection, FunctionSection, TableSection}

@@ -8,7 +8,8 @@ use Rattle.wasm_base.specs.FaultAt.{fault_at}
 use Rattle.wasm_parser.specs.Along.{Came}
 use Rattle.wasm_grammar.specs.Content.{ended, fault}
 use Rattle.wasm_parser.specs.GivesNextEvent.{MayBe, IsUndecided}
-use Rattle.wasm_parser.specs.ParseAnswer.{report_of, is_end}
+use Rattle.wasm_parser.specs.ParseAnswer.{report_of}
+use Rattle.wasm_frames.specs.Answer.{is_end}
 use Rattle.wasm_grammar.specs.Reading.{Event, last_event, Reading}
 use Rattle.wasm_parser.specs.declared.payload.Payload.{Payload}
 use Rattle.wasm_parser.proofs.ForCallers.{answers_go_along}

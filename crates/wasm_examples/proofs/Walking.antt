@@ -8,7 +8,7 @@ use Rattle.wasm_parser.specs.Along.{Along, ReadingBegins, Came}
 use Rattle.wasm_grammar.specs.Content.{fault}
 use Rattle.wasm_parser.specs.ParseAll.{Walk, walk_over, consumed_between, GivesAnswer, NextPayload}
 use Rattle.wasm_parser.specs.ParseAnswer.{report_of, ItemsBegin}
-use Rattle.wasm_parser.specs.ParserState.{initial_state}
+use Rattle.wasm_frames.specs.ParserState.{initial_state}
 use Rattle.wasm_grammar.specs.Reading.{Event, last_event, Reading}
 use Rattle.wasm_parser.specs.declared.payload.Chunk.TheVariants.{Parsed}
 use Rattle.wasm_parser.specs.declared.payload.Payload.{Payload}

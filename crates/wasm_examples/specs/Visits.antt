@@ -8,8 +8,9 @@ use Rattle.wasm_base.specs.declared.error.Error.{Error}
 use Rattle.wasm_parser.specs.Along.{Along, ReadsEach}
 use Rattle.wasm_grammar.specs.Content.{ended, fault}
 use Rattle.wasm_parser.specs.GivesNextEvent.{IsUndecided}
-use Rattle.wasm_parser.specs.ParseAnswer.{report_of, is_end}
-use Rattle.wasm_parser.specs.ParserState.{ParserState, grammar_of}
+use Rattle.wasm_parser.specs.ParseAnswer.{report_of}
+use Rattle.wasm_frames.specs.Answer.{is_end}
+use Rattle.wasm_frames.specs.ParserState.{ParserState, grammar_of}
 use Rattle.wasm_grammar.specs.Reading.{Event, last_event}
 use Rattle.wasm_grammar.specs.Waiting.{wants, waiting}
 use Rattle.wasm_parser.specs.declared.payload.Payload.{Payload}

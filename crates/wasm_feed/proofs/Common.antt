@@ -20,7 +20,7 @@ pub use Rattle.wasm_grammar.specs.declared.encoding.Encoding.{Encoding}
 pub use Rattle.wasm_feeder.specs.Lists.{listing_by}
 pub use Rattle.wasm_lines.specs.Listing.{line_of}
 pub use Rattle.wasm_parser.proofs.ForCallers.{answers_go_along}
-pub use Rattle.wasm_parser.specs.SkipNext.{skip_is}
+pub use Rattle.wasm_frames.specs.SkipNext.{skip_is}
 pub use Rattle.wasm_text.proofs.ForCallers.{cut_of}
 pub use Rattle.wasm_text.specs.Calls.{from_to}
 pub use Rattle.wasm_text.specs.Page.{IsCut, PutsBytes}

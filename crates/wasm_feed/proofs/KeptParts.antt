@@ -11,8 +11,9 @@ use Rattle.wasm_feeder.specs.declared.fates.Fate.{Fate}
 use Rattle.wasm_feeder.specs.declared.fates.Fate.TheVariants.{Stays, Goes, End}
 use Rattle.wasm_feeder.specs.declared.feeder.Step.TheVariants.{Parsed}
 use Rattle.wasm_parser.specs.Along.{Along, Came}
-use Rattle.wasm_parser.specs.ParseAnswer.{report_of, is_end}
-use Rattle.wasm_parser.specs.ParserState.{ParserState, initial_state}
+use Rattle.wasm_parser.specs.ParseAnswer.{report_of}
+use Rattle.wasm_frames.specs.Answer.{is_end}
+use Rattle.wasm_frames.specs.ParserState.{ParserState, initial_state}
 use Rattle.wasm_parser.specs.declared.payload.Payload.{Payload}
 use Rattle.wasm_feed.proofs.KeptFrames.{kept_more}
 use Rattle.wasm_feeder.proofs.ForCallers.{stepped}

@@ -17,7 +17,7 @@ use Rattle.wasm_feeder.specs.declared.turns.Ended.{Ended}
 use Rattle.wasm_feeder.specs.declared.turns.Ended.TheVariants.{End}
 use Rattle.wasm_feeder.specs.declared.turns.Turn.{Turn}
 use Rattle.wasm_grammar.specs.Reading.{Report}
-use Rattle.wasm_parser.specs.SkipNext.{Skip, skip_in}
+use Rattle.wasm_frames.specs.SkipNext.{Skip, skip_in}
 use Rattle.wasm_text.specs.Page.{WritesHead}
 use Rattle.wasm_feed.proofs.KeptFrames.{kept_more}
 use Rattle.wasm_feed.proofs.StripLaws.{strips_so}

@@ -2,7 +2,7 @@
 use Rattle.std.specs.Prelude.{◌≡◌, ℕ, false, List, Option, Some, None}
 use Rattle.wasm_lines.specs.Listing.{skip_text}
 use Rattle.wasm_text.specs.declared.digits.Base.TheVariants.{Decimal}
-use Rattle.wasm_parser.specs.SkipNext.{skip_is}
+use Rattle.wasm_frames.specs.SkipNext.{skip_is}
 use Rattle.wasm_feeder.specs.Passing.{SkipsHere, SkipsNothing}
 use Rattle.wasm_feeder.specs.declared.feeder.Cursor.{Cursor}
 use Rattle.wasm_feed.specs.declared.listing.Dropped.{Dropped}

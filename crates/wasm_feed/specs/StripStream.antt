@@ -11,10 +11,11 @@ use Rattle.wasm_text.specs.Calls.{Change, Device, bytes_of, input_failed, output
 use Rattle.wasm_text.specs.Page.{IsCut, PutsBytes, WritesHead}
 use Rattle.wasm_base.specs.Features.{all_features}
 use Rattle.wasm_parser.specs.Along.{Along, ReadingBegins}
-use Rattle.wasm_parser.specs.ParserState.{ParserState}
-use Rattle.wasm_parser.specs.SkipNext.{Skip, SkipsPart}
+use Rattle.wasm_frames.specs.ParserState.{ParserState}
+use Rattle.wasm_frames.specs.SkipNext.{Skip, SkipsPart}
 use Rattle.wasm_text.specs.declared.devices.ListError.{ListError}
-use Rattle.wasm_parser.specs.ParseAnswer.{report_of, is_end}
+use Rattle.wasm_parser.specs.ParseAnswer.{report_of}
+use Rattle.wasm_frames.specs.Answer.{is_end}
 use Rattle.wasm_feeder.specs.Beside.{seen, lending, FillsAlike}
 use Rattle.wasm_feeder.specs.Fates.{head_stays}
 use Rattle.wasm_feeder.specs.Feed.{Feed}

@@ -4,7 +4,7 @@ ghost use Rattle.wasm_text.specs.Calls.{change_of, device_of, input_failed, outp
 ghost use Rattle.wasm_text.specs.Page.{WritesOut};
 ghost use Rattle.wasm_lines.specs.Listing.{line_of, skip_text};
 ghost use Rattle.wasm_text.specs.declared.digits.Base.TheVariants.{Decimal};
-ghost use Rattle.wasm_parser.specs.SkipNext.{skip_is};
+ghost use Rattle.wasm_frames.specs.SkipNext.{skip_is};
 ghost use Rattle.wasm_feeder.specs.Beside.{beside, lending};
 ghost use Rattle.wasm_feeder.specs.Cursors.{feed_of};
 ghost use Rattle.wasm_feeder.specs.Progress.{ReadsOn};

@@ -18,8 +18,9 @@ pub use Rattle.wasm_grammar.specs.Waiting.{enough}
 unfoldable pub use Rattle.wasm_grammar.specs.Waiting.{waiting}
 pub use Rattle.wasm_parser.proofs.ForCallers.{answers_go_along}
 pub use Rattle.wasm_parser.specs.Along.{Came, is_last, SaysTheSame, ReadingBegins}
-pub use Rattle.wasm_parser.specs.ParseAnswer.{report_of, is_end, ParseAnswer, IsRequest}
-pub use Rattle.wasm_parser.specs.ParserState.{ParserState, grammar_of}
+pub use Rattle.wasm_parser.specs.ParseAnswer.{report_of, ParseAnswer, IsRequest}
+pub use Rattle.wasm_frames.specs.Answer.{is_end}
+pub use Rattle.wasm_frames.specs.ParserState.{ParserState, grammar_of}
 pub use Rattle.wasm_parser.specs.declared.payload.Payload.{Payload}
 pub use Rattle.wasm_text.specs.Page.{IsCut, PutsBytes, WritesHead}
 pub use Rattle.wasm_text.specs.declared.devices.ListError.{ListError}

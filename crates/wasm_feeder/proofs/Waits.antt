@@ -6,7 +6,8 @@ use Rattle.std.proofs.lemmas.List.{drop_all}
 use Rattle.wasm_feeder.specs.FeedersLaws.{WaitsUndecided, FeedersWait}
 use Rattle.wasm_grammar.specs.Grammar.{header_grammar}
 use Rattle.wasm_grammar.specs.Waiting.{wants}
-use Rattle.wasm_parser.specs.ParseAnswer.{refuses, said}
+use Rattle.wasm_frames.specs.Answer.{refuses}
+use Rattle.wasm_parser.specs.ParseAnswer.{said}
 use Rattle.wasm_feeder.proofs.Stepping.{asked, ends}
 
 -- before the first byte

@@ -6,7 +6,7 @@ use Rattle.wasm_base.specs.declared.error.Error.{Error}
 use Rattle.wasm_grammar.specs.Waiting.{enough, waiting}
 use Rattle.wasm_parser.specs.Along.{is_last}
 use Rattle.wasm_parser.specs.ParseAnswer.{ParseAnswer}
-use Rattle.wasm_parser.specs.ParserState.{ParserState, grammar_of}
+use Rattle.wasm_frames.specs.ParserState.{ParserState, grammar_of}
 use Rattle.wasm_parser.specs.declared.payload.Chunk.{Chunk}
 use Rattle.wasm_feeder.specs.Cursors.{feed_of}
 use Rattle.wasm_feeder.specs.Feed.{Feed, pushed, finished, end_of}

@@ -3,8 +3,8 @@ use Rattle.std.specs.Prelude.{◌≡◌, ℕ, Bool, true, false, ◌&&◌, ◌||
 use Rattle.std.specs.Borrow.{Bor}
 use Rattle.std.specs.List.{list_any}
 use Rattle.wasm_grammar.specs.Reading.{Report, custom_section}
-use Rattle.wasm_parser.specs.ParseAnswer.{is_end}
-use Rattle.wasm_parser.specs.SkipNext.{Head, custom}
+use Rattle.wasm_frames.specs.Answer.{is_end}
+use Rattle.wasm_frames.specs.SkipNext.{Head, custom}
 use Rattle.wasm_feeder.specs.declared.fates.Fate.{Fate}
 use Rattle.wasm_feeder.specs.declared.fates.Fate.TheVariants.{Stays, Goes, End}
 use Rattle.wasm_feeder.specs.declared.fates.Keep.{Keep}

@@ -4,7 +4,7 @@ use Rattle.wasm_base.specs.FaultAt.{FaultAt, fault_at, at_offset}
 use Rattle.wasm_base.specs.Owned.{out_of_memory}
 use Rattle.wasm_base.specs.declared.error.Error.{Error}
 use Rattle.wasm_base.specs.declared.fault.Fault.TheVariants.{OffsetRange}
-use Rattle.wasm_parser.specs.ParserState.{ParserState, initial_state}
+use Rattle.wasm_frames.specs.ParserState.{ParserState, initial_state}
 
 -- | a feeder that is passed chunks: where its parser is, what it holds and stores, what a push and a step make of it;
 --   what holds for every feeder [`pushed`, `RefusesPush`, `Step.Steps`, `GivesStep`, `Cursors.feed_of`,

@@ -7,8 +7,9 @@ use Rattle.wasm_base.specs.declared.error.Error.{Error}
 use Rattle.wasm_base.specs.declared.fault.Fault.TheVariants.{OffsetRange}
 use Rattle.wasm_parser.specs.Along.{Along, is_last, SaysTheSame}
 use Rattle.wasm_parser.specs.GivesNextEvent.{IsUndecided}
-use Rattle.wasm_parser.specs.ParseAnswer.{report_of, is_end, refuses, said, state_after_answer}
-use Rattle.wasm_parser.specs.ParserState.{grammar_of}
+use Rattle.wasm_parser.specs.ParseAnswer.{report_of, said, state_after_answer}
+use Rattle.wasm_frames.specs.Answer.{is_end, refuses}
+use Rattle.wasm_frames.specs.ParserState.{grammar_of}
 use Rattle.wasm_grammar.specs.Reading.{Event}
 use Rattle.wasm_grammar.specs.Waiting.{enough, wants, waiting}
 use Rattle.wasm_parser.specs.declared.payload.Payload.{Payload}

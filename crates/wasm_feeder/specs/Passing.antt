@@ -8,7 +8,7 @@ use Rattle.wasm_base.specs.declared.fault.Fault.TheVariants.{UnexpectedEof}
 use Rattle.wasm_text.specs.Page.{IsCut, PutsBytes, WritesHead}
 use Rattle.wasm_text.specs.declared.devices.ListError.{ListError}
 use Rattle.wasm_text.specs.declared.devices.ListError.TheVariants.{Input}
-use Rattle.wasm_parser.specs.SkipNext.{Head, Skip, SkipsPart, skip_of}
+use Rattle.wasm_frames.specs.SkipNext.{Head, Skip, SkipsPart, skip_of}
 use Rattle.wasm_feeder.specs.Beside.{seen, unseen}
 use Rattle.wasm_feeder.specs.declared.feeder.Cursor.{Cursor}
 use Rattle.wasm_feeder.specs.declared.passing.Passing.{Passing}

@@ -3,7 +3,7 @@ use Rattle.std.specs.Prelude.{◌≡◌, ℕ, Bool, true, false, List, [], ◌++
 use Rattle.wasm_base.specs.declared.error.Error.{Error}
 use Rattle.wasm_parser.specs.Along.{GoesAlong}
 use Rattle.wasm_parser.specs.ParseAnswer.{ParseAnswer, state_after_answer}
-use Rattle.wasm_parser.specs.ParserState.{ParserState}
+use Rattle.wasm_frames.specs.ParserState.{ParserState}
 use Rattle.wasm_grammar.specs.Reading.{Event}
 use Rattle.wasm_parser.specs.declared.payload.Chunk.{Chunk}
 use Rattle.wasm_parser.specs.declared.payload.Chunk.TheVariants as chunk

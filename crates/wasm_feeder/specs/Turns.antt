@@ -3,7 +3,8 @@ use Rattle.std.specs.Prelude.{ℕ, List, [], Result, Ok, Err, if◌then◌else�
 use Rattle.wasm_base.specs.FaultAt.{fault_at}
 use Rattle.wasm_base.specs.declared.error.Error.{Error}
 use Rattle.wasm_grammar.specs.Content.{fault}
-use Rattle.wasm_parser.specs.ParseAnswer.{report_of, is_end}
+use Rattle.wasm_parser.specs.ParseAnswer.{report_of}
+use Rattle.wasm_frames.specs.Answer.{is_end}
 use Rattle.wasm_grammar.specs.Reading.{Report, stream_end}
 use Rattle.wasm_feeder.specs.declared.feeder.Step.{Step}
 use Rattle.wasm_feeder.specs.declared.feeder.Step.TheVariants.{NeedMoreData, Parsed}

@@ -2,7 +2,7 @@
 ghost use Rattle.std.specs.Prelude.{◌≡◌};
 ghost use Rattle.wasm_feeder.specs.Fates.{IsFateOf, custom_fate, custom_stays, head_stays, is_among as is_one_of, others_stay, stays_by};
 ghost use Rattle.wasm_parser.specs.ParseAnswer.{report_of};
-ghost use Rattle.wasm_parser.specs.SkipNext.{head_is};
+ghost use Rattle.wasm_frames.specs.SkipNext.{head_is};
 
 use wasm_parser::{PartHead, Payload};
 

@@ -4,7 +4,7 @@ ghost use Rattle.wasm_base.specs.FaultAt.{fault_at};
 ghost use Rattle.wasm_base.specs.Features.{feature_bits};
 ghost use Rattle.wasm_base.specs.Owned.{out_of_memory};
 ghost use Rattle.wasm_parser.specs.ParseAnswer.{ParseAnswer};
-ghost use Rattle.wasm_parser.specs.SkipNext.{SkipsNext, skip_is, skip_of};
+ghost use Rattle.wasm_frames.specs.SkipNext.{SkipsNext, skip_is, skip_of};
 ghost use Rattle.wasm_feeder.specs.Beside.{MayCome, StepsOver};
 ghost use Rattle.wasm_feeder.specs.Cursors.{feed_of, finished_cursor};
 ghost use Rattle.wasm_feeder.specs.Feed.{empty_feed, new_feed, pushed, finished, RefusesPush};

@@ -1,7 +1,7 @@
 -- The line of a part that was skipped is that of its event.
 use Rattle.std.proofs.Common.{◌≡◌, Option, Some, None, ap}
 use Rattle.wasm_grammar.specs.Reading.{Report, custom_section, counted, unknown_section, code_entry}
-use Rattle.wasm_parser.specs.SkipNext.{Skip, skip_in}
+use Rattle.wasm_frames.specs.SkipNext.{Skip, skip_in}
 use Rattle.wasm_lines.specs.Listing.{report_text, skip_text}
 use Rattle.wasm_text.specs.declared.digits.Base.{Base}
 

@@ -7,7 +7,7 @@ use Rattle.wasm_grammar.specs.Reading.{Report, version, counted, start_section, 
 use Rattle.wasm_grammar.specs.Reading.{code_entry, custom_section, unknown_section, stream_end}
 use Rattle.wasm_grammar.specs.declared.encoding.Encoding.{Encoding}
 use Rattle.wasm_grammar.specs.declared.encoding.Encoding.TheVariants.{Module, Component}
-use Rattle.wasm_parser.specs.SkipNext.{Head, Skip, custom, items, unknown, body}
+use Rattle.wasm_frames.specs.SkipNext.{Head, Skip, custom, items, unknown, body}
 use Rattle.wasm_text.specs.Offsets.{offset_text}
 use Rattle.wasm_text.specs.declared.digits.Base.{Base}
 use Rattle.wasm_text.specs.declared.digits.Base.TheVariants.{Decimal}

@@ -2,7 +2,7 @@
 ghost use Rattle.std.specs.List.{list_any};
 ghost use Rattle.std.specs.Prelude.{◌≡◌, ◌≤◌, ◌+◌, ◌++◌, codes, false, length, nat_eq, take};
 ghost use Rattle.wasm_parser.specs.ParseAnswer.{report_of};
-ghost use Rattle.wasm_parser.specs.SkipNext.{skip_is};
+ghost use Rattle.wasm_frames.specs.SkipNext.{skip_is};
 ghost use Rattle.wasm_base.specs.FaultAt.{fault_at};
 ghost use Rattle.wasm_grammar.specs.Content.{fault};
 ghost use Rattle.wasm_grammar.specs.Reading.{code_start, stream_end};
@@ -363,7 +363,7 @@ pub struct SkippedLine<'a, 'b> {
 }
 
 impl ShortText for SkippedLine<'_, '_> {
-    ghost use Rattle.wasm_parser.specs.SkipNext.{skip_is};
+    ghost use Rattle.wasm_frames.specs.SkipNext.{skip_is};
     ghost use Rattle.wasm_lines.specs.Listing.{skip_text};
 
     ghost text = { λ line. skip_text line.base (skip_is line.part.now) };

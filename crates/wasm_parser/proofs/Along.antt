@@ -14,9 +14,10 @@ use Rattle.wasm_grammar.proofs.endings.Waiting.{Asks}
 use Rattle.wasm_grammar.proofs.readings.NextEvents.{MoreEvents, events_later}
 use Rattle.wasm_grammar.proofs.readings.Readings.{Onward, onward}
 use Rattle.wasm_parser.proofs.AnswerBounds.{asks_never, consumes}
-use Rattle.wasm_parser.proofs.AnswerTables.{Answers, AsksFor, AnswersOn, as_table, answer_past, goes_on}
-use Rattle.wasm_parser.proofs.Parsing.{decided_tile}
-use Rattle.wasm_parser.proofs.StateLaws.{grammar_same, nothing_passed, state_goes_on, state_goes_on-tiles}
+use Rattle.wasm_parser.proofs.AnswerTables.{Answers, AsksFor, AnswersOn, as_table, answer_past}
+use Rattle.wasm_frames.proofs.Results.{goes_on}
+use Rattle.wasm_frames.proofs.Results.{decided_tile}
+use Rattle.wasm_frames.proofs.StateLaws.{grammar_same, nothing_passed, state_goes_on, state_goes_on-tiles}
 
 -- ---- where nothing is read
 

@@ -9,8 +9,9 @@ use Rattle.wasm_parser.specs.ParserLaws.{AnswersLast}
 use Rattle.wasm_grammar.proofs.endings.Waiting.{waiting-more}
 use Rattle.wasm_grammar.proofs.parts.Guarded.{least_header, least_inside}
 use Rattle.wasm_grammar.proofs.parts.Verdicts.{Cut, verdict-cut}
-use Rattle.wasm_parser.proofs.AnswerTables.{IsFaultAlone, Answers, AsksFor, AnswersOn, as_table, goes_on}
-use Rattle.wasm_parser.proofs.Bounds.{parser_fault_lies}
+use Rattle.wasm_parser.proofs.AnswerTables.{IsFaultAlone, Answers, AsksFor, AnswersOn, as_table}
+use Rattle.wasm_frames.proofs.Results.{goes_on}
+use Rattle.wasm_frames.proofs.Bounds.{parser_fault_lies}
 use Rattle.wasm_parser.proofs.Parsing.{answered}
 
 -- ---- tiles

@@ -4,7 +4,9 @@ use Rattle.wasm_parser.proofs.Common.{nat_lt, ltb-false, FaultAt, fault_at, at_o
 use Rattle.wasm_parser.proofs.Common.{final, Shape, verdict, stream_end, tile_report, Waiting, wants, waiting, IsPayload, is_end, said}
 use Rattle.wasm_parser.proofs.Common.{refuses, ParseAnswer, ParserState, grammar_of, ended_state, state_after_tile, Chunk, NeedMoreData}
 use Rattle.wasm_parser.proofs.Common.{Parsed}
-use Rattle.wasm_parser.specs.ParseAnswer.{Answer, answer_by, answer_in_time, answer_to, state_after_answer, AnswerBegins}
+use Rattle.wasm_frames.specs.Answer.{Answer, answer_by, answer_in_time, answer_to}
+use Rattle.wasm_parser.specs.ParseAnswer.{state_after_answer, AnswerBegins}
+use Rattle.wasm_frames.proofs.Results.{goes_on}
 
 -- ---- the tables
 
@@ -41,11 +43,6 @@ pub record AnswersAsTable (old : ParserState) (eof : Bool) (rest : List ℕ) (re
   pub past_the_top : 2 ^ 64 ≤ old.offset + length rest → IsFaultAlone (at_offset OffsetRange old.offset) old result new
   pub within : old.offset + length rest < 2 ^ 64 → AnswersOn eof (waiting (grammar_of old) rest) old
       (verdict (grammar_of old) rest) result new
-
--- ---- what is reported of a tile is no end
-
-pub goes_on : (features from to : ℕ) (shape : Shape) → is_end (tile_report features from to shape) ≡ false
-goes_on features from to shape = grind arith
 
 -- ---- from the equation to the table
 

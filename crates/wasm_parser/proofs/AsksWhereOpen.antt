@@ -6,7 +6,7 @@ use Rattle.wasm_grammar.specs.Undecided.{TwoStreams}
 use Rattle.wasm_parser.specs.AsksWhereOpen.{AsksWhereOpen}
 use Rattle.wasm_grammar.proofs.endings.Undecided.{two_streams}
 use Rattle.wasm_parser.proofs.AnswerTables.{Answers, AsksFor, AnswersOn, as_table}
-use Rattle.wasm_parser.proofs.StateLaws.{grammar_same}
+use Rattle.wasm_frames.proofs.StateLaws.{grammar_same}
 
 -- a result is no request
 no_request : (p new : ParserState) (v : Verdict) (r : Result Chunk Error) → Answers p v r new → IsRequest r → ⊥

@@ -50,15 +50,14 @@ pub use Rattle.wasm_grammar.specs.Waiting.{Waiting, enough, wants, asked_at_sect
 unfoldable pub use Rattle.wasm_grammar.specs.Waiting.{waiting}
 pub use Rattle.wasm_parser.specs.Along.{Along}
 pub use Rattle.wasm_parser.specs.GivesNextEvent.{MayBe}
-pub use Rattle.wasm_parser.specs.ParseAnswer.{IsPayload, report_of, is_end, said, refuses, ParseAnswer, IsRequest, MatchesGrammar}
-pub use Rattle.wasm_parser.specs.ParseAnswer.{ReadsByGrammar, counted_by, BeginsAfterCount, MatchesVerdict}
-pub use Rattle.wasm_parser.specs.ParserState.{ParserState, initial_state, grammar_of, known_context, ended_state, IsStateAfter}
-pub use Rattle.wasm_parser.specs.ParserState.{is_at_section, greatest, skipped_state}
-pub use Rattle.wasm_parser.specs.ReadsPart.{is_miscounted_by, is_lacking}
-unfoldable pub use Rattle.wasm_parser.specs.ReadsPart.{content_at}
-pub use Rattle.wasm_parser.specs.SkipNext.{Skip, SkipsPart, skip_in}
-pub use Rattle.wasm_parser.specs.StateAfter.{state_after_tile}
-pub use Rattle.wasm_parser.specs.Stored.{numbers_of}
+pub use Rattle.wasm_parser.specs.ParseAnswer.{IsPayload, report_of, said, ParseAnswer, IsRequest}
+pub use Rattle.wasm_frames.specs.Answer.{is_end, refuses}
+pub use Rattle.wasm_parser.specs.ParseAnswer.{counted_by, BeginsAfterCount}
+pub use Rattle.wasm_frames.specs.ParserState.{ParserState, initial_state, grammar_of, known_context, ended_state, IsStateAfter}
+pub use Rattle.wasm_frames.specs.ParserState.{is_at_section, greatest, skipped_state}
+pub use Rattle.wasm_frames.specs.SkipNext.{Skip, SkipsPart, skip_in}
+pub use Rattle.wasm_frames.specs.StateAfter.{state_after_tile}
+pub use Rattle.wasm_frames.specs.Stored.{numbers_of}
 pub use Rattle.wasm_parser.specs.declared.payload.Chunk.{Chunk}
 pub use Rattle.wasm_parser.specs.declared.payload.Chunk.TheVariants.{NeedMoreData, Parsed}
 pub use Rattle.wasm_parser.specs.declared.payload.Payload.{Payload}

@@ -10,7 +10,7 @@ use Rattle.wasm_parser.specs.GivesNextEvent.{GivesEvent, GivesNextEvent}
 use Rattle.wasm_parser.specs.ParserLaws.{SomeNextEvent}
 use Rattle.wasm_grammar.proofs.readings.NextEvents.{event_at, comes_next, next_there}
 use Rattle.wasm_parser.proofs.AnswerTables.{Answers, AnswersOn, as_table}
-use Rattle.wasm_parser.proofs.StateLaws.{grammar_same, state_goes_on}
+use Rattle.wasm_frames.proofs.StateLaws.{grammar_same, state_goes_on}
 
 -- the same by a parser that is there
 next_is : (p : ParserState) (start : ℕ) (prefix rest : List ℕ) (s : IsStateAfter p start prefix) (v : Verdict) → verdict (grammar_of p) rest

@@ -4,7 +4,7 @@ use Rattle.wasm_parser.proofs.Common.{BeginsAfterCount}
 use Rattle.wasm_base.proofs.Runs.{runs_give_items, runs_give_owned_items}
 use Rattle.wasm_base.specs.Section.{all_items, GivesItems, NextItem, NextItemIn}
 use Rattle.wasm_items.specs.RecGroups.{rec_group_parts, rec_group_at}
-use Rattle.wasm_parser.specs.ParseAnswer.{unread}
+use Rattle.wasm_frames.specs.Frame.{unread}
 use Rattle.wasm_parser.specs.PayloadItems.{NextOf, GivesWindow, GivesTypes}
 
 abbrev window_in : Report → Window → Window

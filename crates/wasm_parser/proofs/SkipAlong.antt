@@ -2,7 +2,8 @@
 use Rattle.wasm_parser.proofs.Common.{◌≡◌, ℕ, ◌+◌, ◌<◌, List, [], ◌∷◌, ◌++◌, length, refl, sym, ap, subst, subst₂, ◌∙◌, arith}
 use Rattle.wasm_parser.proofs.Common.{length-append, append_assoc, Some, at_offset, UnexpectedEof, fault, Event, tile_report, last_event}
 use Rattle.wasm_parser.proofs.Common.{Reading, Along, ParserState, Skip, SkipsPart, skip_in}
-use Rattle.wasm_parser.specs.SkipNext.{PassesTile, SkipCame, SkippingGoesAlong}
+use Rattle.wasm_frames.specs.SkipNext.{PassesTile}
+use Rattle.wasm_parser.specs.SkipAlong.{SkipCame, SkippingGoesAlong}
 use Rattle.wasm_parser.proofs.Along.{pushed, event_here, offset_is, along_tile, reading_here}
 
 module _ (start features : ℕ) (given : List ℕ) (p : ParserState) (first others : List ℕ) (events : List Event) (skip : Skip) where

@@ -8,7 +8,7 @@ use Rattle.std.proofs.lemmas.List.{append_cancel_left}
 use Rattle.std.proofs.lemmas.List.Elements.{All-append}
 use Rattle.wasm_grammar.specs.Sections.{ReportsBody}
 use Rattle.wasm_grammar.specs.Tiling.{is_start, encoding_of, Faultless}
-use Rattle.wasm_parser.specs.ParserState.{ends_in_code}
+use Rattle.wasm_frames.specs.ParserState.{ends_in_code}
 use Rattle.wasm_parser.specs.Skipped.{CompletesCode, SkipsSection, LeavesOut, SkippingLeavesOutBodies}
 use Rattle.wasm_grammar.proofs.parts.Guarded.{tile_least}
 use Rattle.wasm_grammar.proofs.parts.Placed.{IsBody}

@@ -15,8 +15,9 @@ use Rattle.wasm_parser.specs.ParseAll.{event_report, EndsAt, GivesReading, Walks
 use Rattle.wasm_grammar.proofs.accepted.Accepting.{accepted_ends}
 use Rattle.wasm_grammar.proofs.frames.SectionPlaces.{sections_tile}
 use Rattle.wasm_grammar.proofs.readings.Readings.{reads_same, reading_same}
-use Rattle.wasm_parser.proofs.AnswerTables.{Answers, goes_on, as_table}
-use Rattle.wasm_parser.proofs.StateLaws.{grammar_same, nothing_passed, state_goes_on, state_goes_on-tiles}
+use Rattle.wasm_parser.proofs.AnswerTables.{Answers, as_table}
+use Rattle.wasm_frames.proofs.Results.{goes_on}
+use Rattle.wasm_frames.proofs.StateLaws.{grammar_same, nothing_passed, state_goes_on, state_goes_on-tiles}
 
 -- ---- one step
 

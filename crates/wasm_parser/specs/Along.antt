@@ -8,10 +8,11 @@ use Rattle.wasm_base.specs.declared.error.Error.{Error}
 use Rattle.wasm_grammar.specs.Content.{Ending, fault, ended}
 use Rattle.wasm_grammar.specs.EventRanges.{consumed_by}
 use Rattle.wasm_parser.specs.GivesNextEvent.{MayBe, IsUndecided}
-use Rattle.wasm_parser.specs.ParseAnswer.{IsPayload, ItemsBegin, report_of, is_end, said, refuses, state_after_answer}
+use Rattle.wasm_parser.specs.ParseAnswer.{IsPayload, ItemsBegin, report_of, said, state_after_answer}
+use Rattle.wasm_frames.specs.Answer.{is_end, refuses}
 use Rattle.wasm_parser.specs.ParseAnswer.{Consumes}
 use Rattle.wasm_parser.specs.ParseAnswer.{ParseAnswer}
-use Rattle.wasm_parser.specs.ParserState.{ParserState, IsStateAfter, initial_state, grammar_of}
+use Rattle.wasm_frames.specs.ParserState.{ParserState, IsStateAfter, initial_state, grammar_of}
 use Rattle.wasm_grammar.specs.Reading.{Event, events_of, last_event, Reading}
 use Rattle.wasm_grammar.specs.Waiting.{wants, waiting}
 use Rattle.wasm_parser.specs.declared.payload.Chunk.{Chunk}

@@ -2,7 +2,7 @@
 use Rattle.std.specs.Prelude.{◌≡◌, ◌↔◌, ℕ, ◌+◌, ◌<◌, ◌^◌, Bool, false, List, ◌++◌, length, Result}
 use Rattle.wasm_base.specs.declared.error.Error.{Error}
 use Rattle.wasm_parser.specs.ParseAnswer.{IsRequest}
-use Rattle.wasm_parser.specs.ParserState.{ParserState, IsStateAfter}
+use Rattle.wasm_frames.specs.ParserState.{ParserState, IsStateAfter}
 use Rattle.wasm_grammar.specs.Reading.{Stream}
 use Rattle.wasm_parser.specs.declared.payload.Chunk.{Chunk}
 use Rattle.wasm_grammar.specs.Undecided.{TwoStreams}

@@ -5,7 +5,7 @@ use Rattle.wasm_base.specs.declared.error.Error.{Error}
 use Rattle.wasm_parser.specs.ParseAnswer.{IsPayload}
 use Rattle.wasm_grammar.specs.Content.{fault}
 use Rattle.wasm_grammar.specs.Reading.{Event, stream_end, Reading}
-use Rattle.wasm_parser.specs.ParserState.{ParserState, IsStateAfter, grammar_of}
+use Rattle.wasm_frames.specs.ParserState.{ParserState, IsStateAfter, grammar_of}
 use Rattle.wasm_grammar.specs.Waiting.{wants, waiting}
 use Rattle.wasm_parser.specs.declared.payload.Chunk.{Chunk}
 use Rattle.wasm_parser.specs.declared.payload.Chunk.TheVariants.{NeedMoreData, Parsed}

@@ -1,14 +1,9 @@
 pub mod Along
 pub mod AsksWhereOpen
-pub mod Checkpoint
 pub mod GivesNextEvent
 pub mod ParseAll
 pub mod ParseAnswer
 pub mod ParserLaws
-pub mod ParserState
 pub mod PayloadItems
-pub mod ReadsPart
-pub mod SkipNext
+pub mod SkipAlong
 pub mod Skipped
-pub mod StateAfter
-pub mod Stored

@@ -6,11 +6,12 @@ use Rattle.std.specs.Iterator.{Drains}
 use Rattle.wasm_base.specs.FaultAt.{fault_at}
 use Rattle.wasm_base.specs.declared.error.Error.{Error}
 use Rattle.wasm_grammar.specs.Accepted.{IsAccepted}
-use Rattle.wasm_parser.specs.ParseAnswer.{report_of, is_end, ItemsBegin, ParseAnswer}
+use Rattle.wasm_parser.specs.ParseAnswer.{report_of, ItemsBegin, ParseAnswer}
+use Rattle.wasm_frames.specs.Answer.{is_end}
 use Rattle.wasm_grammar.specs.Content.{ended, fault}
 use Rattle.wasm_grammar.specs.Reading.{Report, stream_end, Event, Reading}
 use Rattle.wasm_grammar.specs.Sections.{section_of, TiledBySections}
-use Rattle.wasm_parser.specs.ParserState.{ParserState, initial_state}
+use Rattle.wasm_frames.specs.ParserState.{ParserState, initial_state}
 use Rattle.wasm_parser.specs.declared.payload.Chunk.TheVariants.{Parsed}
 use Rattle.wasm_parser.specs.declared.payload.Payload.{Payload}
 

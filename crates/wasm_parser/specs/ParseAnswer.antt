@@ -1,22 +1,23 @@
 -- What one call of `parse` returns.
-use Rattle.std.specs.Prelude.{◌≡◌, ℕ, ◌+◌, ◌≤◌, ◌^◌, Bool, true, false, List, length, nat_eq, nat_lt, Option, Some}
-use Rattle.std.specs.Prelude.{None}
-use Rattle.std.specs.Prelude.{IfSome, Result, Ok, Err, MatchResult, if◌then◌else◌}
-use Rattle.wasm_base.specs.FaultAt.{FaultAt, fault_at, hint_of, at_offset}
+use Rattle.std.specs.Prelude.{◌≡◌, ℕ, ◌+◌, ◌≤◌, Bool, List, length, nat_eq, Option, Some, None, IfSome, Result, Ok, Err}
+use Rattle.std.specs.Prelude.{if◌then◌else◌}
+use Rattle.wasm_base.specs.FaultAt.{fault_at}
 use Rattle.wasm_base.specs.Number.{unsigned_at}
 use Rattle.wasm_base.specs.Section.{Section}
-use Rattle.wasm_base.specs.Window.{Window, Place, place, advanced, range_of}
+use Rattle.wasm_base.specs.Window.{Window, place, range_of}
 use Rattle.wasm_base.specs.declared.error.Error.{Error}
-use Rattle.wasm_base.specs.declared.fault.Fault.TheVariants.{OffsetRange}
 use Rattle.wasm_base.specs.declared.fault.NumberKind.TheVariants.{VarU32}
-use Rattle.wasm_grammar.specs.Content.{fault, ended}
-use Rattle.wasm_grammar.specs.Grammar.{Tile, Verdict, tile, final, Grammar, verdict}
+use Rattle.wasm_frames.specs.Answer.{Answer, asks, reports, refuses, answer_to, content_of, is_end}
+use Rattle.wasm_frames.specs.Frame.{unread}
+use Rattle.wasm_frames.specs.ParserState.{ParserState, ended_state}
+use Rattle.wasm_frames.specs.StateAfter.{state_after}
+use Rattle.wasm_frames.specs.declared.next.NextFrame.{NextFrame}
+use Rattle.wasm_grammar.specs.Content.{ended}
+use Rattle.wasm_grammar.specs.Ids.{data_id, element_id, export_id, function_id, global_id, import_id, memory_id}
+use Rattle.wasm_grammar.specs.Ids.{table_id, tag_id, type_id}
 use Rattle.wasm_grammar.specs.Reading.{Report, version, counted, start_section, data_count_section, code_start}
-use Rattle.wasm_grammar.specs.Reading.{code_entry, custom_section, unknown_section, stream_end, tile_report}
+use Rattle.wasm_grammar.specs.Reading.{code_entry, custom_section, unknown_section, stream_end}
 use Rattle.wasm_items.specs.Windows.{body_window}
-use Rattle.wasm_parser.specs.ParserState.{ParserState, grammar_of, ended_state}
-use Rattle.wasm_parser.specs.StateAfter.{state_after, state_after_tile}
-use Rattle.wasm_grammar.specs.Waiting.{Waiting, enough, wants, asked, waiting}
 use Rattle.wasm_parser.specs.declared.payload.CountedSection.{CountedSection}
 use Rattle.wasm_parser.specs.declared.payload.Payload.{Payload}
 use Rattle.wasm_parser.specs.declared.payload.Payload.TheVariants.{Version, TypeSection, ImportSection, FunctionSection}
@@ -27,12 +28,6 @@ use Rattle.wasm_parser.specs.declared.payload.Payload.TheVariants.{CodeSectionSt
 use Rattle.wasm_parser.specs.declared.payload.Payload.TheVariants.{UnknownSection, End}
 use Rattle.wasm_parser.specs.declared.payload.Chunk.{Chunk}
 use Rattle.wasm_parser.specs.declared.payload.Chunk.TheVariants.{NeedMoreData, Parsed}
-use Rattle.wasm_grammar.specs.Ids.{data_id, element_id, export_id, function_id, global_id, import_id, memory_id}
-use Rattle.wasm_grammar.specs.Ids.{table_id, tag_id, type_id}
-
--- the window that a reader reads, from its first byte
-abbrev pub unread : Window → Window
-unread w = record w { position = 0 }
 
 -- a section with this id that begins with a count
 abbrev pub counted_by : ℕ → Section → Report
@@ -93,37 +88,6 @@ ItemsBegin payload = IfSome (items_in payload) (λ x. BeginsAfterCount x.1)
 abbrev pub IsPayload : Report → Payload → Type 0
 IsPayload report payload = (report_of payload ≡ report) × ItemsBegin payload
 
--- The result of a read is what the verdict says: the payload of the tile, with the reader after it, or the fault. At
--- the end of the stream nothing is read. `start` is the offset of the tile.
-abbrev pub MatchesVerdict : (start : ℕ) (before : Place) → Verdict → Result Payload Error → (after : Place) → Type 0
-MatchesVerdict start before (tile t) result after = MatchResult result
-    (λ payload. (after ≡ advanced (length t.bytes) before)
-    × IsPayload (tile_report before.features start (before.offset + length t.bytes) t.shape) payload)
-    (λ e. ⊥)
-MatchesVerdict start before (final (fault f)) result after = MatchResult result (λ payload. ⊥) (λ e. fault_at e ≡ f)
-MatchesVerdict start before (final (ended offset)) result after = ⊥
-
--- The hint of a fault is the number of bytes to request if the prefix does not decide. Any other fault has no hint.
-abbrev pub HintsAs : Waiting → Result Payload Error → Type 0
-HintsAs w (Ok payload) = Unit {0}
-HintsAs w (Err e) = hint_of e ≡ asked w
-
--- The result of a read is the verdict of this grammar over the remaining bytes, and its hint is as `waiting` says.
-abbrev pub MatchesGrammar : (start : ℕ) (before : Place) → Grammar → Result Payload Error → (after : Place) → Type 0
-MatchesGrammar start before g result after =
-    MatchesVerdict start before (verdict g before.rest) result after × HintsAs (waiting g before.rest) result
-
--- | what was read at a place is what may come there by a grammar, a tile or a fault, and the reader is after the tile
---   [`MatchesVerdict`]
--- The result of a read is the tile or the fault that this grammar assigns, and the reader is after the tile.
-abbrev pub ReadsByGrammar : Grammar → (before : Place) → Result Payload Error → (after : Place) → Type 0
-ReadsByGrammar g before result after = (start : ℕ) → MatchesGrammar start before g result after
-
--- whether the end is reported
-abbrev pub is_end : Report → Bool
-is_end (stream_end (ended offset)) = true
-is_end other = false
-
 -- | what `parse` consumes: bytes of the input, and some except at the end
 -- A payload consumes bytes that are there. The end consumes none, and any other payload at least one.
 abbrev pub Consumes : List ℕ → Result Chunk Error → Type 0
@@ -132,43 +96,11 @@ Consumes rest (Ok (Parsed consumed payload)) = (consumed ≤ length rest)
 Consumes rest (Ok (NeedMoreData hint)) = Unit {0}
 Consumes rest (Err e) = Unit {0}
 
--- The parser is after the tile of this payload, which ends at this offset.
-abbrev pub Advances : ParserState → Payload → (to : ℕ) → ParserState → Type 0
-Advances old payload to new = (rest : List ℕ) (t : Tile) → verdict (grammar_of old) rest ≡ tile t → to
-    ≡ old.offset + length t.bytes
-    → IsPayload (tile_report old.features old.offset to t.shape) payload → new ≡ state_after_tile old t
-
--- the content of a result: a request with its hint; a report, and the number of bytes that it consumes; or a fault
-pub data Answer : Type 0 where
-  asks : (hint : ℕ) → Answer
-  reports : Report → (consumed : ℕ) → Answer
-  refuses : FaultAt → Answer
-
+-- the content of a result
 abbrev pub said : Result Chunk Error → Answer
 said (Ok (NeedMoreData hint)) = asks hint
 said (Ok (Parsed consumed payload)) = reports (report_of payload) consumed
 said (Err e) = refuses (fault_at e)
-
--- the content of a result with this verdict
-abbrev pub answer_by : ParserState → Verdict → Answer
-answer_by p (tile t) =
-    reports (tile_report p.features p.offset (p.offset + length t.bytes) t.shape) (length t.bytes)
-answer_by p (final (ended offset)) = reports (stream_end (ended offset)) 0
-answer_by p (final (fault f)) = refuses f
-
--- If more bytes may come and those so far do not decide, the result is a request.
-abbrev pub answer_in_time : (eof : Bool) → Waiting → Answer → Answer
-answer_in_time true w answer = answer
-answer_in_time false enough answer = answer
-answer_in_time false (wants need hint) answer = asks hint
-
--- the content of the result for these bytes, which are the rest of the stream if `eof`, and otherwise may be a part of
--- it
-abbrev pub answer_to : ParserState → (eof : Bool) → (rest : List ℕ) → Answer
-answer_to p eof rest =
-    if nat_lt (p.offset + length rest) (2 ^ 64) then
-    answer_in_time eof (waiting (grammar_of p) rest) (answer_by p (verdict (grammar_of p) rest)) else
-    refuses (at_offset OffsetRange p.offset)
 
 -- | the parser after a result; the last result; results that say the same [`Along.is_last`, `SaysTheSame`]
 -- the state after a call: after the reported part, or at the end; unchanged after a request or a fault
@@ -184,8 +116,13 @@ AnswerBegins (Ok (NeedMoreData hint)) = Unit {0}
 AnswerBegins (Ok (Parsed consumed payload)) = ItemsBegin payload
 AnswerBegins (Err e) = Unit {0}
 
+-- The result has the content of what a parser of frames returned.
+pub record IsChunk (next : NextFrame) (result : Result Chunk Error) : Type 0 where
+  pub says : said result ≡ content_of next
+  pub items : AnswerBegins result
+
 -- | what `parse` returns for all the rest of a stream, or for bytes after which more may come, by what the parser
---   knows [`answer_to`, `answer_by`, `answer_in_time`, `state_after_answer`; `HintsAs` for each part]
+--   knows [`state_after_answer`; `wasm_frames`: `Answer.answer_to`, `answer_by`, `answer_in_time`]
 -- The result of a call, and the state after it, by the state before it.
 pub record ParseAnswer (old : ParserState) (eof : Bool) (rest : List ℕ) (result : Result Chunk Error)
     (new : ParserState) : Type 0 where

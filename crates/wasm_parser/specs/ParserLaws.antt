@@ -8,8 +8,8 @@ use Rattle.wasm_grammar.specs.NextEvent.{NextEvent}
 use Rattle.wasm_parser.specs.ParseAnswer.{IsRequest, ParseAnswer}
 use Rattle.wasm_parser.specs.declared.payload.Chunk.{Chunk}
 use Rattle.wasm_base.specs.declared.error.Error.{Error}
-use Rattle.wasm_parser.specs.ParserState.{ParserState, IsStateAfter, grammar_of}
-use Rattle.wasm_parser.specs.StateAfter.{state_after_tile}
+use Rattle.wasm_frames.specs.ParserState.{ParserState, IsStateAfter, grammar_of}
+use Rattle.wasm_frames.specs.StateAfter.{state_after_tile}
 use Rattle.wasm_grammar.specs.Tiling.{grammar}
 
 -- what may come after a prefix of a stream depends on what a parser knows that is after that prefix; and where it

@@ -3,7 +3,7 @@ use Rattle.std.specs.Prelude.{◌≡◌, ℕ, List, [], ◌++◌, length, IsSome
 use Rattle.wasm_parser.specs.Along.{Along}
 use Rattle.wasm_grammar.specs.EventRanges.{consumed_by}
 use Rattle.wasm_grammar.specs.Grammar.{Tile}
-use Rattle.wasm_parser.specs.ParserState.{ParserState, IsStateAfter, skippable_of, skipped_state}
+use Rattle.wasm_frames.specs.ParserState.{ParserState, IsStateAfter, skippable_of, skipped_state}
 use Rattle.wasm_grammar.specs.Reading.{Event}
 use Rattle.wasm_grammar.specs.Sections.{ReportsBody}
 use Rattle.wasm_grammar.specs.Tiling.{bytes_of, bodies_left, Faultless}
@@ -15,7 +15,7 @@ pub record CompletesCode (start : ℕ) (prefix bodies : List ℕ) : Type 0 where
   pub whole : bytes_of tiles ≡ prefix ++ bodies
   pub no_body_left : bodies_left tiles ≡ 0
 
--- | skipping the rest of a code section [`ParserState.skippable_of`, `skipped_state`]
+-- | skipping the rest of a code section [`SkipsSection`; `wasm_frames`: `ParserState.skippable_of`, `skipped_state`]
 -- Wherever the parser is in a code section, it is then after as many bytes as the section has left, whatever they are,
 -- as long as some such bytes complete it.
 abbrev pub SkipsSection : ParserState → ParserState → Type 0

@@ -4,7 +4,7 @@ ghost use Rattle.wasm_parser.specs.ParserLaws.{AnswersLast, EndConsumesAll, Pars
 ghost use Rattle.wasm_parser.specs.PayloadItems.{GivesTypes, GivesImports, GivesFunctions, GivesTables};
 ghost use Rattle.wasm_parser.specs.PayloadItems.{GivesMemories, GivesTags, GivesGlobals, GivesExports};
 ghost use Rattle.wasm_parser.specs.PayloadItems.{GivesElements, GivesData, NoOthersAreCounted};
-ghost use Rattle.wasm_parser.specs.SkipNext.{SkippingGoesAlong};
+ghost use Rattle.wasm_parser.specs.SkipAlong.{SkippingGoesAlong};
 ghost use Rattle.wasm_parser.specs.Skipped.{SkippingLeavesOutBodies};
 ghost use Rattle.wasm_grammar.specs.Undecided.{EnoughIsDecided, OneComesNext, ShortIsUndecided};
 

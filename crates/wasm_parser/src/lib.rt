@@ -13,21 +13,16 @@
 //! ```
 #![tactic(auto)]
 
-mod checkpoint;
-mod contents;
-mod header;
 pub mod laws;
 mod parse_all;
 mod parser;
 mod payload;
-mod state;
 mod stored;
 
-pub use checkpoint::Checkpoint;
 pub use parse_all::ParseAll;
-pub use parser::{Parser, PartHead, SkippedPart};
+pub use parser::Parser;
 pub use payload::{Chunk, CountedSection, Payload, SectionParts};
-pub use stored::StoredParser;
+pub use stored::ParsePayloads;
 // Not re-exported: what only authors of item types need, such as `SkipItem`, `read_inner` and `read_list`.
 pub use wasm_base::_MAX_WASM_TABLE_SIZE;
 pub use wasm_base::Allocation;
@@ -132,6 +127,13 @@ pub use wasm_custom::SymbolInfo;
 pub use wasm_custom::SymbolInfoMap;
 pub use wasm_custom::TargetFeature;
 pub use wasm_custom::TargetFeaturesSectionReader;
+pub use wasm_frames::Checkpoint;
+pub use wasm_frames::Frame;
+pub use wasm_frames::FrameKind;
+pub use wasm_frames::NextFrame;
+pub use wasm_frames::PartHead;
+pub use wasm_frames::SkippedPart;
+pub use wasm_frames::StoredParser;
 pub use wasm_grammar::Encoding;
 pub use wasm_items::CompositeType;
 pub use wasm_items::ConstExpr;

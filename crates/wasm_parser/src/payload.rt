@@ -1,13 +1,15 @@
 // What a parser says of a stream.
 ghost use Rattle.std.specs.Prelude.{◌≡◌};
-ghost use Rattle.wasm_parser.specs.ParseAnswer.{counted_in, report_of};
+ghost use Rattle.wasm_frames.specs.Frame.{HoldsCount, counted_in as counted_frame};
+ghost use Rattle.wasm_parser.specs.ParseAnswer.{IsChunk, IsPayload, counted_in, report_of};
 ghost use Rattle.wasm_grammar.specs.Reading.{counted};
 ghost use Rattle.wasm_grammar.specs.Sections.{parts_of, section_of};
 
 use std::fmt;
 use std::ops::Range;
-use wasm_base::SectionLimited;
+use wasm_base::{BinaryReader, Result, SectionLimited};
 use wasm_custom::CustomSectionReader;
+use wasm_frames::{Frame, FrameKind, NextFrame};
 use wasm_grammar::{
     CODE_SECTION, CUSTOM_SECTION, DATA_COUNT_SECTION, DATA_SECTION, ELEMENT_SECTION,
     EXPORT_SECTION, Encoding, FUNCTION_SECTION, GLOBAL_SECTION, IMPORT_SECTION, MEMORY_SECTION,
@@ -150,6 +152,84 @@ fn counted_section<T>(id: u8, section: &SectionLimited<'_, T>) -> Option<Counted
         count: section.count(),
         range: section.range(),
     })
+}
+
+/// Returns the payload of what a parser of frames returned, or the request or error that it returned.
+#[inline(always)]
+pub(crate) fn chunk_of<'a>(next: NextFrame<'a>) -> Result<Chunk<'a>>
+    ensures { IsChunk next.entry result }
+{
+    match next {
+        NextFrame::Parsed { frame, consumed } => Ok(Chunk::Parsed {
+            consumed,
+            payload: Payload::from(frame),
+        }),
+        NextFrame::NeedMoreData(hint) => Ok(Chunk::NeedMoreData(hint)),
+        NextFrame::Fault(error) => Err(error),
+    }
+}
+
+// The section with this id, count and window.
+fn counted_payload<'a>(id: u8, count: u32, reader: BinaryReader<'a>) -> Payload<'a>
+    requires { HoldsCount id count reader }
+    ensures { IsPayload (counted_frame id count reader.entry) result }
+{
+    match id {
+        TYPE_SECTION => Payload::TypeSection(SectionLimited::after_count(reader, count)),
+        IMPORT_SECTION => Payload::ImportSection(SectionLimited::after_count(reader, count)),
+        FUNCTION_SECTION => Payload::FunctionSection(SectionLimited::after_count(reader, count)),
+        TABLE_SECTION => Payload::TableSection(SectionLimited::after_count(reader, count)),
+        MEMORY_SECTION => Payload::MemorySection(SectionLimited::after_count(reader, count)),
+        GLOBAL_SECTION => Payload::GlobalSection(SectionLimited::after_count(reader, count)),
+        EXPORT_SECTION => Payload::ExportSection(SectionLimited::after_count(reader, count)),
+        ELEMENT_SECTION => Payload::ElementSection(SectionLimited::after_count(reader, count)),
+        DATA_SECTION => Payload::DataSection(SectionLimited::after_count(reader, count)),
+        TAG_SECTION => Payload::TagSection(SectionLimited::after_count(reader, count)),
+        _ => unreachable!(),
+    }
+}
+
+/// Returns the payload of a frame: the same part, with readers of its items.
+impl<'a> From<Frame<'a>> for Payload<'a> {
+    // Proved: a payload made of a frame reports what the frame does, and its items begin after its
+    //   count [`from_gives` of `Payload`]
+    ghost from_gives = { λ frame payload. IsPayload frame payload };
+
+    #[inline(always)]
+    fn from(frame: Frame<'a>) -> Self {
+        match frame.kind() {
+            FrameKind::Body => Payload::CodeSectionEntry(FunctionBody::new(frame.into_reader())),
+            FrameKind::Custom => Payload::CustomSection(CustomSectionReader::after_name(
+                frame.name(),
+                frame.into_reader(),
+            )),
+            FrameKind::Unknown => Payload::UnknownSection {
+                id: frame.id(),
+                range: frame.range(),
+                contents: frame.into_reader().remaining_buffer(),
+            },
+            FrameKind::Items => counted_payload(frame.id(), frame.count(), frame.into_reader()),
+            FrameKind::Header => Payload::Version {
+                encoding: frame.encoding(),
+                num: frame.version(),
+                range: frame.range(),
+            },
+            FrameKind::Start => Payload::StartSection {
+                func: frame.count(),
+                range: frame.range(),
+            },
+            FrameKind::DataCount => Payload::DataCountSection {
+                count: frame.count(),
+                range: frame.range(),
+            },
+            FrameKind::CodeStart => Payload::CodeSectionStart {
+                count: frame.count(),
+                size: frame.size(),
+                unchecked_range: frame.range(),
+            },
+            FrameKind::End => Payload::End(frame.range().start),
+        }
+    }
 }
 
 impl<'a> Payload<'a> {

@@ -1,113 +1,15 @@
-// A parser as numbers, in the memory of a program in another language.
-ghost use Rattle.std.specs.Prelude.{◌≡◌, ◌+◌, ◌<◌, ◌^◌};
+// Payloads from a parser as numbers.
+ghost use Rattle.wasm_frames.specs.Stored.{parser_of};
 ghost use Rattle.wasm_parser.specs.AsksWhereOpen.{AsksWhereOpen};
 ghost use Rattle.wasm_parser.specs.GivesNextEvent.{GivesNextEvent};
 ghost use Rattle.wasm_parser.specs.ParseAnswer.{AsksForSome, Consumes, FaultsWithin, IsUnchanged, ParseAnswer};
-ghost use Rattle.wasm_parser.specs.Stored.{count_from, encoding_from, is_set, numbers_of, parser_of, skipped_of};
 
-use crate::payload::Chunk;
+use crate::payload::{Chunk, chunk_of};
 use wasm_base::Result;
-use wasm_grammar::Encoding;
+use wasm_frames::StoredParser;
 
-/// A parser of a stream. Any 48 bytes are a valid parser; 48 zero bytes are a new one without features.
-///
-/// It keeps no pointer: copy it to save a position, and to return to it later. Treat the fields other than `offset` as
-/// private.
-#[repr(C)]
-#[derive(Clone, Copy, Debug)]
-pub struct StoredParser {
-    /// The offset of the next part of the stream, in bytes from the start of the stream.
-    pub offset: u64,
-    /// The features that the stream is read with, as bits.
-    pub features: u32,
-    /// The count of the function section, if `has_functions` is not 0.
-    pub functions: u32,
-    /// The count of the code section, if `has_codes` is not 0.
-    pub codes: u32,
-    /// The count of the data section, if `has_datas` is not 0.
-    pub datas: u32,
-    /// The count of the data count section, if `has_data_counts` is not 0.
-    pub data_counts: u32,
-    /// The number of remaining bodies of a code section.
-    pub bodies: u32,
-    /// The number of remaining bytes of a code section.
-    pub code_bytes: u32,
-    /// 0 before the header, otherwise not 0.
-    pub is_begun: u8,
-    /// 0 in a module, not 0 in a component.
-    pub is_component: u8,
-    /// The greatest rank of the sections so far, which must ascend, or 0.
-    pub rank: u8,
-    /// Not 0 after a function section.
-    pub has_functions: u8,
-    /// Not 0 after a code section.
-    pub has_codes: u8,
-    /// Not 0 after a data section.
-    pub has_datas: u8,
-    /// Not 0 after a data count section.
-    pub has_data_counts: u8,
-    /// Not 0 if the last event was the start of a code section, or a body.
-    pub in_code: u8,
-}
-
-/// Returns the byte that says whether something holds.
-pub(crate) fn byte_of(holds: bool) -> u8
-    ensures { is_set result ≡ holds }
-{
-    if holds { 1 } else { 0 }
-}
-
-/// Returns the byte of an encoding.
-pub(crate) fn encoding_byte(encoding: Encoding) -> u8
-    ensures { encoding_from result ≡ encoding }
-{
-    match encoding {
-        Encoding::Module => 0,
-        Encoding::Component => 1,
-    }
-}
-
-/// Returns the encoding that a byte stands for.
-pub(crate) fn encoding_of(is_component: u8) -> Encoding
-    ensures { result ≡ encoding_from is_component }
-{
-    if is_component == 0 {
-        Encoding::Module
-    } else {
-        Encoding::Component
-    }
-}
-
-/// Returns a count as a byte that says whether it is known, and its number or 0.
-pub(crate) fn count_parts(count: Option<u32>) -> (u8, u32)
-    ensures { count_from result.0 result.1 ≡ count }
-{
-    match count {
-        Some(count) => (1, count),
-        None => (0, 0),
-    }
-}
-
-/// Returns the count of such a byte and number.
-pub(crate) fn count_of(has: u8, count: u32) -> Option<u32>
-    ensures { result ≡ count_from has count }
-{
-    if has == 0 { None } else { Some(count) }
-}
-
-impl StoredParser {
-    // Limits the remaining bytes of a code section to the offsets of a stream.
-    #[inline(always)]
-    pub(crate) fn settle(&mut self)
-        ensures is { numbers_of self.new ≡ parser_of self.old }
-        ensures fits { self.new.offset + self.new.code_bytes < 2 ^ 64 }
-    {
-        let (left, room) = (self.code_bytes, u64::MAX - self.offset);
-        if u64::from(left) > room {
-            self.code_bytes = room as u32;
-        }
-    }
-
+/// What a parser as numbers returns, as payloads.
+pub trait ParsePayloads {
     /// Returns the next part of the stream, or requests more bytes, as `Parser::parse` does.
     ///
     /// Any numbers are a parser. The remaining bytes of a code section are limited to the offsets of a stream.
@@ -123,8 +25,12 @@ impl StoredParser {
     /// assert!(rt; matches!(parser.parse(&stream[8..], true)?, Chunk::Parsed { consumed: 4, .. }));
     /// assert_eq!(rt; parser.offset, 12);
     /// ```
+    fn parse<'a>(&mut self, bytes: &'a [u8], eof: bool) -> Result<Chunk<'a>>;
+}
+
+impl ParsePayloads for StoredParser {
     #[inline(always)]
-    pub fn parse<'a>(&mut self, bytes: &'a [u8], eof: bool) -> Result<Chunk<'a>>
+    fn parse<'a>(&mut self, bytes: &'a [u8], eof: bool) -> Result<Chunk<'a>>
         // Proved: every bit pattern of the 48 bytes of a stored parser is a parser, and each parser
         //   can be stored [`parse` of `StoredParser` and `stored` of `Parser` in `wasm_parser`
         //   (`parser_of`)]
@@ -137,34 +43,6 @@ impl StoredParser {
         ensures faults { FaultsWithin (parser_of self.old) bytes.now result }
         ensures unchanged { IsUnchanged (parser_of self.old) result (parser_of self.new) }
     {
-        self.settle();
-        self.answer(bytes, eof)
-    }
-
-    /// Skips the remaining bytes of a code section, and returns their number.
-    ///
-    /// Outside a code section it returns 0, and leaves the parser unchanged.
-    ///
-    /// ```rattle
-    /// let stream: &[u8] = b"\0asm\x01\0\0\0\x03\x02\x01\0\x0a\x04\x01\x02\0\x0b";
-    /// let mut parser = Parser::new(0).stored();
-    /// assert_eq!(rt; parser.skip_section(), 0);
-    /// for part in [0..8, 8..12, 12..15] {
-    ///     parser.parse(&stream[part], false)?;
-    /// }
-    /// assert_eq!(rt; (parser.skip_section(), parser.offset), (3, 18));
-    /// ```
-    pub fn skip_section(&mut self) -> u32
-        ensures { skipped_of (parser_of self.old) ≡ (result, parser_of self.new) }
-    {
-        if self.in_code == 0 {
-            return 0;
-        }
-        self.settle();
-        let left = self.code_bytes;
-        self.offset += u64::from(left);
-        self.bodies = 0;
-        self.code_bytes = 0;
-        left
+        chunk_of(self.next(bytes, eof))
     }
 }

@@ -3,7 +3,7 @@ use Rattle.std.proofs.Common.{◌≡◌, ◌∙◌, ◌+◌, ◌-◌, ◌<◌, �
 use Rattle.std.proofs.Common.{nat_eq, refl, sym, ap, arith, append_assoc, drop-drop, subst}
 use Rattle.std.proofs.Math.ListN.{set}
 use Rattle.std.proofs.lemmas.List.{append-nil, drop-set-lt, length-set, take_more_set}
-use Rattle.wasm_parser.specs.ParserState.{ParserState}
+use Rattle.wasm_frames.specs.ParserState.{ParserState}
 use Rattle.wasm_plain.specs.EventBatches.{GoesOn, ParsesEach, StoresEvents}
 use Rattle.wasm_plain.specs.Events.{ParsesPlain}
 use Rattle.wasm_plain.specs.declared.events.PlainEvent.{PlainEvent}

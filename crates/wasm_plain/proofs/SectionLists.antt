@@ -12,7 +12,7 @@ use Rattle.wasm_base.specs.Section.{Items, NextItem, ReadsEnd, ReadsItem}
 use Rattle.wasm_base.specs.Window.{KeepsWindow, Place, Window, place}
 use Rattle.wasm_base.specs.declared.error.Error.{Error}
 use Rattle.wasm_base.specs.declared.fault.Fault.TheVariants.{SizeMismatch}
-use Rattle.wasm_parser.specs.Stored.{is_set}
+use Rattle.wasm_frames.specs.Stored.{is_set}
 use Rattle.wasm_plain.specs.Cursors.{after_item, end_by, ended, item_by, item_of, moved_to, next_by, place_of, start_of}
 use Rattle.wasm_plain.specs.SectionLists.{IsBeside, ListsAreSections, ReturnsTheSame, listed}
 use Rattle.wasm_plain.specs.Spans.{read_over}

@@ -10,7 +10,7 @@ use Rattle.wasm_base.specs.declared.fault.Fault.TheVariants.{IndirectOrder, Name
 use Rattle.wasm_base.specs.declared.fault.Fault.TheVariants.{OffsetRange, SizeMismatch}
 use Rattle.wasm_plain.specs.Names.{plain_indirect, plain_naming, plain_subsection}
 use Rattle.wasm_plain.specs.Spans.{place_over, read_over}
-use Rattle.wasm_parser.specs.Stored.{is_set}
+use Rattle.wasm_frames.specs.Stored.{is_set}
 use Rattle.wasm_plain.specs.declared.cursors.StoredItems.{StoredItems}
 use Rattle.wasm_plain.specs.declared.faults.PlainFault.{PlainFault}
 use Rattle.wasm_plain.specs.declared.names.PlainIndirectNaming.{PlainIndirectNaming}

@@ -1,7 +1,7 @@
 -- Events that one call stores.
 use Rattle.std.specs.Prelude.{◌≡◌, ℕ, zero, suc, ◌+◌, ◌-◌, ◌^◌, ◌≤◌, min, Bool, true, false, nat_eq}
 use Rattle.std.specs.Prelude.{List, [], ◌∷◌, length, take, drop}
-use Rattle.wasm_parser.specs.ParserState.{ParserState}
+use Rattle.wasm_frames.specs.ParserState.{ParserState}
 use Rattle.wasm_plain.specs.Events.{ParsesPlain}
 use Rattle.wasm_plain.specs.declared.events.PlainEvent.{PlainEvent}
 

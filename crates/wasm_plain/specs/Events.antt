@@ -14,7 +14,7 @@ use Rattle.wasm_parser.specs.AsksWhereOpen.{AsksWhereOpen}
 use Rattle.wasm_parser.specs.GivesNextEvent.{GivesNextEvent}
 use Rattle.wasm_parser.specs.ParseAnswer.{ParseAnswer, AsksForSome, Consumes, FaultsWithin, counted_by, items_in}
 use Rattle.wasm_parser.specs.ParseAnswer.{report_of}
-use Rattle.wasm_parser.specs.ParserState.{ParserState}
+use Rattle.wasm_frames.specs.ParserState.{ParserState}
 use Rattle.wasm_parser.specs.declared.payload.Chunk.{Chunk}
 use Rattle.wasm_parser.specs.declared.payload.Payload.{Payload}
 use Rattle.wasm_parser.specs.declared.payload.Chunk.TheVariants.{NeedMoreData, Parsed}

@@ -1,8 +1,8 @@
 -- A feeder over memory of the caller.
 use Rattle.std.specs.Prelude.{◌≡◌, ℕ, ◌+◌, ◌<◌, Bool, true, false, List, ◌++◌, length, take, drop}
-use Rattle.wasm_parser.specs.ParserState.{ParserState}
+use Rattle.wasm_frames.specs.ParserState.{ParserState}
 use Rattle.wasm_plain.specs.Events.{ParsesPlain}
-use Rattle.wasm_parser.specs.Stored.{is_set, parser_of}
+use Rattle.wasm_frames.specs.Stored.{is_set, parser_of}
 use Rattle.wasm_plain.specs.declared.events.PlainEvent.{PlainEvent}
 use Rattle.wasm_plain.specs.declared.feeding.StoredFeed.{StoredFeed}
 

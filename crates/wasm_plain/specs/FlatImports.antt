@@ -5,7 +5,7 @@ use Rattle.wasm_base.specs.Name.{name_limit, text_at}
 use Rattle.wasm_items.specs.Imports.{bundle_at, item_at}
 use Rattle.wasm_plain.specs.Cursors.{item_by, next_by, start_of, starting}
 use Rattle.wasm_plain.specs.Imports.{no_import, plain_import, plain_import_item, plain_named}
-use Rattle.wasm_parser.specs.Stored.{is_set}
+use Rattle.wasm_frames.specs.Stored.{is_set}
 use Rattle.wasm_plain.specs.declared.cursors.StoredItems.{StoredItems}
 use Rattle.wasm_plain.specs.declared.events.PlainEvent.{PlainEvent}
 use Rattle.wasm_plain.specs.declared.flat_imports.StoredImports.{StoredImports}

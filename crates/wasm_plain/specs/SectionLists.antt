@@ -5,7 +5,7 @@ use Rattle.wasm_base.specs.Outcome.{Outcome}
 use Rattle.wasm_base.specs.Section.{Items, NextItem}
 use Rattle.wasm_base.specs.Window.{Place, place}
 use Rattle.wasm_base.specs.declared.error.Error.{Error}
-use Rattle.wasm_parser.specs.Stored.{is_set}
+use Rattle.wasm_frames.specs.Stored.{is_set}
 use Rattle.wasm_plain.specs.Cursors.{next_by, place_of, start_of}
 use Rattle.wasm_plain.specs.declared.cursors.StoredItems.{StoredItems}
 

@@ -1,7 +1,7 @@
 -- Skipping a section or body by its first fields.
 use Rattle.std.specs.Prelude.{◌≡◌, ℕ, List, length, Option, Some, None}
-use Rattle.wasm_parser.specs.ParserState.{ParserState}
-use Rattle.wasm_parser.specs.SkipNext.{Skip, SkipsNext, report_with, skip_of, state_after_skip}
+use Rattle.wasm_frames.specs.ParserState.{ParserState}
+use Rattle.wasm_frames.specs.SkipNext.{Skip, SkipsNext, report_with, skip_of, state_after_skip}
 use Rattle.wasm_plain.specs.Events.{placed_event, report_event, request_event}
 use Rattle.wasm_plain.specs.declared.events.PlainEvent.{PlainEvent}
 

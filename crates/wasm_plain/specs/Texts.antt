@@ -5,7 +5,7 @@ use Rattle.wasm_base.specs.Message.{message_of}
 use Rattle.wasm_base.specs.declared.error.Error.{Error}
 use Rattle.wasm_base.specs.declared.fault.Fault.{Fault}
 use Rattle.wasm_parser.specs.ParseAnswer.{ParseAnswer}
-use Rattle.wasm_parser.specs.ParserState.{ParserState}
+use Rattle.wasm_frames.specs.ParserState.{ParserState}
 use Rattle.wasm_parser.specs.declared.payload.Chunk.{Chunk}
 use Rattle.wasm_plain.specs.Faults.{fault_code}
 

@@ -1,6 +1,6 @@
 // A feeder over memory of the caller.
 ghost use Rattle.std.specs.Prelude.{◌≡◌, ◌+◌, ◌++◌, ◌≤◌, ◌↔◌, IsTrue, drop, take, length};
-ghost use Rattle.wasm_parser.specs.ParserState.{initial_state};
+ghost use Rattle.wasm_frames.specs.ParserState.{initial_state};
 ghost use Rattle.wasm_plain.specs.Feeds.{IsFinished, IsNewFeed, PushesPlain, StepsPlain};
 
 use crate::events::{PlainEvent, SILENT};

@@ -1,8 +1,8 @@
 // A parser for programs in C: each call takes plain numbers and bytes of the caller, and none has a condition.
 ghost use Rattle.std.specs.Prelude.{◌≡◌};
-ghost use Rattle.wasm_parser.specs.ParserState.{initial_state};
+ghost use Rattle.wasm_frames.specs.ParserState.{initial_state};
 ghost use Rattle.wasm_plain.specs.Events.{ParsesPlain};
-ghost use Rattle.wasm_parser.specs.Stored.{parser_of};
+ghost use Rattle.wasm_frames.specs.Stored.{parser_of};
 ghost use Rattle.wasm_plain.specs.Texts.{Says, SaysFault};
 
 use crate::events::{
@@ -11,7 +11,7 @@ use crate::events::{
 };
 use crate::text::write_text;
 use bitflags::Flags;
-use wasm_parser::{Chunk, Parser, Payload, Result, StoredParser, WasmFeatures};
+use wasm_parser::{Chunk, ParsePayloads, Parser, Payload, Result, StoredParser, WasmFeatures};
 
 /// Returns a parser of a stream that begins at this offset, with these features.
 ///

@@ -1,7 +1,7 @@
 // Skipping a section or body by its first fields.
 ghost use Rattle.std.specs.Prelude.{◌≡◌, length};
-ghost use Rattle.wasm_parser.specs.SkipNext.{skip_is};
-ghost use Rattle.wasm_parser.specs.Stored.{parser_of};
+ghost use Rattle.wasm_frames.specs.SkipNext.{skip_is};
+ghost use Rattle.wasm_frames.specs.Stored.{parser_of};
 ghost use Rattle.wasm_plain.specs.Skips.{SkipsPlain, skip_event};
 
 use crate::events::{Origin, PlainEvent, event_between, request_event};

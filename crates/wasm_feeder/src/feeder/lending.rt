@@ -2,7 +2,7 @@
 ghost use Rattle.std.specs.Prelude.{◌≡◌, ◌+◌, ◌-◌, ◌<◌, ◌≤◌, ◌^◌, true, false, [], drop, length, vec_len, vec_capacity, IfOk, OnErr};
 ghost use Rattle.wasm_feeder.specs.Beside.{beside, lending, seen, AreEnough, Gathers, MakesReady};
 ghost use Rattle.wasm_grammar.specs.Waiting.{enough, waiting};
-ghost use Rattle.wasm_parser.specs.ParserState.{grammar_of};
+ghost use Rattle.wasm_frames.specs.ParserState.{grammar_of};
 ghost use Rattle.wasm_feeder.specs.Cursors.{feed_of};
 
 use super::Cursor;

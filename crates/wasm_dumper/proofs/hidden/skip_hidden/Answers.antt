@@ -1,5 +1,5 @@
 use Rattle.wasm_dumper.proofs.Common.{refl, sym, ◌∙◌, arith}
-use Rattle.wasm_parser.specs.SkipNext.{skip_is}
+use Rattle.wasm_frames.specs.SkipNext.{skip_is}
 use Rattle.wasm_dumper.proofs.hidden.skip_hidden.Goals as goal
 
 pub returns : goal.returns

@@ -1,4 +1,4 @@
-use Rattle.wasm_parser.proofs.StateLaws.{grammar_same, state_goes_on}
+use Rattle.wasm_frames.proofs.StateLaws.{grammar_same, state_goes_on}
 use Rattle.wasm_parser.proofs.laws.parser_suffices.Goals as goal
 
 pub returns : goal.returns

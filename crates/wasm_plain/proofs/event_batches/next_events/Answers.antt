@@ -3,7 +3,7 @@ use Rattle.std.proofs.lemmas.Bool.{ne_eqb}
 use Rattle.std.proofs.lemmas.List.{get_or-set_same, length-set}
 use Rattle.wasm_plain.specs.Events.{silent}
 use Rattle.wasm_plain.specs.declared.events.PlainEvent.{PlainEvent}
-use Rattle.wasm_parser.specs.Stored.{parser_of}
+use Rattle.wasm_frames.specs.Stored.{parser_of}
 use Rattle.wasm_plain.proofs.EventBatches.{ends_at, goes_on_at, is_full}
 use Rattle.wasm_plain.proofs.event_batches.next_events.Goals as goal
 

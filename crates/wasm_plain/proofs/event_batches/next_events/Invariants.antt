@@ -1,5 +1,5 @@
 use Rattle.std.proofs.Common.{◌-◌, ◌≤◌, length}
-use Rattle.wasm_parser.specs.Stored.{parser_of}
+use Rattle.wasm_frames.specs.Stored.{parser_of}
 use Rattle.wasm_plain.proofs.EventBatches.{Stored}
 use Rattle.wasm_plain.proofs.event_batches.next_events.Given as goal
 

@@ -2,19 +2,26 @@ use Rattle.wasm_parser.proofs.Common.{sym}
 use Rattle.wasm_parser.proofs.AnswerBounds.{consumes, asks_for_some, faults_within}
 use Rattle.wasm_parser.proofs.AsksWhereOpen.{asks_where_open}
 use Rattle.wasm_parser.proofs.Following.{gives_next}
+use Rattle.wasm_parser.proofs.Parsing.{of_frame}
 use Rattle.wasm_parser.proofs.parser.Parser.parse.Goals as goal
 
+pub returns-clause-answers : goal.returns-clause-answers
+returns-clause-answers c = rw (sym c.self.view_is) (of_frame _ _ _ _ _ _ c.next_settled.ensures.answers c.chunk_of.ensures)
+
 pub returns-clause-consumes : goal.returns-clause-consumes
-returns-clause-consumes c = consumes _ _ _ _ _ c.answer.ensures.answers
+returns-clause-consumes c = consumes _ _ _ _ _ (of_frame _ _ _ _ _ _ c.next_settled.ensures.answers c.chunk_of.ensures)
 
 pub returns-clause-gives : goal.returns-clause-gives
-returns-clause-gives c = rw (sym c.self.view_is) (gives_next _ _ _ _ _ c.answer.ensures.answers)
+returns-clause-gives c =
+    rw (sym c.self.view_is) (gives_next _ _ _ _ _ (of_frame _ _ _ _ _ _ c.next_settled.ensures.answers c.chunk_of.ensures))
 
 pub returns-clause-asks : goal.returns-clause-asks
-returns-clause-asks c = asks_for_some _ _ _ _ _ c.answer.ensures.answers
+returns-clause-asks c = asks_for_some _ _ _ _ _ (of_frame _ _ _ _ _ _ c.next_settled.ensures.answers c.chunk_of.ensures)
 
 pub returns-clause-waits : goal.returns-clause-waits
-returns-clause-waits c = rw (sym c.self.view_is) (asks_where_open _ _ _ _ _ c.answer.ensures.answers)
+returns-clause-waits c =
+    rw (sym c.self.view_is) (asks_where_open _ _ _ _ _ (of_frame _ _ _ _ _ _ c.next_settled.ensures.answers c.chunk_of.ensures))
 
 pub returns-clause-faults : goal.returns-clause-faults
-returns-clause-faults c = rw (sym c.self.view_is) (faults_within _ _ _ _ _ c.answer.ensures.answers)
+returns-clause-faults c =
+    rw (sym c.self.view_is) (faults_within _ _ _ _ _ (of_frame _ _ _ _ _ _ c.next_settled.ensures.answers c.chunk_of.ensures))

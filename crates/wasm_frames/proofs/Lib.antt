@@ -1,0 +1,13 @@
+pub mod Bodies
+pub mod Bounds
+pub mod Common
+pub mod Counted
+pub mod Framed
+pub mod Headers
+pub mod NextParts
+pub mod Passing
+pub mod ReadingFields
+pub mod Results
+pub mod Settled
+pub mod SkipNext
+pub mod StateLaws

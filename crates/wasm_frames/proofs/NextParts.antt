@@ -1,0 +1,76 @@
+-- What a parser reads at its offset, and what it then returns.
+use Rattle.wasm_frames.proofs.Common.{◌≡◌, ℕ, ◌+◌, ◌^◌, ◌<◌, Bool, true, false, List, length, Result, Ok, Err, refl, subst, arith, nat_eq}
+use Rattle.wasm_frames.proofs.Common.{◌-◌, not, Window, Place, window_over, place, Error, headed, bodied, fault, ended, Tile, Verdict, tile}
+use Rattle.wasm_frames.proofs.Common.{final, Grammar, verdict, body_grammar, tile_report, Report, GivesFrame, MatchesGrammar}
+use Rattle.wasm_frames.proofs.Common.{MatchesVerdict, ParserState, grammar_of, is_at_section, state_after, NextFrame, Parsed}
+use Rattle.std.proofs.Common.{add-zero}
+use Rattle.wasm_frames.specs.ReadsPart.{IsBegun, Refuses, ReadsBody, ReadsNext}
+use Rattle.wasm_frames.specs.StateAfter.{implies_nothing}
+use Rattle.wasm_frames.proofs.Results.{gives_tile, gives_refused}
+
+-- ---- by what the parser expects
+
+pub not_true : (b : Bool) → true ≡ not b → b ≡ false
+not_true b e = grind arith
+
+module _ (p : ParserState) (here after : Place) (r : Result Report Error) where
+  matches : (g : Grammar) → grammar_of p ≡ g → MatchesGrammar p.offset here g r after → ReadsNext p here r after
+  matches g e m = grind arith
+
+pub next_body : (p : ParserState) (here after : Place) (r : Result Report Error) → p.expects_header ≡ false
+    → nat_eq (p.bodies + p.code_bytes) 0 ≡ false → here.offset ≡ p.offset → ReadsBody p here r after → ReadsNext p here r after
+next_body p here after r h c o m = matches p here after r (body_grammar p.bodies p.code_bytes p.offset) (rw (h, c) refl)
+    (subst (λ (x : ℕ). MatchesGrammar p.offset here (body_grammar p.bodies p.code_bytes x) r after) o (m p.offset))
+
+-- ---- a tile
+
+-- a header is at the start of the stream, and a body in an open code section
+section_at : (p : ParserState) (features from to : ℕ) (xs : List ℕ) (t : Tile) (h b : Bool) → p.expects_header ≡ h
+    → nat_eq (p.bodies + p.code_bytes) 0 ≡ b → verdict (grammar_of p) xs ≡ tile t
+    → implies_nothing (tile_report features from to t.shape) ≡ true → is_at_section p ≡ true
+section_at p features from to xs t true b e f v n = grind (arith, headed)
+section_at p features from to xs t false true e f v n = rw (e, f) refl
+section_at p features from to xs t false false e f v n = grind (arith, bodied)
+
+section_of : (p : ParserState) (here after : Place) (report : Report) → ReadsNext p here (Ok report) after
+    → implies_nothing report ≡ true → is_at_section p ≡ true
+section_of p here after report m n = grind (arith, section_at)
+
+gives_at : (p q : ParserState) (eof : Bool) (here after : Place) (report : Report) (end : ℕ) (v : Verdict)
+    → verdict (grammar_of p) here.rest ≡ v → MatchesVerdict p.offset here v (Ok report) after → p.offset + length here.rest < 2 ^ 64
+    → here.offset ≡ p.offset → here.features ≡ p.features → end ≡ after.offset → q ≡ state_after p end report
+    → GivesFrame p eof here.rest (Parsed report (end - p.offset)) q
+gives_at p q eof here after report end (tile t) e m l o f at a =
+    let x : after.offset ≡ here.offset + length t.bytes = rw m.0 in
+    let says : report ≡ tile_report p.features p.offset (p.offset + length t.bytes) t.shape = grind arith in
+    gives_tile p q eof here.rest report (end - p.offset) t l e (omega arith) says (grind arith)
+gives_at p q eof here after report end (final (fault x)) e m l o f at a = absurd m
+gives_at p q eof here after report end (final (ended x)) e m l o f at a = absurd m
+
+gives_read : (p q : ParserState) (eof : Bool) (here after : Place) (report : Report) (end : ℕ) → ReadsNext p here (Ok report) after
+    → p.offset + length here.rest < 2 ^ 64 → here.offset ≡ p.offset → here.features ≡ p.features → end ≡ after.offset
+    → q ≡ state_after p end report → GivesFrame p eof here.rest (Parsed report (end - p.offset)) q
+gives_read p q eof here after report end m l o f at a = gives_at _ _ _ _ _ _ _ _ refl m.0 l o f at a
+
+-- ---- what is read of bytes that begin where the parser is
+
+at_window : (p : ParserState) (w : Window) (bytes : List ℕ) (r : Result Report Error) (after : Place) → w
+    ≡ window_over p.features p.offset bytes → ReadsNext p (place w) r after
+    → ReadsNext p (place (window_over p.features p.offset bytes)) r after
+at_window p w bytes r after e m = subst (λ (x : Window). ReadsNext p (place x) r after) e m
+
+module _ (p : ParserState) (w : Window) (bytes : List ℕ) (after : Place) (report : Report) where
+  pub window_section : w ≡ window_over p.features p.offset bytes → ReadsNext p (place w) (Ok report) after
+      → implies_nothing report ≡ true → is_at_section p ≡ true
+  window_section e m n = section_of p _ after report (at_window p w bytes _ after e m) n
+
+pub window_given : (p q : ParserState) (eof : Bool) (w : Window) (bytes : List ℕ) (after : Place) (report : Report) (start end : ℕ) → w
+    ≡ window_over p.features p.offset bytes → start ≡ p.offset → ReadsNext p (place w) (Ok report) after → p.offset + length bytes < 2 ^ 64
+    → end ≡ after.offset → q ≡ state_after p end report → GivesFrame p eof bytes (Parsed report (end - start)) q
+window_given p q eof w bytes after report start end e s m l at a =
+    rw s (gives_read p q eof _ after report end (at_window p w bytes _ after e m) l (add-zero p.offset) refl at a)
+
+pub window_refused : (p : ParserState) (eof : Bool) (w : Window) (bytes : List ℕ) (after : Place) (e : Error) (r : NextFrame)
+    → w ≡ window_over p.features p.offset bytes → ReadsNext p (place w) (Err e) after → p.offset + length bytes < 2 ^ 64
+    → IsBegun p eof bytes → Refuses eof e r → GivesFrame p eof bytes r p
+window_refused p eof w bytes after e r same m l b f = grind (arith, gives_refused)

@@ -1,0 +1,66 @@
+-- What one call of `next` returns, and the parser afterwards.
+use Rattle.std.specs.Prelude.{◌≡◌, ℕ, ◌+◌, ◌^◌, Bool, true, false, List, length, nat_lt, if◌then◌else◌}
+use Rattle.wasm_base.specs.FaultAt.{FaultAt, fault_at, at_offset}
+use Rattle.wasm_base.specs.declared.fault.Fault.TheVariants.{OffsetRange}
+use Rattle.wasm_frames.specs.ParserState.{ParserState, grammar_of, ended_state}
+use Rattle.wasm_frames.specs.StateAfter.{state_after}
+use Rattle.wasm_frames.specs.declared.next.NextFrame.{NextFrame}
+use Rattle.wasm_frames.specs.declared.next.NextFrame.TheVariants.{Parsed, NeedMoreData, Fault}
+use Rattle.wasm_grammar.specs.Content.{fault, ended}
+use Rattle.wasm_grammar.specs.Grammar.{Verdict, tile, final, verdict}
+use Rattle.wasm_grammar.specs.Reading.{Report, stream_end, tile_report}
+use Rattle.wasm_grammar.specs.Waiting.{Waiting, enough, wants, waiting}
+
+-- whether the end is reported
+abbrev pub is_end : Report → Bool
+is_end (stream_end (ended offset)) = true
+is_end other = false
+
+-- the content of a result: a request with its hint; a report, and the number of bytes that it consumes; or a fault
+pub data Answer : Type 0 where
+  asks : (hint : ℕ) → Answer
+  reports : Report → (consumed : ℕ) → Answer
+  refuses : FaultAt → Answer
+
+-- the content of a result with this verdict
+abbrev pub answer_by : ParserState → Verdict → Answer
+answer_by p (tile t) =
+    reports (tile_report p.features p.offset (p.offset + length t.bytes) t.shape) (length t.bytes)
+answer_by p (final (ended offset)) = reports (stream_end (ended offset)) 0
+answer_by p (final (fault f)) = refuses f
+
+-- If more bytes may come and those so far do not decide, the result is a request.
+abbrev pub answer_in_time : (eof : Bool) → Waiting → Answer → Answer
+answer_in_time true w answer = answer
+answer_in_time false enough answer = answer
+answer_in_time false (wants need hint) answer = asks hint
+
+-- the content of the result for these bytes, which are the rest of the stream if `eof`, and otherwise may be a part of
+-- it
+abbrev pub answer_to : ParserState → (eof : Bool) → (rest : List ℕ) → Answer
+answer_to p eof rest =
+    if nat_lt (p.offset + length rest) (2 ^ 64) then
+    answer_in_time eof (waiting (grammar_of p) rest) (answer_by p (verdict (grammar_of p) rest)) else
+    refuses (at_offset OffsetRange p.offset)
+
+-- the state after a result with this content: after the reported part, or at the end; unchanged after a request or a
+-- fault
+abbrev pub state_after_result : ParserState → Answer → ParserState
+state_after_result p (asks hint) = p
+state_after_result p (reports report consumed) =
+    if is_end report then ended_state p else state_after p (p.offset + consumed) report
+state_after_result p (refuses f) = p
+
+-- the content of what `next` returns
+abbrev pub content_of : NextFrame → Answer
+content_of (Parsed frame consumed) = reports frame consumed
+content_of (NeedMoreData hint) = asks hint
+content_of (Fault e) = refuses (fault_at e)
+
+-- | what `next` returns for all the rest of a stream, or for bytes after which more may come, by what the parser knows
+--   [`answer_to`, `answer_by`, `answer_in_time`, `state_after_result`]
+-- The result of a call, and the state after it, by the state before it.
+pub record GivesFrame (old : ParserState) (eof : Bool) (rest : List ℕ) (result : NextFrame) (new : ParserState) :
+    Type 0 where
+  pub answer : content_of result ≡ answer_to old eof rest
+  pub state : new ≡ state_after_result old (content_of result)

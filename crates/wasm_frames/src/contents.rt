@@ -1,0 +1,157 @@
+// What the content of a section begins with.
+ghost use Rattle.std.specs.Prelude.{◌≡◌, ◌+◌, ◌<◌, ◌^◌, option_to_list};
+ghost use Rattle.wasm_base.specs.Hints.{Hints, HintsNothing, missing_at};
+ghost use Rattle.wasm_base.specs.Outcome.{GivesBy};
+ghost use Rattle.wasm_base.specs.Window.{place, KeepsWindow};
+ghost use Rattle.wasm_frames.specs.ReadsPart.{content_at, is_lacking, is_miscounted as miscounted, is_other, kind_of_module, ReadsAnywhere, ReadsCodeStart, ReadsItems, ReadsSingleNumber};
+ghost use Rattle.wasm_grammar.specs.Content.{custom, items, index, data_count, unknown, whole};
+
+use crate::frame::Frame;
+use wasm_base::{BinaryReader, Error, Fault, Result};
+use wasm_grammar::DATA_SECTION;
+
+/// Reads the content of a custom section.
+pub(crate) fn custom<'a>(id: u8, size: u32, reader: &mut BinaryReader<'a>) -> Result<Frame<'a>>
+    ensures { ReadsAnywhere custom id size (place reader.old) result (place reader.new) }
+{
+    let mut window = window(size, reader)?;
+    match window.read_string() {
+        Ok(name) => Ok(Frame::custom(name, window)),
+        Err(error) => Err(error.without_needed_hint()),
+    }
+}
+
+/// Reads the content of a start section: the index of a function.
+pub(crate) fn start<'a>(id: u8, size: u32, reader: &mut BinaryReader<'a>) -> Result<Frame<'a>>
+    ensures { ReadsAnywhere index id size (place reader.old) result (place reader.new) }
+{
+    let window = window(size, reader)?;
+    let range = window.range();
+    let func = only_u32(window, Fault::StartContent)?;
+    Ok(Frame::start(func, range))
+}
+
+/// Reads the content of a data count section: the number of data segments.
+pub(crate) fn data_count<'a>(id: u8, size: u32, reader: &mut BinaryReader<'a>) -> Result<Frame<'a>>
+    ensures { ReadsAnywhere data_count id size (place reader.old) result (place reader.new) }
+{
+    let window = window(size, reader)?;
+    let range = window.range();
+    let count = only_u32(window, Fault::DataCountContent)?;
+    Ok(Frame::data_count(count, range))
+}
+
+/// Reads the content of an unknown section.
+pub(crate) fn unknown<'a>(id: u8, size: u32, reader: &mut BinaryReader<'a>) -> Result<Frame<'a>>
+    ensures { ReadsAnywhere unknown id size (place reader.old) result (place reader.new) }
+{
+    let window = window(size, reader)?;
+    Ok(Frame::unknown(id, window))
+}
+
+/// Reads the content of a section that is a count and its items.
+///
+/// The count of a data section must be the announced one, if a data count section announced one.
+pub(crate) fn items<'a>(
+    announced: Option<u32>,
+    id: u8,
+    size: u32,
+    reader: &mut BinaryReader<'a>,
+) -> Result<Frame<'a>>
+    requires { kind_of_module id ≡ whole items }
+    ensures { ReadsItems announced id size (place reader.old) result (place reader.new) }
+{
+    let mut window = window(size, reader)?;
+    let count = match window.read_var_u32() {
+        Ok(count) => count,
+        Err(error) => return Err(error.without_needed_hint()),
+    };
+    if is_miscounted(announced, id, count) {
+        return Err(Error::new(Fault::DataCountDiffer, reader.original_position()));
+    }
+    Ok(Frame::items(id, count, window))
+}
+
+/// Reads `size` bytes and returns them as a window of their own.
+#[tactic(auto, unfolding(crate::specs::ReadsPart::content_at))]
+pub(crate) fn window<'a>(size: u32, reader: &mut BinaryReader<'a>) -> Result<BinaryReader<'a>>
+    ensures gives { GivesBy (λ window. window) result reader.old reader.new (content_at size) }
+    ensures keeps { KeepsWindow reader.old reader.new }
+    ensures hints { Hints (missing_at size (place reader.old)) result }
+{
+    let start = reader.original_position();
+    let bytes = reader.read_bytes(size as usize)?;
+    Ok(BinaryReader::new_features(bytes, start, reader.features()))
+}
+
+// Whether another count of data segments was announced.
+fn is_miscounted(announced: Option<u32>, id: u8, count: u32) -> bool
+    ensures { result ≡ miscounted (option_to_list announced) id count }
+{
+    id == DATA_SECTION && differs(announced, count)
+}
+
+/// Reads the start of a code section: the number of bodies, which must be the count of the function section, or 0
+/// without one.
+pub(crate) fn code<'a>(
+    functions: Option<u32>,
+    size: u32,
+    reader: &mut BinaryReader<'a>,
+) -> Result<Frame<'a>>
+    requires { (place reader.old).offset + size < 2 ^ 64 }
+    ensures { ReadsCodeStart functions size (place reader.old) result (place reader.new) }
+{
+    let start = reader.original_position();
+    let end = start + u64::from(size);
+    let count = reader.read_var_u32()?;
+    let after = reader.original_position();
+    if end < after {
+        return Err(Error::new(Fault::UnexpectedEof, start));
+    }
+    if differs(functions, count) {
+        return Err(Error::new(Fault::FunctionCodeDiffer, start));
+    }
+    if lacks(Some(count), functions) {
+        return Err(Error::new(Fault::CodeWithoutFunction, start));
+    }
+    Ok(Frame::code_start(count, (end - after) as u32, start..end))
+}
+
+// Reads content that is a single number. `trailing` is the fault of bytes after it, at the first of them.
+// In place: next to a call of it, LLVM moves the fields of all kinds of sections, which costs each of them ten instructions.
+#[inline(always)]
+fn only_u32(mut window: BinaryReader, trailing: Fault) -> Result<u32>
+    ensures reads { ReadsSingleNumber trailing (place window.entry) result }
+    ensures hints { HintsNothing result }
+{
+    let number = match window.read_var_u32() {
+        Ok(number) => number,
+        Err(error) => return Err(error.without_needed_hint()),
+    };
+    if !window.eof() {
+        return Err(Error::new(trailing, window.original_position()));
+    }
+    Ok(number)
+}
+
+/// Returns whether an earlier section announced another count than this.
+pub(crate) fn differs(known: Option<u32>, count: u32) -> bool
+    ensures { result ≡ is_other known count }
+{
+    match known {
+        Some(known) => known != count,
+        None => false,
+    }
+}
+
+/// Returns whether a section has items, and the section that must accompany it is missing.
+///
+/// That is so if the section's count is known and above 0, and the other section's count is not known.
+pub(crate) fn lacks(count: Option<u32>, other: Option<u32>) -> bool
+    ensures { result ≡ is_lacking count other }
+{
+    match count {
+        Some(count) => count > 0 && other.is_none(),
+        None => false,
+    }
+}

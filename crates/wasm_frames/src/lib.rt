@@ -1,0 +1,28 @@
+//! The frames of a stream: its header, its sections and bodies as windows, and its end. No item of a section is read.
+//!
+//! `StoredParser::next` returns the next frame. `wasm_parser` turns frames into payloads, which have readers of items.
+//!
+//! ```rattle
+//! let mut parser = StoredParser::new(0);
+//! let header = parser.next(b"\0asm\x01\0\0\0", false);
+//! assert!(rt; matches!(header, NextFrame::Parsed { consumed: 8, .. }));
+//! ```
+#![tactic(auto)]
+
+mod advance;
+mod checkpoint;
+mod contents;
+mod frame;
+mod header;
+mod kind;
+mod next;
+mod parser;
+mod skipping;
+mod stored;
+
+pub use checkpoint::Checkpoint;
+pub use frame::Frame;
+pub use kind::FrameKind;
+pub use next::NextFrame;
+pub use skipping::{PartHead, SkippedPart};
+pub use stored::StoredParser;

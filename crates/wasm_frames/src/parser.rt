@@ -1,0 +1,270 @@
+// The parser of frames.
+ghost use Rattle.std.specs.Prelude.{◌≡◌, ◌+◌, ◌<◌, ◌≤◌, ◌^◌, ◌&&◌, not, true, [], length, nat_lt, nat_eq};
+ghost use Rattle.wasm_base.specs.Window.{place, window_over};
+ghost use Rattle.wasm_frames.specs.Answer.{GivesFrame};
+ghost use Rattle.wasm_frames.specs.ParserState.{is_at_section as at_section};
+ghost use Rattle.wasm_frames.specs.ReadsPart.{HasSection, IsBegun, ReadsAfterId, ReadsAfterLength, ReadsBody, ReadsContent, ReadsNext, ReadsNextSection, Refuses};
+ghost use Rattle.wasm_frames.specs.Stored.{numbers_of, parser_of};
+ghost use Rattle.wasm_grammar.specs.Content.{kind_of};
+ghost use Rattle.wasm_grammar.specs.KindInCode.{kind_is};
+
+use crate::contents::{code, custom, data_count, items, lacks, start, unknown, window};
+use crate::frame::Frame;
+use crate::header::{magic_follows, missing_at_section, read_header};
+use crate::next::NextFrame;
+use crate::stored::StoredParser;
+use wasm_base::{BinaryReader, Error, Fault, Result, fits};
+use wasm_grammar::{SectionKind, section_kind, section_rank};
+
+impl StoredParser {
+    /// Returns the next frame of the stream, or requests more bytes. `bytes` are the stream's bytes from the parser's
+    /// offset on.
+    ///
+    /// `eof` says that no bytes come after these, so that missing bytes are a fault. Without it, `NeedMoreData` is
+    /// returned while these bytes don't decide what comes next. After a frame the parser has advanced by `consumed`
+    /// bytes; otherwise it is unchanged. At the end of the stream, `consumed` is 0.
+    ///
+    /// Any numbers are a parser. The remaining bytes of a code section are limited to the offsets of a stream.
+    ///
+    /// The faults are the errors of `Parser::parse` of `wasm_parser`.
+    ///
+    /// ```rattle
+    /// let stream: &[u8] = b"\0asm\x01\0\0\0\0\x02\x01a";
+    /// let mut parser = StoredParser::new(0);
+    /// assert!(rt; matches!(parser.next(stream, true), NextFrame::Parsed { consumed: 8, .. }));
+    /// assert!(rt; matches!(parser.next(&stream[8..], true), NextFrame::Parsed { consumed: 4, .. }));
+    /// assert_eq!(rt; parser.offset, 12);
+    /// ```
+    #[inline(always)]
+    pub fn next<'a>(&mut self, bytes: &'a [u8], eof: bool) -> NextFrame<'a>
+        // Proved: `next` returns what the grammar says of the bytes, by what the parser knows: a
+        //   frame, a fault, or a request where they do not decide; the parser is then after the
+        //   frame, and otherwise unchanged
+        ensures { GivesFrame (parser_of self.old) eof bytes.now result (parser_of self.new) }
+    {
+        self.settle();
+        self.next_settled(bytes, eof)
+    }
+
+    /// Does what `next` does, for a parser whose code section ends within the offsets of a stream. That is so after
+    /// each call.
+    #[inline(always)]
+    pub fn next_settled<'a>(&mut self, bytes: &'a [u8], eof: bool) -> NextFrame<'a>
+        requires room { self.old.offset + self.old.code_bytes < 2 ^ 64 }
+        ensures answers { GivesFrame (numbers_of self.old) eof bytes.now result (numbers_of self.new) }
+        ensures room { self.new.offset + self.new.code_bytes < 2 ^ 64 }
+    {
+        let start = self.offset;
+        if !fits(start, bytes.len()) {
+            return NextFrame::Fault(Error::new(Fault::OffsetRange, start));
+        }
+        if self.is_at_section() {
+            if !eof {
+                if let Some(hint) = missing_at_section(bytes) {
+                    return NextFrame::NeedMoreData(hint);
+                }
+            } else if bytes.is_empty() {
+                return self.end();
+            }
+        }
+        self.read_on(bytes, eof)
+    }
+
+    // Reads the next part. Where a section may start, some bytes remain, and more than a prefix of the magic.
+    fn read_on<'a>(&mut self, bytes: &'a [u8], eof: bool) -> NextFrame<'a>
+        requires fits { self.old.offset + length bytes.now < 2 ^ 64 }
+        requires room { self.old.offset + self.old.code_bytes < 2 ^ 64 }
+        requires begun { IsBegun (numbers_of self.old) eof bytes.now }
+        ensures answers { GivesFrame (numbers_of self.old) eof bytes.now result (numbers_of self.new) }
+        ensures room { self.new.offset + self.new.code_bytes < 2 ^ 64 }
+    {
+        let start = self.offset;
+        let mut reader = self.reader(bytes);
+        match self.read(&mut reader) {
+            Ok(frame) => {
+                let end = reader.original_position();
+                self.advance(&frame, end);
+                NextFrame::Parsed {
+                    frame,
+                    consumed: (end - start) as usize,
+                }
+            }
+            Err(error) => refused(error, eof),
+        }
+    }
+
+    // Ends the stream at the parser. Each count above 0 needs its other section.
+    fn end<'a>(&mut self) -> NextFrame<'a>
+        requires { at_section (numbers_of self.old) ≡ true }
+        ensures answers { GivesFrame (numbers_of self.old) true [] result (numbers_of self.new) }
+        ensures room { self.new.offset + self.new.code_bytes ≡ self.old.offset + self.old.code_bytes }
+    {
+        let end = self.offset;
+        if lacks(self.functions(), self.codes()) {
+            return NextFrame::Fault(Error::new(Fault::FunctionWithoutCode, end));
+        }
+        if lacks(self.data_counts(), self.datas()) {
+            return NextFrame::Fault(Error::new(Fault::DataCountWithoutData, end));
+        }
+        self.in_code = 0;
+        NextFrame::Parsed {
+            frame: Frame::end(end),
+            consumed: 0,
+        }
+    }
+
+    // Whether a code section has remaining bytes or bodies.
+    pub(crate) fn is_code_open(&self) -> bool
+        ensures { result ≡ not (nat_eq (self.now.bodies + self.now.code_bytes) 0) }
+    {
+        self.bodies > 0 || self.code_bytes > 0
+    }
+
+    // Whether a section may start here.
+    fn is_at_section(&self) -> bool
+        ensures { result ≡ at_section (numbers_of self.now) }
+    {
+        !self.expects_header() && !self.is_code_open()
+    }
+
+    // Returns a reader of bytes that begin at the parser's offset.
+    pub(crate) fn reader<'a>(&self, bytes: &'a [u8]) -> BinaryReader<'a>
+        requires { self.now.offset + length bytes.now < 2 ^ 64 }
+        ensures { result ≡ window_over self.now.features self.now.offset bytes.now }
+    {
+        BinaryReader::new_features(bytes, self.offset, self.features())
+    }
+
+    // Whether a section of this rank is out of order here: it has a rank, and that of an earlier one is no lower.
+    pub(crate) fn is_out_of_order(&self, rank: u8) -> bool
+        ensures { result ≡ (nat_lt 0 rank && not (nat_lt self.now.rank rank)) }
+    {
+        rank > 0 && rank <= self.rank
+    }
+
+    // Reads what comes where a section may start, if bytes remain.
+    fn section<'a>(&self, reader: &mut BinaryReader<'a>) -> Result<Frame<'a>>
+        requires { 0 < length (place reader.old).rest }
+        ensures { ReadsNextSection (numbers_of self.now) (place reader.old) result (place reader.new) }
+    {
+        let start = reader.original_position();
+        if magic_follows(reader) {
+            return Err(Error::new(Fault::MagicAtSection, start));
+        }
+        let id = reader.read_u8()?;
+        self.after_id(start, id, reader)
+    }
+
+    // Reads a section with this id, which is at this offset, just before the reader. In place, like `only_u32`.
+    #[inline(always)]
+    fn after_id<'a>(&self, start: u64, id: u8, reader: &mut BinaryReader<'a>) -> Result<Frame<'a>>
+        requires { start + 1 ≡ (place reader.old).offset }
+        ensures { ReadsAfterId (numbers_of self.now) start id (place reader.old) result (place reader.new) }
+    {
+        if id >= 128 {
+            return Err(Error::new(Fault::MalformedSectionId, start));
+        }
+        let field = reader.original_position();
+        let size = reader.read_var_u32()?;
+        self.after_length(id, field, size, reader)
+    }
+
+    // Reads a section with this id and size, whose length field begins at this offset.
+    fn after_length<'a>(
+        &self,
+        id: u8,
+        field: u64,
+        size: u32,
+        reader: &mut BinaryReader<'a>,
+    ) -> Result<Frame<'a>>
+        ensures { ReadsAfterLength (numbers_of self.now) id field size
+            (place reader.old) result (place reader.new) }
+    {
+        if u64::from(size) > u64::MAX - reader.original_position() {
+            return Err(Error::new(Fault::SectionTooLarge, field).with_number(u64::from(size)));
+        }
+        let kind = section_kind(self.encoding(), id);
+        if self.is_out_of_order(section_rank(kind, id)) {
+            return Err(Error::new(Fault::OutOfOrder, reader.original_position()));
+        }
+        self.content(kind, id, size, reader)
+    }
+
+    // Reads the content of a section of this kind.
+    fn content<'a>(
+        &self,
+        kind: SectionKind,
+        id: u8,
+        size: u32,
+        reader: &mut BinaryReader<'a>,
+    ) -> Result<Frame<'a>>
+        requires known { kind_is kind ≡ kind_of (numbers_of self.now).encoding id }
+        requires fits { (place reader.old).offset + size < 2 ^ 64 }
+        ensures { ReadsContent (numbers_of self.now) (kind_is kind) id size
+            (place reader.old) result (place reader.new) }
+    {
+        match kind {
+            SectionKind::Custom => custom(id, size, reader),
+            SectionKind::Items => items(self.data_counts(), id, size, reader),
+            SectionKind::Index => start(id, size, reader),
+            SectionKind::DataCount => data_count(id, size, reader),
+            SectionKind::Code => code(self.functions(), size, reader),
+            SectionKind::Unknown => unknown(id, size, reader),
+        }
+    }
+
+    // Reads the next part, if bytes remain, or a header or a body is expected.
+    fn read<'a>(&self, reader: &mut BinaryReader<'a>) -> Result<Frame<'a>>
+        requires starts { (place reader.old).offset ≡ self.now.offset }
+        requires some { HasSection (numbers_of self.now) (place reader.old) }
+        ensures { ReadsNext (numbers_of self.now) (place reader.old) result (place reader.new) }
+    {
+        if self.expects_header() {
+            read_header(reader)
+        } else if self.is_code_open() {
+            self.body(reader)
+        } else {
+            self.section(reader)
+        }
+    }
+
+    // Reads the next body of a code section that has remaining bytes or bodies.
+    fn body<'a>(&self, reader: &mut BinaryReader<'a>) -> Result<Frame<'a>>
+        ensures { ReadsBody (numbers_of self.now) (place reader.old) result (place reader.new) }
+    {
+        let start = reader.original_position();
+        if self.bodies == 0 {
+            return Err(Error::new(Fault::TrailingCode, start));
+        }
+        let size = reader.read_var_u32()?;
+        if passes(self.code_bytes, reader.original_position() - start, size) {
+            return Err(Error::new(Fault::UnexpectedEof, start));
+        }
+        let window = window(size, reader)?;
+        Ok(Frame::body(window))
+    }
+}
+
+// Whether a field of this width, and the bytes that it counts, exceed the remaining bytes.
+pub(crate) fn passes(code_bytes: u32, width: u64, size: u32) -> bool
+    ensures { result ≡ nat_lt code_bytes (width + size) }
+{
+    let left = u64::from(code_bytes);
+    if width > left {
+        true
+    } else {
+        u64::from(size) > left - width
+    }
+}
+
+// Returns the error, or requests the missing bytes if they may still come.
+fn refused<'a>(error: Error, eof: bool) -> NextFrame<'a>
+    ensures { Refuses eof error result }
+{
+    if !eof {
+        if let Some(hint) = error.needed_hint() {
+            return NextFrame::NeedMoreData(hint);
+        }
+    }
+    NextFrame::Fault(error)
+}

@@ -1,6 +1,0 @@
-use Rattle.std.proofs.Common.{◌∙◌, rules}
-use Rattle.wasm_base.proofs.EveryFeature.{every_feature}
-use Rattle.wasm_parser.proofs.parser.Parser.new.Goals as goal
-
-pub returns : goal.returns
-returns c = let all = c.all.ensures tt ∙ every_feature in search rules
