@@ -15,7 +15,8 @@ use Rattle.wasm_edit.specs.declared.encoding.NewSection.{NewSection}
 use Rattle.wasm_feed.specs.Stripped.{IsStripped, RefusesToStrip, frame_stays, stripped}
 use Rattle.wasm_grammar.proofs.PlainLists.{each_of, split_last}
 use Rattle.wasm_parser.proofs.ForCallers.{rankless_may_go}
-use Rattle.wasm_grammar.specs.Accepted.{SectionFrame, frame_bytes, header_bytes, IsFrame, IsAccepted, IsMatched, IsSection, FitsAfter, frame_count}
+use Rattle.wasm_grammar.specs.Accepted.{SectionFrame, frame_bytes, header_bytes, frame_count, IsFrame, IsAccepted, IsMatched}
+use Rattle.wasm_grammar.specs.Accepted.{IsSection, FitsAfter}
 use Rattle.wasm_grammar.specs.Ids.{custom_id, code_id, data_id, data_count_id, function_id}
 use Rattle.wasm_grammar.specs.declared.encoding.Encoding.{Encoding}
 use Rattle.wasm_grammar.specs.declared.encoding.Encoding.TheVariants.{Module, Component}
@@ -46,7 +47,8 @@ any_more P frames new (k, x, lt, at, p) = (
 matched_more : (encoding : Encoding) (id other : ℕ) (frames : List SectionFrame) (new : SectionFrame) → new.id ≡ custom_id → 0 < id
     → IsMatched encoding id other frames → IsMatched encoding id other (frames ++ new ∷ [])
 matched_more encoding id other frames new e some m =
-    let Needs : SectionFrame → Type 0 = λ f. IsSection encoding id f → 0 < frame_count f → Any (IsSection encoding other) (frames ++ new ∷ []) in
+    let Needs : SectionFrame → Type 0 =
+    λ f. IsSection encoding id f → 0 < frame_count f → Any (IsSection encoding other) (frames ++ new ∷ []) in
     All-append Needs frames (new ∷ [])
     (λ k d l s c. any_more (IsSection encoding other) frames new (m k d l s c))
     (All-cons Needs new [] (λ s c. absurd (omega (arith, e, s.1))) (All-nil Needs))
@@ -69,7 +71,8 @@ one_more stream before new good e =
         frames = frames ++ new ∷ [];
         whole = grind (arith, before.whole, flat_map-append, append_assoc, append-nil);
         each = All-append (IsFrame enc) frames (new ∷ []) before.each (All-cons (IsFrame enc) new [] good (All-nil (IsFrame enc)));
-        order = λ earlier later f split. order_more enc frames earlier later new f e before.order (split_last frames earlier later new f split);
+        order = λ earlier later f split. order_more enc frames earlier later new f e before.order
+            (split_last frames earlier later new f split);
         functions = matched_more enc function_id code_id frames new e (omega arith) before.functions;
         segments = matched_more enc data_count_id data_id frames new e (omega arith) before.segments;
       };

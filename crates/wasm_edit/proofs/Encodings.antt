@@ -24,7 +24,7 @@ use Rattle.wasm_grammar.specs.declared.encoding.Encoding.TheVariants.{Module, Co
 pow_more : (b m : ℕ) → b ^ suc m ≡ b * b ^ m
 pow_more b m = pow-succ' b m
 
--- what is left of a number after its first septet
+-- a number without its first septet
 rest_below : (p n : ℕ) → n < 128 * p → n / 128 < p
 rest_below p n h = omega arith
 
@@ -85,8 +85,8 @@ number_of xs later n least most last sum top =
     ap (ends_at VarU32 (xs ++ later)) last ∙ ends_so (xs ++ later) xs i n e (omega arith) taken sum (top_at xs later i e top)
 
 pub reads_back : (n : ℕ) (later : List ℕ) → n < 2 ^ 32 → number VarU32 (encoded n ++ later) ≡ read n (length (encoded n))
-reads_back n later h = number_of (leb 4 n) later n (leb_least 4 n) (leb_most 4 n) (leb_last 4 n later (omega arith)) (leb_sum 4 n (omega arith))
-    (leb_top 4 n later (omega arith))
+reads_back n later h = number_of (leb 4 n) later n (leb_least 4 n) (leb_most 4 n) (leb_last 4 n later (omega arith))
+    (leb_sum 4 n (omega arith)) (leb_top 4 n later (omega arith))
 
 -- ---- no shorter bytes
 
@@ -144,7 +144,8 @@ pub names_back : (text later : List ℕ) → is_utf8 text ≡ true → length te
 names_back text later utf8 short =
     let size : List ℕ = encoded (length text) in
     let e : (size ++ text) ++ later ≡ size ++ (text ++ later) = append_assoc size text later in
-    let n : number VarU32 (size ++ (text ++ later)) ≡ read (length text) (length size) = reads_back (length text) (text ++ later) (omega arith) in
+    let n : number VarU32 (size ++ (text ++ later)) ≡ read (length text) (length size) =
+    reads_back (length text) (text ++ later) (omega arith) in
     ap (name (Some name_limit)) e ∙ (text_back text later size n utf8 short ∙ ap (named text) (sym (length-append size text)))
 
 good : (encoding : Encoding) (s : NewSection) → IsFormed custom (content_of s) → IsGood (kind_of encoding custom_id) (content_of s)

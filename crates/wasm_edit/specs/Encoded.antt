@@ -26,7 +26,10 @@ content_of s = encoded_name s.name.now ++ s.«data».now
 
 -- the section as a part of a stream: its id, its length and its content
 abbrev pub frame_of : NewSection → SectionFrame
-frame_of s = record { id = custom_id; sized = record { field = encoded (length (content_of s)); content = content_of s } }
+frame_of s = record {
+  id = custom_id;
+  sized = record { field = encoded (length (content_of s)); content = content_of s };
+}
 
 abbrev pub encoded_section : NewSection → List ℕ
 encoded_section s = custom_id ∷ (encoded (length (content_of s)) ++ content_of s)

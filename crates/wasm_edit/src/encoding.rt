@@ -1,5 +1,5 @@
 // The bytes of custom sections.
-ghost use Rattle.std.specs.Prelude.{◌≡◌, ◌+◌, ◌<◌, ◌≤◌, ◌^◌, ◌++◌, ◌∷◌, [], IfErr, IfOk, IsTrue, OnOk, ◌↔◌, length};
+ghost use Rattle.std.specs.Prelude.{All, ◌≡◌, ◌+◌, ◌<◌, ◌≤◌, ◌^◌, ◌++◌, ◌∷◌, [], IfErr, IfOk, IsTrue, OnOk, ◌↔◌, length};
 ghost use Rattle.wasm_base.specs.FaultAt.{fault_at};
 ghost use Rattle.wasm_base.specs.Owned.{out_of_memory};
 ghost use Rattle.wasm_edit.specs.Encoded.{Fits, content_of, encoded, encoded_section};
@@ -101,6 +101,23 @@ impl<'a> NewSection<'a> {
         }
         self.content_size() <= u32::MAX as usize
     }
+}
+
+/// Returns whether each of these sections can be written.
+///
+/// ```rattle
+/// let sections = [NewSection { name: "a", data: b"" }, NewSection { name: "", data: b"x" }];
+/// assert!(rt; all_fit(&sections));
+/// ```
+pub fn all_fit(sections: &[NewSection<'_>]) -> bool
+    ensures { IsTrue result ↔ All Fits sections.now }
+{
+    for section in sections {
+        if !section.fits() {
+            return false;
+        }
+    }
+    true
 }
 
 // Appends a section to these bytes.

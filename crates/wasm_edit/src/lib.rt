@@ -19,4 +19,4 @@ mod encoding;
 pub mod laws;
 
 pub use editing::{Changes, edit, keep_all};
-pub use encoding::{NewSection, encode};
+pub use encoding::{NewSection, all_fit, encode};
