@@ -1,7 +1,7 @@
 #compdef pulleynavy
 # Completions of pulleynavy for zsh. Made by tools/generate program.
 local -a commands
-commands=('list:list the parts of binaries' 'dump:show every item of binaries' 'check:find malformed items in binaries' 'strip:remove custom sections' 'help:print a summary')
+commands=('list:list the parts of binaries' 'dump:show every item of binaries' 'check:find malformed items in binaries' 'strip:remove custom sections' 'extract:write the data of a custom section' 'add:append custom sections' 'help:print a summary')
 if (( CURRENT == 2 )); then
     _describe command commands
     _arguments '--help[print a summary]' '--version[print the version]'
@@ -44,6 +44,24 @@ case $words[1] in
             '--keep-names[keep the sections called name]' \
             '*--keep[keep the custom sections with a name]:name:' \
             '*--only[remove only the custom sections with a name]:name:' \
+            ''{-o,--output}'[write to this file]:out:_files' \
+            '--no-progress[show no progress of large files]' \
+            ''{-h,--help}'[print a summary]' \
+            ''{-V,--version}'[print the version]' \
+            '*:file:_files'
+        ;;
+    extract)
+        _arguments \
+            '*--index[write the section with this number]:n:' \
+            ''{-o,--output}'[write to this file]:out:_files' \
+            '--no-progress[show no progress of large files]' \
+            ''{-h,--help}'[print a summary]' \
+            ''{-V,--version}'[print the version]' \
+            '*:file:_files'
+        ;;
+    add)
+        _arguments \
+            '--replace[remove sections with these names first]' \
             ''{-o,--output}'[write to this file]:out:_files' \
             '--no-progress[show no progress of large files]' \
             ''{-h,--help}'[print a summary]' \

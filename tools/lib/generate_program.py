@@ -99,7 +99,11 @@ def man_option(option):
 
 def man_call(call):
     """The synopsis of a command."""
-    for part in re.findall(r"\[(?:[^\[\]]|\[[^\[\]]*\])*\](?:\.\.\.)?", call):
+    for part in re.findall(r"\[(?:[^\[\]]|\[[^\[\]]*\])*\](?:\.\.\.)?|[^\[\] ]+", call):
+        if not part.startswith("["):
+            words = part.removesuffix("...").lower().replace("=", " Ns = Ns Ar ")
+            yield ".Ar " + words + (" ..." if part.endswith("...") else "")
+            continue
         inner = part.rstrip(".")[1:-1]
         if inner.startswith("FILE"):
             yield ".Op Ar file" + (" ..." if inner.endswith("...") else "")

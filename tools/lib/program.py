@@ -4,7 +4,7 @@
 SECTIONS = "custom type import function table memory global export start element code data datacount tag".split()
 CUSTOM = "name producers target_features linking dylink.0".split()
 
-PURPOSE = "list, show, check and strip WebAssembly binaries"
+PURPOSE = "list, show, check and edit WebAssembly binaries"
 
 ABOUT = (
     "pulleynavy reads WebAssembly modules, and the headers of components. It does not validate them, and it does not decode function bodies.",
@@ -89,6 +89,38 @@ COMMANDS = {
             ("Strip a module:", "pulleynavy strip a.wasm -o small.wasm"),
             ("Remove one custom section:", "pulleynavy strip --only .debug_info a.wasm > small.wasm"),
         ),
+    },
+    "extract": {
+        "summary": "write the data of a custom section",
+        "call": "[--index N] [-o OUT] NAME [FILE]",
+        "about": (
+            "Writes the data of the custom section called NAME of FILE: the bytes after the name. Sections after it are not looked at.",
+            "FILE is read into memory.",
+        ),
+        "options": (
+            ("--index", "N", "write the section with this number", "Writes the N-th section of this name, counted from 1, if there are several."),
+            ("-o, --output", "OUT", "write to this file", "Writes to OUT instead of standard output. OUT is replaced once all of it is written."),
+            *COMMON,
+        ),
+        "good": "The data was written.",
+        "bad": "The file has no such section before its first fault, or none at all. Nothing is written.",
+        "examples": (("Save the notes of a build:", "pulleynavy extract build_id a.wasm -o build_id"),),
+    },
+    "add": {
+        "summary": "append custom sections",
+        "call": "[--replace] [-o OUT] NAME=DATA... FILE",
+        "about": (
+            "Writes FILE with a custom section after its other sections for each NAME=DATA: NAME is its name, and the file DATA, or standard input for '-', has its data. All other bytes stay as they are. If FILE is malformed, nothing is written.",
+            "A regular FILE is read twice instead of being kept in memory: first to check it, then to write it. The data is read into memory.",
+        ),
+        "options": (
+            ("--replace", None, "remove sections with these names first", "Removes the custom sections of FILE that have one of these names."),
+            ("-o, --output", "OUT", "write to this file", "Writes to OUT instead of standard output. OUT is replaced once all of it is written, and may be FILE itself. It keeps its permissions, or gets those of FILE if it is new."),
+            *COMMON,
+        ),
+        "good": "The sections were added.",
+        "bad": "The file has a fault, which is printed to standard error.",
+        "examples": (("Add a license, in place:", "pulleynavy add --replace license=LICENSE a.wasm -o a.wasm"),),
     },
 }
 

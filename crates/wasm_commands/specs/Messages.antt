@@ -44,16 +44,18 @@ abbrev pub Reports : (name : List ℕ) → Result Ended ListError → Causes →
 Reports name (Ok how) causes errors = IsUntouched errors
 Reports name (Err why) causes errors = Says errors (failure_text name why causes)
 
--- a value of `--section` that chose nothing of a file
-abbrev pub missing_text : (name word : List ℕ) → List ℕ
-missing_text name word =
-    codes "pulleynavy dump: " ++ (name_shown name ++ (codes ": no section '" ++ (word ++ codes "'\n")))
-
 abbrev pub command_text : Verb → List ℕ
 command_text verb.List = codes "pulleynavy list"
 command_text verb.Dump = codes "pulleynavy dump"
 command_text verb.Check = codes "pulleynavy check"
 command_text verb.Strip = codes "pulleynavy strip"
+command_text verb.Extract = codes "pulleynavy extract"
+command_text verb.Add = codes "pulleynavy add"
+
+-- a section that a command did not find in a file
+abbrev pub missing_text : Verb → (name word : List ℕ) → List ℕ
+missing_text verb name word = command_text verb ++ (codes ": " ++ (name_shown name ++ (codes ": no section '" ++ (word
+    ++ codes "'\n"))))
 
 -- what is wrong with a word, and where to look
 abbrev pub about_word : Verb → (before word after : List ℕ) → List ℕ
@@ -74,6 +76,10 @@ complaint_text (complaint.Excluded verb first second) = command_text verb ++ (co
 complaint_text (complaint.WrongValue verb option value) = command_text verb ++ (codes ": wrong value '" ++ (value.now
     ++ (codes "' of option '" ++ (option.now ++ codes "'\n"))))
 complaint_text (complaint.Extra verb word) = about_word verb (codes "unexpected argument '") word.now (codes "'")
+complaint_text (complaint.Few verb words) = about_word verb (codes "needs ") words.now []
+complaint_text (complaint.NoData word) = about_word verb.Add (codes "'") word.now (codes "' is not NAME=FILE")
+complaint_text (complaint.TooLarge word) =
+    command_text verb.Add ++ (codes ": section '" ++ (word.now ++ codes "' is too large\n"))
 complaint_text (complaint.UnknownCommand word) =
     codes "pulleynavy: unknown command '" ++ (word.now ++ codes "'\nTry 'pulleynavy --help'.\n")
 complaint_text (complaint.UnknownOption word) =

@@ -3,7 +3,7 @@ use Rattle.std.specs.Prelude.{ℕ, Bool, true, false, List, codes, bytes_eq, nat
 use Rattle.wasm_commands.specs.declared.options.Flag.{Flag}
 use Rattle.wasm_commands.specs.declared.options.Flag.TheVariants.{Help, Version, Json, Names, Bytes, Hex, Color}
 use Rattle.wasm_commands.specs.declared.options.Flag.TheVariants.{Section}
-use Rattle.wasm_commands.specs.declared.options.Flag.TheVariants.{Quiet, KeepNames, Keep, Only, Output, NoProgress}
+use Rattle.wasm_commands.specs.declared.options.Flag.TheVariants.{Quiet, KeepNames, Keep, Only, Output, NoProgress, Index, Replace}
 use Rattle.wasm_commands.specs.declared.options.Takes.{Takes}
 use Rattle.wasm_commands.specs.declared.options.Takes.TheVariants.{Nothing, Value, Attached}
 use Rattle.wasm_commands.specs.declared.options.Verb.{Verb}
@@ -16,6 +16,8 @@ verb_named word =
     else if bytes_eq word (codes "dump") then Some verb.Dump
     else if bytes_eq word (codes "check") then Some verb.Check
     else if bytes_eq word (codes "strip") then Some verb.Strip
+    else if bytes_eq word (codes "extract") then Some verb.Extract
+    else if bytes_eq word (codes "add") then Some verb.Add
     else None
 
 -- | the options of the commands of `pulleynavy`, and whether each takes a value [`verb_named`, `accepts_option`,
@@ -41,6 +43,8 @@ option_named word =
     else if bytes_eq word (codes "--output") then Some Output
     else if bytes_eq word (codes "-o") then Some Output
     else if bytes_eq word (codes "--no-progress") then Some NoProgress
+    else if bytes_eq word (codes "--index") then Some Index
+    else if bytes_eq word (codes "--replace") then Some Replace
     else None
 
 -- whether a command shows parts
@@ -61,6 +65,21 @@ abbrev pub is_strip : Verb → Bool
 is_strip verb.Strip = true
 is_strip other = false
 
+abbrev pub is_extract : Verb → Bool
+is_extract verb.Extract = true
+is_extract other = false
+
+abbrev pub is_add : Verb → Bool
+is_add verb.Add = true
+is_add other = false
+
+-- whether a command writes a file in place of another
+abbrev pub is_written : Verb → Bool
+is_written verb.Strip = true
+is_written verb.Extract = true
+is_written verb.Add = true
+is_written other = false
+
 -- whether a command has an option
 abbrev pub accepts_option : Verb → Flag → Bool
 accepts_option verb Help = true
@@ -76,7 +95,9 @@ accepts_option verb Quiet = is_check verb
 accepts_option verb KeepNames = is_strip verb
 accepts_option verb Keep = is_strip verb
 accepts_option verb Only = is_strip verb
-accepts_option verb Output = is_strip verb
+accepts_option verb Output = is_written verb
+accepts_option verb Index = is_extract verb
+accepts_option verb Replace = is_add verb
 
 -- whether an option takes a value
 abbrev pub takes_of : Flag → Takes
@@ -84,6 +105,7 @@ takes_of Section = Value
 takes_of Keep = Value
 takes_of Only = Value
 takes_of Output = Value
+takes_of Index = Value
 takes_of Color = Attached
 takes_of other = Nothing
 
@@ -103,6 +125,8 @@ place_of Keep = 10
 place_of Only = 11
 place_of Output = 12
 place_of NoProgress = 13
+place_of Index = 14
+place_of Replace = 15
 
 abbrev pub is_same : Flag → Flag → Bool
 is_same a b = nat_eq (place_of a) (place_of b)

@@ -1,7 +1,9 @@
 // Runs the program.
+use crate::add::add;
 use crate::arguments::{Arguments, parse};
 use crate::check::check;
 use crate::dump::show;
+use crate::extract::extract;
 use crate::help::{Topic, help_of, version};
 use crate::host::Host;
 use crate::messages::{Complaint, complain, refuse_run};
@@ -56,6 +58,8 @@ fn run_parsed<S: System, W: Write + Drop, E: Sink>(
         Verb::List | Verb::Dump => show(alloc, verb, arguments, system, output, errors),
         Verb::Check => check(alloc, arguments, system, output, errors),
         Verb::Strip => strip(alloc, arguments, system, &mut output, errors),
+        Verb::Extract => extract(alloc, arguments, system, &mut output, errors),
+        Verb::Add => add(alloc, arguments, system, &mut output, errors),
     }
 }
 

@@ -42,7 +42,7 @@ fn warn_of_unfound<E: Sink>(plan: Plan<'_>, name: &str, status: u8, errors: &mut
     let mut all = status;
     for (word, found) in plan.words.iter().zip(plan.shown.found.iter()) {
         if !found.get() {
-            warn_of_missing(name, word, errors);
+            warn_of_missing(Verb::Dump, name, word, errors);
             all = 1;
         }
     }

@@ -23,6 +23,8 @@ Commands:
   dump   show every item of binaries
   check  find malformed items in binaries
   strip  remove custom sections
+  extractwrite the data of a custom section
+  add    append custom sections
 
 Options come before or after files. Without a FILE, or with '-', a command
 reads standard input. 'pulleynavy COMMAND --help' says more.
@@ -178,6 +180,68 @@ Exit status:
      standard error, unless the output is a pipe that its reader has closed.
 ";
 
+// The text of `extract --help`.
+const EXTRACT: &[u8] = b"usage: pulleynavy extract [--index N] [-o OUT] NAME [FILE]
+
+Writes the data of the custom section called NAME of FILE: the bytes after the
+name. Sections after it are not looked at.
+
+FILE is read into memory.
+
+Options:
+  --index N      Writes the N-th section of this name, counted from 1, if there
+                 are several.
+  -o, --output OUT
+                 Writes to OUT instead of standard output. OUT is replaced once
+                 all of it is written.
+  --no-progress  Shows no progress. For files above 64 MiB it is otherwise a
+                 line on standard error, if that is a terminal.
+  --             Ends the options: all arguments after it are files.
+  -h, --help     Prints a summary.
+  -V, --version  Prints the version, and that of the wasmparser crate whose
+                 names it follows.
+
+Exit status:
+  0  The data was written.
+  1  The file has no such section before its first fault, or none at all.
+     Nothing is written.
+  2  The arguments are wrong.
+  3  A file or device failed, or memory ran out. The reason is printed to
+     standard error, unless the output is a pipe that its reader has closed.
+";
+
+// The text of `add --help`.
+const ADD: &[u8] = b"usage: pulleynavy add [--replace] [-o OUT] NAME=DATA... FILE
+
+Writes FILE with a custom section after its other sections for each NAME=DATA:
+NAME is its name, and the file DATA, or standard input for '-', has its data.
+All other bytes stay as they are. If FILE is malformed, nothing is written.
+
+A regular FILE is read twice instead of being kept in memory: first to check
+it, then to write it. The data is read into memory.
+
+Options:
+  --replace      Removes the custom sections of FILE that have one of these
+                 names.
+  -o, --output OUT
+                 Writes to OUT instead of standard output. OUT is replaced once
+                 all of it is written, and may be FILE itself. It keeps its
+                 permissions, or gets those of FILE if it is new.
+  --no-progress  Shows no progress. For files above 64 MiB it is otherwise a
+                 line on standard error, if that is a terminal.
+  --             Ends the options: all arguments after it are files.
+  -h, --help     Prints a summary.
+  -V, --version  Prints the version, and that of the wasmparser crate whose
+                 names it follows.
+
+Exit status:
+  0  The sections were added.
+  1  The file has a fault, which is printed to standard error.
+  2  The arguments are wrong.
+  3  A file or device failed, or memory ran out. The reason is printed to
+     standard error, unless the output is a pipe that its reader has closed.
+";
+
 /// The text of `--version`.
 const VERSION: &[u8] = b"pulleynavy 0.15.0 (follows wasmparser 0.263.0)\n";
 
@@ -189,6 +253,8 @@ pub(crate) fn help_of(topic: Topic) -> &'static [u8] {
         Topic::Command(Verb::Dump) => DUMP,
         Topic::Command(Verb::Check) => CHECK,
         Topic::Command(Verb::Strip) => STRIP,
+        Topic::Command(Verb::Extract) => EXTRACT,
+        Topic::Command(Verb::Add) => ADD,
     }
 }
 

@@ -1,10 +1,13 @@
-//! The commands of the program `pulleynavy`, over any files and devices: `list`, `dump`, `check`, `strip` and `help`.
+//! The commands of the program `pulleynavy`, over any files and devices: `list`, `dump`, `check`,
+//! `strip`, `extract`, `add` and `help`.
 #![tactic(auto)]
 
+mod add;
 mod arguments;
 mod check;
 mod commands;
 mod dump;
+mod extract;
 mod files;
 mod help;
 mod host;

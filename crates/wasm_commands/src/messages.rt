@@ -92,15 +92,16 @@ pub(crate) fn refuse_target<E: Sink>(name: &str, causes: Causes, errors: &mut E)
     3
 }
 
-/// Warns that a value of `--section` chose nothing of a file.
-pub(crate) fn warn_of_missing<E: Sink>(name: &str, word: &str, errors: &mut E)
+/// Says that a section was not found in a file.
+pub(crate) fn warn_of_missing<E: Sink>(verb: Verb, name: &str, word: &str, errors: &mut E)
     ensures says { Says (device_of E.taken E.has_failed errors.old errors.new)
-        (missing_text name.now word.now) }
+        (missing_text verb name.now word.now) }
 {
     say(
         errors,
         &[
-            b"pulleynavy dump: ".as_slice(),
+            command_words(verb),
+            b": ".as_slice(),
             shown_name(name).as_bytes(),
             b": no section '",
             word.as_bytes(),
@@ -137,6 +138,8 @@ fn command_words<'a>(verb: Verb) -> &'a [u8]
         Verb::Dump => b"pulleynavy dump",
         Verb::Check => b"pulleynavy check",
         Verb::Strip => b"pulleynavy strip",
+        Verb::Extract => b"pulleynavy extract",
+        Verb::Add => b"pulleynavy add",
     }
 }
 
@@ -151,6 +154,12 @@ pub(crate) enum Complaint<'a> {
     WrongValue(Verb, &'a str, &'a str),
     /// A command has more operands than it takes: the first one of these.
     Extra(Verb, &'a str),
+    /// A command needs more operands: these.
+    Few(Verb, &'a str),
+    /// An operand of `add` has no `=`.
+    NoData(&'a str),
+    /// A section with this name is too large to be added.
+    TooLarge(&'a str),
     /// There is no such command.
     UnknownCommand(&'a str),
     /// There is no such option before a command.
@@ -239,6 +248,19 @@ pub(crate) fn complain<E: Sink>(complaint: Complaint<'_>, errors: &mut E) -> u8
         Complaint::Extra(verb, word) => {
             complain_of(verb, b"unexpected argument '", word, b"'", errors);
         }
+        Complaint::Few(verb, words) => complain_of(verb, b"needs ", words, b"", errors),
+        Complaint::NoData(word) => {
+            complain_of(Verb::Add, b"'", word, b"' is not NAME=FILE", errors);
+        }
+        Complaint::TooLarge(word) => say(
+            errors,
+            &[
+                command_words(Verb::Add),
+                b": section '".as_slice(),
+                word.as_bytes(),
+                b"' is too large\n",
+            ],
+        ),
         Complaint::UnknownCommand(word) => say(
             errors,
             &[

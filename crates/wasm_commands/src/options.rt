@@ -13,6 +13,10 @@ pub(crate) enum Verb {
     Check,
     /// `strip`
     Strip,
+    /// `extract`
+    Extract,
+    /// `add`
+    Add,
 }
 
 /// An option of a command.
@@ -46,6 +50,10 @@ pub(crate) enum Flag {
     Output,
     /// `--no-progress`
     NoProgress,
+    /// `--index`
+    Index,
+    /// `--replace`
+    Replace,
 }
 
 /// Whether an option takes a value.
@@ -70,6 +78,8 @@ pub(crate) fn verb_of(word: &str) -> Option<Verb>
         "dump" => Some(Verb::Dump),
         "check" => Some(Verb::Check),
         "strip" => Some(Verb::Strip),
+        "extract" => Some(Verb::Extract),
+        "add" => Some(Verb::Add),
         _ => None,
     }
 }
@@ -93,6 +103,8 @@ pub(crate) fn flag_of(word: &str) -> Option<Flag>
         "--only" => Some(Flag::Only),
         "--output" | "-o" => Some(Flag::Output),
         "--no-progress" => Some(Flag::NoProgress),
+        "--index" => Some(Flag::Index),
+        "--replace" => Some(Flag::Replace),
         _ => None,
     }
 }
@@ -109,9 +121,10 @@ impl Flag {
                 matches!(verb, Verb::Dump)
             }
             Flag::Quiet => matches!(verb, Verb::Check),
-            Flag::KeepNames | Flag::Keep | Flag::Only | Flag::Output => {
-                matches!(verb, Verb::Strip)
-            }
+            Flag::KeepNames | Flag::Keep | Flag::Only => matches!(verb, Verb::Strip),
+            Flag::Output => matches!(verb, Verb::Strip | Verb::Extract | Verb::Add),
+            Flag::Index => matches!(verb, Verb::Extract),
+            Flag::Replace => matches!(verb, Verb::Add),
         }
     }
 
@@ -134,7 +147,7 @@ impl Flag {
         ensures { result ≡ takes_of self }
     {
         match self {
-            Flag::Section | Flag::Keep | Flag::Only | Flag::Output => Takes::Value,
+            Flag::Section | Flag::Keep | Flag::Only | Flag::Output | Flag::Index => Takes::Value,
             Flag::Color => Takes::Attached,
             _ => Takes::Nothing,
         }

@@ -1,4 +1,4 @@
-// The command `strip`: removes custom sections.
+// The command `strip`, and the work that `add` shares with it: a stream is written without some of its custom sections.
 mod twice;
 
 use crate::arguments::Arguments;
@@ -10,7 +10,29 @@ use std::alloc::{AllocError, Global};
 use std::io::Write;
 use twice::strip_twice;
 use wasm_console::{report_fault, strip_input};
-use wasm_feed::{Ended, Keep, ListError, Sink, WriteSink};
+use wasm_feed::{Ended, Keep, ListError, Sink, WriteSink, write_all};
+
+/// What is done with a stream: which custom sections stay, and what is written after the stream.
+#[derive(Clone, Copy)]
+pub(crate) struct Rewrite<'a> {
+    pub(crate) keep: Keep<'a>,
+    pub(crate) tail: &'a [u8],
+}
+
+// Writes the bytes after a stream that was written to its end.
+fn write_tail<W: Sink>(
+    how: Result<Ended, ListError>,
+    tail: &[u8],
+    output: &mut W,
+) -> Result<Ended, ListError> {
+    match how {
+        Ok(Ended::End) => match write_all(output, tail) {
+            Ok(()) => how,
+            Err(_) => Err(ListError::Output),
+        },
+        _ => how,
+    }
+}
 
 // Strips a file that can be read twice: first to check it, then to write it.
 fn strip_regular<S: System, W: Sink>(
@@ -38,6 +60,18 @@ fn strip_named<S: System, W: Sink>(
     }
     let mut input = system.open(name)?;
     Ok(strip_input(alloc, keep, &mut input, output))
+}
+
+// Writes a file or standard input, changed.
+fn rewrite_named<S: System, W: Sink>(
+    alloc: Global,
+    rewrite: Rewrite<'_>,
+    system: &S,
+    name: &str,
+    output: &mut W,
+) -> Result<Result<Ended, ListError>, Cause> {
+    let how = strip_named(alloc, rewrite.keep, system, name, output)?;
+    Ok(write_tail(how, rewrite.tail, output))
 }
 
 // Flushes the output if all was written.
@@ -68,16 +102,16 @@ fn answer<E: Sink>(
     }
 }
 
-// Strips a file or standard input to the output. Returns the exit status.
-fn strip_to_output<S: System, W: Write, E: Sink>(
+// Writes a file or standard input, changed, to the output. Returns the exit status.
+fn rewrite_to_output<S: System, W: Write, E: Sink>(
     alloc: Global,
-    keep: Keep<'_>,
+    rewrite: Rewrite<'_>,
     system: &S,
     name: &str,
     output: &mut WriteSink<W>,
     errors: &mut E,
 ) -> u8 {
-    match strip_named(alloc, keep, system, name, output) {
+    match rewrite_named(alloc, rewrite, system, name, output) {
         Ok(how) => {
             let how = flushed(how, output);
             answer(alloc, name, how, system, errors)
@@ -86,10 +120,10 @@ fn strip_to_output<S: System, W: Write, E: Sink>(
     }
 }
 
-// Strips a file or standard input to a file, which is replaced once all of it is written. Returns the exit status.
-fn strip_to_file<S: System, E: Sink>(
+// Writes a file or standard input, changed, to a file, which is replaced once all of it is written. Returns the exit status.
+fn rewrite_to_file<S: System, E: Sink>(
     alloc: Global,
-    keep: Keep<'_>,
+    rewrite: Rewrite<'_>,
     system: &S,
     name: &str,
     target: &str,
@@ -99,7 +133,7 @@ fn strip_to_file<S: System, E: Sink>(
         Ok(output) => output,
         Err(cause) => return refuse_file(target, cause, errors),
     };
-    let status = match strip_named(alloc, keep, system, name, &mut output) {
+    let status = match rewrite_named(alloc, rewrite, system, name, &mut output) {
         Ok(Err(ListError::Output)) => refuse_target(target, system.causes(), errors),
         Ok(how) => answer(alloc, name, how, system, errors),
         Err(cause) => refuse_file(name, cause, errors),
@@ -107,6 +141,24 @@ fn strip_to_file<S: System, E: Sink>(
     match system.replace(output, status == 0) {
         Ok(()) => status,
         Err(cause) => refuse_file(target, cause, errors),
+    }
+}
+
+/// Writes a file or standard input, changed, to where `--output` says. Returns the exit status.
+pub(crate) fn write_rewritten<S: System, W: Write, E: Sink>(
+    alloc: Global,
+    rewrite: Rewrite<'_>,
+    arguments: &Arguments<'_>,
+    system: &S,
+    name: &str,
+    output: &mut WriteSink<W>,
+    errors: &mut E,
+) -> u8 {
+    match arguments.last(Flag::Output) {
+        Some(Some(target)) if target != "-" => {
+            rewrite_to_file(alloc, rewrite, system, name, target, errors)
+        }
+        _ => rewrite_to_output(alloc, rewrite, system, name, output, errors),
     }
 }
 
@@ -135,10 +187,6 @@ pub(crate) fn strip<S: System, W: Write, E: Sink>(
         kept: kept.as_slice(),
         removed: removed.as_slice(),
     };
-    Ok(match arguments.last(Flag::Output) {
-        Some(Some(target)) if target != "-" => {
-            strip_to_file(alloc, keep, system, name, target, errors)
-        }
-        _ => strip_to_output(alloc, keep, system, name, output, errors),
-    })
+    let rewrite = Rewrite { keep, tail: b"" };
+    Ok(write_rewritten(alloc, rewrite, arguments, system, name, output, errors))
 }

@@ -7,4 +7,4 @@ mod stripping;
 
 pub use arguments::{Given, words_given};
 pub use common::{PIECE, finish, read_buffer, say, status_of, write_parts};
-pub use stripping::{report_fault, strip_input};
+pub use stripping::{read_all, report_fault, strip_input};

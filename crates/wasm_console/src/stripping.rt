@@ -31,8 +31,13 @@ fn read_piece<R: Source>(
     }
 }
 
-// Reads the source to its end. Nothing may be written before, because the fault may be in the last byte.
-fn read_all<R: Source>(alloc: Global, input: &mut R) -> Result<Vec<u8>, ListError>
+/// Reads a source to its end, and returns its bytes.
+///
+/// # Errors
+///
+/// * `Input` if the source failed.
+/// * `Memory` when an allocation fails.
+pub fn read_all<R: Source>(alloc: Global, input: &mut R) -> Result<Vec<u8>, ListError>
     ensures reads { ReadsAll (R.remaining input.old) (R.remaining input.new) result }
     ensures failed { R.has_failed input.new ≡ input_failed result (R.has_failed input.old) }
 {

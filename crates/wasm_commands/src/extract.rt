@@ -1,0 +1,156 @@
+// The command `extract`: writes the data of a custom section.
+use crate::arguments::Arguments;
+use crate::messages::{
+    Complaint, complain, refuse_file, refuse_run, refuse_target, warn_of_missing,
+};
+use crate::options::{Flag, Verb};
+use crate::system::System;
+use std::alloc::{AllocError, Global};
+use std::io::Write;
+use wasm_console::{read_all, report_fault};
+use wasm_feed::{ListError, Sink, WriteSink, write_all};
+use wasm_parser::{Parser, Payload, Result as ParserResult};
+
+// The custom section that is looked for: its name, and how many with this name come before it.
+#[derive(Clone, Copy)]
+struct Wanted<'a> {
+    name: &'a str,
+    before: u64,
+}
+
+// Returns the data of the section, if the stream has it before its first fault.
+fn find<'a>(bytes: &'a [u8], wanted: Wanted<'_>) -> ParserResult<Option<&'a [u8]>> {
+    let mut before = wanted.before;
+    for payload in Parser::new(0).parse_all(bytes) {
+        if let Payload::CustomSection(section) = payload? {
+            if section.name() == wanted.name {
+                if before == 0 {
+                    return Ok(Some(section.data()));
+                }
+                before -= 1;
+            }
+        }
+    }
+    Ok(None)
+}
+
+// Writes the data to a file, which is replaced once all of it is written. Returns the exit status.
+fn write_to_file<S: System, E: Sink>(
+    alloc: Global,
+    data: &[u8],
+    system: &S,
+    name: &str,
+    target: &str,
+    errors: &mut E,
+) -> u8 {
+    let mut output = match system.create(alloc, name, target) {
+        Ok(output) => output,
+        Err(cause) => return refuse_file(target, cause, errors),
+    };
+    let status = match write_all(&mut output, data) {
+        Ok(()) => 0,
+        Err(_) => refuse_target(target, system.causes(), errors),
+    };
+    match system.replace(output, status == 0) {
+        Ok(()) => status,
+        Err(cause) => refuse_file(target, cause, errors),
+    }
+}
+
+// Writes the data to the output. Returns the exit status.
+fn write_to_output<S: System, W: Write, E: Sink>(
+    data: &[u8],
+    system: &S,
+    output: &mut WriteSink<W>,
+    errors: &mut E,
+) -> u8 {
+    let written = match write_all(output, data) {
+        Ok(()) => output.flush(),
+        Err(failed) => Err(failed),
+    };
+    match written {
+        Ok(()) => 0,
+        Err(_) => refuse_run("-", ListError::Output, system.causes(), errors),
+    }
+}
+
+// Writes the section of a file or of standard input. Returns the exit status.
+fn extract_from<S: System, W: Write, E: Sink>(
+    alloc: Global,
+    wanted: Wanted<'_>,
+    arguments: &Arguments<'_>,
+    system: &S,
+    name: &str,
+    output: &mut WriteSink<W>,
+    errors: &mut E,
+) -> u8 {
+    let mut input = match system.open(name) {
+        Ok(input) => input,
+        Err(cause) => return refuse_file(name, cause, errors),
+    };
+    let bytes = match read_all(alloc, &mut input) {
+        Ok(bytes) => bytes,
+        Err(why) => return refuse_run(name, why, system.causes(), errors),
+    };
+    match find(bytes.as_slice(), wanted) {
+        Ok(Some(data)) => match arguments.last(Flag::Output) {
+            Some(Some(target)) if target != "-" => {
+                write_to_file(alloc, data, system, name, target, errors)
+            }
+            _ => write_to_output(data, system, output, errors),
+        },
+        Ok(None) => {
+            warn_of_missing(Verb::Extract, name, wanted.name, errors);
+            1
+        }
+        Err(error) => report_fault(alloc, error, errors),
+    }
+}
+
+// Parses the value of `--index`: a number from 1 on. Returns how many sections come before.
+fn before_of(value: Option<Option<&str>>) -> Option<u64> {
+    match value {
+        Some(Some(word)) => match word.parse::<u64>() {
+            Ok(index) => index.checked_sub(1),
+            Err(_) => None,
+        },
+        _ => Some(0),
+    }
+}
+
+/// Runs `extract`. Returns the exit status.
+///
+/// # Errors
+///
+/// `AllocError` when an allocation fails before anything is read.
+pub(crate) fn extract<S: System, W: Write, E: Sink>(
+    alloc: Global,
+    arguments: &Arguments<'_>,
+    system: &S,
+    output: &mut WriteSink<W>,
+    errors: &mut E,
+) -> Result<u8, AllocError> {
+    let operands = arguments.operands(alloc)?;
+    let (wanted, name) = match operands.as_slice() {
+        [] => return Ok(complain(Complaint::Few(Verb::Extract, "NAME"), errors)),
+        [wanted] => (*wanted, "-"),
+        [wanted, name] => (*wanted, *name),
+        [_, _, extra, ..] => {
+            return Ok(complain(Complaint::Extra(Verb::Extract, extra), errors));
+        }
+    };
+    let index = arguments.last(Flag::Index);
+    let Some(before) = before_of(index) else {
+        let value = match index {
+            Some(Some(value)) => value,
+            _ => "",
+        };
+        let complaint = Complaint::WrongValue(Verb::Extract, "--index", value);
+        return Ok(complain(complaint, errors));
+    };
+    let wanted = Wanted {
+        name: wanted,
+        before,
+    };
+    Ok(extract_from(alloc, wanted, arguments, system, name, output, errors))
+}
