@@ -9,6 +9,7 @@ assertions that a compiler checks. What the C side owes is at the head of the fi
 """
 import os
 import re
+import textwrap
 
 import common
 
@@ -47,15 +48,15 @@ def tag(name):
 
 
 def wrapped(text, indent):
-    """A comment of lines that aren't too wide."""
-    words, lines, line = text.split(), [], ""
-    for word in words:
-        if line and len(indent) + len(line) + len(word) > 130:
-            lines.append(line)
-            line = ""
-        line += (" " if line else "") + word
-    lines.append(line)
-    return indent + "/* " + ("\n" + indent + "   ").join(lines) + " */\n"
+    """Lines that aren't too wide for a comment."""
+    return textwrap.wrap(text, 131 - len(indent), break_long_words=False, break_on_hyphens=False)
+
+
+def boxed(lines, indent=""):
+    """A comment of these lines."""
+    if len(lines) == 1:
+        return "%s/** %s */\n" % (indent, lines[0])
+    return "%s/**\n" % indent + "".join((indent + " * " + line).rstrip() + "\n" for line in lines) + indent + " */\n"
 
 
 def paragraphs(lines):
@@ -81,18 +82,21 @@ def paragraphs(lines):
 
 
 def doc(lines, indent=""):
-    """A doc comment as a comment in C: its paragraphs, the items of its lists, and its examples, which are indented as code is in text."""
+    """A doc comment as Doxygen reads it: its paragraphs, lists and examples, and a heading for errors."""
     out = []
     for is_code, part in paragraphs(lines):
-        follows = not is_code and part[0].startswith("* ") and out
+        first, *more = part if is_code else wrapped(" ".join(part), indent)
+        is_listed = not is_code and first.startswith("* ")
+        out += [] if not out or is_listed else [""]
         if is_code:
-            text = "\n".join((indent + " " * 7 + line).rstrip() for line in part)
+            out += ["@code{.c}", first, *more, "@endcode"]
+        elif is_listed:
+            out += ["- " + first[2:], *("  " + line for line in more)]
+        elif first.startswith("Errors: "):
+            out += ["@par Errors", first[len("Errors: ") :], *more]
         else:
-            text = wrapped(" ".join(part), indent)[len(indent) + 3 : -len(" */\n")]
-            text = indent + "   " + text if out else text
-            text = text.replace("\n" + indent + "   ", "\n" + indent + "     ") if part[0].startswith("* ") else text
-        out.append(("\n" if follows else "\n\n" if out else "") + text)
-    return indent + "/* " + "".join(out) + " */\n"
+            out += [first, *more]
+    return boxed(out, indent)
 
 
 class Struct:
@@ -144,7 +148,7 @@ def details(name):
 
 def enumeration(comment, tag, prefix, rows):
     values = ",\n".join("    %s_%s = %d" % (prefix, name, number) for name, number in rows)
-    return wrapped(comment, "") + "typedef enum %s {\n%s\n} %s;\n" % (tag, values, tag)
+    return boxed(wrapped(comment, "")) + "typedef enum %s {\n%s\n} %s;\n" % (tag, values, tag)
 
 
 # The numbers of coded fields: a comment, the enumeration, the prefix of its enumerators, its numbers by their names, and the enum of
@@ -295,54 +299,6 @@ def declared_call(name, result, arguments):
     return line if len(line) <= 120 else "%s %s(\n    %s);\n" % (result, name, ", ".join(arguments))
 
 
-COMMENT = re.compile(r"^( *)/\* (.*?) \*/\n", re.M | re.S)
-
-
-def body_of(lines):
-    """The lines of a comment with Doxygen's commands: code for what is indented by four, lists, and a heading for errors."""
-    is_code = was_listed = False
-    for line in lines:
-        level = len(line) - len(line.lstrip())
-        if is_code and line and level < 4:
-            yield "@endcode"
-            is_code = False
-        if level >= 4 and not is_code and not was_listed:
-            yield "@code{.c}"
-            is_code = True
-        if is_code:
-            yield line[4:]
-        elif level == 2 and not was_listed or level == 2 and re.match(r"  [A-Z0-9_, ]+: ", line):
-            was_listed = True
-            yield "- " + line.strip()
-        elif was_listed and level:
-            yield "  " + line.strip()
-        elif line.startswith("Errors: "):
-            yield from ("@par Errors", line[len("Errors: ") :])
-        else:
-            was_listed = line.startswith("* ") or was_listed and level > 0
-            yield "- " + line[2:] if line.startswith("* ") else line
-    if is_code:
-        yield "@endcode"
-
-
-def doxygen(text):
-    """The header with each comment in the form that Doxygen reads."""
-
-    def replaced(found):
-        indent, lines = found[1], found[2].split("\n")
-        lines = [lines[0], *(line[len(indent) + 3 :] for line in lines[1:])]
-        if "SPDX" in lines[0]:
-            return found[0]
-        lines = "\n".join(body_of(lines)).replace("\n\n@endcode\n", "\n@endcode\n\n").split("\n")
-        if lines[0].startswith("Pulleynavy: "):
-            lines = ["@file", "@brief " + lines[0], *lines[1:]]
-        if len(lines) == 1:
-            return "%s/** %s */\n" % (indent, lines[0])
-        return "%s/**\n" % indent + "".join((indent + " * " + line).rstrip() + "\n" for line in lines) + indent + " */\n"
-
-    return COMMENT.sub(replaced, text)
-
-
 def header():
     text, known, layouts, parts = "", {}, "", common.version().split(".")
     if "result ≡ %d " % sum(int(part) << shift for part, shift in zip(parts, (16, 8, 0))) not in source("version"):
@@ -360,7 +316,7 @@ def header():
     whole = TEMPLATE.replace("@DECLARATIONS@", text).replace("@LAYOUTS@", layouts).replace("@VERSION@", common.version())
     for name, number in zip(("MAJOR", "MINOR", "PATCH"), parts):
         whole = whole.replace("@%s@" % name, number)
-    return doxygen(whole)
+    return whole
 
 
 # ---- the bindings
