@@ -10,8 +10,7 @@ It proves and builds the benchmark, benches/, and the programs where they aren't
 prebuilt one isn't. Instructions are counted by
 callgrind, where valgrind is there, on files of a tenth of the size. The made files are as large as their row says, times each of the
 sizes; --only takes the rows that contain WORD. Times in memory are of the fastest of the rounds of a second, all in one process.
-Those of processes are the least of five runs, in which the programs take turns, and a ratio is the median of those of the turns.
-Where there are compilers for C and for Rust, a table has the events from these beside those from Rattle. Machines differ, so read
+`tools/bench files` has times of processes. Where there are compilers for C and for Rust, a table has the events from these beside those from Rattle. Machines differ, so read
 times as ratios.
 
 --original builds bench.rs of bindings/rust/examples/programs over a crate with the API of wasmparser, with link-time optimization
@@ -22,10 +21,8 @@ import argparse
 import os
 import re
 import shutil
-import statistics
 import subprocess
 import tempfile
-import time
 
 import benches
 import cargo
@@ -38,7 +35,6 @@ from made import custom, listed, module, section, text
 
 PROGRAM, LISTER, DUMPER = benches.PROGRAM, programs.path_of("wasm_list"), programs.path_of("pulleynavy")
 EVENT_WAYS = ["parse", "parse_all", "65536", "4096", "100", "16", "1"]
-RUNS = 5
 
 
 # ---- the files
@@ -361,38 +357,6 @@ def timed_in_memory(path, ways):
     return times
 
 
-def seconds(commands):
-    """The seconds of each command, a program with its input and its output, in each of the rounds: they take turns."""
-    rounds = []
-    for _ in range(RUNS):
-        took = []
-        for command, source, target in commands:
-            with open(source, "rb") as data, open(target, "wb") as out:
-                start = time.perf_counter()
-                subprocess.run(command, stdin=data, stdout=out, stderr=subprocess.DEVNULL)
-                took.append(time.perf_counter() - start)
-        rounds.append(took)
-    return rounds
-
-
-def process_row(path, folder):
-    listing, copy = os.path.join(folder, "listing"), os.path.join(folder, "copy")
-    dump = shutil.which("wasm-objdump")
-    commands = [([LISTER], path, listing), (["cat"], path, os.devnull), (["cat"], listing, copy)]
-    commands += [([LISTER, "strip"], path, copy), (["cat"], path, copy)]
-    rounds = seconds(commands + ([([dump, "-h", path], path, copy)] if dump else []))
-    least = [min(took) for took in zip(*rounds)]
-    to_list = statistics.median(took[0] / (took[1] + took[2]) for took in rounds)
-    to_strip = statistics.median(took[3] / took[4] for took in rounds)
-    row = [milliseconds(least[0]), milliseconds(least[1] + least[2]), "%.2f" % to_list, str(programs.peak_memory([LISTER], path))]
-    row += [milliseconds(least[3]), milliseconds(least[4]), "%.2f" % to_strip]
-    return row + [milliseconds(took) for took in least[5:]]
-
-
-def milliseconds(took):
-    return "%.1f" % (1e3 * took)
-
-
 # ---- the tables
 
 
@@ -412,38 +376,25 @@ def nanoseconds(count, took):
 
 
 def of_made_files(sizes, only, folder):
-    """The rows of both tables: times in memory, and processes."""
-    in_memory, processes = [], []
+    """The rows of times in memory."""
     for what, usual, make, ways, by_made in MADE:
         if only not in what:
             continue
         of_way = {way: [] for way in ways}
         for size in sizes:
             count = int(usual * size)
-            path = os.path.join(folder, "made.wasm")
-            common.write(path, make(count))
-            times = timed_in_memory(path, ways)
+            times = timed_in_memory(common.write(os.path.join(folder, "made.wasm"), make(count)), ways)
             for way in ways:
                 counted, took = times.get(way, (0, 0))
                 of_way[way].append(nanoseconds(count if by_made else counted, took))
-            if ways is EVENT_WAYS:
-                megabytes = "%.1f" % (os.path.getsize(path) / 1e6)
-                processes.append(["%d %s" % (count, what), megabytes] + process_row(path, folder))
-        for way in ways:
-            in_memory.append(["%d %s" % (usual, what), words_of(way, by_made)] + of_way[way])
-    return in_memory, processes
+        yield from (["%d %s" % (usual, what), words_of(way, by_made)] + of_way[way] for way in ways)
 
 
-def of_given_files(files, folder):
-    in_memory, processes = [], []
+def of_given_files(files):
+    ways, words = EVENT_WAYS + ["items", "indices"], dict(WORDS, indices="an item, or an index of a list")
     for path in files:
-        ways = EVENT_WAYS + ["items", "indices"]
         times = timed_in_memory(path, ways)
-        name = os.path.basename(path)
-        words = dict(WORDS, indices="an item, or an index of a list")
-        in_memory += [[name, words[way], nanoseconds(*times.get(way, (0, 0)))] for way in ways]
-        processes.append([name, "%.1f" % (os.path.getsize(path) / 1e6)] + process_row(path, folder))
-    return in_memory, processes
+        yield from ([os.path.basename(path), words[way], nanoseconds(*times.get(way, (0, 0)))] for way in ways)
 
 
 def sizes_of(word):
@@ -462,7 +413,6 @@ def main():
         ("--original", {"metavar": "FOLDER", "help": "count this source of wasmparser too"}),
     ]
     options = common.arguments(__doc__, files=True, more=more)
-    sizes = options.sizes
     if options.count and (options.files or not shutil.which("valgrind")):
         common.stop(common.WRONG_USE, "--count is for made files, and needs valgrind")
     build()
@@ -475,12 +425,7 @@ def main():
         if not options.files:
             print_callers(options.only, options.archive, folder)
         if options.files:
-            rows, processes = of_given_files(options.files, folder)
-            heads = ["ns"]
+            print_table(["file", "time of", "ns"], of_given_files(options.files))
         else:
-            rows, processes = of_made_files(sizes, options.only, folder)
-            heads = ["ns at %g times" % size for size in sizes]
-    print_table(["file", "time of"] + heads, rows)
-    if processes:
-        dump = ["wasm-objdump -h ms"] if shutil.which("wasm-objdump") else []
-        print_table(["file", "MB", "wasm_list ms", "cat ms", "ratio", "peak KiB", "strip ms", "cat to a file ms", "ratio"] + dump, processes)
+            heads = ["ns at %g times" % size for size in options.sizes]
+            print_table(["file", "time of", *heads], of_made_files(options.sizes, options.only, folder))

@@ -38,7 +38,8 @@ COMMANDS = {
     },
     "bench": {
         "tables": ("bench_tables", "instructions and times on made files"),
-        "files": ("bench_files", "times of the programs on whole files, next to other tools"),
+        "files": ("bench_files", "times or instructions of the programs on whole files, next to other tools"),
+        "scaling": ("bench_files:scaling", "how time and memory grow with a file, and what more processes gain"),
         "inlining": ("bench_inlining", "instructions if functions are inlined otherwise, without proofs"),
     },
 }

@@ -2,10 +2,10 @@
 /* The ruler of tools/bench: the shortest program that does the work of a parser for a well-formed file. It checks bounds and nothing else: no
    order, no count, no unused bit, no UTF-8. So nobody would ship it.
 
-       limit parse|items|indices < a.wasm
+       limit parse|items|indices|list < a.wasm
 
    It fills a struct for each event, by a call, or for each item of the sections that tools/bench makes, in place, and prints the way, how many there are and
-   the size of the file. */
+   the size of the file. With `list` it also prints a line for each event. */
 #include <stdbool.h>
 #include <stdint.h>
 #include <stdio.h>
@@ -199,12 +199,40 @@ static APART uint64_t limit_items(const uint8_t *bytes, size_t size) {
     return count;
 }
 
+/* Writes a number and a space. */
+static inline char *digits(char *at, uint64_t value) {
+    char some[20];
+    int count = 0;
+    do some[count++] = (char)('0' + value % 10);
+    while (value /= 10);
+    while (count) *at++ = some[--count];
+    *at++ = ' ';
+    return at;
+}
+
+static APART uint64_t limit_list(const uint8_t *bytes, size_t size) {
+    static char page[1 << 16];
+    struct cursor c = {bytes + 8, bytes + size, bytes};
+    const uint8_t *code_end = bytes;
+    struct event event;
+    uint64_t count = 2;
+    char *at = page;
+    for (; next_event(&c, &code_end, &event); count++) {
+        at = digits(digits(digits(digits(at, event.id), event.start), event.end), event.count);
+        at[-1] = '\n';
+        if (at - page > (1 << 16) - 100) fwrite(page, 1, (size_t)(at - page), stdout), at = page;
+    }
+    fwrite(page, 1, (size_t)(at - page), stdout);
+    return count;
+}
+
 int main(int count, char **words) {
     size_t room = 1 << 20, size = 0;
     uint8_t *bytes = malloc(room);
     while (bytes && (size += fread(bytes + size, 1, room - size, stdin)) == room) bytes = realloc(bytes, room *= 2);
     if (!bytes || size < 8 || count != 2) return 2;
-    uint64_t found = strcmp(words[1], "parse") ? limit_items(bytes, size) : limit_parse(bytes, size);
+    uint64_t (*way)(const uint8_t *, size_t) = words[1][0] == 'p' ? limit_parse : words[1][0] == 'l' ? limit_list : limit_items;
+    uint64_t found = way(bytes, size);
     printf("%s %llu %zu\n", words[1], (unsigned long long)found, size);
     free(bytes);
     return 0;
