@@ -56,8 +56,4 @@ def run(tool, about):
         common.stop(common.WRONG_USE, "there is no %s; there are %s" % (words[0], ", ".join(known)))
     sys.argv = ["tools/%s %s" % (tool, words[0]), *words[1:]]
     module, _, name = known[words[0]][0].partition(":")
-    try:
-        return getattr(importlib.import_module(module), name or "main")()
-    except common.Failed as failed:
-        print("FAILED", failed)
-        return common.DIFFERS
+    return getattr(importlib.import_module(module), name or "main")()

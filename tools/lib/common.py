@@ -78,6 +78,20 @@ def must(words, folder=None, stream=b"", env=None, **options):
     return done.stdout.decode(errors="replace")
 
 
+def end(main):
+    """Runs the main part of a tool, and ends with its status: also where a command failed, or where nobody reads what it prints."""
+    try:
+        status = main()
+        sys.stdout.flush()
+    except Failed as failed:
+        print("FAILED", failed)
+        status = DIFFERS
+    except BrokenPipeError:
+        os.dup2(os.open(os.devnull, os.O_WRONLY), sys.stdout.fileno())
+        status = DIFFERS
+    sys.exit(status)
+
+
 def stop(status, message):
     print("%s: %s" % (os.path.basename(sys.argv[0]), message), file=sys.stderr)
     sys.exit(status)

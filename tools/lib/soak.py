@@ -203,10 +203,7 @@ def main():
     streams = size = calls = 0
     found = []
     with tempfile.TemporaryDirectory() as folder, multiprocessing.Pool(jobs) as pool:
-        try:
-            driver, caller = built(folder, given.archive)
-        except common.Failed as failed:
-            common.stop(common.WRONG_USE, failed)
+        driver, caller = built(folder, given.archive)
         for number in itertools.count(0, jobs):
             tasks = [("%d-%d" % (given.seed, number + job), driver, caller, given.model, files) for job in range(jobs)]
             for read, made, differ in pool.map(soaked, tasks, 1):

@@ -401,23 +401,19 @@ def main():
     given = common.arguments(__doc__, [("seed", 1), ("count", 300)], show=5, more=more)
     streams = common.golden() + drawn(given.seed, given.count)
     with tempfile.TemporaryDirectory() as folder:
-        try:
-            made = {"given%d" % number: path for number, path in enumerate(given.archive)} if given.archive else archives(folder)
-            built = built_examples(folder, made)
-            if not built:
-                return 0
-            header_alone(folder)
-            header_examples(folder, made)
-            with_doxygen(folder)
-            patterns(built, streams)
-            sequences(folder, made, streams, given.seed)
-            differ = [text for test in (compared, stripped, names, imports, under_valgrind) for text in test(built, streams)]
-            changed = [(stream, modelled(stream)) for stream in mutants(random.Random(given.seed), [stream for stream, _ in common.golden()], MUTANTS)]
-            for number, archive in enumerate(made.values()):
-                with_cargo(folder, archive)
-                with_python(folder, archive, streams, changed[number :: len(made)])
-        except common.Failed as failed:
-            print("FAILED", failed)
-            return common.DIFFERS
+        made = {"given%d" % number: path for number, path in enumerate(given.archive)} if given.archive else archives(folder)
+        built = built_examples(folder, made)
+        if not built:
+            return 0
+        header_alone(folder)
+        header_examples(folder, made)
+        with_doxygen(folder)
+        patterns(built, streams)
+        sequences(folder, made, streams, given.seed)
+        differ = [text for test in (compared, stripped, names, imports, under_valgrind) for text in test(built, streams)]
+        changed = [(stream, modelled(stream)) for stream in mutants(random.Random(given.seed), [stream for stream, _ in common.golden()], MUTANTS)]
+        for number, archive in enumerate(made.values()):
+            with_cargo(folder, archive)
+            with_python(folder, archive, streams, changed[number :: len(made)])
     count = sum(len(paths) for paths in built.values())
     return common.tell(differ, given.show, "%d programs, %d streams, %d differ (seed %d)" % (count, len(streams), len(differ), given.seed))
