@@ -33,7 +33,6 @@ COMMANDS = {
         "documents": ("documents", "the tables of docs/PROVED.md and docs/DEFINITIONS.md, from comments over clauses and definitions"),
         "program": ("generate_program", "help texts, the manual page and completions of the program, from tools/lib/program.py"),
         "header": ("generate_header", "the header of the C library, and the declarations of the bindings"),
-        "codes": ("generate_codes", "the numbers of enumerations for the crate for Rust, from the header"),
         "manuals": ("generate_manuals", "manual pages of ten calls of the C library, from the header"),
     },
     "bench": {

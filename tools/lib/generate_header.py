@@ -353,6 +353,15 @@ def rust():
     return head + structs + '\nunsafe extern "C" {\n' + calls + "}\n"
 
 
+def codes():
+    """The numbers of enumerations for Rust, a module for each."""
+    text = "//! The numbers of enumerations in the C library, written by `tools/generate header` from its sources.\n"
+    for _, tag, _, rows in enumerations(True):
+        text += "\npub(crate) mod %s {\n" % tag[len("pulleynavy_") :]
+        text += "".join("    pub(crate) const %s: u32 = %d;\n" % row for row in rows) + "}\n"
+    return text
+
+
 CTYPES = {"u8": "c_uint8", "u32": "c_uint32", "u64": "c_uint64", "i64": "c_int64", "usize": "c_size_t", "bool": "c_bool"}
 
 
@@ -452,7 +461,8 @@ def undocumented():
 
 # Each file that is written, by what writes it.
 BINDINGS = os.path.join(common.TOP, "bindings")
-TARGETS = {TARGET: header, os.path.join(BINDINGS, "rust", "src", "ffi.rs"): rust, os.path.join(BINDINGS, "python", "pulleynavy", "declared.py"): python}
+TARGETS = {TARGET: header, os.path.join(BINDINGS, "rust", "src", "ffi.rs"): rust, os.path.join(BINDINGS, "rust", "src", "codes.rs"): codes}
+TARGETS[os.path.join(BINDINGS, "python", "pulleynavy", "declared.py")] = python
 TARGETS.update({os.path.join(BINDINGS, "js", "declared.js"): javascript, os.path.join(BINDINGS, "js", "declared.d.ts"): typescript})
 
 
