@@ -1,4 +1,5 @@
 """The programs of this repository: the one place that says how each is called, where it is once it is built, and how it is run."""
+import functools
 import os
 import shutil
 import subprocess
@@ -29,6 +30,7 @@ def is_older(crate):
     return any(os.path.getmtime(path) > built_at for name in common.crates_of(crate) for path in common.files_of(name))
 
 
+@functools.lru_cache(maxsize=None)
 def built(crate):
     """The path of a built program; if it isn't built, that of the release if there is no toolchain to build it. Else the tool stops."""
     path, kept = path_of(crate), os.path.join(common.PREBUILT, crate)
