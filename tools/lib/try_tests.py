@@ -2,7 +2,7 @@
 
     tools/try tests                  all tests, and the benchmark over benches/stdin
     tools/try tests stream_tests     the tests of these crates alone
-    tools/try tests --counted LOG    runs nothing: counts the tests that passed by what `rt ci` printed to a file
+    tools/try tests --counted LOG    only the benchmark: counts the tests that passed by what `rt ci`, which runs them too, printed to a file
     tools/try tests --fmt            runs nothing: lays out the files of the benchmark, which is in no crate
 
 The status is 1 if a test fails, or if fewer tests passed than tools/lib/tests.txt says. `tools/check tests` compares that number with the
@@ -81,11 +81,11 @@ def main():
     for name in given.crates:
         if name not in known:
             line.error("%s has no tests; these have: %s" % (name, ", ".join(known)))
-    if given.counted:
-        return counted(given.counted)
+    if given.counted and counted(given.counted):
+        return common.DIFFERS
     if not shutil.which("rt"):
         common.stop(common.NO_PROGRAM, "rt is not on the path")
-    if given.fmt:
+    if given.fmt or given.counted:
         return benchmark(given)
     counts = [passed(crate) for crate in given.crates or known]
     if None in counts:
