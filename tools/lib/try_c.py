@@ -9,6 +9,7 @@ Random calls of all functions, in any order that the header allows, return for a
 The package for Python also reads 20,000 streams with changed bytes, and must not make memory grow.
 The examples of the header run too, and Doxygen reads it without a warning. What a machine lacks (a compiler, valgrind, cargo) is said in one line, and the rest is done.
 """
+import contextlib
 import json
 import os
 import random
@@ -163,102 +164,64 @@ def in_parallel(differing, rows):
         return [text for text in pool.map(differing, rows) if text]
 
 
-def stripped(built, streams):
-    """Each stream stripped, as the model has it, or nothing if it has a fault."""
-    strip = common.load(common.MODEL).strip
+def each(paths, streams, wanted_of, more=lambda number: []):
+    """How what an example writes of each stream, and its status, differs from what is wanted. Its builds take turns."""
 
     def differing(row):
         number, (stream, lines) = row
-        status = programs.status([line for line in lines if not line.startswith("  ")])
-        wanted = (b"" if status else strip(stream), status)
-        path = built["strip"][number % len(built["strip"])]
-        done = subprocess.run([path], input=stream, stdout=subprocess.PIPE, timeout=600)
-        if (done.stdout, done.returncode) == wanted:
+        words, (text, status) = [paths[number % len(paths)], *more(number)], wanted_of(stream, lines)
+        done = subprocess.run(words, input=stream, stdout=subprocess.PIPE, timeout=600)
+        if done.stdout == text and done.returncode == status:
             return None
-        return "%s on %s\n  program %r\n  model   %r" % (path, stream.hex()[:400], (done.stdout, done.returncode), wanted)
+        return "%s on %s\n  program %r\n  wanted  %r" % (" ".join(words), stream.hex()[:400], (done.stdout, done.returncode), (text, status))
 
     return in_parallel(differing, enumerate(streams))
 
 
-def number_at(data, at):
-    """A u32 in LEB128 and where it ends."""
-    value = shift = 0
-    while shift < 35 and at < len(data):
-        value |= (data[at] & 0x7F) << shift
-        at, shift = at + 1, shift + 7
-        if data[at - 1] < 0x80:
-            return (value, at) if value < 1 << 32 else None
-    return None
+def status_of(lines):
+    return programs.status([line for line in lines if not line.startswith("  ")])
 
 
-def text_at(data, at):
-    """A name, and where it ends."""
-    size = number_at(data, at)
-    if not size or size[0] > 100_000 or sum(size) > len(data):
-        return None
-    text = data[size[1] : sum(size)]
-    return (text, sum(size)) if text.decode(errors="replace").encode() == text else None
-
-
-def entries(data):
-    """The index and the name of each entry of a name map, up to the first that is malformed or out of order."""
-    count = number_at(data, 0)
-    at, last = (count[1], -1) if count else (0, -1)
-    for _ in range(count[0] if count else 0):
-        index = number_at(data, at)
-        name = index and text_at(data, index[1])
-        if not name or index[0] <= last:
-            return
-        at, last = name[1], index[0]
-        yield b"%d %s\n" % (index[0], name[0])
+def stripped(built, streams):
+    """Each stream stripped, as the model has it, or nothing if it has a fault."""
+    strip = common.load(common.MODEL).strip
+    return each(built["strip"], streams, lambda stream, lines: (b"", 1) if status_of(lines) else (strip(stream), 0))
 
 
 def named_in(data):
-    """The functions that a section of names names, up to the first subsection that is malformed or out of order."""
-    at, last = 0, -1
-    while at < len(data) and last < data[at] < 0x80:
-        size = number_at(data, at + 1)
-        if not size or sum(size) > len(data):
-            return
-        if data[at] == 1:
-            yield from entries(data[size[1] : sum(size)])
-        at, last = sum(size), data[at]
+    """The functions that a section of names names, up to the first subsection or name that is malformed or out of order."""
+    model = common.load(common.MODEL_OF_ITEMS)
+    rest, last = model.R(data), -1
+    with contextlib.suppress(model.Bad):
+        while rest.left() and rest.peek() > last:
+            last, size = rest.u7(), rest.u32()
+            part, before = rest.window(rest.p, rest.p + len(rest.raw(size))), -1
+            for _ in range(part.u32() if last == 1 else 0):
+                index, name = part.u32(), part.string(True)
+                if index <= before:
+                    return
+                before = index
+                yield b"%d %s\n" % (index, name)
 
 
 def names(built, streams):
     """The names of functions, as `names.c` and as a few lines of Python have them."""
 
-    def differing(row):
-        number, (stream, lines) = row
-        wanted = b""
-        for line in lines:
-            if line.startswith("custom "):
-                start, end, data = map(int, line.split()[1:])
-                if stream[data - 4 : data] == b"name" and number_at(stream, start) == (4, data - 4):
-                    wanted += b"".join(named_in(stream[data:end]))
-        path = built["names"][number % len(built["names"])]
-        done = subprocess.run([path], input=stream, stdout=subprocess.PIPE, timeout=600)
-        if done.stdout == wanted:
-            return None
-        return "%s on %s\n  program %r\n  model   %r" % (path, stream.hex()[:400], done.stdout, wanted)
+    def wanted_of(stream, lines):
+        sections = [line.split() for line, under in zip(lines, lines[1:]) if line.startswith("custom ") and under.startswith("  x6e616d65 ")]
+        return b"".join(name for _, _, end, data in sections for name in named_in(stream[int(data) : int(end)])), status_of(lines)
 
-    return in_parallel(differing, enumerate(streams))
+    return each(built["names"], streams, wanted_of)
 
 
 def imports(built, streams):
     """The imports one by one, as `imports.c` has them, and as the model has them among all items."""
 
-    def differing(row):
-        number, (stream, lines) = row
+    def wanted_of(_, lines):
         rows = [re.match(r"  \d+ import\((x\w*) (x\w*) (\w+)", line) for line in lines]
-        wanted = ["%s %s %s" % row.groups() for row in rows if row]
-        path, batch = built["imports"][number % len(built["imports"])], BATCHES[number % len(BATCHES)]
-        found = programs.lines_in(run([path, str(batch)], stream, timeout=600).stdout)
-        if found == wanted:
-            return None
-        return "%s %d on %s\n  program %s\n  model   %s" % (path, batch, stream.hex()[:400], found, wanted)
+        return "".join("%s %s %s\n" % row.groups() for row in rows if row).encode(), status_of(lines)
 
-    return in_parallel(differing, enumerate(streams))
+    return each(built["imports"], streams, wanted_of, lambda number: [str(BATCHES[number % len(BATCHES)])])
 
 
 def patterns(built, streams):
