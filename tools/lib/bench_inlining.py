@@ -34,8 +34,7 @@ class Module:
         benches.proved(os.path.join(folder, "whole.o"), toolchain.keeping(folder))
         text = os.path.join(folder, "module.ll")
         run(*toolchain.text_command(folder, text))
-        with open(text, encoding="utf-8") as file:
-            self.text = file.read()
+        self.text = common.read(text)
         self.groups = dict(re.findall(r"^attributes #(\d+) = \{ (.*) \}$", self.text, re.M))
         self.places = {found.group(1): found for found in re.finditer(r'^define [^\n]*?@"([^"]*)"\([^\n]*\) #(\d+)', self.text, re.M)}
 

@@ -26,16 +26,14 @@ DIFFERS, WRONG_USE, NO_PROGRAM, SKIPPED = 1, 2, 3, 4
 
 def version():
     """The version of this project, which is in one file."""
-    with open(os.path.join(TOP, "VERSION"), encoding="ascii") as file:
-        return file.read().strip()
+    return read("VERSION").strip()
 
 
 def date_of_release():
     """The date of packages, in seconds: SOURCE_DATE_EPOCH, or that in the heading of this version in the changelog, or an early one before there is such a heading."""
     if "SOURCE_DATE_EPOCH" in os.environ:
         return int(os.environ["SOURCE_DATE_EPOCH"])
-    with open(os.path.join(TOP, "CHANGELOG.md"), encoding="utf-8") as file:
-        found = re.search(r"^## \[?%s\]? - (\S+)" % re.escape(version()), file.read(), re.M)
+    found = re.search(r"^## \[?%s\]? - (\S+)" % re.escape(version()), read("CHANGELOG.md"), re.M)
     day = datetime.datetime.fromisoformat(found[1] if found else "2026-01-01")
     return int(day.replace(tzinfo=datetime.timezone.utc).timestamp())
 
@@ -201,11 +199,10 @@ def generate(doc, make):
 def crates():
     """The libraries of each crate, as crates.txt has them and in its order."""
     found = {}
-    with open(os.path.join(TOP, "crates.txt"), encoding="utf-8") as file:
-        for line in file:
-            name, colon, libraries = line.split("#")[0].partition(":")
-            if colon:
-                found[name.split()[0]] = libraries.split()
+    for line in read("crates.txt").splitlines():
+        name, colon, libraries = line.split("#")[0].partition(":")
+        if colon:
+            found[name.split()[0]] = libraries.split()
     return found
 
 
@@ -254,12 +251,10 @@ def sources():
     yield os.path.join(TOP, "crates.txt")
 
 
-def checksum_lines(paths):
-    """The checksum and the name of each of these files, as sha256sum writes them."""
+def checksum_lines(paths, top=TOP):
+    """The checksum and the name of each of these files below a folder, as sha256sum writes them."""
     for path in paths:
-        with open(path, "rb") as file:
-            digest = hashlib.sha256(file.read()).hexdigest()
-        yield "%s  %s\n" % (digest, os.path.relpath(path, TOP))
+        yield "%s  %s\n" % (hashlib.sha256(read_bytes(path)).hexdigest(), os.path.relpath(path, top))
 
 
 def sources_of_programs():
@@ -278,11 +273,8 @@ def checksum_of_sources():
 
 def made_from():
     """What the prebuilt artifacts were made from, by name."""
-    try:
-        with open(os.path.join(PREBUILT, "MADE-FROM"), encoding="utf-8") as file:
-            return dict(line.rstrip("\n").split(": ", 1) for line in file)
-    except FileNotFoundError:
-        return {}
+    path = os.path.join(PREBUILT, "MADE-FROM")
+    return dict(line.split(": ", 1) for line in read(path).splitlines()) if os.path.exists(path) else {}
 
 
 def is_prebuilt():
@@ -331,8 +323,7 @@ def modules_in(data):
 def modules_of(files):
     """The modules of all these files."""
     for path in files:
-        with open(path, "rb") as file:
-            found = list(modules_in(file.read()))
+        found = list(modules_in(read_bytes(path)))
         if not found:
             stop(WRONG_USE, "%s is neither a module nor an archive of modules" % path)
         yield from found
@@ -340,8 +331,7 @@ def modules_of(files):
 
 def golden():
     """Each golden stream and its lines."""
-    with open(GOLDEN, encoding="ascii") as file:
-        return [(bytes.fromhex(row["hex"]), row["lines"]) for row in map(json.loads, file)]
+    return [(bytes.fromhex(row["hex"]), row["lines"]) for row in map(json.loads, read(GOLDEN).splitlines())]
 
 
 def leb(value):

@@ -227,8 +227,7 @@ def wabt_differs(words, data):
         file.write(data)
         file.flush()
         done = subprocess.run(["wasm-strip", file.name], stderr=subprocess.PIPE)
-        with open(file.name, "rb") as again:
-            others = again.read()
+        others = common.read_bytes(file.name)
     left = programs.run(words, data)[0]
     same = others[:8] == left[:8] and [(i, c) for i, _, c in sections(others)] == [(i, c) for i, _, c in sections(left)]
     return None if same and not done.returncode else "wasm-strip leaves other sections, or refuses it: %r" % done.stderr[:200]

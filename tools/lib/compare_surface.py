@@ -49,12 +49,11 @@ def pages(folder):
 
 def listed():
     """Of each line of the list whether its items are absent, their name, and their members and traits."""
-    with open(LIST, encoding="utf-8") as file:
-        for line in file:
-            if line.strip() and not line.startswith("#"):
-                name, _, rest = line.lstrip("- ").partition(":")
-                members, _, traits = rest.partition("|")
-                yield line.startswith("-"), name, members.split(), traits.split()
+    for line in common.read(LIST).splitlines():
+        if line.strip() and not line.startswith("#"):
+            name, _, rest = line.lstrip("- ").partition(":")
+            members, _, traits = rest.partition("|")
+            yield line.startswith("-"), name, members.split(), traits.split()
 
 
 def compared(found, readme):
@@ -97,8 +96,7 @@ def main():
     given = line.parse_args()
     with tempfile.TemporaryDirectory() as folder:
         found = pages(folder)
-    with open(os.path.join(CRATE, "README.md"), encoding="utf-8") as file:
-        faults, wanted = compared(found, file.read())
+    faults, wanted = compared(found, common.read(CRATE, "README.md"))
     for text in faults + (list(additions(found, wanted)) if given.more else []):
         print(text)
     count = len(wanted) + sum(len(members) + len(traits) for members, traits in wanted.values())

@@ -20,10 +20,9 @@ DECLARED = re.compile(r"^/\*\*(?: (.*) \*/\n|\n((?: \*(?:\n| .*\n))+) \*/\n)(\w[
 
 def declared():
     """The result, the arguments and the lines of the comment of each call of the header."""
-    with open(HEADER, encoding="utf-8") as file:
-        for short, long, result, name, arguments in DECLARED.findall(file.read()):
-            lines = [line[3:] for line in long.splitlines()] if long else [short]
-            yield name, result.strip(), [" ".join(one.split()) for one in arguments.split(",")], lines
+    for short, long, result, name, arguments in DECLARED.findall(common.read(HEADER)):
+        lines = [line[3:] for line in long.splitlines()] if long else [short]
+        yield name, result.strip(), [" ".join(one.split()) for one in arguments.split(",")], lines
 
 
 def escaped(text):
@@ -119,7 +118,6 @@ def main():
     made = pages()
     try:
         for name, text in made.items() if given.out else ():
-            os.makedirs(given.out, exist_ok=True)
             common.write(os.path.join(given.out, name), text)
     except OSError as error:
         common.stop(common.WRONG_USE, error)

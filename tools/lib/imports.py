@@ -28,7 +28,6 @@ def wrong_imports():
             continue
         for path in common.files_of(crate):
             if path.endswith((".antt", ".rt")):
-                with open(path, encoding="utf-8") as file:
-                    for number, line in enumerate(file, 1):
-                        for cited in cites(crate, line):
-                            yield f"{os.path.relpath(path, common.TOP)}:{number}: cites {cited}"
+                for number, line in enumerate(common.read(path).splitlines(), 1):
+                    for cited in cites(crate, line):
+                        yield f"{os.path.relpath(path, common.TOP)}:{number}: cites {cited}"

@@ -20,8 +20,7 @@ def built(source, folder):
     project = os.path.join(folder, "original")
     os.makedirs(os.path.join(project, "src"))
     shutil.copy(SOURCE, os.path.join(project, "src", "main.rs"))
-    with open(os.path.join(project, "Cargo.toml"), "w", encoding="utf-8") as out:
-        out.write(MANIFEST % (json.dumps(os.path.abspath(source)), json.dumps(package), json.dumps(features)))
+    common.write(os.path.join(project, "Cargo.toml"), MANIFEST % (json.dumps(os.path.abspath(source)), json.dumps(package), json.dumps(features)))
     if subprocess.run(["cargo", "build", "--offline", "--quiet", "--release"], cwd=project).returncode:
         common.stop(common.NO_PROGRAM, "%s could not be built over %s" % (SOURCE, source))
     return os.path.join(project, "target", "release", "original")

@@ -242,10 +242,8 @@ def tarball(machine, folder, place):
     place = os.path.join(place, machine)
     run([source("install"), "--prebuilt", "/"], DESTDIR=place, MACHINE=machine, CC=needed(MACHINES[machine]["compiler"]))
     shutil.rmtree(os.path.join(place, "share", "pulleynavy"))
-    with open(os.path.join(place, "lib", "pkgconfig", "pulleynavy.pc"), "r+", encoding="utf-8") as file:
-        text = file.read()
-        file.seek(0)
-        file.write(re.sub("^prefix=.*", "prefix=${pcfiledir}/../..", text, flags=re.M))
+    path = os.path.join(place, "lib", "pkgconfig", "pulleynavy.pc")
+    common.write(path, re.sub("^prefix=.*", "prefix=${pcfiledir}/../..", common.read(path), flags=re.M))
     copy_all((*LICENSES, "README.md", "CHANGELOG.md"), os.path.join(place, "share", "doc", "pulleynavy"))
     paths = sorted(os.path.join(at, name) for at, _, names in os.walk(place) for name in names)
     named = [("%s/%s" % (top, os.path.relpath(path, place)), path) for path in paths]

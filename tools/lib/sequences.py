@@ -72,6 +72,11 @@ def tables(text):
     return "/* Written by tools/lib/sequences.py. */\n" + "\n".join(out)
 
 
+def with_sizes(path, streams):
+    """Writes streams into a file, each after its size, as the program reads them. Returns the path."""
+    return common.write(path, b"".join(len(stream).to_bytes(4, "little") + stream for stream in streams))
+
+
 def written(folder):
     """Writes the tables into a folder, for `tables.h` of the program."""
     path = os.path.join(folder, "tables.h")

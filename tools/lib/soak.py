@@ -132,9 +132,7 @@ def differences(driver, model, streams):
 def sequences_differ(program, streams, seed, seconds=0):
     """What differs if streams are read by random calls, or None, and how many calls were made."""
     with tempfile.NamedTemporaryFile() as file:
-        file.writelines(len(stream).to_bytes(4, "little") + stream for stream in streams)
-        file.flush()
-        done = try_c.run([program, str(seed), str(seconds), file.name])
+        done = try_c.run([program, str(seed), str(seconds), sequences.with_sizes(file.name, streams)])
     text = done.stdout.decode(errors="replace")
     made = re.search(r"(\d+) calls", text)
     return (text[:2000] if done.returncode or not made else None), int(made[1]) if made else 0

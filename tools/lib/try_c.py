@@ -78,9 +78,7 @@ def compilers():
 
 def kinds_of_flags(folder, c):
     """The flags with which this machine's compiler makes programs that run: a machine may lack the sanitizers, or forbid them."""
-    source, probe = os.path.join(folder, "probe.c"), os.path.join(folder, "probe")
-    with open(source, "w") as file:
-        file.write("int main(void) { return 0; }\n")
+    source, probe = common.write(os.path.join(folder, "probe.c"), "int main(void) { return 0; }\n"), os.path.join(folder, "probe")
     for flags in (["-O2"], CHECKED):
         if run([c, *flags, source, "-o", probe]).returncode or run([probe]).returncode:
             common.skip("missing: %s %s" % (c, " ".join(flags)))
@@ -261,9 +259,7 @@ def header_examples(folder, made):
 def sequences(folder, made, streams, seed):
     """Random calls in any order, with the sanitizers: each build has its share of a minute. Returns what they say."""
     tables.written(folder)
-    path = os.path.join(folder, "sequences.streams")
-    with open(path, "wb") as file:
-        file.writelines(len(stream).to_bytes(4, "little") + stream for stream, _ in streams)
+    path = tables.with_sizes(os.path.join(folder, "sequences.streams"), [stream for stream, _ in streams])
     builds = [(c, archive, kind) for c, _ in compilers() if CHECKED in kinds_of_flags(folder, c) for kind, archive in made.items()]
     words = [str(seed), str(SECONDS // max(1, len(builds))), path]
     for c, archive, kind in builds:
@@ -295,7 +291,6 @@ def header_alone(folder):
     """Compiles the header by each standard without a warning. Where there are assertions, one of a wrong layout is refused."""
     wrong = re.sub(r"sizeof\(pulleynavy_event\) == 96\b", "sizeof(pulleynavy_event) == 97", common.read(os.path.join(CRATE, "include", "pulleynavy.h")))
     for name, text in (("caller.c", CALLER), ("caller.cpp", CALLER), ("wrong/pulleynavy.h", wrong)):
-        os.makedirs(os.path.dirname(os.path.join(folder, name)), exist_ok=True)
         common.write(os.path.join(folder, name), text)
     for pair in compilers():
         for compiler, (kind, standards) in zip(pair, STANDARDS.items()):

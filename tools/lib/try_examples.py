@@ -67,8 +67,7 @@ def exported(crate):
     names.update({name: crate for name in re.findall(r"^pub (?:fn|struct|enum|trait|const|type|mod) (\w+)", text, re.M)})
     for path in common.files_of(crate):
         if path.endswith(".rt"):
-            with open(path, encoding="utf-8") as file:
-                traits.update(re.findall(r"^pub trait (\w+)", file.read(), re.M))
+            traits.update(re.findall(r"^pub trait (\w+)", common.read(path), re.M))
     return names, traits
 
 

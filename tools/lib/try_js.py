@@ -37,9 +37,7 @@ def write_streams(path, seed, count, mutant_count=0):
     """Writes the golden streams and random ones, with the lines of the models. Returns how many there are."""
     changed = mutants(random.Random(seed), [stream for stream, _ in common.golden()], mutant_count)
     rows = common.golden() + try_c.drawn(seed, count) + [(stream, try_c.modelled(stream)) for stream in changed]
-    with open(path, "w", encoding="ascii") as file:
-        for stream, lines in rows:
-            file.write(json.dumps({"hex": stream.hex(), "lines": lines, "stripped": stripped(stream, lines)}) + "\n")
+    common.write(path, "".join(json.dumps({"hex": stream.hex(), "lines": lines, "stripped": stripped(stream, lines)}) + "\n" for stream, lines in rows))
     return len(rows)
 
 
@@ -91,9 +89,8 @@ def bundled(node, place, folder):
         common.write(os.path.join(project, "use.js"), BUNDLED % entry)
         path = os.path.join(alone, "use.mjs")
         common.must(["esbuild", "use.js", "--bundle", "--format=esm", "--platform=" + platform, "--log-limit=0", "--outfile=" + path], folder=project)
-        with open(path, encoding="utf-8") as file:
-            if platform == "browser" and "node:" in file.read():
-                raise common.Failed("a bundle of %s for browsers imports modules of Node" % entry)
+        if platform == "browser" and "node:" in common.read(path):
+            raise common.Failed("a bundle of %s for browsers imports modules of Node" % entry)
         if needs_module:
             shutil.copy(os.path.join(place, "pulleynavy.wasm"), alone)
         # Node's fetch reads no files, so a bundle for browsers gets the bytes.

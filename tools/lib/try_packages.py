@@ -219,8 +219,7 @@ class Trial:
         write(folder + "/t.c", C)
         flags = run(["pkg-config", "--cflags", "--libs", "pulleynavy"], folder, environment).split()
         run(["cc", "-Wall", "-Werror", "t.c", *flags, *words, "-o", "t"], folder)
-        with open(self.file, "rb") as file:
-            return run([folder + "/t"], folder, environment, stdin=file)
+        return run([folder + "/t"], folder, environment, input=self.stream)
 
     def tarballs(self):
         shutil.unpack_archive(one(self.dist + "/pulleynavy-*-x86_64-linux.tar.gz"), self.place)
@@ -237,9 +236,8 @@ class Trial:
         self.expect(self.c_program(self.place + "/of_tarball", [], found), "the C program of the tarball")
         if common.found("cmake"):
             self.found_by_cmake(self.place + "/anywhere")
-        with open(self.file, "rb") as file:
-            if self.end not in run([self.place + "/anywhere/bin/wasm_list"], self.place, stdin=file):
-                raise Failed("wasm_list of the tarball does not list the stream")
+        if self.end not in run([self.place + "/anywhere/bin/wasm_list"], self.place, input=self.stream):
+            raise Failed("wasm_list of the tarball does not list the stream")
 
     def found_by_cmake(self, prefix):
         """Builds the C program as CMake finds the library below a prefix: the shared one and the static one. A wrong version is not found."""
@@ -257,8 +255,7 @@ class Trial:
             run(["cmake", "--build", project + "/build"], self.place)
             if (packages.soname() in run(["readelf", "-dW", project + "/build/t"], project)) != (name == "shared"):
                 raise Failed("CMake links the %s library otherwise" % name)
-            with open(self.file, "rb") as file:
-                self.expect(run([project + "/build/t"], project, stdin=file), "the C program that CMake built with the %s library" % name)
+            self.expect(run([project + "/build/t"], project, input=self.stream), "the C program that CMake built with the %s library" % name)
 
     # ---- Debian
 

@@ -297,9 +297,8 @@ def contrast(page, paths):
 def narrow(page, folder, path, picture):
     """Nothing is cut off in a frame of 400 pixels."""
     outer = os.path.join(folder, "narrow.html")
-    with open(outer, "w", encoding="utf-8") as file:
-        style = "width: %dpx; height: 850px; border: 0" % NARROW
-        file.write("<!doctype html><body style='margin: 0'><iframe src='%s' style='%s'></iframe>" % (page.url, style))
+    style = "width: %dpx; height: 850px; border: 0" % NARROW
+    common.write(outer, "<!doctype html><body style='margin: 0'><iframe src='%s' style='%s'></iframe>" % (page.url, style))
     page.browser.open("file://" + outer)
     page.browser.send("frame", {"id": {browsers.ELEMENT: page.browser.element("iframe")}} if page.browser.name == "Chromium" else
                       {"element": page.browser.element("iframe")})
@@ -335,8 +334,7 @@ def faults(page, path):
     """Each fault is red where it occurs, in the tree and in the bytes, which then are in sight."""
     page.start()
     page.load(path)
-    with open(path, "rb") as file:
-        lines = common.load(common.MODEL_OF_ITEMS).listing(file.read())
+    lines = common.load(common.MODEL_OF_ITEMS).listing(common.read_bytes(path))
     for _, offset, said in [row for row in expected_rows(lines) if row[2]]:
         chosen = lambda: [page.chosen()[name] for name in ("offset", "isBad")] + page.chosen()["texts"][:1]
         becomes(chosen, [offset, True, "fault: " + said], "the fault that is chosen")
@@ -385,8 +383,7 @@ def saving(page, folder, path):
         page.run("if ($('keep').checked !== arguments[0]) $('keep').click(); $('strip').focus()", keeps_names)
         page.browser.press("Enter")
         waited(lambda: os.path.exists(saved) and os.path.getsize(saved) > 0 or None, "saved file")
-        with open(saved, "rb") as file:
-            same(file.read(), model.strip(named_module(), keeps_names), "the saved file, %s names" % ("with" if keeps_names else "without"))
+        same(common.read_bytes(saved), model.strip(named_module(), keeps_names), "the saved file, %s names" % ("with" if keeps_names else "without"))
         os.remove(saved)
 
 
@@ -536,10 +533,9 @@ def tried(browser, given, made, folder):
     place, files = made
     page = Page(browser, "file://" + place)
     named, broken = os.path.join(folder, "named.wasm"), os.path.join(folder, "broken.wasm")
-    with open(given.wasm, "rb") as file, open(broken, "wb") as other:
-        stream = bytearray(file.read())
-        stream[stream.index(b"\6memory") + 7] = 9
-        other.write(stream[:-3000])
+    stream = bytearray(common.read_bytes(given.wasm))
+    stream[stream.index(b"\6memory") + 7] = 9
+    common.write(broken, stream[:-3000])
     browser.resize(1280, USUAL)
     said = [streams(page, folder, given)]
     quiet(page)

@@ -31,8 +31,7 @@ def benchmark(given):
             return laid_out(place, files)
         with open(os.path.join(trial.BENCHES, "stdin"), "rb") as stream:
             done = subprocess.run(["rt", "try"], cwd=place, stdin=stream, stdout=subprocess.PIPE, stderr=subprocess.PIPE)
-    with open(os.path.join(trial.BENCHES, "stdout"), "rb") as wanted:
-        differs = done.stdout != wanted.read()
+    differs = done.stdout != common.read_bytes(os.path.join(trial.BENCHES, "stdout"))
     if done.returncode or differs:
         print((done.stderr + done.stdout).decode(errors="replace"))
     print("benchmark: %s" % ("status %d" % done.returncode if done.returncode else "other output" if differs else "passed"))
