@@ -168,17 +168,10 @@ def measured(commands, path, out, counts):
         yield "refuses the file" if any(statuses) else " / ".join("%.1f" % min(figure) for figure in figures)
 
 
-def peak(words, path):
-    """The most memory that a command held, in KiB."""
-    with tempfile.NamedTemporaryFile("r") as said, open(path, "rb") as data:
-        subprocess.run(["time", "-q", "-f", "%M", "-o", said.name, *words], stdin=data, stdout=subprocess.DEVNULL, stderr=subprocess.DEVNULL)
-        return int(said.read())
-
-
 def row(path, task, commands, out, counts):
     ours, *cells = measured(commands, path, out, counts)
     named = ["%s %s" % (os.path.basename(words[0]), cell) for words, cell in zip(commands[1:], cells)]
-    return [task, ours, "%.1f" % (peak(commands[0], path) / 1024) if shutil.which("time") else "-", ", ".join(named)]
+    return [task, ours, "%.1f" % (programs.peak_memory(commands[0], path) / 1024) if shutil.which("time") else "-", ", ".join(named)]
 
 
 def walked(words, path):
@@ -239,7 +232,7 @@ def growth(given, unit, folder):
             common.write(path, make(size))
             for task, words in [(task, words) for task, [words, *_] in tasks(path) if task in SCALED]:
                 [figure] = measured([words], path, path, given.count)
-                held[task].append(peak(words, path) if shutil.which("time") else 0)
+                held[task].append(programs.peak_memory(words, path) if shutil.which("time") else 0)
                 print("| %s | %.1f | %s | %s | %d |" % (what, os.path.getsize(path) / MEGABYTE, task, figure, held[task][-1]), flush=True)
         growing += ["%s, %s: %s KiB" % (what, task, held[task]) for task in SCALED[:FREE] if max(held[task]) > min(held[task]) + MORE]
     return growing

@@ -148,6 +148,16 @@ def whole(word):
     return int(word)
 
 
+def one_of(what, names):
+    """The type of an argument that is one of these names."""
+    def known(word):
+        if word not in names:
+            raise argparse.ArgumentTypeError("there is no %s %s; there are %s" % (what, word, ", ".join(names)))
+        return word
+
+    return known
+
+
 def existing(path):
     """The whole path of a file or folder that is there."""
     if not os.path.exists(path):

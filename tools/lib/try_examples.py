@@ -123,12 +123,9 @@ def in_sources(output, places):
 
 def main():
     line = common.parser(__doc__)
-    line.add_argument("crates", nargs="*", metavar="CRATE", help="crates, instead of all that have examples")
+    line.add_argument("crates", nargs="*", metavar="CRATE", type=common.one_of("crate", common.crates()), help="crates, instead of all that have examples")
     line.add_argument("--keep", metavar="FOLDER", help="leave the crate of tests here")
     given = line.parse_args()
-    for name in given.crates:
-        if name not in common.crates():
-            line.error("there is no crate %s" % name)
     if not shutil.which("rt"):
         common.stop(common.NO_PROGRAM, "rt is not on the path")
     crates = [name for name in common.crates() if name in (given.crates or common.crates()) and list(examples(name))]

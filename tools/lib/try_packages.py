@@ -412,13 +412,10 @@ def attempt(kind, dist, absent):
 
 def main():
     line = common.parser(__doc__, usage="%(prog)s [KIND..] [OPTION..]")
-    line.add_argument("kinds", nargs="*", metavar="KIND", help=", ".join(KINDS))
+    line.add_argument("kinds", nargs="*", metavar="KIND", type=common.one_of("kind", KINDS), help=", ".join(KINDS))
     line.add_argument("--dist", metavar="FOLDER", help="packages that are there already")
     line.add_argument("--targets", metavar="TARGETS", help="the folder with the libraries for Windows and macOS")
     given = line.parse_args()
-    for kind in given.kinds:
-        if kind not in KINDS:
-            line.error("there is no kind %s; there are %s" % (kind, ", ".join(KINDS)))
     if not common.is_prebuilt():
         common.skip("the sources have moved on since version %s, so there are no packages of them" % common.made_from().get("version", "0"))
         return 0

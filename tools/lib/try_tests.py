@@ -71,15 +71,11 @@ def counted(path):
 
 
 def main():
-    line = common.parser(__doc__)
-    line.add_argument("crates", nargs="*", metavar="CRATE", help="crates of tests, instead of all")
+    line, known = common.parser(__doc__), trial.crates_of_tests()
+    line.add_argument("crates", nargs="*", metavar="CRATE", type=common.one_of("crate of tests", known), help="crates of tests, instead of all")
     line.add_argument("--counted", metavar="LOG", help="count in what rt ci printed")
     line.add_argument("--fmt", action="store_true", help="lay out the files of the benchmark")
     given = line.parse_args()
-    known = trial.crates_of_tests()
-    for name in given.crates:
-        if name not in known:
-            line.error("%s has no tests; these have: %s" % (name, ", ".join(known)))
     if given.counted and counted(given.counted):
         return common.DIFFERS
     if not shutil.which("rt"):
