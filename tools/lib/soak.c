@@ -1,9 +1,13 @@
 /* Prints what the library says of streams, for tools/soak, which compares it with models.
 
-   A case on standard input is a batch, the size of a stream, a number of cuttings, the stream, and for each cutting an offset, a number of
-   chunks and their sizes; numbers have 8 bytes. Each run of bytes is passed where it ends before a page that nothing may read. After the lines
+   A case on standard input is a batch, features, the size of a stream, a number of cuttings, the stream, and for each cutting an offset, a
+   number of chunks and their sizes; numbers have 8 bytes. Each run of bytes is passed where it ends before a page that nothing may read. After the lines
    of a case comes an empty one. */
 #define _DEFAULT_SOURCE
+#include <pulleynavy.h>
+/* The features of a case take the place of all features in the example that lists items. */
+static uint32_t features;
+#define PULLEYNAVY_ALL_FEATURES features
 #define main items_main
 #include "items.c"
 #undef main
@@ -86,7 +90,7 @@ static uint32_t step(struct reading *it) {
 
 /* Reads the stream as a cutting has it, until it ends or is refused for the second time. */
 static void show_cut(uint64_t offset, uint64_t chunks) {
-    struct reading it = {pulleynavy_feed_init(offset, PULLEYNAVY_ALL_FEATURES), pulleynavy_parser_init(offset, PULLEYNAVY_ALL_FEATURES), 0, 0, 0};
+    struct reading it = {pulleynavy_feed_init(offset, features), pulleynavy_parser_init(offset, features), 0, 0, 0};
     for (int lasts = 0; lasts < 2;) {
         uint32_t kind = step(&it);
         if (kind >= PULLEYNAVY_EVENT_END) lasts++;
@@ -98,6 +102,7 @@ static void show_cut(uint64_t offset, uint64_t chunks) {
 }
 
 static void show_case(void) {
+    features = (uint32_t)take();
     size_t size = take(), cuttings = take();
     stream = stream_end - size;
     if (size > LARGEST || fread(stream, 1, size, stdin) != size) exit(2);

@@ -5,16 +5,18 @@
     tools/soak --archive FILE --jobs 1      another archive, on one core
 
 A stream is a random one, a module with items, a FILE or a part of it, two of these joined at random places, or any of them with bytes changed, cut off or
-put in. Each is listed whole with its items, stripped, and read in three random cuttings, by a feeder and by a parser. Callers are built with sanitizers, and the
+put in. Each is listed whole with its items and some features, stripped, and read in three random cuttings, by a feeder and by a parser. Callers are built with sanitizers, and the
 bytes of each call end before a page that nothing may read. The same streams are then read by random calls in any order (tools/lib/sequences.c), and some are
 listed by `wasm_list` in little memory, and read in chunks by `wasm_rows` if it is built. Each difference is made smaller and printed as bytes.
 """
+import contextlib
 import itertools
 import multiprocessing
 import os
 import random
 import re
 import resource
+import signal
 import struct
 import subprocess
 import tempfile
@@ -75,9 +77,9 @@ def spliced(rng, files):
     return mutated(rng, data) if rng.random() < 0.5 else data
 
 
-def cuttings(stream):
-    """The offsets and the chunks in which a stream is read, which the stream decides."""
-    rng = random.Random(stream)
+def cuttings(stream, way):
+    """The offsets and the chunks in which a stream is read. A number, its way, decides them, so that they stay alike while it is made smaller."""
+    rng = random.Random(way)
     size = rng.choice([1, 1, 2, 3, 7, 16, 100] if len(stream) < 400 else [7, 16, 100, 1000])
     equal = [stream[place : place + size] for place in range(0, len(stream), size)]
     offset = rng.choice([0, 0, 7, 1000, 70000, (1 << 64) - 65 - 4 * len(stream)])
@@ -91,42 +93,47 @@ def numbers(*values):
     return struct.pack("<%dQ" % len(values), *values)
 
 
-def case(stream):
+def features_of(way):
+    """The features that a stream is read with, mostly all of them."""
+    return (3, 3, 3, 2, 1, 0)[way % 6]
+
+
+def case(stream, way):
     """A stream and its cuttings, as the driver reads them."""
-    cut = b"".join(numbers(offset, len(chunks), *map(len, chunks)) for offset, chunks in cuttings(stream))
-    return numbers(1 + sum(stream) % 64, len(stream), 3) + stream + cut
+    cut = b"".join(numbers(offset, len(chunks), *map(len, chunks)) for offset, chunks in cuttings(stream, way))
+    return numbers(1 + way % 64, features_of(way), len(stream), 3) + stream + cut
 
 
-def said(driver, streams):
-    """The text that the driver prints of each stream. If it fails, the text of the last one says how, and the others have none."""
-    if not streams:
+def said(driver, cases):
+    """The text that the driver prints of each case. If it fails, the text of the last one says how, and the others have none."""
+    if not cases:
         return []
-    done = subprocess.run([driver], input=b"".join(map(case, streams)), stdout=subprocess.PIPE, stderr=subprocess.PIPE, timeout=3600)
+    done = subprocess.run([driver], input=b"".join(case(*one) for one in cases), stdout=subprocess.PIPE, stderr=subprocess.PIPE, timeout=3600)
     *texts, last = done.stdout.decode(errors="replace").split("\n\n")
     if done.returncode:
         texts.append("%s\nstatus %d %s" % (last, done.returncode, done.stderr.decode(errors="replace")[:1500]))
     return texts
 
 
-def modelled(model, stream):
+def modelled(model, stream, way):
     """What the models say: the lines and items of a stream, its bytes when it is stripped, and each step of a feeder."""
-    lines = try_c.without_ranges(try_c.modelled(stream))
+    lines = try_c.without_ranges(try_c.modelled(stream, features_of(way)))
     for keeps_names in (False, True):
         lines.append(lines[-1] if lines[-1].startswith("fault") else model.strip(stream, keeps_names).hex())
-    for offset, chunks in cuttings(stream):
+    for offset, chunks in cuttings(stream, way):
         for line, _, held, _ in pieces.steps(model, chunks, offset):
             lines += [line, "%d" % held]
     return "\n".join(lines)
 
 
-def differences(driver, model, streams):
-    """What differs of each stream, or None. After some that end the driver the others are left out."""
+def differences(driver, model, cases):
+    """What differs of each case, or None. After some that end the driver the others are left out."""
     found = []
     for _ in range(CRASHES):
-        rest = streams[len(found) :]
-        pairs = [(text, modelled(model, stream)) for stream, text in zip(rest, said(driver, rest))]
+        rest = cases[len(found) :]
+        pairs = [(text, modelled(model, *one)) for one, text in zip(rest, said(driver, rest))]
         found += [text != wanted and common.first_difference(text.split("\n"), wanted.split("\n")) or None for text, wanted in pairs]
-    return found + [None] * (len(streams) - len(found))
+    return found + [None] * (len(cases) - len(found))
 
 
 def sequences_differ(program, streams, seed, seconds=0):
@@ -154,28 +161,27 @@ def programs_differ(model, streams):
 
 
 def soaked(task):
-    """A round: how many bytes and calls it has, and each stream that differs, with what makes it differ."""
+    """A round: how many bytes and calls it has, and each stream that differs, with its way and what makes it differ."""
     seed, driver, caller, path, files = task
     rng, model = random.Random(seed), common.load(path)
-    streams = [spliced(rng, files) for _ in range(ROUND)]
-    found = [(stream, text) for stream, text in zip(streams, differences(driver, model, streams)) if text]
-    found += [(stream, text) for stream, text in programs_differ(model, streams) if text]
+    cases = [(spliced(rng, files), rng.getrandbits(16)) for _ in range(ROUND)]
+    streams = [stream for stream, _ in cases]
+    found = [(*one, text) for one, text in zip(cases, differences(driver, model, cases)) if text]
+    found += [(stream, 0, text) for stream, text in programs_differ(model, streams) if text]
     number = rng.getrandbits(32)
     text, calls = sequences_differ(caller, streams, number, 1)
     if text:
         alone = (stream for stream in streams if sequences_differ(caller, [stream], number)[0])
-        found.append((next(alone, b""), "seed %d of sequences.c: %s" % (number, text)))
+        found.append((next(alone, b""), 0, "seed %d of sequences.c: %s" % (number, text)))
     return sum(map(len, streams)), calls, found
 
 
-def smaller(driver, caller, model, data, text):
+def smaller(driver, caller, model, data, way, text):
     """The smallest stream that differs as this one does, and what differs of it."""
     seed = re.match(r"seed (\d+) of sequences.c", text)
-    differs = (lambda data: sequences_differ(caller, [data], seed[1])[0]) if seed else (lambda data: differences(driver, model, [data])[0])
-    if not differs(data):
-        return data, text
-    data = comparing.smallest(data, differs)
-    return data, differs(data)
+    differs = (lambda data: sequences_differ(caller, [data], seed[1])[0]) if seed else (lambda data: differences(driver, model, [(data, way)])[0])
+    data = comparing.smallest(data, differs) if differs(data) else data
+    return data, differs(data) or text
 
 
 def built(folder, archive):
@@ -188,29 +194,33 @@ def built(folder, archive):
     common.stop(common.NO_PROGRAM, "there is no C compiler")
 
 
+def rounds(given, jobs, made):
+    """What each round has and finds, until the time is over."""
+    end, files = time.time() + 60 * given.minutes, list(common.modules_of(given.files))
+    with multiprocessing.Pool(jobs, signal.signal, (signal.SIGINT, signal.SIG_IGN)) as pool:
+        for number in itertools.count(0, jobs):
+            yield from pool.map(soaked, [("%d-%d" % (given.seed, number + job), *made, given.model, files) for job in range(jobs)], 1)
+            if time.time() >= end:
+                return
+
+
 def main():
     cores = len(os.sched_getaffinity(0))
     more = [
         ("--minutes", {"metavar": "N", "type": float, "default": 1, "help": "how long (1)"}),
-        ("--jobs", {"metavar": "N", "type": int, "default": cores, "help": "how many processes (%d)" % cores}),
+        ("--jobs", {"metavar": "N", "type": common.whole, "default": cores, "help": "how many processes (%d)" % cores}),
         ("--seed", {"metavar": "S", "type": common.whole, "default": 1, "help": "the seed (1)"}),
         ("--archive", {"metavar": "FILE", "type": common.existing, "default": ARCHIVE, "help": "the library, instead of that in prebuilt/"}),
     ]
     given = comparing.arguments(__doc__, None, common.MODEL, show=3, more=more, files=True)
-    jobs, end, files = max(1, given.jobs), time.time() + 60 * given.minutes, list(common.modules_of(given.files))
-    streams = size = calls = 0
-    found = []
-    with tempfile.TemporaryDirectory() as folder, multiprocessing.Pool(jobs) as pool:
-        driver, caller = built(folder, given.archive)
-        for number in itertools.count(0, jobs):
-            tasks = [("%d-%d" % (given.seed, number + job), driver, caller, given.model, files) for job in range(jobs)]
-            for read, made, differ in pool.map(soaked, tasks, 1):
-                streams, size, calls = streams + ROUND, size + read, calls + made
-                for data, text in differ[: max(0, given.show - len(found))]:
-                    data, text = smaller(driver, caller, given.known, data, text)
-                    print("DIFFERS %s\n  %s" % (data.hex(), text), flush=True)
-                found += differ
-            if time.time() >= end:
-                break
-    print("%d streams of %d bytes, %d cuttings, %d random calls, %d differ (seed %d)" % (streams, size, 3 * streams, calls, len(found), given.seed))
-    return common.DIFFERS if found else 0
+    streams = size = calls = differ = 0
+    # Interrupted, it still says what it did.
+    with tempfile.TemporaryDirectory() as folder, contextlib.suppress(KeyboardInterrupt):
+        made = built(folder, given.archive)
+        for read, called, found in rounds(given, max(1, given.jobs), made):
+            for data, way, text in found[: max(0, given.show - differ)]:
+                data, text = smaller(*made, given.known, data, way, text)
+                print("DIFFERS %s (way %d)\n  %s" % (data.hex(), way, text), flush=True)
+            streams, size, calls, differ = streams + ROUND, size + read, calls + called, differ + len(found)
+    print("%d streams of %d bytes, %d cuttings, %d random calls, %d differ (seed %d)" % (streams, size, 3 * streams, calls, differ, given.seed))
+    return common.DIFFERS if differ else 0

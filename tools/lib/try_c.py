@@ -109,10 +109,10 @@ def without_ranges(lines):
     return [re.sub(r"^(  \d+ element\(.*) \d+\.\.\d+ (#\d+\[)", r"\1 \2", line) for line in lines]
 
 
-def modelled(stream):
+def modelled(stream, features=3):
     """The lines of the models, where a body that passes its section is refused as soon as its size has been read."""
     reading, listing = common.load(common.MODEL).reading, common.load(common.MODEL_OF_ITEMS).listing
-    return listing(stream)[:-1] + reading(stream, 0, True)[-1:]
+    return listing(stream, features)[:-1] + reading(stream, 0, True)[-1:]
 
 
 def drawn(seed, count):
