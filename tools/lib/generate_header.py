@@ -124,13 +124,17 @@ def forgotten():
             yield name
 
 
+def numbered(pattern, text, what):
+    """The enumerators and the numbers that a pattern finds in a text."""
+    rows = re.findall(pattern, text, re.M)
+    if not rows:
+        common.stop(common.DIFFERS, "the sources have no numbers of %s" % what)
+    return [(name if name.isupper() else upper(name), int(number, 0)) for name, number in rows]
+
+
 def faults():
     """The numbers of faults, as the code has them."""
-    text = source("faults")
-    rows = re.findall(r"Fault::(\w+)(?:\(\w+\))? => (\d+)", text)
-    if not rows:
-        common.stop(common.DIFFERS, "no faults in crates/wasm_plain/src/faults.rt")
-    return [(upper(name), int(number)) for name, number in rows]
+    return numbered(r"Fault::(\w+)(?:\(\w+\))? => (\d+)", source("faults"), "faults")
 
 
 def upper(name):
@@ -140,10 +144,7 @@ def upper(name):
 
 def details(name):
     """The numbers above the kind of a fault, of this enum."""
-    rows = re.findall(r"\b%s::(\w+) => (\d+)," % name, source("faults"))
-    if not rows:
-        common.stop(common.DIFFERS, "no numbers of %s in crates/wasm_plain/src/faults.rt" % name)
-    return [(upper(variant), int(number)) for variant, number in rows]
+    return numbered(r"\b%s::(\w+) => (\d+)," % name, source("faults"), name)
 
 
 def enumeration(comment, tag, prefix, rows):
@@ -224,10 +225,7 @@ def subsection_ids(file, of):
 
 def flag_bits(name):
     """The bits of flags, as `wasm_custom` names them."""
-    rows = re.findall(r"pub const (\w+): %s = %s\(([0-9x_a-f]+)\);" % (name, name), custom_source("flags"))
-    if not rows:
-        common.stop(common.DIFFERS, "no bits of %s in crates/wasm_custom/src/flags.rt" % name)
-    return [(flag, int(bits, 0)) for flag, bits in rows]
+    return numbered(r"pub const (\w+): %s = %s\(([0-9x_a-f]+)\);" % (name, name), custom_source("flags"), name)
 
 
 def coded_fields():
