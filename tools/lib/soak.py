@@ -185,13 +185,13 @@ def smaller(driver, caller, model, data, way, text):
 
 
 def built(folder, archive):
-    """The driver and the program of random calls, by the first compiler here, with sanitizers if this machine has them."""
+    """The driver and the program of random calls, by the first compiler here, with sanitizers if this machine has them. None without a compiler."""
     sequences.written(folder)
     for c, _ in try_c.compilers():
         for flags in reversed(list(try_c.kinds_of_flags(folder, c))):
             more = [*flags, "-I" + folder, "-I" + EXAMPLES]
             return [try_c.compiled(folder, c, source, "c11", more, archive, "soak") for source in (SOURCE, sequences.SOURCE)]
-    common.stop(common.NO_PROGRAM, "there is no C compiler")
+    return None
 
 
 def rounds(given, jobs, made):
@@ -217,6 +217,8 @@ def main():
     # Interrupted, it still says what it did.
     with tempfile.TemporaryDirectory() as folder, contextlib.suppress(KeyboardInterrupt):
         made = built(folder, given.archive)
+        if not made:
+            return 0
         for read, called, found in rounds(given, max(1, given.jobs), made):
             for data, way, text in found[: max(0, given.show - differ)]:
                 data, text = smaller(*made, given.known, data, way, text)

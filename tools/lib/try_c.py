@@ -316,8 +316,9 @@ def with_doxygen(folder):
 CLIPPY = ["--", "-D", "warnings", "-D", "clippy::must_use_candidate"]
 
 
-def with_cargo(folder, archive):
-    """The tests and the examples of the crate for Rust, with its features and without, and programs that call it wasmparser, with warnings as errors."""
+def with_cargo(folder, archive, is_first):
+    """The tests and the examples of the crate for Rust, with its features and without, and programs that call it wasmparser, with warnings as errors.
+    Lints don't depend on the archive."""
     if not cargo.found():
         return
     place = os.path.join(folder, "archive")
@@ -330,7 +331,7 @@ def with_cargo(folder, archive):
     shutil.copytree(os.path.join(common.TOP, "bindings", "rust"), crate, ignore=shutil.ignore_patterns("Cargo.lock", "target"))
     settings["PULLEYNAVY_GOLDEN"] = common.GOLDEN
     with_serde = os.path.join(crate, "examples", "json")
-    clippy = shutil.which("cargo-clippy") or common.skip("missing: clippy")
+    clippy = is_first and (shutil.which("cargo-clippy") or common.skip("missing: clippy"))
     for place in (crate, with_serde) if cargo.with_debian(with_serde) else (crate,):
         for features in ([], ["--no-default-features"]):
             common.must(["cargo", "test", "--offline", "--quiet", *features], folder=place, env=settings)
@@ -339,8 +340,8 @@ def with_cargo(folder, archive):
     common.must(["cargo", "build", "--offline", "--quiet"], folder=os.path.join(crate, "examples", "programs"), env=settings)
 
 
-def with_python(folder, archive, streams, changed):
-    """The module for Python over a shared library, which is made of the archive. `changed` are streams that only it reads."""
+def with_python(folder, archive, streams, changed, is_first):
+    """The module for Python over a shared library, which is made of the archive. `changed` are streams that only it reads. Types don't depend on it."""
     if not common.found("cc"):
         return
     library = os.path.join(folder, "libpulleynavy.so")
@@ -350,7 +351,7 @@ def with_python(folder, archive, streams, changed):
     os.environ["PULLEYNAVY_STREAMS"] = os.path.join(folder, "streams.jsonl")
     common.write(os.environ["PULLEYNAVY_STREAMS"], "".join(json.dumps({"hex": stream.hex(), "lines": lines}) + "\n" for stream, lines in streams + changed))
     common.must([sys.executable, "-B", "-m", "unittest", "discover", "-q", "-s", "tests", "-t", "."], folder=package)
-    if common.found("mypy"):
+    if is_first and common.found("mypy"):
         common.must(["mypy", "--strict", "--cache-dir", os.path.join(folder, "mypy"), "pulleynavy", "tests"], folder=package)
 
 
@@ -371,7 +372,7 @@ def main():
         differ = [text for test in (compared, stripped, names, imports, under_valgrind) for text in test(built, streams)]
         changed = [(stream, modelled(stream)) for stream in mutants(random.Random(given.seed), [stream for stream, _ in common.golden()], MUTANTS)]
         for number, archive in enumerate(made.values()):
-            with_cargo(folder, archive)
-            with_python(folder, archive, streams, changed[number :: len(made)])
+            with_cargo(folder, archive, number == 0)
+            with_python(folder, archive, streams, changed[number :: len(made)], number == 0)
     count = sum(len(paths) for paths in built.values())
     return common.tell(differ, given.show, "%d programs, %d streams, %d differ (seed %d)" % (count, len(streams), len(differ), given.seed))
