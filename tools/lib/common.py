@@ -67,6 +67,12 @@ class Failed(Exception):
     """A command failed, or something differs."""
 
 
+def require(holds, what):
+    """Raises Failed, with what is wrong, unless something holds."""
+    if not holds:
+        raise Failed(what)
+
+
 def must(words, folder=None, stream=b"", env=None, **options):
     """What a command prints, its errors among it. Raises Failed if its status is not 0. A variable that is None is not set."""
     settings = {name: value for name, value in {**os.environ, **(env or {})}.items() if value is not None}

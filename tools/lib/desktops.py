@@ -75,8 +75,7 @@ def text_of(kept, archive):
     else:
         shutil.copyfile(os.path.join(kept, "module"), path)
     common.must(toolchain.compile_command(kept, path, made), kept)
-    if common.read_bytes(made) not in common.read_bytes(archive):
-        raise common.Failed("%s is not in %s" % (made, archive))
+    common.require(common.read_bytes(made) in common.read_bytes(archive), "%s is not in %s" % (made, archive))
     return common.read_bytes(path).decode()
 
 

@@ -241,8 +241,7 @@ def documented():
             for lines in blocks:
                 names.append("%s_%d" % (os.path.basename(path)[:-3], len(names)))
                 text += "\nstatic void %s(void) {\n%s}\n" % (names[-1], re.sub(r"^ */// ?", "    ", lines, flags=re.M))
-    if not names:
-        raise common.Failed("the sources have no examples for C")
+    common.require(names, "the sources have no examples for C")
     return text + "\nint main(void) {\n%s    return 0;\n}\n" % "".join("    %s();\n" % name for name in names)
 
 

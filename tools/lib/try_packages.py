@@ -25,7 +25,7 @@ import desktops
 import generate_manuals
 import packages
 import try_js
-from common import Failed, write
+from common import Failed, require, write
 from systems import System, one, run, this_release
 
 RUST = common.read("tools", "lib", "templates", "package.rs")
@@ -141,8 +141,7 @@ class Trial:
         self.expect(run([python, self.place + "/t.py", self.file], self.place), "the wheel")
         run([python, "-m", "unittest", "discover", "-s", "tests", "-t", "."], folder)
         program = os.path.join(os.path.dirname(python), "pulleynavy")
-        if "import (1)" not in run([program, "list", self.file], self.place):
-            raise Failed("pulleynavy list does not list the sections")
+        require("import (1)" in run([program, "list", self.file], self.place), "pulleynavy list does not list the sections")
         self.under_musl()
         python = self.venv("of_sdist", "--system-site-packages")
         self.installed(python, one(self.dist + "/pulleynavy-[0-9]*[0-9].tar.gz"), "--no-build-isolation", "--no-deps")
@@ -168,8 +167,7 @@ class Trial:
             common.write("%s/registry/%05d.wasm" % (self.place, number), streams[number % len(streams)][0])
         example, out = packages.source("bindings", "python", "examples", "scan.py"), self.place + "/out.csv"
         said = run([python, example, out, self.place + "/registry", "--workers", "2"], self.place)
-        if not said.startswith("%d files" % FILES):
-            raise Failed("scan.py says %r" % said)
+        require(said.startswith("%d files" % FILES), "scan.py says %r" % said)
         with open(out, newline="", encoding="utf-8") as file:
             for number, row in enumerate(csv.DictReader(file)):
                 last = streams[number % len(streams)][1][-1]
@@ -202,8 +200,7 @@ class Trial:
         run(["npm", "install", "--silent", "--offline", "--no-audit", "--no-fund", one(self.dist + "/*.tgz")], project)
         write(project + "/t.js", JAVASCRIPT)
         self.expect(run(["node", "t.js", self.file], project), "the npm package")
-        if "import (1)" not in run(["npx", "--offline", "pulleynavy", self.file], project):
-            raise Failed("npx pulleynavy does not list the sections")
+        require("import (1)" in run(["npx", "--offline", "pulleynavy", self.file], project), "npx pulleynavy does not list the sections")
         write(project + "/exports.js", EXPORTS)
         run(["node", "exports.js"], project)
         if common.found("tsc"):
@@ -229,8 +226,7 @@ class Trial:
         os.rename(top, moved)
         found = {"PKG_CONFIG_PATH": "anywhere else/lib/pkgconfig", "LD_LIBRARY_PATH": moved + "/lib"}
         where = run(["pkg-config", "--variable=libdir", "pulleynavy"], self.place, found).strip()
-        if not os.path.samefile(os.path.join(self.place, where.replace("\\", "")), moved + "/lib"):
-            raise Failed("pkg-config finds %r" % where)
+        require(os.path.samefile(os.path.join(self.place, where.replace("\\", "")), moved + "/lib"), "pkg-config finds %r" % where)
         os.rename(moved, self.place + "/anywhere")
         found = {"PKG_CONFIG_PATH": self.place + "/anywhere/lib/pkgconfig", "LD_LIBRARY_PATH": self.place + "/anywhere/lib"}
         self.expect(self.c_program(self.place + "/of_tarball", [], found), "the C program of the tarball")
@@ -272,18 +268,15 @@ class Trial:
         shared = one(library + "/usr/lib/*/libpulleynavy.so.*.*.*")
         exported = re.findall(r" T (\w+)$", run(["nm", "-D", "--defined-only", shared], self.place), re.M)
         for what, names in (("the list of symbols", listed), ("the shared library", exported)):
-            if sorted(names) != desktops.exports():
-                raise Failed("%s and the header differ in %s" % (what, ", ".join(sorted({*names} ^ {*desktops.exports()}))))
+            require(sorted(names) == desktops.exports(), "%s and the header differ in %s" % (what, ", ".join(sorted({*names} ^ {*desktops.exports()}))))
         named = run(["readelf", "-dW", shared], self.place)
         if "[%s]" % packages.soname() not in named or "[libc.so.6]" not in named or os.readlink(one(library + "/usr/lib/*/" + packages.soname())) != os.path.basename(shared):
             raise Failed("the shared library is not %s over libc" % packages.soname())
         pages = {os.path.basename(path).split(".")[0] for path in glob.glob(development + "/usr/share/man/man3/*")}
-        if pages != set(generate_manuals.CALLS):
-            raise Failed("the manual pages are those of %s" % sorted(pages))
+        require(pages == set(generate_manuals.CALLS), "the manual pages are those of %s" % sorted(pages))
         reference = open(development + "/usr/share/doc/libpulleynavy-dev/html/pulleynavy_8h.html", encoding="utf-8").read()
         documented = set(re.findall(r'<td class="memname">.*\b(\w+) </td>\n +<td>\(</td>', reference))
-        if not documented.issuperset(desktops.exports()):
-            raise Failed("the reference lacks %s" % ", ".join({*desktops.exports()} - documented))
+        require(documented.issuperset(desktops.exports()), "the reference lacks %s" % ", ".join({*desktops.exports()} - documented))
         shutil.copytree(library + "/usr", development + "/usr", dirs_exist_ok=True, symlinks=True)
         if common.found("cmake"):
             self.found_by_cmake(development + "/usr")
@@ -293,11 +286,9 @@ class Trial:
     def clone(self, system):
         """A clone runs its programs at once, and installs the library."""
         run(["git", "clone", "--quiet", common.TOP, system.root + "/root/pulleynavy"], self.place)
-        if system.inside("command -v rt rattle || true"):
-            raise Failed("the clean system has a toolchain")
+        require(not system.inside("command -v rt rattle || true"), "the clean system has a toolchain")
         start = time.time()
-        if self.end not in system.inside("cd /; ~/pulleynavy/pulleynavy dump ~/a.wasm"):
-            raise Failed("./pulleynavy does not dump the stream")
+        require(self.end in system.inside("cd /; ~/pulleynavy/pulleynavy dump ~/a.wasm"), "./pulleynavy does not dump the stream")
         print("chroot: a clone's ./pulleynavy dump took %.1f s" % (time.time() - start))
         system.inside("cd pulleynavy; ./install /opt/pulleynavy")
         build = "export PKG_CONFIG_PATH=/opt/pulleynavy/lib/pkgconfig; cc -Wall -Werror t.c $(pkg-config --cflags --libs pulleynavy) -o t"
@@ -311,8 +302,7 @@ class Trial:
         if self.end not in system.inside("cd /; pulleynavy list ~/a.wasm; wasm_list strip ~/a.wasm | wasm_dump"):
             raise Failed("pulleynavy of the package does not list the stream")
         for page, heading in (("wasm_list", "EXIT STATUS"), ("pulleynavy", "EXIT STATUS"), ("wasm_dump", "EXIT STATUS"), ("pulleynavy_parse", "ERRORS")):
-            if heading not in system.inside("man %s | cat" % page):
-                raise Failed("there is no manual page %s" % page)
+            require(heading in system.inside("man %s | cat" % page), "there is no manual page %s" % page)
         system.inside("dpkg -r pulleynavy libpulleynavy-dev libpulleynavy" + packages.soname().partition(".so.")[2])
 
     def wheel_inside(self, system):
@@ -320,8 +310,7 @@ class Trial:
         system.write("t.py", PYTHON)
         system.inside("python3 -m venv env; env/bin/pip install --quiet --no-index wheels/*")
         self.expect(system.inside("env/bin/python t.py a.wasm"), "the wheel in a clean system")
-        if "import (1)" not in system.inside("env/bin/pulleynavy list a.wasm"):
-            raise Failed("pulleynavy list of the wheel does not list the sections")
+        require("import (1)" in system.inside("env/bin/pulleynavy list a.wasm"), "pulleynavy list of the wheel does not list the sections")
 
     def npm_inside(self, system):
         """The package in Debian's Node, which comes without npm: it is unpacked where npm would. Its tests run there too."""
@@ -329,8 +318,7 @@ class Trial:
         system.write("project/t.mjs", JAVASCRIPT)
         system.inside("mkdir -p project/node_modules; tar -xzf pulleynavy.tgz; mv package project/node_modules/pulleynavy")
         self.expect(system.inside("node project/t.mjs a.wasm"), "the npm package in a clean system")
-        if "import (1)" not in system.inside("node project/node_modules/pulleynavy/cli.js a.wasm"):
-            raise Failed("cli.js does not list the sections")
+        require("import (1)" in system.inside("node project/node_modules/pulleynavy/cli.js a.wasm"), "cli.js does not list the sections")
         system.put(try_js.installed(self.place, "tests", packages.prebuilt("pulleynavy.wasm")), "js")
         try_js.write_streams(system.root + "/root/streams.jsonl", 1, 200)
         said = system.inside("cd js; PULLEYNAVY_STREAMS=~/streams.jsonl node --test; node --version")
