@@ -2,7 +2,6 @@
 
     tools/try examples                       those of all libraries
     tools/try examples wasm_base wasm_feed   those of these crates
-    tools/try examples --keep FOLDER         leaves the crate of tests in this folder, which has to be new
 
 An example is a block that begins with ```rattle in a doc comment of crates/*/src. It is the body of a test: `rt` is the runtime, `alloc` its
 allocator, and `?` takes any error. The public names of its crate and of the libraries of that are imported; another crate's are if it says so
@@ -124,7 +123,6 @@ def in_sources(output, places):
 def main():
     line = common.parser(__doc__)
     line.add_argument("crates", nargs="*", metavar="CRATE", type=common.one_of("crate", common.crates()), help="crates, instead of all that have examples")
-    line.add_argument("--keep", metavar="FOLDER", help="leave the crate of tests here")
     given = line.parse_args()
     if not shutil.which("rt"):
         common.stop(common.NO_PROGRAM, "rt is not on the path")
@@ -133,8 +131,8 @@ def main():
         print("no examples")
         return 0
     with tempfile.TemporaryDirectory() as top:
-        folder = given.keep or os.path.join(top, "copy")
-        os.makedirs(folder)
+        folder = os.path.join(top, "copy")
+        os.mkdir(folder)
         places = written(folder, crates)
         status, output = trial.tried(os.path.join(folder, "crates", CRATE))
     if status:

@@ -2,7 +2,6 @@
 
     tools/try packages                    makes the packages and tries all of them
     tools/try packages npm wheels         some of them
-    tools/try packages --dist FOLDER      packages that tools/package wrote
     tools/try packages --targets TARGETS  also makes those for Windows and macOS, which tools/try desktops tries
 
 A kind is one of crate, wheels, scan, npm, tarballs, deb, chroot and oldest. `chroot` makes a system with debootstrap that has Python, gcc, Node and
@@ -401,16 +400,14 @@ def attempt(kind, dist, absent):
 def main():
     line = common.parser(__doc__, usage="%(prog)s [KIND..] [OPTION..]")
     line.add_argument("kinds", nargs="*", metavar="KIND", type=common.one_of("kind", KINDS), help=", ".join(KINDS))
-    line.add_argument("--dist", metavar="FOLDER", help="packages that are there already")
     line.add_argument("--targets", metavar="TARGETS", help="the folder with the libraries for Windows and macOS")
     given = line.parse_args()
     if not common.is_prebuilt():
         common.skip("the sources have moved on since version %s, so there are no packages of them" % common.made_from().get("version", "0"))
         return 0
     os.umask(0o022)
-    with tempfile.TemporaryDirectory() as place:
-        dist = os.path.abspath(given.dist or place)
-        absent = [] if given.dist else made(dist, given.targets)
+    with tempfile.TemporaryDirectory() as dist:
+        absent = made(dist, given.targets)
         if absent is None:
             print("FAILED tools/package")
             return common.DIFFERS
