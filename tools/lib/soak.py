@@ -149,15 +149,15 @@ def sequences_differ(program, streams, seed, seconds=0):
 
 
 def programs_differ(model, streams):
-    """What differs of the programs in Rattle: of some streams the listing in little memory, and the events in chunks."""
+    """What differs of the programs in Rattle: of some streams the events in chunks, and the listing in little memory."""
     rows = programs.path_of("wasm_rows")
-    found = chunks_differ([rows], model, streams[::10]) if os.access(rows, os.X_OK) else []
+    if os.access(rows, os.X_OK):
+        yield from zip(streams[::10], chunks_differ([rows], model, streams[::10]))
     words = programs.command("list")
     for stream in streams[::100]:
         size = ROOM + 4 * len(stream)
         limit = lambda: resource.setrlimit(resource.RLIMIT_AS, (size, size))
-        found.append(listing_differs(words, model, stream, preexec_fn=limit))
-    return zip([*(streams[::10] if len(found) > len(streams[::100]) else []), *streams[::100]], found)
+        yield stream, listing_differs(words, model, stream, preexec_fn=limit)
 
 
 def soaked(task):
@@ -179,9 +179,11 @@ def soaked(task):
 def smaller(driver, caller, model, data, way, text):
     """The smallest stream that differs as this one does, and what differs of it."""
     seed = re.match(r"seed (\d+) of sequences.c", text)
-    differs = (lambda data: sequences_differ(caller, [data], seed[1])[0]) if seed else (lambda data: differences(driver, model, [(data, way)])[0])
-    data = comparing.smallest(data, differs) if differs(data) else data
-    return data, differs(data) or text
+    tries = [lambda data: differences(driver, model, [(data, way)])[0], lambda data: next((said for _, said in programs_differ(model, [data]) if said), None)]
+    tries += [lambda data: sequences_differ(caller, [data], seed[1])[0]] if seed else []
+    differs = next((one for one in tries if one(data)), None)
+    data = comparing.smallest(data, differs) if differs else data
+    return data, differs(data) if differs else text
 
 
 def built(folder, archive):
