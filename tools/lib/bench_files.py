@@ -23,7 +23,6 @@ import time
 import bench_tables as tables
 import benches
 import common
-import original
 import programs
 import standard as S
 from common import leb
@@ -203,14 +202,14 @@ def main():
     given, unit = arguments(
         __doc__,
         ("--scale", {"metavar": "X", "type": float, "default": 1.0, "help": "how large the made files are (1 if left out)"}),
-        ("--original", {"metavar": "FOLDER", "help": "walk over all items by this source of wasmparser too"}),
+        ("--original", {"metavar": "FOLDER", "type": common.existing, "help": "walk over all items by this source of wasmparser too"}),
     )
     print("| File | MB | Task | Ours, %s | Memory, MB | Others |\n|---|---|---|---|---|---|" % unit)
     with tempfile.TemporaryDirectory() as folder:
         files = [(os.path.basename(path), path) for path in given.files]
         for what, make in [] if files else MADE:
             files.append((what, common.write(os.path.join(folder, make.__name__ + ".wasm"), make(given.scale))))
-        crate = original.built(given.original, folder) if given.original else None
+        crate = tables.built_original(given.original, folder) if given.original else None
         for what, path in files:
             for cells in rows(path, os.path.join(folder, "out"), tables.built_ruler(folder), crate, given.count):
                 print("| %s | %.1f | %s |" % (what, os.path.getsize(path) / MEGABYTE, " | ".join(cells)), flush=True)

@@ -18,6 +18,7 @@ times as ratios.
 must be on the machine.
 """
 import argparse
+import json
 import os
 import re
 import shutil
@@ -27,7 +28,6 @@ import tempfile
 import benches
 import cargo
 import common
-import original
 import programs
 import standard as S
 from common import leb
@@ -35,6 +35,10 @@ from made import custom, listed, module, section, text
 
 PROGRAM, LISTER, DUMPER = benches.PROGRAM, programs.path_of("wasm_list"), programs.path_of("pulleynavy")
 EVENT_WAYS = ["parse", "parse_all", "65536", "4096", "100", "16", "1"]
+# The program of the crate for Rust's examples that reads as the benchmark does.
+ORIGINAL = os.path.join(common.TOP, "bindings", "rust", "examples", "programs", "src", "bin", "bench.rs")
+# The manifest: the crate's folder, name and features.
+MANIFEST = common.read("tools", "lib", "templates", "original.toml")
 
 
 # ---- the files
@@ -206,7 +210,7 @@ def listed_instructions(path, units, folder):
 def print_instructions(given, folder):
     """A row for each made file that is asked for and each way through it."""
     rows, callers, program, ruler = [], set(), c_caller(folder, given.archive), built_ruler(folder)
-    crate = original.built(given.original, folder) if given.original else None
+    crate = built_original(given.original, folder) if given.original else None
     path = os.path.join(folder, "made.wasm")
     for what, usual, make, ways, by_made in MADE:
         if given.only not in what:
@@ -280,6 +284,20 @@ def built_ruler(folder):
     program = os.path.join(folder, "limit")
     subprocess.run(["cc", "-O2", os.path.join(common.LIB, "limit.c"), "-o", program], check=True)
     return program
+
+
+def built_original(source, folder):
+    """The program that reads with the crate in a folder, built with link-time optimization."""
+    manifest = common.read(os.path.join(source, "Cargo.toml"))
+    package = re.search(r'^name = "(.*)"$', manifest, re.M).group(1)
+    features = [name for name in ("std", "features") if re.search("^%s = " % name, manifest, re.M)]
+    project = os.path.join(folder, "original")
+    os.makedirs(os.path.join(project, "src"))
+    shutil.copy(ORIGINAL, os.path.join(project, "src", "main.rs"))
+    common.write(os.path.join(project, "Cargo.toml"), MANIFEST % (json.dumps(os.path.abspath(source)), json.dumps(package), json.dumps(features)))
+    if subprocess.run(["cargo", "build", "--offline", "--quiet", "--release"], cwd=project).returncode:
+        common.stop(common.NO_PROGRAM, "%s could not be built over %s" % (ORIGINAL, source))
+    return os.path.join(project, "target", "release", "original")
 
 
 def c_caller(folder, given):
@@ -410,7 +428,7 @@ def main():
         ("--only", {"metavar": "WORD", "default": "", "help": "the rows that contain this"}),
         ("--count", {"action": "store_true", "help": "the instructions alone"}),
         ("--archive", {"metavar": "FILE", "type": common.existing, "help": "an archive of the C library, instead of the prebuilt one or one that is built here"}),
-        ("--original", {"metavar": "FOLDER", "help": "count this source of wasmparser too"}),
+        ("--original", {"metavar": "FOLDER", "type": common.existing, "help": "count this source of wasmparser too"}),
     ]
     options = common.arguments(__doc__, files=True, more=more)
     if options.count and (options.files or not shutil.which("valgrind")):

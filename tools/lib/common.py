@@ -194,6 +194,17 @@ def arguments(doc, numbers=(), files=False, show=None, more=()):
     return given
 
 
+def out_or_check(doc):
+    """The arguments of a tool that writes a folder, or with --check says what is wrong and writes nothing."""
+    line = parser(doc, usage="%(prog)s OUT | --check")
+    line.add_argument("out", nargs="?", metavar="OUT", help="the folder, which is made if it isn't there")
+    line.add_argument("--check", action="store_true", help="write nothing; the status is 1 if there is a fault")
+    given = line.parse_args()
+    if bool(given.out) == given.check:
+        line.error("it takes a folder or --check")
+    return given
+
+
 def generate(doc, make):
     """The main part of a tool that writes files. `make` returns their texts by their paths. With --check it says which differ. Returns its status."""
     line = parser(doc, usage="%(prog)s [--check]")

@@ -69,13 +69,7 @@ def pages():
 
 
 def main():
-    line = common.parser(__doc__, usage="%(prog)s OUT | --check")
-    line.add_argument("out", nargs="?", metavar="OUT", help="the folder of the pages")
-    line.add_argument("--check", action="store_true", help="write nothing")
-    given = line.parse_args()
-    if bool(given.out) == given.check:
-        line.error("a folder or --check is needed")
-    made = pages()
+    given, made = common.out_or_check(__doc__), pages()
     try:
         for name, text in made.items() if given.out else ():
             common.write(os.path.join(given.out, name), text)
