@@ -52,30 +52,50 @@ def wrong_links(folder, pages):
                 yield "%s: no place %s" % (page.name, href)
 
 
+# What begins a part of an item, by the kind of the item.
+PARTS = {"enum": re.compile(r"    ([A-Z]\w*)"), "struct": re.compile(r"    pub (\w+):")}
+
+
 def listed_items():
-    """The public items: of each its crate, its owner if it is a member, its name, and what its clauses name."""
+    """The public items: of each its crate, its owner if it is a part or a member, its name, its source, and the line that declares it, or None of a part."""
     for crate in api_source.LIBRARIES:
         for module in api_source.modules(crate):
+            source = module.source
             for item in module.items:
-                yield crate, "", item.name, item.specs
-                yield from ((crate, item.name, re.match(r"\w+", part)[0], []) for part in item.parts)
-                for member in module.source.members.get(item.name, []):
-                    yield crate, item.name, api_pages.name_of(member.signature), member.specs
+                yield crate, "", item.name, source, item.at
+                for line in source.lines[item.at + 1 : api_source.end_of(source, item.at)] if item.kind in PARTS and source.lines[item.at].endswith("{") else ():
+                    part = PARTS[item.kind].match(line)
+                    yield from [(crate, item.name, part[1], source, None)] if part else []
+                for member in source.members.get(item.name, []):
+                    yield crate, item.name, api_pages.name_of(member.signature), source, member.at
+
+
+def cited(source, at):
+    """The definitions that the lines between a declaration and its body name, as far as the source imports them."""
+    first, text = source.signature(at)[1], "\n".join(source.lines)
+    imported = {name for indent in (0, 4) for name in api_names.uses_of(text, indent)[0]}
+    last = next(place for place in range(first, len(source.lines) + 1) if END.match("".join(source.lines[place : place + 1])))
+    lines = [line for line in source.lines[first:last] if not api_source.COMMENT.match(line)]
+    return [word for word in re.findall(r"[\w◌+≡<≤^]+", "\n".join(lines)) if word in imported and word[0].isalpha()]
+
+
+# What is after the clauses of a function.
+END = re.compile(r"\s*(?:$|\{$|\}|///|(?:pub |final )?fn )")
 
 
 def without_clause(site):
     """The definitions that an item's clauses name, and that its entry has no clause with."""
-    for crate, owner, name, names in listed_items():
+    for crate, owner, name, source, at in listed_items():
         key = (crate, owner, name) if owner else (crate, name)
         words = {part for word in site.words.get(key, ()) for part in (word, word.split(".")[0])}
-        for missing in [one for one in names if one not in words]:
+        for missing in [one for one in (cited(source, at) if at is not None and "fn " in source.lines[at] else ()) if one not in words]:
             yield "%s.html: no clause of %s with %s" % (crate, "::".join(key[1:]), missing)
 
 
 def without_entry(pages):
     """The public items that have no entry on the page of their crate."""
     ends = {name: {".".join(one.split(".")[1:]) for one in page.ids if "." in one} for name, page in pages.items()}
-    for crate, owner, name, _ in listed_items():
+    for crate, owner, name, _, _ in listed_items():
         wanted = "%s.%s" % (owner, name) if owner else name
         if wanted not in ends.get(crate + ".html", ()):
             yield "%s.html: no entry of %s" % (crate, wanted)

@@ -15,8 +15,8 @@ COMMENT = re.compile(r"^\s+// ")
 ITEM = re.compile(r"^pub (struct|enum|trait|fn|const fn|const|type|unsafe fn) (\w+)")
 
 # What a source declares, and the line that it begins at. `owner` is the type or the trait of a member.
-Item = collections.namedtuple("Item", "kind name signature doc specs parts at")
-Member = collections.namedtuple("Member", "owner signature doc specs at")
+Item = collections.namedtuple("Item", "kind name signature at")
+Member = collections.namedtuple("Member", "owner signature at")
 Impl = collections.namedtuple("Impl", "header trait type at")
 
 
@@ -49,9 +49,6 @@ class Source:
 
     def __init__(self, text):
         self.lines = text.split("\n")
-        self.specs = set()
-        for names in re.findall(r"ghost use Rattle\.wasm_\w+\.specs\.[\w.]+?\.\{([^}]*)\}", text):
-            self.specs.update(name.split(" as ")[-1].strip() for name in names.split(","))
         self.items, self.members, self.traits, self.impls = [], {}, {}, []
         self.scan()
 
@@ -65,10 +62,6 @@ class Source:
             doc.insert(0, self.lines[at].strip()[3:].rstrip())
             at -= 1
         return [line[1:] if line.startswith(" ") else line for line in doc]
-
-    def doc_before(self, at):
-        """The first sentence of the doc comment over a line."""
-        return summary(self.doc_lines(at))
 
     def derives_before(self, at):
         found = []
@@ -101,58 +94,18 @@ class Source:
         joined = " ".join(words).rstrip(";").replace("( ", "(").replace(", )", ")").replace(",)", ")")
         return re.sub(r"\s+", " ", joined), at
 
-    def definitions(self, at):
-        """The definitions of specs/ that the clauses from this line on name."""
-        found = []
-        while at < len(self.lines) and self.lines[at].strip() and not re.match(r"\s*\{$|\s*(pub |final )?fn |\}", self.lines[at]):
-            text = "" if COMMENT.match(self.lines[at]) else self.lines[at]
-            for word in re.findall(r"[\w◌+≡<≤^]+", text):
-                if word in self.specs and word not in found and re.match(r"[A-Za-z]", word):
-                    found.append(word)
-            at += 1
-            if text.rstrip().endswith(";"):
-                break
-        return found
-
-    def call(self, at):
-        signature, after = self.signature(at)
-        while after < len(self.lines) and COMMENT.match(self.lines[after]):
-            after += 1
-        has_clauses = after < len(self.lines) and CLAUSE.match(self.lines[after])
-        return signature, self.doc_before(at), self.definitions(after) if has_clauses else []
-
-    def parts_of(self, at):
-        """The variants of an enum, or the public fields of a struct, in a few words."""
-        found, fields = [], None
-        for line in self.lines[at + 1 :]:
-            if line == "}":
-                break
-            variant = re.match(r"    ([A-Z]\w*)(\(.*\))?( \{)?( = .*)?,?$", line)
-            field = re.match(r"    pub (\w+: .*),$", line)
-            named = re.match(r"        (\w+): ", line)
-            if variant:
-                fields = [] if variant[3] else None
-                found.append([variant[1] + (variant[2] or ""), fields])
-            elif field:
-                found.append([field[1], None])
-            elif named and fields is not None:
-                fields.append(named[1])
-        return [name if fields is None else "%s { %s }" % (name, ", ".join(fields)) for name, fields in found]
-
     def scan(self):
         at = 0
         while at < len(self.lines):
             line = self.lines[at]
             item = ITEM.match(line)
             if item:
-                kind, name = item[1], item[2]
-                signature, doc, specs = self.call(at) if "fn" in kind else (self.signature(at)[0], self.doc_before(at), [])
+                kind, name, signature = item[1], item[2], self.signature(at)[0]
                 if kind == "const":
                     signature = signature.split(" = ")[0] if len(signature) > 100 or "{" in signature else signature
                 if kind == "struct" and signature.endswith(")") and not re.search(r"pub [^(]", signature.split("(", 1)[1]):
                     signature = signature.split("(", 1)[0] + "(..)"
-                parts = self.parts_of(at) if kind in ("struct", "enum") and line.endswith("{") else []
-                self.items.append(Item(kind, name, signature, doc, specs, parts, at))
+                self.items.append(Item(kind, name, signature, at))
                 self.traits.setdefault(name, []).extend(self.derives_before(at))
                 if kind == "trait":
                     self.scan_members(at, name, "    (final fn|fn|type|const) ")
@@ -171,11 +124,10 @@ class Source:
             if self.lines[place] == "}":
                 break
             if re.match(pattern, self.lines[place]):
-                signature, doc, specs = self.call(place)
-                signature = re.sub(r"^(pub|final) ", "", signature)
+                signature = re.sub(r"^(pub|final) ", "", self.signature(place)[0])
                 if not signature.startswith("fn") and " = " in signature:
                     signature = signature.split(" = ")[0]
-                self.members.setdefault(owner, []).append(Member(owner, signature, doc, specs, place))
+                self.members.setdefault(owner, []).append(Member(owner, signature, place))
 
 
 # ---- what a crate gives, with its sources

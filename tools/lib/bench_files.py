@@ -1,24 +1,28 @@
-"""Times the programs on whole files that resemble those of linkers, next to what others offer, and prints a table.
+"""Times the programs on whole files that resemble those of linkers, next to what others offer, and prints tables.
 
     tools/bench files                     the made files
     tools/bench files --scale 0.1         a tenth of their size
+    tools/bench files --count             instructions instead of times, which other work on the machine doesn't change
     tools/bench files --original DIR      next to the source of wasmparser in DIR, for all items
     tools/bench files a.wasm              files of one's own
+    tools/bench scaling                   how time and memory grow with a file, and what more processes gain
 
-A row is a task: to list or to dump a file, to dump it as JSON, to dump one section of it, to strip it, to walk over all items of it in memory.
-Others are `cat`, wabt (wasm-objdump, wasm-strip) and LLVM (llvm-objdump, llvm-strip), where they are installed. A time is the processor time of
-a process, user and system, the least of seven runs in which the programs take turns, and `memory` is the most that ours held. All items are
-walked by the benchmark, if tools/bench has built it, and their time is that of the fastest round in one process. It takes the programs of `prebuilt/`, or
-those that ./wasm_list and ./pulleynavy built. Leave the machine idle.
+A row is a task: to list or to dump a file, to dump it as JSON, to dump one section of it, to check it, to strip it, to walk over all items of it in memory.
+Others are `cat`, the ruler (tools/lib/limit.c, which checks bounds alone), wabt (wasm-objdump, wasm-strip) and LLVM (llvm-objdump, llvm-strip), where they are
+installed. A time is the processor time of a process, user and system, and then its wall time, each the least of seven rounds in which the programs take turns. `memory`
+is the most that ours held, by GNU time. All items are walked by the benchmark, if tools/bench has built it, and their time is that of the fastest round
+in one process. It takes the programs of `prebuilt/`, or those that ./wasm_list and ./pulleynavy built. Leave the machine idle, or use --count.
 """
 import os
+import re
 import shutil
 import subprocess
 import tempfile
+import time
 
+import bench_tables as tables
 import benches
 import common
-import original
 import programs
 import standard as S
 from common import leb
@@ -26,6 +30,10 @@ from made import custom, listed, module, section, text
 
 RUNS = 7
 MEGABYTE = 1_000_000
+# How many files processes share, and how many each takes at a time.
+FILES, AT_ONCE = 10_000, 200
+# The tasks that are scaled. The first ones may hold this many KiB more of a larger file; the others hold a section that they show.
+SCALED, FREE, MORE = ("list", "strip", "dump", "check"), 2, 1024
 
 
 # ---- the files
@@ -120,37 +128,49 @@ def program(name):
 
 
 def others(*commands):
-    return [command for command in commands if shutil.which(command[0])]
+    return [command for command in commands if command[0] and shutil.which(command[0])]
 
 
-def tasks(path, out):
-    """Each task with its commands: whether they read the file as their input, and their words. Ours is the first."""
+def tasks(path, out="", ruler=None):
+    """Each task with its commands, which have the file as their input too. Ours is the first."""
     lister, ours = program("wasm_list"), program("pulleynavy")
-    yield "list", [[lister], *others(["cat"], ["wasm-objdump", "-h", path], ["llvm-objdump", "-h", path])]
-    yield "dump", [[ours, "dump", path], *others(["cat"], ["wasm-objdump", "-x", path])]
+    yield "list", [[lister], *others(["cat"], [ruler, "list"], ["wasm-objdump", "-h", path], ["llvm-objdump", "-h", path])]
+    yield "dump", [[ours, "dump", path], *others(["cat"], [ruler, "items"], ["wasm-objdump", "-x", path])]
     yield "dump as JSON", [[ours, "dump", "--json", path], *others(["cat"])]
-    yield "dump one section", [[ours, "dump", "--section", "producers", path], *others(["wasm-objdump", "-x", "-j", "producers", path])]
-    yield "check", [[ours, "check", path], *others(["cat"])]
+    yield "dump one section", [[ours, "dump", "--section", "type", path], *others(["wasm-objdump", "-x", "-j", "type", path])]
+    yield "check", [[ours, "check", path], *others(["cat"], [ruler, "items"])]
     yield "strip", [[ours, "strip", path], *others(["cat"], ["wasm-strip", path, "-o", out], ["llvm-strip", path, "-o", out])]
 
 
-def run(words, path, out):
-    """The processor seconds of a command, and its status."""
+def timed(words, path, out):
+    """The processor time and the wall time of a command in milliseconds, and whether it fails."""
     with open(path, "rb") as data, open(out + ".text", "wb") as text_out:
+        start = time.perf_counter()
         process = subprocess.Popen(words, stdin=data, stdout=text_out, stderr=subprocess.DEVNULL)
         _, status, used = os.wait4(process.pid, 0)
-    return used.ru_utime + used.ru_stime, status
+    return 1000 * (used.ru_utime + used.ru_stime), 1000 * (time.perf_counter() - start), status
 
 
-def row(path, task, commands, out):
-    rounds = [[run(words, path, out) for words in commands] for _ in range(RUNS)]
-    cells = []
-    for place, words in enumerate(commands):
-        tried = [one[place] for one in rounds]
-        failed = any(status for _, status in tried)
-        cells.append("%s %s" % (os.path.basename(words[0]), "refuses the file" if failed else "%.0f" % (1000 * min(took for took, _ in tried))))
-    held = programs.peak_memory([word for word in commands[0] if word != path], path)
-    return [task, cells[0].split(" ", 1)[1], "%.1f" % (held / 1024), ", ".join(cells[1:])]
+def instructions(words, path, out):
+    """The millions of instructions of a command, by callgrind, and whether it fails."""
+    with open(path, "rb") as data:
+        valgrind = ["valgrind", "--tool=callgrind", "--callgrind-out-file=" + out + ".profile", *words]
+        done = subprocess.run(valgrind, stdin=data, stdout=subprocess.DEVNULL, stderr=subprocess.PIPE)
+    return int(re.search(rb"Collected : (\d+)", done.stderr)[1]) / 1e6, done.returncode
+
+
+def measured(commands, path, out, counts):
+    """Of each command a cell: the least of what the rounds measure, or that it refuses the file."""
+    rounds = [[(instructions if counts else timed)(words, path, out) for words in commands] for _ in range(1 if counts else RUNS)]
+    for tried in zip(*rounds):
+        *figures, statuses = zip(*tried)
+        yield "refuses the file" if any(statuses) else " / ".join("%.1f" % min(figure) for figure in figures)
+
+
+def row(path, task, commands, out, counts):
+    ours, *cells = measured(commands, path, out, counts)
+    named = ["%s %s" % (os.path.basename(words[0]), cell) for words, cell in zip(commands[1:], cells)]
+    return [task, ours, "%.1f" % (programs.peak_memory(commands[0], path) / 1024) if shutil.which("time") else "-", ", ".join(named)]
 
 
 def walked(words, path):
@@ -160,30 +180,89 @@ def walked(words, path):
     return "%.1f" % (int(done.stdout.split()[3]) / 1e6)
 
 
-def row_of_items(path, crate):
-    """All items in memory, by our crates and by the original one."""
-    others = "wasmparser " + walked([crate], path) if crate else ""
-    return ["all items", walked([benches.PROGRAM], path), "", others]
+def rows(path, out, ruler, crate, counts):
+    """A row for each task. All items in memory are walked by our crates and by the original one."""
+    for task, commands in tasks(path, out, ruler):
+        yield row(path, task, commands, out, counts)
+    if os.access(benches.PROGRAM, os.X_OK) and not counts:
+        yield ["all items", walked([benches.PROGRAM], path), "", "wasmparser " + walked([crate], path) if crate else ""]
+
+
+def arguments(doc, *more):
+    """The arguments, and what the columns of figures are called."""
+    count = ("--count", {"action": "store_true", "help": "count millions of instructions instead of milliseconds"})
+    given = common.arguments(doc, files=True, more=[count, *more])
+    if given.count and not common.found("valgrind"):
+        common.stop(common.NO_PROGRAM, "--count needs valgrind")
+    common.found("time")
+    return given, "millions of instructions" if given.count else "ms of processor / wall time"
 
 
 def main():
-    more = [
+    given, unit = arguments(
+        __doc__,
         ("--scale", {"metavar": "X", "type": float, "default": 1.0, "help": "how large the made files are (1 if left out)"}),
-        ("--original", {"metavar": "FOLDER", "help": "walk over all items by this source of wasmparser too"}),
-    ]
-    options = common.arguments(__doc__, files=True, more=more)
-    print("| File | MB | Task | Ours, ms | Memory, MB | Others, ms |\n|---|---|---|---|---|---|")
+        ("--original", {"metavar": "FOLDER", "type": common.existing, "help": "walk over all items by this source of wasmparser too"}),
+    )
+    print("| File | MB | Task | Ours, %s | Memory, MB | Others |\n|---|---|---|---|---|---|" % unit)
     with tempfile.TemporaryDirectory() as folder:
-        files = [(os.path.basename(path), path) for path in options.files]
+        files = [(os.path.basename(path), path) for path in given.files]
         for what, make in [] if files else MADE:
-            path = os.path.join(folder, make.__name__ + ".wasm")
-            common.write(path, make(options.scale))
-            files.append((what, path))
-        out = os.path.join(folder, "out")
-        crate = original.built(options.original, folder) if options.original else None
+            files.append((what, common.write(os.path.join(folder, make.__name__ + ".wasm"), make(given.scale))))
+        crate = tables.built_original(given.original, folder) if given.original else None
         for what, path in files:
-            rows = [row(path, task, commands, out) for task, commands in tasks(path, out)]
-            if os.access(benches.PROGRAM, os.X_OK):
-                rows.append(row_of_items(path, crate))
-            for cells in rows:
+            for cells in rows(path, os.path.join(folder, "out"), tables.built_ruler(folder), crate, given.count):
                 print("| %s | %.1f | %s |" % (what, os.path.getsize(path) / MEGABYTE, " | ".join(cells)), flush=True)
+
+
+# ---- scaling
+
+# The files, and how each is made of a scale. Custom sections and bodies are those of the tables.
+KINDS = [("a linked module", linked), *((what, lambda scale, make=make, usual=usual: make(int(usual * scale))) for what, usual, make, _, _ in tables.MADE[:2])]
+
+
+def growth(given, unit, folder):
+    """A table of time and memory by the size of a file. Returns the rows whose memory grows although it may not."""
+    print("| File | MB | Task | Ours, %s | Memory, KiB |\n|---|---|---|---|---|" % unit)
+    path, growing = os.path.join(folder, "scaled.wasm"), []
+    for what, make in KINDS:
+        held = {task: [] for task in SCALED}
+        for size in given.sizes:
+            common.write(path, make(size))
+            for task, words in [(task, words) for task, [words, *_] in tasks(path) if task in SCALED]:
+                [figure] = measured([words], path, path, given.count)
+                held[task].append(programs.peak_memory(words, path) if shutil.which("time") else 0)
+                print("| %s | %.1f | %s | %s | %d |" % (what, os.path.getsize(path) / MEGABYTE, task, figure, held[task][-1]), flush=True)
+        growing += ["%s, %s: %s KiB" % (what, task, held[task]) for task in SCALED[:FREE] if max(held[task]) > min(held[task]) + MORE]
+    return growing
+
+
+def gain(folder):
+    """A table of how long 1 to 4 processes take for many files."""
+    paths = [common.write(os.path.join(folder, "%05d.wasm" % number), linked(0.001)) for number in range(FILES)]
+    listed = common.write(os.path.join(folder, "paths"), "\0".join(paths))
+    print("\n| Processes | Wall time, s | Efficiency |\n|---|---|---|")
+    least = {}
+    for jobs in RUNS * tuple(range(1, 5)):
+        words = ["xargs", "-0", "-a", listed, "-P", str(jobs), "-n", str(AT_ONCE), program("pulleynavy"), "dump"]
+        _, took, _ = timed(words, os.devnull, os.path.join(folder, "out"))
+        least[jobs] = min(took, least.get(jobs, took))
+    for jobs, took in least.items():
+        print("| %d | %.2f | %.2f |" % (jobs, took / 1000, least[1] / took / jobs), flush=True)
+
+
+def scaling():
+    """Shows how time and memory grow with the size of a file, and what more processes gain.
+
+    tools/bench scaling                        0.1, 1, 10 and 100 times the usual size, and 1 to 4 processes over 10,000 files
+    tools/bench scaling --sizes 0.1,1 --count  instructions instead of times, and no processes
+
+    A time is the least of seven rounds. The largest files have 2.4 GB. The status is 1 if the memory of listing or stripping a file depends on its size.
+    """
+    sizes = ("--sizes", {"metavar": "LIST", "type": tables.sizes_of, "default": "0.1,1,10,100", "help": "how many times as large the files are (0.1,1,10,100)"})
+    given, unit = arguments(scaling.__doc__, sizes)
+    with tempfile.TemporaryDirectory() as folder:
+        growing = growth(given, unit, folder)
+        if not given.count:
+            gain(folder)
+    return common.tell(growing, len(growing), "%d files whose memory depends on their size" % len(growing))

@@ -18,7 +18,6 @@ import bench_tables as bench
 import benches
 import common
 import toolchain
-from benches import run
 
 MARKS = {"always": "alwaysinline", "never": "noinline"}
 # How many things a made file has. The count of an event hardly depends on it.
@@ -33,9 +32,8 @@ class Module:
         self.folder = folder
         benches.proved(os.path.join(folder, "whole.o"), toolchain.keeping(folder))
         text = os.path.join(folder, "module.ll")
-        run(*toolchain.text_command(folder, text))
-        with open(text, encoding="utf-8") as file:
-            self.text = file.read()
+        common.must(toolchain.text_command(folder, text))
+        self.text = common.read(text)
         self.groups = dict(re.findall(r"^attributes #(\d+) = \{ (.*) \}$", self.text, re.M))
         self.places = {found.group(1): found for found in re.finditer(r'^define [^\n]*?@"([^"]*)"\([^\n]*\) #(\d+)', self.text, re.M)}
 
@@ -53,8 +51,8 @@ class Module:
         """The program with these functions marked."""
         module, made, program = (os.path.join(self.folder, name) for name in ("marked.ll", "marked.o", "marked"))
         common.write(module, self.marked(marks))
-        run(*toolchain.compile_command(self.folder, module, made))
-        run(*toolchain.link_program(program, made))
+        common.must(toolchain.compile_command(self.folder, module, made))
+        common.must(toolchain.link_program(program, made))
         return program
 
 

@@ -10,8 +10,7 @@ It proves and builds the benchmark, benches/, and the programs where they aren't
 prebuilt one isn't. Instructions are counted by
 callgrind, where valgrind is there, on files of a tenth of the size. The made files are as large as their row says, times each of the
 sizes; --only takes the rows that contain WORD. Times in memory are of the fastest of the rounds of a second, all in one process.
-Those of processes are the least of five runs, in which the programs take turns, and a ratio is the median of those of the turns.
-Where there are compilers for C and for Rust, a table has the events from these beside those from Rattle. Machines differ, so read
+`tools/bench files` has times of processes. Where there are compilers for C and for Rust, a table has the events from these beside those from Rattle. Machines differ, so read
 times as ratios.
 
 --original builds bench.rs of bindings/rust/examples/programs over a crate with the API of wasmparser, with link-time optimization
@@ -19,18 +18,16 @@ times as ratios.
 must be on the machine.
 """
 import argparse
+import json
 import os
 import re
 import shutil
-import statistics
 import subprocess
 import tempfile
-import time
 
 import benches
 import cargo
 import common
-import original
 import programs
 import standard as S
 from common import leb
@@ -38,7 +35,10 @@ from made import custom, listed, module, section, text
 
 PROGRAM, LISTER, DUMPER = benches.PROGRAM, programs.path_of("wasm_list"), programs.path_of("pulleynavy")
 EVENT_WAYS = ["parse", "parse_all", "65536", "4096", "100", "16", "1"]
-RUNS = 5
+# The program of the crate for Rust's examples that reads as the benchmark does.
+ORIGINAL = os.path.join(common.TOP, "bindings", "rust", "examples", "programs", "src", "bin", "bench.rs")
+# The manifest: the crate's folder, name and features.
+MANIFEST = common.read("tools", "lib", "templates", "original.toml")
 
 
 # ---- the files
@@ -210,7 +210,7 @@ def listed_instructions(path, units, folder):
 def print_instructions(given, folder):
     """A row for each made file that is asked for and each way through it."""
     rows, callers, program, ruler = [], set(), c_caller(folder, given.archive), built_ruler(folder)
-    crate = original.built(given.original, folder) if given.original else None
+    crate = built_original(given.original, folder) if given.original else None
     path = os.path.join(folder, "made.wasm")
     for what, usual, make, ways, by_made in MADE:
         if given.only not in what:
@@ -284,6 +284,20 @@ def built_ruler(folder):
     program = os.path.join(folder, "limit")
     subprocess.run(["cc", "-O2", os.path.join(common.LIB, "limit.c"), "-o", program], check=True)
     return program
+
+
+def built_original(source, folder):
+    """The program that reads with the crate in a folder, built with link-time optimization."""
+    manifest = common.read(os.path.join(source, "Cargo.toml"))
+    package = re.search(r'^name = "(.*)"$', manifest, re.M).group(1)
+    features = [name for name in ("std", "features") if re.search("^%s = " % name, manifest, re.M)]
+    project = os.path.join(folder, "original")
+    os.makedirs(os.path.join(project, "src"))
+    shutil.copy(ORIGINAL, os.path.join(project, "src", "main.rs"))
+    common.write(os.path.join(project, "Cargo.toml"), MANIFEST % (json.dumps(os.path.abspath(source)), json.dumps(package), json.dumps(features)))
+    if subprocess.run(["cargo", "build", "--offline", "--quiet", "--release"], cwd=project).returncode:
+        common.stop(common.NO_PROGRAM, "%s could not be built over %s" % (ORIGINAL, source))
+    return os.path.join(project, "target", "release", "original")
 
 
 def c_caller(folder, given):
@@ -361,38 +375,6 @@ def timed_in_memory(path, ways):
     return times
 
 
-def seconds(commands):
-    """The seconds of each command, a program with its input and its output, in each of the rounds: they take turns."""
-    rounds = []
-    for _ in range(RUNS):
-        took = []
-        for command, source, target in commands:
-            with open(source, "rb") as data, open(target, "wb") as out:
-                start = time.perf_counter()
-                subprocess.run(command, stdin=data, stdout=out, stderr=subprocess.DEVNULL)
-                took.append(time.perf_counter() - start)
-        rounds.append(took)
-    return rounds
-
-
-def process_row(path, folder):
-    listing, copy = os.path.join(folder, "listing"), os.path.join(folder, "copy")
-    dump = shutil.which("wasm-objdump")
-    commands = [([LISTER], path, listing), (["cat"], path, os.devnull), (["cat"], listing, copy)]
-    commands += [([LISTER, "strip"], path, copy), (["cat"], path, copy)]
-    rounds = seconds(commands + ([([dump, "-h", path], path, copy)] if dump else []))
-    least = [min(took) for took in zip(*rounds)]
-    to_list = statistics.median(took[0] / (took[1] + took[2]) for took in rounds)
-    to_strip = statistics.median(took[3] / took[4] for took in rounds)
-    row = [milliseconds(least[0]), milliseconds(least[1] + least[2]), "%.2f" % to_list, str(programs.peak_memory([LISTER], path))]
-    row += [milliseconds(least[3]), milliseconds(least[4]), "%.2f" % to_strip]
-    return row + [milliseconds(took) for took in least[5:]]
-
-
-def milliseconds(took):
-    return "%.1f" % (1e3 * took)
-
-
 # ---- the tables
 
 
@@ -412,38 +394,25 @@ def nanoseconds(count, took):
 
 
 def of_made_files(sizes, only, folder):
-    """The rows of both tables: times in memory, and processes."""
-    in_memory, processes = [], []
+    """The rows of times in memory."""
     for what, usual, make, ways, by_made in MADE:
         if only not in what:
             continue
         of_way = {way: [] for way in ways}
         for size in sizes:
             count = int(usual * size)
-            path = os.path.join(folder, "made.wasm")
-            common.write(path, make(count))
-            times = timed_in_memory(path, ways)
+            times = timed_in_memory(common.write(os.path.join(folder, "made.wasm"), make(count)), ways)
             for way in ways:
                 counted, took = times.get(way, (0, 0))
                 of_way[way].append(nanoseconds(count if by_made else counted, took))
-            if ways is EVENT_WAYS:
-                megabytes = "%.1f" % (os.path.getsize(path) / 1e6)
-                processes.append(["%d %s" % (count, what), megabytes] + process_row(path, folder))
-        for way in ways:
-            in_memory.append(["%d %s" % (usual, what), words_of(way, by_made)] + of_way[way])
-    return in_memory, processes
+        yield from (["%d %s" % (usual, what), words_of(way, by_made)] + of_way[way] for way in ways)
 
 
-def of_given_files(files, folder):
-    in_memory, processes = [], []
+def of_given_files(files):
+    ways, words = EVENT_WAYS + ["items", "indices"], dict(WORDS, indices="an item, or an index of a list")
     for path in files:
-        ways = EVENT_WAYS + ["items", "indices"]
         times = timed_in_memory(path, ways)
-        name = os.path.basename(path)
-        words = dict(WORDS, indices="an item, or an index of a list")
-        in_memory += [[name, words[way], nanoseconds(*times.get(way, (0, 0)))] for way in ways]
-        processes.append([name, "%.1f" % (os.path.getsize(path) / 1e6)] + process_row(path, folder))
-    return in_memory, processes
+        yield from ([os.path.basename(path), words[way], nanoseconds(*times.get(way, (0, 0)))] for way in ways)
 
 
 def sizes_of(word):
@@ -459,10 +428,9 @@ def main():
         ("--only", {"metavar": "WORD", "default": "", "help": "the rows that contain this"}),
         ("--count", {"action": "store_true", "help": "the instructions alone"}),
         ("--archive", {"metavar": "FILE", "type": common.existing, "help": "an archive of the C library, instead of the prebuilt one or one that is built here"}),
-        ("--original", {"metavar": "FOLDER", "help": "count this source of wasmparser too"}),
+        ("--original", {"metavar": "FOLDER", "type": common.existing, "help": "count this source of wasmparser too"}),
     ]
     options = common.arguments(__doc__, files=True, more=more)
-    sizes = options.sizes
     if options.count and (options.files or not shutil.which("valgrind")):
         common.stop(common.WRONG_USE, "--count is for made files, and needs valgrind")
     build()
@@ -475,12 +443,7 @@ def main():
         if not options.files:
             print_callers(options.only, options.archive, folder)
         if options.files:
-            rows, processes = of_given_files(options.files, folder)
-            heads = ["ns"]
+            print_table(["file", "time of", "ns"], of_given_files(options.files))
         else:
-            rows, processes = of_made_files(sizes, options.only, folder)
-            heads = ["ns at %g times" % size for size in sizes]
-    print_table(["file", "time of"] + heads, rows)
-    if processes:
-        dump = ["wasm-objdump -h ms"] if shutil.which("wasm-objdump") else []
-        print_table(["file", "MB", "wasm_list ms", "cat ms", "ratio", "peak KiB", "strip ms", "cat to a file ms", "ratio"] + dump, processes)
+            heads = ["ns at %g times" % size for size in options.sizes]
+            print_table(["file", "time of", *heads], of_made_files(options.sizes, options.only, folder))

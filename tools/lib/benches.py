@@ -27,17 +27,13 @@ def written(place):
     return {path: shutil.copyfile(path, os.path.join(source, name)) for path, name in names.items()}
 
 
-def run(*words, cwd=None):
-    return common.must(words, cwd)
-
-
 def proved(made, real):
     """Proves the benchmark over the libraries that this checkout proved, and compiles it by a toolchain into an object file."""
     names = libraries()
     words = toolchain.command(CRATE, "src/main.rt", [*names, *trial.of_toolchain(names)])
     with tempfile.TemporaryDirectory() as place:
         written(place)
-        run(*words, "--jobs", "4", "--toolchain", real, "--backend", "llvm", "-o", made, cwd=place)
+        common.must([*words, "--jobs", "4", "--toolchain", real, "--backend", "llvm", "-o", made], place)
 
 
 def is_built():
@@ -56,4 +52,4 @@ def build():
     with tempfile.TemporaryDirectory() as folder:
         made = os.path.join(folder, "made.o")
         proved(made, os.path.join(toolchain.folder(), "toolchain"))
-        run(*toolchain.link_program(PROGRAM, made))
+        common.must(toolchain.link_program(PROGRAM, made))

@@ -53,9 +53,7 @@ def write_registry(folder, digest=None):
     """Writes a local registry, with the crate if the checksum of its package is given."""
     rows = {**ROWS, **({"pulleynavy": own_row(digest)} if digest else {})}
     for name, row in rows.items():
-        place = os.path.join(folder, "index", name[:2], name[2:4])
-        os.makedirs(place, exist_ok=True)
-        common.write(os.path.join(place, name), json.dumps(row) + "\n")
+        common.write(os.path.join(folder, "index", name[:2], name[2:4], name), json.dumps(row) + "\n")
 
 
 def offline(folder, registry=None):
@@ -82,5 +80,4 @@ def settings(kind, path):
 
 
 def write_settings(folder, kind, path):
-    os.makedirs(os.path.join(folder, ".cargo"), exist_ok=True)
     common.write(os.path.join(folder, ".cargo", "config.toml"), settings(kind, path))

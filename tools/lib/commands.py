@@ -16,7 +16,6 @@ COMMANDS = {
         "pieces": ("compare_streams:chunks", "chunked streams, and each step of a feeder"),
         "pipe": ("compare_streams:pipe", "a stream that comes byte by byte through a pipe, line by line"),
         "strip": ("compare_streams:strip", "stripped streams, also with wasm-strip of wabt"),
-        "soak": ("compare_streams:soak", "random, mutated and spliced streams, for as long as you like"),
         "surface": ("compare_surface", "the public items of the crate for Rust with those of wasmparser 0.263.0"),
     },
     "try": {
@@ -35,12 +34,12 @@ COMMANDS = {
         "documents": ("documents", "the tables of docs/PROVED.md and docs/DEFINITIONS.md, from comments over clauses and definitions"),
         "program": ("generate_program", "help texts, the manual page and completions of the program, from tools/lib/program.py"),
         "header": ("generate_header", "the header of the C library, and the declarations of the bindings"),
-        "codes": ("generate_codes", "the numbers of enumerations for the crate for Rust, from the header"),
         "manuals": ("generate_manuals", "manual pages of ten calls of the C library, from the header"),
     },
     "bench": {
         "tables": ("bench_tables", "instructions and times on made files"),
-        "files": ("bench_files", "times of the programs on whole files, next to other tools"),
+        "files": ("bench_files", "times or instructions of the programs on whole files, next to other tools"),
+        "scaling": ("bench_files:scaling", "how time and memory grow with a file, and what more processes gain"),
         "inlining": ("bench_inlining", "instructions if functions are inlined otherwise, without proofs"),
     },
 }
@@ -57,8 +56,4 @@ def run(tool, about):
         common.stop(common.WRONG_USE, "there is no %s; there are %s" % (words[0], ", ".join(known)))
     sys.argv = ["tools/%s %s" % (tool, words[0]), *words[1:]]
     module, _, name = known[words[0]][0].partition(":")
-    try:
-        return getattr(importlib.import_module(module), name or "main")()
-    except common.Failed as failed:
-        print("FAILED", failed)
-        return common.DIFFERS
+    return getattr(importlib.import_module(module), name or "main")()

@@ -26,16 +26,14 @@ DIFFERS, WRONG_USE, NO_PROGRAM, SKIPPED = 1, 2, 3, 4
 
 def version():
     """The version of this project, which is in one file."""
-    with open(os.path.join(TOP, "VERSION"), encoding="ascii") as file:
-        return file.read().strip()
+    return read("VERSION").strip()
 
 
 def date_of_release():
     """The date of packages, in seconds: SOURCE_DATE_EPOCH, or that in the heading of this version in the changelog, or an early one before there is such a heading."""
     if "SOURCE_DATE_EPOCH" in os.environ:
         return int(os.environ["SOURCE_DATE_EPOCH"])
-    with open(os.path.join(TOP, "CHANGELOG.md"), encoding="utf-8") as file:
-        found = re.search(r"^## \[?%s\]? - (\S+)" % re.escape(version()), file.read(), re.M)
+    found = re.search(r"^## \[?%s\]? - (\S+)" % re.escape(version()), read("CHANGELOG.md"), re.M)
     day = datetime.datetime.fromisoformat(found[1] if found else "2026-01-01")
     return int(day.replace(tzinfo=datetime.timezone.utc).timestamp())
 
@@ -69,6 +67,12 @@ class Failed(Exception):
     """A command failed, or something differs."""
 
 
+def require(holds, what):
+    """Raises Failed, with what is wrong, unless something holds."""
+    if not holds:
+        raise Failed(what)
+
+
 def must(words, folder=None, stream=b"", env=None, **options):
     """What a command prints, its errors among it. Raises Failed if its status is not 0. A variable that is None is not set."""
     settings = {name: value for name, value in {**os.environ, **(env or {})}.items() if value is not None}
@@ -76,6 +80,20 @@ def must(words, folder=None, stream=b"", env=None, **options):
     if done.returncode:
         raise Failed("%s: status %d\n%s" % (" ".join(map(str, words)), done.returncode, done.stdout.decode(errors="replace")[-4000:]))
     return done.stdout.decode(errors="replace")
+
+
+def end(main):
+    """Runs the main part of a tool, and ends with its status: also where a command failed, or where nobody reads what it prints."""
+    try:
+        status = main()
+        sys.stdout.flush()
+    except Failed as failed:
+        print("FAILED", failed)
+        status = DIFFERS
+    except BrokenPipeError:
+        os.dup2(os.open(os.devnull, os.O_WRONLY), sys.stdout.fileno())
+        status = DIFFERS
+    sys.exit(status)
 
 
 def stop(status, message):
@@ -136,6 +154,16 @@ def whole(word):
     return int(word)
 
 
+def one_of(what, names):
+    """The type of an argument that is one of these names."""
+    def known(word):
+        if word not in names:
+            raise argparse.ArgumentTypeError("there is no %s %s; there are %s" % (what, word, ", ".join(names)))
+        return word
+
+    return known
+
+
 def existing(path):
     """The whole path of a file or folder that is there."""
     if not os.path.exists(path):
@@ -166,6 +194,17 @@ def arguments(doc, numbers=(), files=False, show=None, more=()):
     return given
 
 
+def out_or_check(doc):
+    """The arguments of a tool that writes a folder, or with --check says what is wrong and writes nothing."""
+    line = parser(doc, usage="%(prog)s OUT | --check")
+    line.add_argument("out", nargs="?", metavar="OUT", help="the folder, which is made if it isn't there")
+    line.add_argument("--check", action="store_true", help="write nothing; the status is 1 if there is a fault")
+    given = line.parse_args()
+    if bool(given.out) == given.check:
+        line.error("it takes a folder or --check")
+    return given
+
+
 def generate(doc, make):
     """The main part of a tool that writes files. `make` returns their texts by their paths. With --check it says which differ. Returns its status."""
     line = parser(doc, usage="%(prog)s [--check]")
@@ -187,11 +226,10 @@ def generate(doc, make):
 def crates():
     """The libraries of each crate, as crates.txt has them and in its order."""
     found = {}
-    with open(os.path.join(TOP, "crates.txt"), encoding="utf-8") as file:
-        for line in file:
-            name, colon, libraries = line.split("#")[0].partition(":")
-            if colon:
-                found[name.split()[0]] = libraries.split()
+    for line in read("crates.txt").splitlines():
+        name, colon, libraries = line.split("#")[0].partition(":")
+        if colon:
+            found[name.split()[0]] = libraries.split()
     return found
 
 
@@ -240,12 +278,10 @@ def sources():
     yield os.path.join(TOP, "crates.txt")
 
 
-def checksum_lines(paths):
-    """The checksum and the name of each of these files, as sha256sum writes them."""
+def checksum_lines(paths, top=TOP):
+    """The checksum and the name of each of these files below a folder, as sha256sum writes them."""
     for path in paths:
-        with open(path, "rb") as file:
-            digest = hashlib.sha256(file.read()).hexdigest()
-        yield "%s  %s\n" % (digest, os.path.relpath(path, TOP))
+        yield "%s  %s\n" % (hashlib.sha256(read_bytes(path)).hexdigest(), os.path.relpath(path, top))
 
 
 def sources_of_programs():
@@ -264,11 +300,8 @@ def checksum_of_sources():
 
 def made_from():
     """What the prebuilt artifacts were made from, by name."""
-    try:
-        with open(os.path.join(PREBUILT, "MADE-FROM"), encoding="utf-8") as file:
-            return dict(line.rstrip("\n").split(": ", 1) for line in file)
-    except FileNotFoundError:
-        return {}
+    path = os.path.join(PREBUILT, "MADE-FROM")
+    return dict(line.split(": ", 1) for line in read(path).splitlines()) if os.path.exists(path) else {}
 
 
 def is_prebuilt():
@@ -317,8 +350,7 @@ def modules_in(data):
 def modules_of(files):
     """The modules of all these files."""
     for path in files:
-        with open(path, "rb") as file:
-            found = list(modules_in(file.read()))
+        found = list(modules_in(read_bytes(path)))
         if not found:
             stop(WRONG_USE, "%s is neither a module nor an archive of modules" % path)
         yield from found
@@ -326,8 +358,7 @@ def modules_of(files):
 
 def golden():
     """Each golden stream and its lines."""
-    with open(GOLDEN, encoding="ascii") as file:
-        return [(bytes.fromhex(row["hex"]), row["lines"]) for row in map(json.loads, file)]
+    return [(bytes.fromhex(row["hex"]), row["lines"]) for row in map(json.loads, read(GOLDEN).splitlines())]
 
 
 def leb(value):

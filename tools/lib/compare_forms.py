@@ -349,7 +349,5 @@ def main():
     # Two sections of names, a shared memory, and a section of a component with an id that modules have.
     streams = [named_module(), named_module() + other_names(), module(section(5, b"\1\3\1\2")), COMPONENT + section(1, b"\0")]
     streams += [stream for stream, _ in common.golden()] + [(stream_of if number % 2 else some_stream)(rng) for number in range(given.count)]
-    for path in given.files:
-        with open(path, "rb") as file:
-            streams.append(file.read())
+    streams += map(common.read_bytes, given.files)
     return comparing.compare(given, streams, comparing.one_by_one(lambda stream: forms_differ(given.command, stream)))

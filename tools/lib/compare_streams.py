@@ -1,9 +1,7 @@
 """Comparisons of how streams are listed, stripped and read in chunks, with tools/model/model.py."""
 import itertools
-import multiprocessing
 import os
 import random
-import resource
 import select
 import shutil
 import subprocess
@@ -15,7 +13,7 @@ import comparing
 import pieces
 import programs
 from standard import CUSTOM_SECTION
-from streams import random_bytes, some_large_stream, some_stream
+from streams import some_large_stream, some_stream
 from texts import number_at
 
 NUMBERS = [("seed", 1), ("count", 10000)]
@@ -229,8 +227,7 @@ def wabt_differs(words, data):
         file.write(data)
         file.flush()
         done = subprocess.run(["wasm-strip", file.name], stderr=subprocess.PIPE)
-        with open(file.name, "rb") as again:
-            others = again.read()
+        others = common.read_bytes(file.name)
     left = programs.run(words, data)[0]
     same = others[:8] == left[:8] and [(i, c) for i, _, c in sections(others)] == [(i, c) for i, _, c in sections(left)]
     return None if same and not done.returncode else "wasm-strip leaves other sections, or refuses it: %r" % done.stderr[:200]
@@ -253,80 +250,3 @@ def strip():
         return strip_differs(given.command, lister, given.known, data) or (wabt_differs(given.command, data) if data in others else None)
 
     return comparing.compare(given, comparing.drawn(given, some_stream), comparing.one_by_one(differs))
-
-
-# ---- for a while
-
-LARGEST = 30000
-# What the program may map beside the stream: its own text, the C library, a chunk and a page of lines.
-ROOM = 12 << 20
-
-
-def mutated(rng, data):
-    out = bytearray(data)
-    for _ in range(rng.choice([1, 1, 1, 2, 3, 10])):
-        place, how = rng.randrange(len(out) + 1), rng.random()
-        if how < 0.4 and place < len(out):
-            out[place] = rng.choice([0, 1, 3, 10, 11, 12, 127, 128, 255, rng.randrange(256), out[place] ^ 1 << rng.randrange(8)])
-        elif how < 0.6:
-            out[place:place] = random_bytes(rng, rng.randrange(1, 9))
-        elif how < 0.8:
-            del out[place : place + rng.randrange(1, 9)]
-        elif how < 0.9:
-            del out[place:]
-        else:
-            out += bytes(rng.randrange(300)) if rng.random() < 0.5 else some_stream(rng)[8:]
-    return bytes(out)
-
-
-def source(rng, files):
-    """A random stream, a file, or a part of one."""
-    data = rng.choice(files) if files and rng.random() < 0.4 else some_stream(rng)
-    start = rng.randrange(max(1, len(data) - LARGEST)) if rng.random() < 0.5 else 0
-    return data if len(data) <= LARGEST else data[:8] * bool(start) + data[start : start + rng.randrange(LARGEST)]
-
-
-def spliced(rng, files):
-    """A source, or two that are joined at random places, often with some bytes changed."""
-    data = source(rng, files)
-    if rng.random() < 0.2:
-        other = source(rng, files)
-        data = data[: rng.randrange(len(data) + 1)] + other[rng.randrange(len(other) + 1) :]
-    return mutated(rng, data) if rng.random() < 0.6 else data
-
-
-def soaked(task):
-    """What differs of 200 streams of a seed: in chunks, and of each tenth the listing in little memory."""
-    seed, model, paths, row_words, list_words = task
-    files, rng, known = [open(path, "rb").read() for path in paths], random.Random(seed), common.load(model)
-    streams = [spliced(rng, files) for _ in range(200)]
-    found = list(zip(streams, chunks_differ(row_words, known, streams)))
-    for stream in streams[::10]:
-        size = ROOM + 4 * len(stream)
-        limit = lambda: resource.setrlimit(resource.RLIMIT_AS, (size, size))
-        found.append((stream, listing_differs(list_words, known, stream, preexec_fn=limit)))
-    return sum(map(len, streams)), ["seed %s, %s\n  %s" % (seed, stream.hex()[:2000], text) for stream, text in found if text]
-
-
-def soak():
-    """Reads random streams for a while, and compares what the programs say with a model.
-
-    tools/compare soak                        a minute, from seed 1
-    tools/compare soak 7 28800 --jobs 4 FILE  eight hours, with real files
-
-    A stream is a random one, a FILE or a part of it, two of these joined at random places, or any of them with bytes changed, cut off or put in. It is
-    read in chunks, and listed with no more memory than a few times what it is given. Each difference is printed with its seed.
-    """
-    more = [("--jobs", {"metavar": "N", "type": common.whole, "default": 1, "help": "how many processes (1)"})]
-    given = comparing.arguments(soak.__doc__, None, common.MODEL, numbers=[("seed", 1), ("seconds", 60)], files=True, show=3, more=more)
-    words, end = (programs.command("rows"), programs.command("list")), time.time() + given.seconds
-    count = size = differ = 0
-    with multiprocessing.Pool(max(given.jobs, 1)) as pool:
-        while time.time() < end:
-            seeds = ["%d-%d" % (given.seed, count // 200 + job) for job in range(max(given.jobs, 1))]
-            for read, found in pool.map(soaked, [(seed, given.model, given.files, *words) for seed in seeds]):
-                count, size, differ = count + 200, size + read, differ + len(found)
-                for line in found[: given.show]:
-                    print("DIFFERS", line, flush=True)
-    print("%d streams of %d bytes, %d differ (seed %s)" % (count, size, differ, given.seed))
-    return common.DIFFERS if differ else 0

@@ -1,7 +1,6 @@
 """Compares the public items of the crate for Rust with those of wasmparser 0.263.0, which tools/lib/surface.txt lists.
 
-    tools/compare surface            names each item of the list that the crate does not have
-    tools/compare surface --more     names also the items that only the crate has
+    tools/compare surface    names each item of the list that the crate does not have
 
 The items are read from the pages that `cargo doc` writes, so the library need not be built. A line of the list that begins with a minus
 sign has items that the crate must not have, and that its README must name.
@@ -49,12 +48,11 @@ def pages(folder):
 
 def listed():
     """Of each line of the list whether its items are absent, their name, and their members and traits."""
-    with open(LIST, encoding="utf-8") as file:
-        for line in file:
-            if line.strip() and not line.startswith("#"):
-                name, _, rest = line.lstrip("- ").partition(":")
-                members, _, traits = rest.partition("|")
-                yield line.startswith("-"), name, members.split(), traits.split()
+    for line in common.read(LIST).splitlines():
+        if line.strip() and not line.startswith("#"):
+            name, _, rest = line.lstrip("- ").partition(":")
+            members, _, traits = rest.partition("|")
+            yield line.startswith("-"), name, members.split(), traits.split()
 
 
 def compared(found, readme):
@@ -80,27 +78,10 @@ def compared(found, readme):
     return faults, wanted
 
 
-def additions(found, wanted):
-    """The items that only the crate has, without those of traits."""
-    for name, (members, _) in sorted(found.items()):
-        if name not in wanted:
-            yield "%s: only here" % name
-            continue
-        more = sorted(members - wanted[name][0])
-        if more:
-            yield "%s: only here: %s" % (name, " ".join(more))
-
-
 def main():
-    line = common.parser(__doc__)
-    line.add_argument("--more", action="store_true", help="name also what only the crate has")
-    given = line.parse_args()
+    common.parser(__doc__).parse_args()
     with tempfile.TemporaryDirectory() as folder:
         found = pages(folder)
-    with open(os.path.join(CRATE, "README.md"), encoding="utf-8") as file:
-        faults, wanted = compared(found, file.read())
-    for text in faults + (list(additions(found, wanted)) if given.more else []):
-        print(text)
+    faults, wanted = compared(found, common.read(CRATE, "README.md"))
     count = len(wanted) + sum(len(members) + len(traits) for members, traits in wanted.values())
-    print("%d items of wasmparser, %d differ" % (count, len(faults)))
-    return common.DIFFERS if faults else 0
+    return common.tell(faults, len(faults), "%d items of wasmparser, %d differ" % (count, len(faults)))

@@ -35,10 +35,6 @@ CALLED = ("memcpy", "memmove")
 STUB = common.read("tools", "lib", "templates", "libSystem.tbd")
 
 
-def run(*words, folder=None):
-    return common.must(words, folder)
-
-
 def exports():
     """The names that the header declares."""
     return sorted(re.findall(r"^\w[^\n(]*?\b(pulleynavy_\w+)\(", common.read_bytes(HEADER).decode(), re.M))
@@ -50,7 +46,7 @@ def exports():
 def lines_of(triple):
     """The data layout and the triple of a system, as clang writes them for it."""
     words = ["--target=" + triple, "--no-default-config", "-S", "-emit-llvm", "-x", "c", os.devnull, "-o", "-"]
-    return {found[1]: found[0] for found in LINES.finditer(run(toolchain.clang(), *words))}
+    return {found[1]: found[0] for found in LINES.finditer(common.must([toolchain.clang(), *words]))}
 
 
 def changed(text, other):
@@ -75,12 +71,11 @@ def text_of(kept, archive):
     """The kept module as text. Compiled as it is, that must give the object in the archive for Linux."""
     path, made = os.path.join(kept, "module.ll"), os.path.join(kept, "again.o")
     if common.read_bytes(os.path.join(kept, "module")).startswith(BITCODE):
-        run(*toolchain.text_command(kept, path))
+        common.must(toolchain.text_command(kept, path))
     else:
         shutil.copyfile(os.path.join(kept, "module"), path)
-    run(*toolchain.compile_command(kept, path, made), folder=kept)
-    if common.read_bytes(made) not in common.read_bytes(archive):
-        raise common.Failed("%s is not in %s" % (made, archive))
+    common.must(toolchain.compile_command(kept, path, made), kept)
+    common.require(common.read_bytes(made) in common.read_bytes(archive), "%s is not in %s" % (made, archive))
     return common.read_bytes(path).decode()
 
 
@@ -91,7 +86,7 @@ def compiled(kept, text, triple, made):
     words = toolchain.compile_command(kept, module, made)
     if triple.startswith("riscv64"):
         words = [word for word in words if not word.startswith("-march=")]
-    run(*[re.sub(r"^--target=.*", "--target=" + triple, word) for word in words], folder=kept)
+    common.must([re.sub(r"^--target=.*", "--target=" + triple, word) for word in words], kept)
 
 
 # ---- archives and shared libraries
@@ -99,14 +94,14 @@ def compiled(kept, text, triple, made):
 
 def archive(kind, path, made):
     """An archive of one object in this format, in which names and dates don't depend on the machine."""
-    run(os.path.join(toolchain.llvm(), "bin", "llvm-ar"), "--format=" + kind, "rcsD", path, made)
+    common.must([os.path.join(toolchain.llvm(), "bin", "llvm-ar"), "--format=" + kind, "rcsD", path, made])
 
 
 def import_library(folder, name, called, machine):
     """An import library of a DLL with these functions."""
     names = common.write(os.path.join(folder, name + ".def"), "LIBRARY %s\nEXPORTS\n%s\n" % (name, "\n".join(called)))
     path = os.path.join(folder, name + ".lib")
-    run("llvm-dlltool", "-m", machine, "-d", names, "-l", path)
+    common.must(["llvm-dlltool", "-m", machine, "-d", names, "-l", path])
     return path
 
 
@@ -116,7 +111,7 @@ def dll(folder, machine, place):
     system = import_library(place, "msvcrt.dll", CALLED, flavor)
     words = ["/dll", "/noentry", "/nodefaultlib", "/Brepro", "/opt:noref", "/machine:" + linker, *("/export:" + name for name in exports())]
     made = os.path.join(folder, "pulleynavy.dll")
-    run("lld", "-flavor", "link", *words, "/out:" + made, "/implib:" + made + ".lib", os.path.join(folder, "libpulleynavy.a"), system)
+    common.must(["lld", "-flavor", "link", *words, "/out:" + made, "/implib:" + made + ".lib", os.path.join(folder, "libpulleynavy.a"), system])
     shutil.copyfile(made + ".lib", os.path.join(folder, "libpulleynavy.dll.a"))
 
 
@@ -126,7 +121,7 @@ def dylib(folder, machine, place):
     system = common.write(os.path.join(place, "libSystem.tbd"), STUB)
     words = ["-dylib", "-arch", "arm64" if machine == "aarch64" else machine, "-platform_version", "macos", "11.0.0", "11.0.0"]
     words += ["-install_name", "@rpath/libpulleynavy.dylib", "-exported_symbols_list", names, "-all_load"]
-    run("lld", "-flavor", "darwin", *words, "-o", os.path.join(folder, "libpulleynavy.dylib"), os.path.join(folder, "libpulleynavy.a"), system)
+    common.must(["lld", "-flavor", "darwin", *words, "-o", os.path.join(folder, "libpulleynavy.dylib"), os.path.join(folder, "libpulleynavy.a"), system])
 
 
 def build(target, kept, archive_of_linux, folder):

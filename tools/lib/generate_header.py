@@ -9,6 +9,7 @@ assertions that a compiler checks. What the C side owes is at the head of the fi
 """
 import os
 import re
+import textwrap
 
 import common
 
@@ -47,15 +48,15 @@ def tag(name):
 
 
 def wrapped(text, indent):
-    """A comment of lines that aren't too wide."""
-    words, lines, line = text.split(), [], ""
-    for word in words:
-        if line and len(indent) + len(line) + len(word) > 130:
-            lines.append(line)
-            line = ""
-        line += (" " if line else "") + word
-    lines.append(line)
-    return indent + "/* " + ("\n" + indent + "   ").join(lines) + " */\n"
+    """Lines that aren't too wide for a comment."""
+    return textwrap.wrap(text, 131 - len(indent), break_long_words=False, break_on_hyphens=False)
+
+
+def boxed(lines, indent=""):
+    """A comment of these lines."""
+    if len(lines) == 1:
+        return "%s/** %s */\n" % (indent, lines[0])
+    return "%s/**\n" % indent + "".join((indent + " * " + line).rstrip() + "\n" for line in lines) + indent + " */\n"
 
 
 def paragraphs(lines):
@@ -81,18 +82,21 @@ def paragraphs(lines):
 
 
 def doc(lines, indent=""):
-    """A doc comment as a comment in C: its paragraphs, the items of its lists, and its examples, which are indented as code is in text."""
+    """A doc comment as Doxygen reads it: its paragraphs, lists and examples, and a heading for errors."""
     out = []
     for is_code, part in paragraphs(lines):
-        follows = not is_code and part[0].startswith("* ") and out
+        first, *more = part if is_code else wrapped(" ".join(part), indent)
+        is_listed = not is_code and first.startswith("* ")
+        out += [] if not out or is_listed else [""]
         if is_code:
-            text = "\n".join((indent + " " * 7 + line).rstrip() for line in part)
+            out += ["@code{.c}", first, *more, "@endcode"]
+        elif is_listed:
+            out += ["- " + first[2:], *("  " + line for line in more)]
+        elif first.startswith("Errors: "):
+            out += ["@par Errors", first[len("Errors: ") :], *more]
         else:
-            text = wrapped(" ".join(part), indent)[len(indent) + 3 : -len(" */\n")]
-            text = indent + "   " + text if out else text
-            text = text.replace("\n" + indent + "   ", "\n" + indent + "     ") if part[0].startswith("* ") else text
-        out.append(("\n" if follows else "\n\n" if out else "") + text)
-    return indent + "/* " + "".join(out) + " */\n"
+            out += [first, *more]
+    return boxed(out, indent)
 
 
 class Struct:
@@ -120,13 +124,17 @@ def forgotten():
             yield name
 
 
+def numbered(pattern, text, what):
+    """The enumerators and the numbers that a pattern finds in a text."""
+    rows = re.findall(pattern, text, re.M)
+    if not rows:
+        common.stop(common.DIFFERS, "the sources have no numbers of %s" % what)
+    return [(name if name.isupper() else upper(name), int(number, 0)) for name, number in rows]
+
+
 def faults():
     """The numbers of faults, as the code has them."""
-    text = source("faults")
-    rows = re.findall(r"Fault::(\w+)(?:\(\w+\))? => (\d+)", text)
-    if not rows:
-        common.stop(common.DIFFERS, "no faults in crates/wasm_plain/src/faults.rt")
-    return [(upper(name), int(number)) for name, number in rows]
+    return numbered(r"Fault::(\w+)(?:\(\w+\))? => (\d+)", source("faults"), "faults")
 
 
 def upper(name):
@@ -136,15 +144,12 @@ def upper(name):
 
 def details(name):
     """The numbers above the kind of a fault, of this enum."""
-    rows = re.findall(r"\b%s::(\w+) => (\d+)," % name, source("faults"))
-    if not rows:
-        common.stop(common.DIFFERS, "no numbers of %s in crates/wasm_plain/src/faults.rt" % name)
-    return [(upper(variant), int(number)) for variant, number in rows]
+    return numbered(r"\b%s::(\w+) => (\d+)," % name, source("faults"), name)
 
 
 def enumeration(comment, tag, prefix, rows):
     values = ",\n".join("    %s_%s = %d" % (prefix, name, number) for name, number in rows)
-    return wrapped(comment, "") + "typedef enum %s {\n%s\n} %s;\n" % (tag, values, tag)
+    return boxed(wrapped(comment, "")) + "typedef enum %s {\n%s\n} %s;\n" % (tag, values, tag)
 
 
 # The numbers of coded fields: a comment, the enumeration, the prefix of its enumerators, its numbers by their names, and the enum of
@@ -220,10 +225,7 @@ def subsection_ids(file, of):
 
 def flag_bits(name):
     """The bits of flags, as `wasm_custom` names them."""
-    rows = re.findall(r"pub const (\w+): %s = %s\(([0-9x_a-f]+)\);" % (name, name), custom_source("flags"))
-    if not rows:
-        common.stop(common.DIFFERS, "no bits of %s in crates/wasm_custom/src/flags.rt" % name)
-    return [(flag, int(bits, 0)) for flag, bits in rows]
+    return numbered(r"pub const (\w+): %s = %s\(([0-9x_a-f]+)\);" % (name, name), custom_source("flags"), name)
 
 
 def coded_fields():
@@ -295,54 +297,6 @@ def declared_call(name, result, arguments):
     return line if len(line) <= 120 else "%s %s(\n    %s);\n" % (result, name, ", ".join(arguments))
 
 
-COMMENT = re.compile(r"^( *)/\* (.*?) \*/\n", re.M | re.S)
-
-
-def body_of(lines):
-    """The lines of a comment with Doxygen's commands: code for what is indented by four, lists, and a heading for errors."""
-    is_code = was_listed = False
-    for line in lines:
-        level = len(line) - len(line.lstrip())
-        if is_code and line and level < 4:
-            yield "@endcode"
-            is_code = False
-        if level >= 4 and not is_code and not was_listed:
-            yield "@code{.c}"
-            is_code = True
-        if is_code:
-            yield line[4:]
-        elif level == 2 and not was_listed or level == 2 and re.match(r"  [A-Z0-9_, ]+: ", line):
-            was_listed = True
-            yield "- " + line.strip()
-        elif was_listed and level:
-            yield "  " + line.strip()
-        elif line.startswith("Errors: "):
-            yield from ("@par Errors", line[len("Errors: ") :])
-        else:
-            was_listed = line.startswith("* ") or was_listed and level > 0
-            yield "- " + line[2:] if line.startswith("* ") else line
-    if is_code:
-        yield "@endcode"
-
-
-def doxygen(text):
-    """The header with each comment in the form that Doxygen reads."""
-
-    def replaced(found):
-        indent, lines = found[1], found[2].split("\n")
-        lines = [lines[0], *(line[len(indent) + 3 :] for line in lines[1:])]
-        if "SPDX" in lines[0]:
-            return found[0]
-        lines = "\n".join(body_of(lines)).replace("\n\n@endcode\n", "\n@endcode\n\n").split("\n")
-        if lines[0].startswith("Pulleynavy: "):
-            lines = ["@file", "@brief " + lines[0], *lines[1:]]
-        if len(lines) == 1:
-            return "%s/** %s */\n" % (indent, lines[0])
-        return "%s/**\n" % indent + "".join((indent + " * " + line).rstrip() + "\n" for line in lines) + indent + " */\n"
-
-    return COMMENT.sub(replaced, text)
-
-
 def header():
     text, known, layouts, parts = "", {}, "", common.version().split(".")
     if "result ≡ %d " % sum(int(part) << shift for part, shift in zip(parts, (16, 8, 0))) not in source("version"):
@@ -360,7 +314,7 @@ def header():
     whole = TEMPLATE.replace("@DECLARATIONS@", text).replace("@LAYOUTS@", layouts).replace("@VERSION@", common.version())
     for name, number in zip(("MAJOR", "MINOR", "PATCH"), parts):
         whole = whole.replace("@%s@" % name, number)
-    return doxygen(whole)
+    return whole
 
 
 # ---- the bindings
@@ -395,6 +349,15 @@ def rust():
             calls += line
     head = "//! The declarations of the library, written by `tools/generate header` from its sources.\n"
     return head + structs + '\nunsafe extern "C" {\n' + calls + "}\n"
+
+
+def codes():
+    """The numbers of enumerations for Rust, a module for each."""
+    text = "//! The numbers of enumerations in the C library, written by `tools/generate header` from its sources.\n"
+    for _, tag, _, rows in enumerations(True):
+        text += "\npub(crate) mod %s {\n" % tag[len("pulleynavy_") :]
+        text += "".join("    pub(crate) const %s: u32 = %d;\n" % row for row in rows) + "}\n"
+    return text
 
 
 CTYPES = {"u8": "c_uint8", "u32": "c_uint32", "u64": "c_uint64", "i64": "c_int64", "usize": "c_size_t", "bool": "c_bool"}
@@ -496,7 +459,8 @@ def undocumented():
 
 # Each file that is written, by what writes it.
 BINDINGS = os.path.join(common.TOP, "bindings")
-TARGETS = {TARGET: header, os.path.join(BINDINGS, "rust", "src", "ffi.rs"): rust, os.path.join(BINDINGS, "python", "pulleynavy", "declared.py"): python}
+TARGETS = {TARGET: header, os.path.join(BINDINGS, "rust", "src", "ffi.rs"): rust, os.path.join(BINDINGS, "rust", "src", "codes.rs"): codes}
+TARGETS[os.path.join(BINDINGS, "python", "pulleynavy", "declared.py")] = python
 TARGETS.update({os.path.join(BINDINGS, "js", "declared.js"): javascript, os.path.join(BINDINGS, "js", "declared.d.ts"): typescript})
 
 

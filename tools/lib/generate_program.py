@@ -2,7 +2,6 @@
 
     tools/generate program            writes them
     tools/generate program --check    the status is 1 if one is not as it would be written
-    tools/generate program --show     prints the help texts
 """
 import os
 import re
@@ -279,35 +278,10 @@ def constants(source, texts):
 
 def made():
     """What each file is to be."""
-    with open(os.path.join(common.TOP, HELP), encoding="utf-8") as file:
-        source = file.read()
-    return {
-        HELP: constants(source, helps()),
-        MAN: manual(),
-        COMPLETIONS + "pulleynavy.bash": bash(),
-        COMPLETIONS + "_pulleynavy.zsh": zsh(),
-        COMPLETIONS + "pulleynavy.fish": fish(),
-    }
+    texts = {HELP: constants(common.read(HELP), helps()), MAN: manual(), COMPLETIONS + "pulleynavy.bash": bash()}
+    texts |= {COMPLETIONS + "_pulleynavy.zsh": zsh(), COMPLETIONS + "pulleynavy.fish": fish()}
+    return {os.path.join(common.TOP, name): text for name, text in texts.items()}
 
 
 def main():
-    parser = common.parser(__doc__)
-    parser.add_argument("--check", action="store_true")
-    parser.add_argument("--show", action="store_true")
-    given, wrong = parser.parse_args(), 0
-    if given.show:
-        print("\n\n".join(helps().values()))
-        return 0
-    for path, text in made().items():
-        place = os.path.join(common.TOP, path)
-        old = None
-        if os.path.exists(place):
-            with open(place, encoding="utf-8") as file:
-                old = file.read()
-        if old != text and given.check:
-            print("%s: not made of tools/lib/program.py: run tools/generate program" % path)
-            wrong += 1
-        elif old != text:
-            with open(place, "w", encoding="utf-8") as file:
-                file.write(text)
-    return 1 if wrong else 0
+    return common.generate(__doc__, made)

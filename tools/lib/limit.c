@@ -2,15 +2,16 @@
 /* The ruler of tools/bench: the shortest program that does the work of a parser for a well-formed file. It checks bounds and nothing else: no
    order, no count, no unused bit, no UTF-8. So nobody would ship it.
 
-       limit parse|items|indices < a.wasm
+       limit parse|items|indices|list < a.wasm    (a file, which it maps)
 
    It fills a struct for each event, by a call, or for each item of the sections that tools/bench makes, in place, and prints the way, how many there are and
-   the size of the file. */
+   the size of the file. With `list` it also prints a line for each event. */
 #include <stdbool.h>
 #include <stdint.h>
 #include <stdio.h>
-#include <stdlib.h>
 #include <string.h>
+#include <sys/mman.h>
+#include <sys/stat.h>
 
 #define APART __attribute__((noinline))
 
@@ -199,13 +200,48 @@ static APART uint64_t limit_items(const uint8_t *bytes, size_t size) {
     return count;
 }
 
+/* All pairs of digits. */
+static char pairs[200];
+
+/* Writes a number and a space. */
+static inline char *digits(char *out, uint64_t value) {
+    char some[20], *at = some + 20;
+    for (; value >= 10; value /= 100) memcpy(at -= 2, pairs + 2 * (value % 100), 2);
+    if (value || at == some + 20) *--at = (char)('0' + value);
+    memcpy(out, at, (size_t)(some + 20 - at));
+    out += some + 20 - at;
+    *out++ = ' ';
+    return out;
+}
+
+/* A line has the id of a section, its range and its count; for a body it has the range alone. */
+static APART uint64_t limit_list(const uint8_t *bytes, size_t size) {
+    static char page[1 << 16];
+    struct cursor c = {bytes + 8, bytes + size, bytes};
+    const uint8_t *code_end = bytes;
+    struct event event;
+    uint64_t count = 2;
+    char *at = page;
+    for (int i = 0; i < 100; i++) pairs[2 * i] = (char)('0' + i / 10), pairs[2 * i + 1] = (char)('0' + i % 10);
+    for (; next_event(&c, &code_end, &event); count++) {
+        if (event.id != 128) at = digits(at, event.id);
+        at = digits(digits(at, event.start), event.end);
+        if (event.id != 128) at = digits(at, event.count);
+        at[-1] = '\n';
+        if (at - page > (1 << 16) - 200) fwrite(page, 1, (size_t)(at - page), stdout), at = page;
+    }
+    fwrite(page, 1, (size_t)(at - page), stdout);
+    return count;
+}
+
 int main(int count, char **words) {
-    size_t room = 1 << 20, size = 0;
-    uint8_t *bytes = malloc(room);
-    while (bytes && (size += fread(bytes + size, 1, room - size, stdin)) == room) bytes = realloc(bytes, room *= 2);
-    if (!bytes || size < 8 || count != 2) return 2;
-    uint64_t found = strcmp(words[1], "parse") ? limit_items(bytes, size) : limit_parse(bytes, size);
+    struct stat file;
+    if (count != 2 || fstat(0, &file) || file.st_size < 8) return 2;
+    size_t size = (size_t)file.st_size;
+    const uint8_t *bytes = mmap(NULL, size, PROT_READ, MAP_PRIVATE, 0, 0);
+    if (bytes == MAP_FAILED) return 2;
+    uint64_t (*way)(const uint8_t *, size_t) = words[1][0] == 'p' ? limit_parse : words[1][0] == 'l' ? limit_list : limit_items;
+    uint64_t found = way(bytes, size);
     printf("%s %llu %zu\n", words[1], (unsigned long long)found, size);
-    free(bytes);
     return 0;
 }

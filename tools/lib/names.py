@@ -60,7 +60,7 @@ def all_names():
     return other_words().union(parameters, KNOWN_ELSEWHERE, common.crates(), *(one.names() | one.proofs | one.for_callers for one in crates))
 
 
-def lines_of(path):
+def prose(path):
     """The lines of a document that are no code, with their numbers."""
     is_code = False
     for number, line in enumerate(common.read(path).split("\n"), 1):
@@ -73,7 +73,7 @@ def lines_of(path):
 def rows_of(path, count):
     """The rows of a document's tables with `count` cells: the number of the line, the crates of the heading, and the cells."""
     heading, is_head = "", True
-    for number, line in lines_of(path):
+    for number, line in prose(path):
         if line.startswith("#"):
             heading = line
         cells = [cell.strip() for cell in line.strip("|").split(" | ")] if line.startswith("|") else []
@@ -159,7 +159,7 @@ def wrong_places(line):
 
 def wrong_lines(path):
     """What a document says in code type that the sources don't have."""
-    for number, line in lines_of(path):
+    for number, line in prose(path):
         for quoted in QUOTED.findall(line):
             for name in parts_missing(quoted):
                 yield number, "no %s in the sources" % name

@@ -242,10 +242,8 @@ def tarball(machine, folder, place):
     place = os.path.join(place, machine)
     run([source("install"), "--prebuilt", "/"], DESTDIR=place, MACHINE=machine, CC=needed(MACHINES[machine]["compiler"]))
     shutil.rmtree(os.path.join(place, "share", "pulleynavy"))
-    with open(os.path.join(place, "lib", "pkgconfig", "pulleynavy.pc"), "r+", encoding="utf-8") as file:
-        text = file.read()
-        file.seek(0)
-        file.write(re.sub("^prefix=.*", "prefix=${pcfiledir}/../..", text, flags=re.M))
+    path = os.path.join(place, "lib", "pkgconfig", "pulleynavy.pc")
+    common.write(path, re.sub("^prefix=.*", "prefix=${pcfiledir}/../..", common.read(path), flags=re.M))
     copy_all((*LICENSES, "README.md", "CHANGELOG.md"), os.path.join(place, "share", "doc", "pulleynavy"))
     paths = sorted(os.path.join(at, name) for at, _, names in os.walk(place) for name in names)
     named = [("%s/%s" % (top, os.path.relpath(path, place)), path) for path in paths]
@@ -358,20 +356,18 @@ def bill_of_materials():
 
     `reuse spdx` of Debian is not used: it lists the sources, not the release and its toolchain, and has the time and a random name in it.
     """
-    made = common.made_from()
-    files = []
+    made, files = common.made_from(), []
     for number, name in enumerate(sorted(os.listdir(common.PREBUILT))):
-        sums = [{"algorithm": "SHA256", "checksumValue": hashlib.sha256(common.read_bytes(prebuilt(name))).hexdigest()}]
-        sums += [{"algorithm": "SHA1", "checksumValue": hashlib.sha1(common.read_bytes(prebuilt(name))).hexdigest()}]
+        data = common.read_bytes(prebuilt(name))
+        sums = [{"algorithm": kind.upper(), "checksumValue": hashlib.new(kind, data).hexdigest()} for kind in ("sha256", "sha1")]
         files.append({"SPDXID": "SPDXRef-File-%d" % number, "fileName": "./prebuilt/" + name, "checksums": sums})
     package = {"SPDXID": "SPDXRef-Package", "name": "pulleynavy", "versionInfo": common.version(), "downloadLocation": "NOASSERTION"}
     package |= {"licenseDeclared": "Apache-2.0 OR MIT", "licenseConcluded": "Apache-2.0 OR MIT", "filesAnalyzed": False}
     package |= {"copyrightText": "NOASSERTION", "comment": "made from sources with the checksum %s by %s" % (made["sources"], made["toolchain"])}
-    created = subprocess.run(["date", "-u", "-d", "@%d" % epoch(), "+%Y-%m-%dT%H:%M:%SZ"], stdout=subprocess.PIPE, check=True).stdout.decode().strip()
+    created = time.strftime("%Y-%m-%dT%H:%M:%SZ", time.gmtime(epoch()))
     document = {"spdxVersion": "SPDX-2.3", "dataLicense": "CC0-1.0", "SPDXID": "SPDXRef-DOCUMENT", "name": "pulleynavy-" + common.version()}
     document |= {"documentNamespace": "https://spdx.org/spdxdocs/pulleynavy-%s-%s" % (common.version(), made["sources"][:32])}
     document |= {"creationInfo": {"created": created, "creators": ["Organization: Pulleynavy"]}, "packages": [package], "files": files}
-    document |= {"relationships": [{"spdxElementId": "SPDXRef-DOCUMENT", "relationshipType": "DESCRIBES", "relatedSpdxElement": "SPDXRef-Package"}]}
-    contains = [{"spdxElementId": "SPDXRef-Package", "relationshipType": "CONTAINS", "relatedSpdxElement": one["SPDXID"]} for one in files]
-    document["relationships"] += contains
+    related = [("SPDXRef-DOCUMENT", "DESCRIBES", "SPDXRef-Package"), *(("SPDXRef-Package", "CONTAINS", one["SPDXID"]) for one in files)]
+    document["relationships"] = [{"spdxElementId": one, "relationshipType": how, "relatedSpdxElement": other} for one, how, other in related]
     return json.dumps(document, indent=1, sort_keys=True).encode() + b"\n"

@@ -41,24 +41,24 @@ def expected_events(model, stream, offset):
         place += used
 
 
-def expected_steps(model, pieces, offset):
-    state, place, given, stored, eof, out, lasts = model.State(offset, True), 0, b"", 0, False, [], 0
+def steps(model, pieces, offset):
+    """Each step of a feeder: its request or the line of what it reads, how many bytes it consumes, how many are then held, and how many stored."""
+    state, place, given, stored, eof, lasts = model.State(offset, True), 0, b"", 0, False, 0
     later = iter(pieces)
     while lasts < 2:
         request = None if eof else model.short(state, given, place)
         used = 0
         if request is not None:
-            text = "need %d" % request[0]
+            line = "need %d" % request[0]
         else:
             try:
                 line, used, state = model.next_event(state, given, place)
-                text = "part %d" % used
                 lasts += line.startswith("end")
             except model.Fault as fault:
-                text = fault.line()
+                line = fault.line()
                 lasts += 1
         place += used
-        out.append("%s %d %d" % (text, len(given) - place, stored))
+        yield line, used, len(given) - place, stored
         if request is not None:
             piece = next(later, None)
             if piece is None:
@@ -66,7 +66,11 @@ def expected_steps(model, pieces, offset):
             else:
                 given += piece
                 stored = len(given) - place
-    return out
+
+
+def expected_steps(model, pieces, offset):
+    found = steps(model, pieces, offset)
+    return ["%s %d %d" % (line if line.startswith(("need", "fault")) else "part %d" % used, held, stored) for line, used, held, stored in found]
 
 
 def pieces_in(data):

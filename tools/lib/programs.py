@@ -1,9 +1,10 @@
 """The programs of this repository: the one place that says how each is called, where it is once it is built, and how it is run."""
+import functools
 import os
 import shutil
 import subprocess
 import sys
-import time
+import tempfile
 
 import common
 
@@ -29,6 +30,7 @@ def is_older(crate):
     return any(os.path.getmtime(path) > built_at for name in common.crates_of(crate) for path in common.files_of(name))
 
 
+@functools.lru_cache(maxsize=None)
 def built(crate):
     """The path of a built program; if it isn't built, that of the release if there is no toolchain to build it. Else the tool stops."""
     path, kept = path_of(crate), os.path.join(common.PREBUILT, crate)
@@ -79,20 +81,7 @@ def status(lines):
 
 
 def peak_memory(words, path):
-    """The most memory that the process held, in KiB, once it was given all of the input and before it saw its end."""
-    with open(path, "rb") as data:
-        process = subprocess.Popen(words, stdin=subprocess.PIPE, stdout=subprocess.DEVNULL)
-        try:
-            shutil.copyfileobj(data, process.stdin, 1 << 16)
-            process.stdin.flush()
-        except BrokenPipeError:
-            pass
-        time.sleep(0.1)
-        with open("/proc/%d/status" % process.pid) as lines:
-            peak = [int(line.split()[1]) for line in lines if line.startswith("VmHWM")]
-        try:
-            process.stdin.close()
-        except BrokenPipeError:
-            pass
-        process.wait()
-    return peak[0] if peak else None
+    """The most memory that a command held, in KiB, by GNU time. The file is its input."""
+    with tempfile.NamedTemporaryFile("r") as said, open(path, "rb") as data:
+        subprocess.run(["time", "-q", "-f", "%M", "-o", said.name, *words], stdin=data, stdout=subprocess.DEVNULL, stderr=subprocess.DEVNULL)
+        return int(said.read())

@@ -87,12 +87,7 @@ def write(folder, found, copied):
 
 
 def main():
-    line = common.parser(__doc__, usage="%(prog)s OUT | --check")
-    line.add_argument("out", nargs="?", metavar="OUT", help="the folder, which is made if it isn't there")
-    line.add_argument("--check", action="store_true", help="check the pages; the status is 1 if there is a fault")
-    given = line.parse_args()
-    if bool(given.out) == given.check:
-        line.error("it takes a folder or --check")
+    given = common.out_or_check(__doc__)
     found, copied, site = files()
     if not given.check:
         write(given.out, found, copied)

@@ -5,7 +5,7 @@
    STREAMS is a file of streams, each after its size in 4 bytes. A round takes one of them, often with changed bytes, and lets parsers,
    feeders, cursors and readers over it take turns. Each call gets its bytes in a block of the heap that has no byte more. The program
    prints how many calls it made, and fails if a call of the header was never made. Only tools/try c runs it. */
-#include <pulleynavy.h>
+#include "events.h"
 #include <stdio.h>
 #include <stdlib.h>
 #include <string.h>
@@ -81,15 +81,6 @@ static bool is_same(const struct field *fields, const void *one, const void *oth
     for (; fields->size; fields++)
         if (memcmp((const char *)one + fields->at, (const char *)other + fields->at, fields->size)) return false;
     return true;
-}
-
-/* The fields of an event, without its position in the bytes of a call. */
-static bool is_event(const pulleynavy_event *one, const pulleynavy_event *other) {
-    return one->kind == other->kind && one->id == other->id && one->count == other->count && one->size == other->size &&
-           one->start == other->start && one->end == other->end && one->consumed == other->consumed &&
-           one->data_offset == other->data_offset && one->name_size == other->name_size && one->fault.kind == other->fault.kind &&
-           one->fault.offset == other->fault.offset && one->fault.number == other->fault.number &&
-           one->fault.has_number == other->fault.has_number;
 }
 
 /* ---- the round: a stream, and its events in plain order */

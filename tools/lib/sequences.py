@@ -3,11 +3,9 @@ import os
 import re
 
 import common
+import generate_header as header
 
-HEADER = os.path.join(common.TOP, "crates", "wasm_c", "include", "pulleynavy.h")
 SOURCE = os.path.join(common.LIB, "sequences.c")
-CALL = re.compile(r"^(\w[^\n(/#]*?)\b(pulleynavy_\w+)\(\s*([^;{]*)\);", re.M)
-STRUCT = re.compile(r"^typedef struct (\w+) \{\n(.*?)\n\} \1;", re.M | re.S)
 READS = ["const uint8_t *bytes", "size_t bytes_size", "uint64_t offset", "uint32_t features"]
 WALKS = ["const uint8_t *bytes", "size_t bytes_size"]
 # The calls of both kinds with an argument more, and what is passed for it.
@@ -16,14 +14,17 @@ READER = common.read("tools", "lib", "templates", "reader.c")
 WALKER = common.read("tools", "lib", "templates", "walker.c")
 
 
-def calls(text):
+def calls():
     """The result, the name and the arguments of each call of the header."""
-    return [(result.strip(), name, [" ".join(one.split()) for one in arguments.split(",")]) for result, name, arguments in CALL.findall(text)]
+    for of in header.SOURCES:
+        for name, _, arguments, result in header.calls_of(header.source(of)):
+            yield header.type_of(result) if result else "void", name, [part for one in arguments for part in header.argument(*one).split(", ")]
 
 
-def structs(text):
+def structs():
     """The types and the names of the fields of each struct."""
-    return {name: re.findall(r"^    (\w+) (\w+);$", body, re.M) for name, body in STRUCT.findall(text)}
+    found = (one for of in header.SOURCES for one in header.structs_of(header.source(of)))
+    return {header.tag(one.name): [(header.type_of(kind), field) for field, kind, _ in one.fields] for one in found}
 
 
 def leaves(known, of, before=""):
@@ -48,15 +49,15 @@ def kind_of(result, arguments):
 def uncalled():
     """The calls of the header that the program does not make: those of neither table have to be in it by their names."""
     program = common.read(SOURCE)
-    for result, name, arguments in calls(common.read(HEADER)):
+    for result, name, arguments in calls():
         if not kind_of(result, arguments)[0] and not re.search(r"\bCALL0?\(%s\b" % name, program):
             yield name
 
 
-def tables(text):
+def tables():
     """The text of the tables."""
-    known, out, rows, used = structs(text), [], {"READERS": [], "WALKERS": []}, set()
-    for result, name, arguments in calls(text):
+    known, out, rows, used = structs(), [], {"READERS": [], "WALKERS": []}, set()
+    for result, name, arguments in calls():
         kind, stored = kind_of(result, arguments)
         if kind:
             before, after = MORE.get(name, ("", ""))
@@ -72,8 +73,12 @@ def tables(text):
     return "/* Written by tools/lib/sequences.py. */\n" + "\n".join(out)
 
 
+def with_sizes(path, streams):
+    """Writes streams into a file, each after its size, as the program reads them. Returns the path."""
+    return common.write(path, b"".join(len(stream).to_bytes(4, "little") + stream for stream in streams))
+
+
 def written(folder):
     """Writes the tables into a folder, for `tables.h` of the program."""
     path = os.path.join(folder, "tables.h")
-    common.write(path, tables(common.read(HEADER)))
-    return path
+    return common.write(path, tables())

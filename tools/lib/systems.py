@@ -22,8 +22,7 @@ def run(words, folder, more=None, **options):
 def one(pattern):
     """The one file of this pattern."""
     found = sorted(glob.glob(pattern))
-    if len(found) != 1:
-        raise common.Failed("there are %d files %s" % (len(found), pattern))
+    common.require(len(found) == 1, "there are %d files %s" % (len(found), pattern))
     return found[0]
 
 

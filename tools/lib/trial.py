@@ -24,8 +24,7 @@ def crates_of_tests():
     for crate in common.crates():
         for path in common.files_of(crate):
             if path.endswith(".rt"):
-                with open(path, encoding="utf-8") as file:
-                    found[crate] = found.get(crate, 0) + len(re.findall(r"^\s*#\[test\]$", file.read(), re.M))
+                found[crate] = found.get(crate, 0) + len(re.findall(r"^\s*#\[test\]$", common.read(path), re.M))
     return {crate: count for crate, count in found.items() if count}
 
 
@@ -36,11 +35,7 @@ def number_of_tests():
 
 def used(paths):
     """The crates that these files name."""
-    found = set()
-    for path in paths:
-        with open(path, encoding="utf-8") as file:
-            found.update(re.findall(r"\b(wasm_\w+)::", file.read()))
-    return found
+    return {name for path in paths for name in re.findall(r"\b(wasm_\w+)::", common.read(path))}
 
 
 def with_libraries(crates):
@@ -67,10 +62,8 @@ def copied(folder, crates):
 
 def listed(folder, crate, wanted):
     """Writes crates.txt: the copied crates, and the crate that is tried, which uses all of them."""
-    with open(os.path.join(folder, "crates.txt"), "w", encoding="utf-8") as file:
-        for name in wanted:
-            file.write("%s: %s\n" % (name, " ".join(common.crates()[name])))
-        file.write("%s: %s\n" % (crate, " ".join(wanted + of_toolchain(wanted))))
+    libraries = {**{name: common.crates()[name] for name in wanted}, crate: wanted + of_toolchain(wanted)}
+    common.write(os.path.join(folder, "crates.txt"), "".join("%s: %s\n" % (name, " ".join(of)) for name, of in libraries.items()))
 
 
 def tried(place):

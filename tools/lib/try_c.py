@@ -9,6 +9,7 @@ Random calls of all functions, in any order that the header allows, return for a
 The package for Python also reads 20,000 streams with changed bytes, and must not make memory grow.
 The examples of the header run too, and Doxygen reads it without a warning. What a machine lacks (a compiler, valgrind, cargo) is said in one line, and the rest is done.
 """
+import contextlib
 import json
 import os
 import random
@@ -77,9 +78,7 @@ def compilers():
 
 def kinds_of_flags(folder, c):
     """The flags with which this machine's compiler makes programs that run: a machine may lack the sanitizers, or forbid them."""
-    source, probe = os.path.join(folder, "probe.c"), os.path.join(folder, "probe")
-    with open(source, "w") as file:
-        file.write("int main(void) { return 0; }\n")
+    source, probe = common.write(os.path.join(folder, "probe.c"), "int main(void) { return 0; }\n"), os.path.join(folder, "probe")
     for flags in (["-O2"], CHECKED):
         if run([c, *flags, source, "-o", probe]).returncode or run([probe]).returncode:
             common.skip("missing: %s %s" % (c, " ".join(flags)))
@@ -110,10 +109,10 @@ def without_ranges(lines):
     return [re.sub(r"^(  \d+ element\(.*) \d+\.\.\d+ (#\d+\[)", r"\1 \2", line) for line in lines]
 
 
-def modelled(stream):
+def modelled(stream, features=3):
     """The lines of the models, where a body that passes its section is refused as soon as its size has been read."""
     reading, listing = common.load(common.MODEL).reading, common.load(common.MODEL_OF_ITEMS).listing
-    return listing(stream)[:-1] + reading(stream, 0, True)[-1:]
+    return listing(stream, features)[:-1] + reading(stream, 0, True)[-1:]
 
 
 def drawn(seed, count):
@@ -163,102 +162,64 @@ def in_parallel(differing, rows):
         return [text for text in pool.map(differing, rows) if text]
 
 
-def stripped(built, streams):
-    """Each stream stripped, as the model has it, or nothing if it has a fault."""
-    strip = common.load(common.MODEL).strip
+def each(paths, streams, wanted_of, more=lambda number: []):
+    """How what an example writes of each stream, and its status, differs from what is wanted. Its builds take turns."""
 
     def differing(row):
         number, (stream, lines) = row
-        status = programs.status([line for line in lines if not line.startswith("  ")])
-        wanted = (b"" if status else strip(stream), status)
-        path = built["strip"][number % len(built["strip"])]
-        done = subprocess.run([path], input=stream, stdout=subprocess.PIPE, timeout=600)
-        if (done.stdout, done.returncode) == wanted:
+        words, (text, status) = [paths[number % len(paths)], *more(number)], wanted_of(stream, lines)
+        done = subprocess.run(words, input=stream, stdout=subprocess.PIPE, timeout=600)
+        if done.stdout == text and done.returncode == status:
             return None
-        return "%s on %s\n  program %r\n  model   %r" % (path, stream.hex()[:400], (done.stdout, done.returncode), wanted)
+        return "%s on %s\n  program %r\n  wanted  %r" % (" ".join(words), stream.hex()[:400], (done.stdout, done.returncode), (text, status))
 
     return in_parallel(differing, enumerate(streams))
 
 
-def number_at(data, at):
-    """A u32 in LEB128 and where it ends."""
-    value = shift = 0
-    while shift < 35 and at < len(data):
-        value |= (data[at] & 0x7F) << shift
-        at, shift = at + 1, shift + 7
-        if data[at - 1] < 0x80:
-            return (value, at) if value < 1 << 32 else None
-    return None
+def status_of(lines):
+    return programs.status([line for line in lines if not line.startswith("  ")])
 
 
-def text_at(data, at):
-    """A name, and where it ends."""
-    size = number_at(data, at)
-    if not size or size[0] > 100_000 or sum(size) > len(data):
-        return None
-    text = data[size[1] : sum(size)]
-    return (text, sum(size)) if text.decode(errors="replace").encode() == text else None
-
-
-def entries(data):
-    """The index and the name of each entry of a name map, up to the first that is malformed or out of order."""
-    count = number_at(data, 0)
-    at, last = (count[1], -1) if count else (0, -1)
-    for _ in range(count[0] if count else 0):
-        index = number_at(data, at)
-        name = index and text_at(data, index[1])
-        if not name or index[0] <= last:
-            return
-        at, last = name[1], index[0]
-        yield b"%d %s\n" % (index[0], name[0])
+def stripped(built, streams):
+    """Each stream stripped, as the model has it, or nothing if it has a fault."""
+    strip = common.load(common.MODEL).strip
+    return each(built["strip"], streams, lambda stream, lines: (b"", 1) if status_of(lines) else (strip(stream), 0))
 
 
 def named_in(data):
-    """The functions that a section of names names, up to the first subsection that is malformed or out of order."""
-    at, last = 0, -1
-    while at < len(data) and last < data[at] < 0x80:
-        size = number_at(data, at + 1)
-        if not size or sum(size) > len(data):
-            return
-        if data[at] == 1:
-            yield from entries(data[size[1] : sum(size)])
-        at, last = sum(size), data[at]
+    """The functions that a section of names names, up to the first subsection or name that is malformed or out of order."""
+    model = common.load(common.MODEL_OF_ITEMS)
+    rest, last = model.R(data), -1
+    with contextlib.suppress(model.Bad):
+        while rest.left() and rest.peek() > last:
+            last, size = rest.u7(), rest.u32()
+            part, before = rest.window(rest.p, rest.p + len(rest.raw(size))), -1
+            for _ in range(part.u32() if last == 1 else 0):
+                index, name = part.u32(), part.string(True)
+                if index <= before:
+                    return
+                before = index
+                yield b"%d %s\n" % (index, name)
 
 
 def names(built, streams):
     """The names of functions, as `names.c` and as a few lines of Python have them."""
 
-    def differing(row):
-        number, (stream, lines) = row
-        wanted = b""
-        for line in lines:
-            if line.startswith("custom "):
-                start, end, data = map(int, line.split()[1:])
-                if stream[data - 4 : data] == b"name" and number_at(stream, start) == (4, data - 4):
-                    wanted += b"".join(named_in(stream[data:end]))
-        path = built["names"][number % len(built["names"])]
-        done = subprocess.run([path], input=stream, stdout=subprocess.PIPE, timeout=600)
-        if done.stdout == wanted:
-            return None
-        return "%s on %s\n  program %r\n  model   %r" % (path, stream.hex()[:400], done.stdout, wanted)
+    def wanted_of(stream, lines):
+        sections = [line.split() for line, under in zip(lines, lines[1:]) if line.startswith("custom ") and under.startswith("  x6e616d65 ")]
+        return b"".join(name for _, _, end, data in sections for name in named_in(stream[int(data) : int(end)])), status_of(lines)
 
-    return in_parallel(differing, enumerate(streams))
+    return each(built["names"], streams, wanted_of)
 
 
 def imports(built, streams):
     """The imports one by one, as `imports.c` has them, and as the model has them among all items."""
 
-    def differing(row):
-        number, (stream, lines) = row
+    def wanted_of(_, lines):
         rows = [re.match(r"  \d+ import\((x\w*) (x\w*) (\w+)", line) for line in lines]
-        wanted = ["%s %s %s" % row.groups() for row in rows if row]
-        path, batch = built["imports"][number % len(built["imports"])], BATCHES[number % len(BATCHES)]
-        found = programs.lines_in(run([path, str(batch)], stream, timeout=600).stdout)
-        if found == wanted:
-            return None
-        return "%s %d on %s\n  program %s\n  model   %s" % (path, batch, stream.hex()[:400], found, wanted)
+        return "".join("%s %s %s\n" % row.groups() for row in rows if row).encode(), status_of(lines)
 
-    return in_parallel(differing, enumerate(streams))
+    return each(built["imports"], streams, wanted_of, lambda number: [str(BATCHES[number % len(BATCHES)])])
 
 
 def patterns(built, streams):
@@ -280,8 +241,7 @@ def documented():
             for lines in blocks:
                 names.append("%s_%d" % (os.path.basename(path)[:-3], len(names)))
                 text += "\nstatic void %s(void) {\n%s}\n" % (names[-1], re.sub(r"^ */// ?", "    ", lines, flags=re.M))
-    if not names:
-        raise common.Failed("the sources have no examples for C")
+    common.require(names, "the sources have no examples for C")
     return text + "\nint main(void) {\n%s    return 0;\n}\n" % "".join("    %s();\n" % name for name in names)
 
 
@@ -298,9 +258,7 @@ def header_examples(folder, made):
 def sequences(folder, made, streams, seed):
     """Random calls in any order, with the sanitizers: each build has its share of a minute. Returns what they say."""
     tables.written(folder)
-    path = os.path.join(folder, "sequences.streams")
-    with open(path, "wb") as file:
-        file.writelines(len(stream).to_bytes(4, "little") + stream for stream, _ in streams)
+    path = tables.with_sizes(os.path.join(folder, "sequences.streams"), [stream for stream, _ in streams])
     builds = [(c, archive, kind) for c, _ in compilers() if CHECKED in kinds_of_flags(folder, c) for kind, archive in made.items()]
     words = [str(seed), str(SECONDS // max(1, len(builds))), path]
     for c, archive, kind in builds:
@@ -332,7 +290,6 @@ def header_alone(folder):
     """Compiles the header by each standard without a warning. Where there are assertions, one of a wrong layout is refused."""
     wrong = re.sub(r"sizeof\(pulleynavy_event\) == 96\b", "sizeof(pulleynavy_event) == 97", common.read(os.path.join(CRATE, "include", "pulleynavy.h")))
     for name, text in (("caller.c", CALLER), ("caller.cpp", CALLER), ("wrong/pulleynavy.h", wrong)):
-        os.makedirs(os.path.dirname(os.path.join(folder, name)), exist_ok=True)
         common.write(os.path.join(folder, name), text)
     for pair in compilers():
         for compiler, (kind, standards) in zip(pair, STANDARDS.items()):
@@ -358,8 +315,9 @@ def with_doxygen(folder):
 CLIPPY = ["--", "-D", "warnings", "-D", "clippy::must_use_candidate"]
 
 
-def with_cargo(folder, archive):
-    """The tests and the examples of the crate for Rust, with its features and without, and programs that call it wasmparser, with warnings as errors."""
+def with_cargo(folder, archive, is_first):
+    """The tests and the examples of the crate for Rust, with its features and without, and programs that call it wasmparser, with warnings as errors.
+    Lints don't depend on the archive."""
     if not cargo.found():
         return
     place = os.path.join(folder, "archive")
@@ -372,7 +330,7 @@ def with_cargo(folder, archive):
     shutil.copytree(os.path.join(common.TOP, "bindings", "rust"), crate, ignore=shutil.ignore_patterns("Cargo.lock", "target"))
     settings["PULLEYNAVY_GOLDEN"] = common.GOLDEN
     with_serde = os.path.join(crate, "examples", "json")
-    clippy = shutil.which("cargo-clippy") or common.skip("missing: clippy")
+    clippy = is_first and (shutil.which("cargo-clippy") or common.skip("missing: clippy"))
     for place in (crate, with_serde) if cargo.with_debian(with_serde) else (crate,):
         for features in ([], ["--no-default-features"]):
             common.must(["cargo", "test", "--offline", "--quiet", *features], folder=place, env=settings)
@@ -381,8 +339,8 @@ def with_cargo(folder, archive):
     common.must(["cargo", "build", "--offline", "--quiet"], folder=os.path.join(crate, "examples", "programs"), env=settings)
 
 
-def with_python(folder, archive, streams, changed):
-    """The module for Python over a shared library, which is made of the archive. `changed` are streams that only it reads."""
+def with_python(folder, archive, streams, changed, is_first):
+    """The module for Python over a shared library, which is made of the archive. `changed` are streams that only it reads. Types don't depend on it."""
     if not common.found("cc"):
         return
     library = os.path.join(folder, "libpulleynavy.so")
@@ -392,7 +350,7 @@ def with_python(folder, archive, streams, changed):
     os.environ["PULLEYNAVY_STREAMS"] = os.path.join(folder, "streams.jsonl")
     common.write(os.environ["PULLEYNAVY_STREAMS"], "".join(json.dumps({"hex": stream.hex(), "lines": lines}) + "\n" for stream, lines in streams + changed))
     common.must([sys.executable, "-B", "-m", "unittest", "discover", "-q", "-s", "tests", "-t", "."], folder=package)
-    if common.found("mypy"):
+    if is_first and common.found("mypy"):
         common.must(["mypy", "--strict", "--cache-dir", os.path.join(folder, "mypy"), "pulleynavy", "tests"], folder=package)
 
 
@@ -401,23 +359,19 @@ def main():
     given = common.arguments(__doc__, [("seed", 1), ("count", 300)], show=5, more=more)
     streams = common.golden() + drawn(given.seed, given.count)
     with tempfile.TemporaryDirectory() as folder:
-        try:
-            made = {"given%d" % number: path for number, path in enumerate(given.archive)} if given.archive else archives(folder)
-            built = built_examples(folder, made)
-            if not built:
-                return 0
-            header_alone(folder)
-            header_examples(folder, made)
-            with_doxygen(folder)
-            patterns(built, streams)
-            sequences(folder, made, streams, given.seed)
-            differ = [text for test in (compared, stripped, names, imports, under_valgrind) for text in test(built, streams)]
-            changed = [(stream, modelled(stream)) for stream in mutants(random.Random(given.seed), [stream for stream, _ in common.golden()], MUTANTS)]
-            for number, archive in enumerate(made.values()):
-                with_cargo(folder, archive)
-                with_python(folder, archive, streams, changed[number :: len(made)])
-        except common.Failed as failed:
-            print("FAILED", failed)
-            return common.DIFFERS
+        made = {"given%d" % number: path for number, path in enumerate(given.archive)} if given.archive else archives(folder)
+        built = built_examples(folder, made)
+        if not built:
+            return 0
+        header_alone(folder)
+        header_examples(folder, made)
+        with_doxygen(folder)
+        patterns(built, streams)
+        sequences(folder, made, streams, given.seed)
+        differ = [text for test in (compared, stripped, names, imports, under_valgrind) for text in test(built, streams)]
+        changed = [(stream, modelled(stream)) for stream in mutants(random.Random(given.seed), [stream for stream, _ in common.golden()], MUTANTS)]
+        for number, archive in enumerate(made.values()):
+            with_cargo(folder, archive, number == 0)
+            with_python(folder, archive, streams, changed[number :: len(made)], number == 0)
     count = sum(len(paths) for paths in built.values())
     return common.tell(differ, given.show, "%d programs, %d streams, %d differ (seed %d)" % (count, len(streams), len(differ), given.seed))

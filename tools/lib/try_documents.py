@@ -15,6 +15,7 @@ import tempfile
 
 import cargo
 import common
+import trial
 
 PAGE = os.path.join(common.TOP, "docs", "CALLING.md")
 # How the line of a section of relocations begins.
@@ -57,7 +58,6 @@ def with_c(folder, number, code, archive, compiler="cc", more=(), ending="c"):
 def with_rust(folder, codes, archive):
     """The programs in Rust, which are built together."""
     place = os.path.join(folder, "programs")
-    os.makedirs(os.path.join(place, "src", "bin"), exist_ok=True)
     common.write(os.path.join(place, "Cargo.toml"), MANIFEST % os.path.join(common.TOP, "bindings", "rust"))
     for number, code in codes.items():
         common.write(os.path.join(place, "src", "bin", "r%d.rs" % number), code)
@@ -71,15 +71,10 @@ def with_rust(folder, codes, archive):
 
 def with_rattle(folder, code, streams):
     """What a program in Rattle writes of each stream, and whether it ends with status 0."""
-    wanted, place, cases = common.crates_of("wasm_parser"), os.path.join(folder, "rattle"), os.path.join(folder, "cases")
-    for name in wanted:
-        shutil.copytree(os.path.join(common.TOP, "crates", name), os.path.join(place, "crates", name), ignore=shutil.ignore_patterns("out"))
-    shutil.copy(os.path.join(common.TOP, "HANDLES"), place)
-    libraries = {**{name: common.crates()[name] for name in wanted}, "program": wanted + ["bitflags"]}
-    common.write(os.path.join(place, "crates.txt"), "".join("%s: %s\n" % (name, " ".join(of)) for name, of in libraries.items()))
-    os.makedirs(os.path.join(place, "crates", "program", "src"))
+    place, cases = os.path.join(folder, "rattle"), os.path.join(folder, "cases")
+    os.mkdir(place)
+    trial.listed(place, "program", trial.copied(place, ["wasm_parser"]))
     common.write(os.path.join(place, "crates", "program", "src", "main.rt"), code)
-    os.mkdir(cases)
     for number, stream in enumerate(streams):
         common.write(os.path.join(cases, str(number)), stream)
     words = ["rt", "try", "--cases", cases]

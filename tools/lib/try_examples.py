@@ -2,7 +2,6 @@
 
     tools/try examples                       those of all libraries
     tools/try examples wasm_base wasm_feed   those of these crates
-    tools/try examples --keep FOLDER         leaves the crate of tests in this folder, which has to be new
 
 An example is a block that begins with ```rattle in a doc comment of crates/*/src. It is the body of a test: `rt` is the runtime, `alloc` its
 allocator, and `?` takes any error. The public names of its crate and of the libraries of that are imported; another crate's are if it says so
@@ -67,8 +66,7 @@ def exported(crate):
     names.update({name: crate for name in re.findall(r"^pub (?:fn|struct|enum|trait|const|type|mod) (\w+)", text, re.M)})
     for path in common.files_of(crate):
         if path.endswith(".rt"):
-            with open(path, encoding="utf-8") as file:
-                traits.update(re.findall(r"^pub trait (\w+)", file.read(), re.M))
+            traits.update(re.findall(r"^pub trait (\w+)", common.read(path), re.M))
     return names, traits
 
 
@@ -124,12 +122,8 @@ def in_sources(output, places):
 
 def main():
     line = common.parser(__doc__)
-    line.add_argument("crates", nargs="*", metavar="CRATE", help="crates, instead of all that have examples")
-    line.add_argument("--keep", metavar="FOLDER", help="leave the crate of tests here")
+    line.add_argument("crates", nargs="*", metavar="CRATE", type=common.one_of("crate", common.crates()), help="crates, instead of all that have examples")
     given = line.parse_args()
-    for name in given.crates:
-        if name not in common.crates():
-            line.error("there is no crate %s" % name)
     if not shutil.which("rt"):
         common.stop(common.NO_PROGRAM, "rt is not on the path")
     crates = [name for name in common.crates() if name in (given.crates or common.crates()) and list(examples(name))]
@@ -137,8 +131,8 @@ def main():
         print("no examples")
         return 0
     with tempfile.TemporaryDirectory() as top:
-        folder = given.keep or os.path.join(top, "copy")
-        os.makedirs(folder)
+        folder = os.path.join(top, "copy")
+        os.mkdir(folder)
         places = written(folder, crates)
         status, output = trial.tried(os.path.join(folder, "crates", CRATE))
     if status:

@@ -37,9 +37,7 @@ def write_streams(path, seed, count, mutant_count=0):
     """Writes the golden streams and random ones, with the lines of the models. Returns how many there are."""
     changed = mutants(random.Random(seed), [stream for stream, _ in common.golden()], mutant_count)
     rows = common.golden() + try_c.drawn(seed, count) + [(stream, try_c.modelled(stream)) for stream in changed]
-    with open(path, "w", encoding="ascii") as file:
-        for stream, lines in rows:
-            file.write(json.dumps({"hex": stream.hex(), "lines": lines, "stripped": stripped(stream, lines)}) + "\n")
+    common.write(path, "".join(json.dumps({"hex": stream.hex(), "lines": lines, "stripped": stripped(stream, lines)}) + "\n" for stream, lines in rows))
     return len(rows)
 
 
@@ -91,16 +89,14 @@ def bundled(node, place, folder):
         common.write(os.path.join(project, "use.js"), BUNDLED % entry)
         path = os.path.join(alone, "use.mjs")
         common.must(["esbuild", "use.js", "--bundle", "--format=esm", "--platform=" + platform, "--log-limit=0", "--outfile=" + path], folder=project)
-        with open(path, encoding="utf-8") as file:
-            if platform == "browser" and "node:" in file.read():
-                raise common.Failed("a bundle of %s for browsers imports modules of Node" % entry)
+        if platform == "browser" and "node:" in common.read(path):
+            raise common.Failed("a bundle of %s for browsers imports modules of Node" % entry)
         if needs_module:
             shutil.copy(os.path.join(place, "pulleynavy.wasm"), alone)
         # Node's fetch reads no files, so a bundle for browsers gets the bytes.
         bytes_of = 'import { readFileSync } from "node:fs"; globalThis.source = readFileSync("pulleynavy.wasm"); await import("./use.mjs");'
         words = ["--input-type=module", "-e", bytes_of] if needs_module and platform == "browser" else ["use.mjs"]
-        if common.must([node, *words], folder=alone) != "UNEXPECTED_EOF\n":
-            raise common.Failed("a bundle of %s for %s finds no fault" % (entry, platform))
+        common.require(common.must([node, *words], folder=alone) == "UNEXPECTED_EOF\n", "a bundle of %s for %s finds no fault" % (entry, platform))
     return len(BUNDLES)
 
 
@@ -113,13 +109,11 @@ def packed(npm, node, place, folder):
     common.must([npm, "install", "--offline", "--no-audit", "--no-fund", "--loglevel=error", archive], folder=empty)
     common.write(os.path.join(empty, "a.wasm"), b"\0asm\1\0\0\0\3\2\1\0\x0a\4\1\2\0\x0b")
     said = common.must([os.path.join("node_modules", ".bin", "pulleynavy"), "a.wasm"], folder=empty).split()
-    if said != ["2", "0xa", "function", "(1)", "4", "0xe", "code", "(1)"]:
-        raise common.Failed("pulleynavy a.wasm: %s" % said)
+    common.require(said == ["2", "0xa", "function", "(1)", "4", "0xe", "code", "(1)"], "pulleynavy a.wasm: %s" % said)
     use = "import { load } from 'pulleynavy'; import { readFileSync } from 'fs';"
     use += " const { parse } = await load(); console.log([...parse(readFileSync('a.wasm'))].map(one => one.kind).join());"
     said = common.must([node, "--input-type=module", "-e", use], folder=empty).strip()
-    if said != "version,section,code,body,end":
-        raise common.Failed("the installed package: %s" % said)
+    common.require(said == "version,section,code,body,end", "the installed package: %s" % said)
     return os.path.getsize(archive)
 
 

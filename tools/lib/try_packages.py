@@ -2,7 +2,6 @@
 
     tools/try packages                    makes the packages and tries all of them
     tools/try packages npm wheels         some of them
-    tools/try packages --dist FOLDER      packages that tools/package wrote
     tools/try packages --targets TARGETS  also makes those for Windows and macOS, which tools/try desktops tries
 
 A kind is one of crate, wheels, scan, npm, tarballs, deb, chroot and oldest. `chroot` makes a system with debootstrap that has Python, gcc, Node and
@@ -25,7 +24,7 @@ import desktops
 import generate_manuals
 import packages
 import try_js
-from common import Failed, write
+from common import Failed, require, write
 from systems import System, one, run, this_release
 
 RUST = common.read("tools", "lib", "templates", "package.rs")
@@ -141,8 +140,7 @@ class Trial:
         self.expect(run([python, self.place + "/t.py", self.file], self.place), "the wheel")
         run([python, "-m", "unittest", "discover", "-s", "tests", "-t", "."], folder)
         program = os.path.join(os.path.dirname(python), "pulleynavy")
-        if "import (1)" not in run([program, "list", self.file], self.place):
-            raise Failed("pulleynavy list does not list the sections")
+        require("import (1)" in run([program, "list", self.file], self.place), "pulleynavy list does not list the sections")
         self.under_musl()
         python = self.venv("of_sdist", "--system-site-packages")
         self.installed(python, one(self.dist + "/pulleynavy-[0-9]*[0-9].tar.gz"), "--no-build-isolation", "--no-deps")
@@ -168,8 +166,7 @@ class Trial:
             common.write("%s/registry/%05d.wasm" % (self.place, number), streams[number % len(streams)][0])
         example, out = packages.source("bindings", "python", "examples", "scan.py"), self.place + "/out.csv"
         said = run([python, example, out, self.place + "/registry", "--workers", "2"], self.place)
-        if not said.startswith("%d files" % FILES):
-            raise Failed("scan.py says %r" % said)
+        require(said.startswith("%d files" % FILES), "scan.py says %r" % said)
         with open(out, newline="", encoding="utf-8") as file:
             for number, row in enumerate(csv.DictReader(file)):
                 last = streams[number % len(streams)][1][-1]
@@ -202,8 +199,7 @@ class Trial:
         run(["npm", "install", "--silent", "--offline", "--no-audit", "--no-fund", one(self.dist + "/*.tgz")], project)
         write(project + "/t.js", JAVASCRIPT)
         self.expect(run(["node", "t.js", self.file], project), "the npm package")
-        if "import (1)" not in run(["npx", "--offline", "pulleynavy", self.file], project):
-            raise Failed("npx pulleynavy does not list the sections")
+        require("import (1)" in run(["npx", "--offline", "pulleynavy", self.file], project), "npx pulleynavy does not list the sections")
         write(project + "/exports.js", EXPORTS)
         run(["node", "exports.js"], project)
         if common.found("tsc"):
@@ -219,8 +215,7 @@ class Trial:
         write(folder + "/t.c", C)
         flags = run(["pkg-config", "--cflags", "--libs", "pulleynavy"], folder, environment).split()
         run(["cc", "-Wall", "-Werror", "t.c", *flags, *words, "-o", "t"], folder)
-        with open(self.file, "rb") as file:
-            return run([folder + "/t"], folder, environment, stdin=file)
+        return run([folder + "/t"], folder, environment, input=self.stream)
 
     def tarballs(self):
         shutil.unpack_archive(one(self.dist + "/pulleynavy-*-x86_64-linux.tar.gz"), self.place)
@@ -230,16 +225,14 @@ class Trial:
         os.rename(top, moved)
         found = {"PKG_CONFIG_PATH": "anywhere else/lib/pkgconfig", "LD_LIBRARY_PATH": moved + "/lib"}
         where = run(["pkg-config", "--variable=libdir", "pulleynavy"], self.place, found).strip()
-        if not os.path.samefile(os.path.join(self.place, where.replace("\\", "")), moved + "/lib"):
-            raise Failed("pkg-config finds %r" % where)
+        require(os.path.samefile(os.path.join(self.place, where.replace("\\", "")), moved + "/lib"), "pkg-config finds %r" % where)
         os.rename(moved, self.place + "/anywhere")
         found = {"PKG_CONFIG_PATH": self.place + "/anywhere/lib/pkgconfig", "LD_LIBRARY_PATH": self.place + "/anywhere/lib"}
         self.expect(self.c_program(self.place + "/of_tarball", [], found), "the C program of the tarball")
         if common.found("cmake"):
             self.found_by_cmake(self.place + "/anywhere")
-        with open(self.file, "rb") as file:
-            if self.end not in run([self.place + "/anywhere/bin/wasm_list"], self.place, stdin=file):
-                raise Failed("wasm_list of the tarball does not list the stream")
+        if self.end not in run([self.place + "/anywhere/bin/wasm_list"], self.place, input=self.stream):
+            raise Failed("wasm_list of the tarball does not list the stream")
 
     def found_by_cmake(self, prefix):
         """Builds the C program as CMake finds the library below a prefix: the shared one and the static one. A wrong version is not found."""
@@ -257,8 +250,7 @@ class Trial:
             run(["cmake", "--build", project + "/build"], self.place)
             if (packages.soname() in run(["readelf", "-dW", project + "/build/t"], project)) != (name == "shared"):
                 raise Failed("CMake links the %s library otherwise" % name)
-            with open(self.file, "rb") as file:
-                self.expect(run([project + "/build/t"], project, stdin=file), "the C program that CMake built with the %s library" % name)
+            self.expect(run([project + "/build/t"], project, input=self.stream), "the C program that CMake built with the %s library" % name)
 
     # ---- Debian
 
@@ -275,18 +267,15 @@ class Trial:
         shared = one(library + "/usr/lib/*/libpulleynavy.so.*.*.*")
         exported = re.findall(r" T (\w+)$", run(["nm", "-D", "--defined-only", shared], self.place), re.M)
         for what, names in (("the list of symbols", listed), ("the shared library", exported)):
-            if sorted(names) != desktops.exports():
-                raise Failed("%s and the header differ in %s" % (what, ", ".join(sorted({*names} ^ {*desktops.exports()}))))
+            require(sorted(names) == desktops.exports(), "%s and the header differ in %s" % (what, ", ".join(sorted({*names} ^ {*desktops.exports()}))))
         named = run(["readelf", "-dW", shared], self.place)
         if "[%s]" % packages.soname() not in named or "[libc.so.6]" not in named or os.readlink(one(library + "/usr/lib/*/" + packages.soname())) != os.path.basename(shared):
             raise Failed("the shared library is not %s over libc" % packages.soname())
         pages = {os.path.basename(path).split(".")[0] for path in glob.glob(development + "/usr/share/man/man3/*")}
-        if pages != set(generate_manuals.CALLS):
-            raise Failed("the manual pages are those of %s" % sorted(pages))
+        require(pages == set(generate_manuals.CALLS), "the manual pages are those of %s" % sorted(pages))
         reference = open(development + "/usr/share/doc/libpulleynavy-dev/html/pulleynavy_8h.html", encoding="utf-8").read()
         documented = set(re.findall(r'<td class="memname">.*\b(\w+) </td>\n +<td>\(</td>', reference))
-        if not documented.issuperset(desktops.exports()):
-            raise Failed("the reference lacks %s" % ", ".join({*desktops.exports()} - documented))
+        require(documented.issuperset(desktops.exports()), "the reference lacks %s" % ", ".join({*desktops.exports()} - documented))
         shutil.copytree(library + "/usr", development + "/usr", dirs_exist_ok=True, symlinks=True)
         if common.found("cmake"):
             self.found_by_cmake(development + "/usr")
@@ -296,11 +285,9 @@ class Trial:
     def clone(self, system):
         """A clone runs its programs at once, and installs the library."""
         run(["git", "clone", "--quiet", common.TOP, system.root + "/root/pulleynavy"], self.place)
-        if system.inside("command -v rt rattle || true"):
-            raise Failed("the clean system has a toolchain")
+        require(not system.inside("command -v rt rattle || true"), "the clean system has a toolchain")
         start = time.time()
-        if self.end not in system.inside("cd /; ~/pulleynavy/pulleynavy dump ~/a.wasm"):
-            raise Failed("./pulleynavy does not dump the stream")
+        require(self.end in system.inside("cd /; ~/pulleynavy/pulleynavy dump ~/a.wasm"), "./pulleynavy does not dump the stream")
         print("chroot: a clone's ./pulleynavy dump took %.1f s" % (time.time() - start))
         system.inside("cd pulleynavy; ./install /opt/pulleynavy")
         build = "export PKG_CONFIG_PATH=/opt/pulleynavy/lib/pkgconfig; cc -Wall -Werror t.c $(pkg-config --cflags --libs pulleynavy) -o t"
@@ -314,8 +301,7 @@ class Trial:
         if self.end not in system.inside("cd /; pulleynavy list ~/a.wasm; wasm_list strip ~/a.wasm | wasm_dump"):
             raise Failed("pulleynavy of the package does not list the stream")
         for page, heading in (("wasm_list", "EXIT STATUS"), ("pulleynavy", "EXIT STATUS"), ("wasm_dump", "EXIT STATUS"), ("pulleynavy_parse", "ERRORS")):
-            if heading not in system.inside("man %s | cat" % page):
-                raise Failed("there is no manual page %s" % page)
+            require(heading in system.inside("man %s | cat" % page), "there is no manual page %s" % page)
         system.inside("dpkg -r pulleynavy libpulleynavy-dev libpulleynavy" + packages.soname().partition(".so.")[2])
 
     def wheel_inside(self, system):
@@ -323,8 +309,7 @@ class Trial:
         system.write("t.py", PYTHON)
         system.inside("python3 -m venv env; env/bin/pip install --quiet --no-index wheels/*")
         self.expect(system.inside("env/bin/python t.py a.wasm"), "the wheel in a clean system")
-        if "import (1)" not in system.inside("env/bin/pulleynavy list a.wasm"):
-            raise Failed("pulleynavy list of the wheel does not list the sections")
+        require("import (1)" in system.inside("env/bin/pulleynavy list a.wasm"), "pulleynavy list of the wheel does not list the sections")
 
     def npm_inside(self, system):
         """The package in Debian's Node, which comes without npm: it is unpacked where npm would. Its tests run there too."""
@@ -332,8 +317,7 @@ class Trial:
         system.write("project/t.mjs", JAVASCRIPT)
         system.inside("mkdir -p project/node_modules; tar -xzf pulleynavy.tgz; mv package project/node_modules/pulleynavy")
         self.expect(system.inside("node project/t.mjs a.wasm"), "the npm package in a clean system")
-        if "import (1)" not in system.inside("node project/node_modules/pulleynavy/cli.js a.wasm"):
-            raise Failed("cli.js does not list the sections")
+        require("import (1)" in system.inside("node project/node_modules/pulleynavy/cli.js a.wasm"), "cli.js does not list the sections")
         system.put(try_js.installed(self.place, "tests", packages.prebuilt("pulleynavy.wasm")), "js")
         try_js.write_streams(system.root + "/root/streams.jsonl", 1, 200)
         said = system.inside("cd js; PULLEYNAVY_STREAMS=~/streams.jsonl node --test; node --version")
@@ -415,20 +399,15 @@ def attempt(kind, dist, absent):
 
 def main():
     line = common.parser(__doc__, usage="%(prog)s [KIND..] [OPTION..]")
-    line.add_argument("kinds", nargs="*", metavar="KIND", help=", ".join(KINDS))
-    line.add_argument("--dist", metavar="FOLDER", help="packages that are there already")
+    line.add_argument("kinds", nargs="*", metavar="KIND", type=common.one_of("kind", KINDS), help=", ".join(KINDS))
     line.add_argument("--targets", metavar="TARGETS", help="the folder with the libraries for Windows and macOS")
     given = line.parse_args()
-    for kind in given.kinds:
-        if kind not in KINDS:
-            line.error("there is no kind %s; there are %s" % (kind, ", ".join(KINDS)))
     if not common.is_prebuilt():
         common.skip("the sources have moved on since version %s, so there are no packages of them" % common.made_from().get("version", "0"))
         return 0
     os.umask(0o022)
-    with tempfile.TemporaryDirectory() as place:
-        dist = os.path.abspath(given.dist or place)
-        absent = [] if given.dist else made(dist, given.targets)
+    with tempfile.TemporaryDirectory() as dist:
+        absent = made(dist, given.targets)
         if absent is None:
             print("FAILED tools/package")
             return common.DIFFERS

@@ -39,8 +39,7 @@ MODULE = b"\0asm\1\0\0\0"
 
 
 def same(found, wanted, what):
-    if found != wanted:
-        raise common.Failed("%s\n  page   %s\n  wanted %s" % (what, str(found)[:600], str(wanted)[:600]))
+    common.require(found == wanted, "%s\n  page   %s\n  wanted %s" % (what, str(found)[:600], str(wanted)[:600]))
 
 
 def becomes(find, wanted, what):
@@ -198,13 +197,11 @@ def names(page, folder):
     found = [" ".join(filter(None, row["texts"][:2])) for row in page.run("return openAll()")]
     for space, (_, words) in NAMES.items():
         for index, word in enumerate(words):
-            if "%s %d %s" % (space, index, word) not in found:
-                raise common.Failed("%s %d has no name %s: %s" % (space, index, word, found))
+            common.require("%s %d %s" % (space, index, word) in found, "%s %d has no name %s: %s" % (space, index, word, found))
     said = page.run("return rows().map(row => row.texts.slice(0, 3).filter(Boolean).join(' '))")
     rows = ("export dice func 2 roll", "export mem memory 0 heap", "start func 1 next", "local 0 sides name", "func 1 next body, 2 bytes")
     for wanted in rows:
-        if wanted not in said:
-            raise common.Failed("no row %r: %s" % (wanted, said))
+        common.require(wanted in said, "no row %r: %s" % (wanted, said))
     page.browser.resize(1280, USUAL)
 
 
@@ -215,8 +212,7 @@ def first_names(page, folder):
     for stream, wanted in ((exported, "func 0 first"), (named_module() + other_names(), "func 1 next")):
         page.opened(folder, "names.wasm", stream)
         said = [" ".join(filter(None, row["texts"][:2])) for row in page.run("return openAll()")]
-        if wanted not in said:
-            raise common.Failed("no row %r: %s" % (wanted, said))
+        common.require(wanted in said, "no row %r: %s" % (wanted, said))
 
 
 def letters(page, folder):
@@ -289,17 +285,15 @@ def contrast(page, paths):
         for theme in ("light", "dark"):
             page.run("$('theme').value = arguments[0]; $('theme').dispatchEvent(new Event('change')); await pause(50);", theme)
             lowest = min(lowest, page.run(CONTRAST))
-            if lowest[0] < LEAST_CONTRAST:
-                raise common.Failed("contrast %.2f (%s, %s): %s" % (lowest[0], theme, said, lowest[1]))
+            common.require(lowest[0] >= LEAST_CONTRAST, "contrast %.2f (%s, %s): %s" % (lowest[0], theme, said, lowest[1]))
     return lowest[0]
 
 
 def narrow(page, folder, path, picture):
     """Nothing is cut off in a frame of 400 pixels."""
     outer = os.path.join(folder, "narrow.html")
-    with open(outer, "w", encoding="utf-8") as file:
-        style = "width: %dpx; height: 850px; border: 0" % NARROW
-        file.write("<!doctype html><body style='margin: 0'><iframe src='%s' style='%s'></iframe>" % (page.url, style))
+    style = "width: %dpx; height: 850px; border: 0" % NARROW
+    common.write(outer, "<!doctype html><body style='margin: 0'><iframe src='%s' style='%s'></iframe>" % (page.url, style))
     page.browser.open("file://" + outer)
     page.browser.send("frame", {"id": {browsers.ELEMENT: page.browser.element("iframe")}} if page.browser.name == "Chromium" else
                       {"element": page.browser.element("iframe")})
@@ -335,8 +329,7 @@ def faults(page, path):
     """Each fault is red where it occurs, in the tree and in the bytes, which then are in sight."""
     page.start()
     page.load(path)
-    with open(path, "rb") as file:
-        lines = common.load(common.MODEL_OF_ITEMS).listing(file.read())
+    lines = common.load(common.MODEL_OF_ITEMS).listing(common.read_bytes(path))
     for _, offset, said in [row for row in expected_rows(lines) if row[2]]:
         chosen = lambda: [page.chosen()[name] for name in ("offset", "isBad")] + page.chosen()["texts"][:1]
         becomes(chosen, [offset, True, "fault: " + said], "the fault that is chosen")
@@ -385,8 +378,7 @@ def saving(page, folder, path):
         page.run("if ($('keep').checked !== arguments[0]) $('keep').click(); $('strip').focus()", keeps_names)
         page.browser.press("Enter")
         waited(lambda: os.path.exists(saved) and os.path.getsize(saved) > 0 or None, "saved file")
-        with open(saved, "rb") as file:
-            same(file.read(), model.strip(named_module(), keeps_names), "the saved file, %s names" % ("with" if keeps_names else "without"))
+        same(common.read_bytes(saved), model.strip(named_module(), keeps_names), "the saved file, %s names" % ("with" if keeps_names else "without"))
         os.remove(saved)
 
 
@@ -418,8 +410,7 @@ def big(page, folder):
     took = time.time() - began
     longest = page.run("return window.longest") / 1000
     same(said.endswith("No faults."), True, said)
-    if longest > LONGEST_PAUSE:
-        raise common.Failed("the page did not react for %.2f s" % longest)
+    common.require(longest <= LONGEST_PAUSE, "the page did not react for %.2f s" % longest)
     found = page.search("function%d" % (count - 1))
     same([row["texts"][:2] for row in found], [["func %d" % (count - 1), "function%d" % (count - 1)]] * 3, "a search in 40 MB")
     reach(page, len(stream), lambda at: stream[at])
@@ -536,10 +527,9 @@ def tried(browser, given, made, folder):
     place, files = made
     page = Page(browser, "file://" + place)
     named, broken = os.path.join(folder, "named.wasm"), os.path.join(folder, "broken.wasm")
-    with open(given.wasm, "rb") as file, open(broken, "wb") as other:
-        stream = bytearray(file.read())
-        stream[stream.index(b"\6memory") + 7] = 9
-        other.write(stream[:-3000])
+    stream = bytearray(common.read_bytes(given.wasm))
+    stream[stream.index(b"\6memory") + 7] = 9
+    common.write(broken, stream[:-3000])
     browser.resize(1280, USUAL)
     said = [streams(page, folder, given)]
     quiet(page)

@@ -39,10 +39,7 @@ class Reader:
         self.run(["git", "clone", "--quiet", common.TOP, self.clone])
 
     def write(self, name, data):
-        path = os.path.join(self.place, name)
-        os.makedirs(os.path.dirname(path), exist_ok=True)
-        common.write(path, data)
-        return path
+        return common.write(os.path.join(self.place, name), data)
 
     def run(self, words, **options):
         """What a command prints; a fault if its status is not 0."""
@@ -62,8 +59,7 @@ class Reader:
     def strip(self):
         other = os.path.join(self.place, "other.wasm")
         self.run([self.clone + "/pulleynavy", "strip", self.file, "-o", other])
-        with open(other, "rb") as file:
-            assert file.read() == common.load(common.MODEL).strip(self.stream), "pulleynavy strip writes something else"
+        assert common.read_bytes(other) == common.load(common.MODEL).strip(self.stream), "pulleynavy strip writes something else"
 
     def dump(self):
         for words in OPTIONS:

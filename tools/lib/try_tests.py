@@ -2,7 +2,7 @@
 
     tools/try tests                  all tests, and the benchmark over benches/stdin
     tools/try tests stream_tests     the tests of these crates alone
-    tools/try tests --counted LOG    runs nothing: counts the tests that passed by what `rt ci` printed to a file
+    tools/try tests --counted LOG    only the benchmark: counts the tests that passed by what `rt ci`, which runs them too, printed to a file
     tools/try tests --fmt            runs nothing: lays out the files of the benchmark, which is in no crate
 
 The status is 1 if a test fails, or if fewer tests passed than tools/lib/tests.txt says. `tools/check tests` compares that number with the
@@ -31,8 +31,7 @@ def benchmark(given):
             return laid_out(place, files)
         with open(os.path.join(trial.BENCHES, "stdin"), "rb") as stream:
             done = subprocess.run(["rt", "try"], cwd=place, stdin=stream, stdout=subprocess.PIPE, stderr=subprocess.PIPE)
-    with open(os.path.join(trial.BENCHES, "stdout"), "rb") as wanted:
-        differs = done.stdout != wanted.read()
+    differs = done.stdout != common.read_bytes(os.path.join(trial.BENCHES, "stdout"))
     if done.returncode or differs:
         print((done.stderr + done.stdout).decode(errors="replace"))
     print("benchmark: %s" % ("status %d" % done.returncode if done.returncode else "other output" if differs else "passed"))
@@ -72,20 +71,16 @@ def counted(path):
 
 
 def main():
-    line = common.parser(__doc__)
-    line.add_argument("crates", nargs="*", metavar="CRATE", help="crates of tests, instead of all")
+    line, known = common.parser(__doc__), trial.crates_of_tests()
+    line.add_argument("crates", nargs="*", metavar="CRATE", type=common.one_of("crate of tests", known), help="crates of tests, instead of all")
     line.add_argument("--counted", metavar="LOG", help="count in what rt ci printed")
     line.add_argument("--fmt", action="store_true", help="lay out the files of the benchmark")
     given = line.parse_args()
-    known = trial.crates_of_tests()
-    for name in given.crates:
-        if name not in known:
-            line.error("%s has no tests; these have: %s" % (name, ", ".join(known)))
-    if given.counted:
-        return counted(given.counted)
+    if given.counted and counted(given.counted):
+        return common.DIFFERS
     if not shutil.which("rt"):
         common.stop(common.NO_PROGRAM, "rt is not on the path")
-    if given.fmt:
+    if given.fmt or given.counted:
         return benchmark(given)
     counts = [passed(crate) for crate in given.crates or known]
     if None in counts:

@@ -1,4 +1,4 @@
-//! The numbers of enumerations in the C library, written by `tools/generate codes` from its header.
+//! The numbers of enumerations in the C library, written by `tools/generate header` from its sources.
 
 pub(crate) mod event_kind {
     pub(crate) const NEED_MORE: u32 = 0;
@@ -66,11 +66,11 @@ pub(crate) mod fault_kind {
 }
 
 pub(crate) mod number_kind {
-    pub(crate) const U32: u32 = 0;
-    pub(crate) const I32: u32 = 1;
-    pub(crate) const U64: u32 = 2;
-    pub(crate) const I64: u32 = 3;
-    pub(crate) const S33: u32 = 4;
+    pub(crate) const VAR_U32: u32 = 0;
+    pub(crate) const VAR_I32: u32 = 1;
+    pub(crate) const VAR_U64: u32 = 2;
+    pub(crate) const VAR_I64: u32 = 3;
+    pub(crate) const VAR_S33: u32 = 4;
 }
 
 pub(crate) mod lead {

@@ -33,15 +33,15 @@ numbered! {
     /// The kind of a LEB128 number: its width in bits, and whether it is signed.
     NumberKind {
         /// An unsigned number of 32 bits.
-        number_kind::U32 VarU32,
+        number_kind::VAR_U32 VarU32,
         /// A signed number of 32 bits.
-        number_kind::I32 VarI32,
+        number_kind::VAR_I32 VarI32,
         /// An unsigned number of 64 bits.
-        number_kind::U64 VarU64,
+        number_kind::VAR_U64 VarU64,
         /// A signed number of 64 bits.
-        number_kind::I64 VarI64,
+        number_kind::VAR_I64 VarI64,
         /// A signed number of 33 bits: a heap type, or a type index.
-        number_kind::S33 VarS33,
+        number_kind::VAR_S33 VarS33,
     }
 }
 

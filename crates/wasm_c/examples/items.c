@@ -316,19 +316,22 @@ static size_t read_all(void) {
     return size;
 }
 
-int main(int count, char **words) {
-    use_binary_streams();
-    if (count > 1) batch = strtoul(words[1], NULL, 10);
-    if (batch < 1 || batch > MOST) return 2;
-    size_t size = read_all();
+/* Shows the events of the stream, which has this many bytes. Returns whether it has a fault. */
+static bool show_all(size_t size) {
     pulleynavy_parser parser = pulleynavy_parser_init(0, PULLEYNAVY_ALL_FEATURES);
     pulleynavy_event events[MOST];
     for (size_t at = 0;;) {
         size_t n = pulleynavy_next_events(&parser, stream + at, size - at, true, events, batch);
         for (size_t i = 0; i < n; at += events[i].consumed, i++) show(&events[i]);
-        if (events[n - 1].kind >= PULLEYNAVY_EVENT_END) {
-            free(stream), free(line);
-            return events[n - 1].kind == PULLEYNAVY_EVENT_FAULT;
-        }
+        if (events[n - 1].kind >= PULLEYNAVY_EVENT_END) return events[n - 1].kind == PULLEYNAVY_EVENT_FAULT;
     }
+}
+
+int main(int count, char **words) {
+    use_binary_streams();
+    if (count > 1) batch = strtoul(words[1], NULL, 10);
+    if (batch < 1 || batch > MOST) return 2;
+    bool is_fault = show_all(read_all());
+    free(stream), free(line);
+    return is_fault;
 }
