@@ -3,7 +3,8 @@ use Rattle.std.specs.Prelude.{ℕ, Bool, true, false, List, codes, bytes_eq, nat
 use Rattle.wasm_commands.specs.declared.options.Flag.{Flag}
 use Rattle.wasm_commands.specs.declared.options.Flag.TheVariants.{Help, Version, Json, Names, Bytes, Hex, Color}
 use Rattle.wasm_commands.specs.declared.options.Flag.TheVariants.{Section}
-use Rattle.wasm_commands.specs.declared.options.Flag.TheVariants.{Quiet, KeepNames, Keep, Only, Output, NoProgress, Index, Replace}
+use Rattle.wasm_commands.specs.declared.options.Flag.TheVariants.{Quiet, KeepNames, Keep, Only, Output, NoProgress}
+use Rattle.wasm_commands.specs.declared.options.Flag.TheVariants.{Index, Replace}
 use Rattle.wasm_commands.specs.declared.options.Takes.{Takes}
 use Rattle.wasm_commands.specs.declared.options.Takes.TheVariants.{Nothing, Value, Attached}
 use Rattle.wasm_commands.specs.declared.options.Verb.{Verb}

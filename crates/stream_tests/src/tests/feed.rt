@@ -2,6 +2,7 @@
 mod cursors;
 mod devices;
 mod digits;
+mod editing;
 mod equal_events;
 mod feeding;
 mod lending;
