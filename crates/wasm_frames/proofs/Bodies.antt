@@ -1,6 +1,6 @@
 -- What is in a code section: its head and its bodies.
-use Rattle.wasm_frames.proofs.Common.{◌≡◌, ℕ, ◌+◌, ◌<◌, ◌≤◌, Bool, true, false, length, Result, Ok, Err, refl, sym, ap, subst, ◌∙◌, arith}
-use Rattle.wasm_frames.proofs.Common.{nat_eq, nat_lt, zero, suc, ◌-◌, not, ◌&&◌, take, drop, option_to_list, Some, None, length-take-le}
+use Rattle.wasm_frames.proofs.Common.{◌≡◌, ℕ, ◌+◌, ◌<◌, ◌≤◌, Bool, true, false, length, Result, Ok, Err, sym, ap, subst, ◌∙◌, arith}
+use Rattle.wasm_frames.proofs.Common.{nat_eq, nat_lt, zero, suc, ◌-◌, not, ◌&&◌, take, option_to_list, Some, None, length-take-le}
 use Rattle.wasm_frames.proofs.Common.{list_all, FaultAt, fault_at, at_offset, hint_of, hint_at, missing_at, unsigned_at, Window, Place}
 use Rattle.wasm_frames.proofs.Common.{advanced, window_over, Error, UnexpectedEof, FunctionCodeDiffer, CodeWithoutFunction, TrailingCode}
 use Rattle.wasm_frames.proofs.Common.{VarU32, when, Grammar, SectionContext, accept, check, u32_field, bytes, body_grammar, code_start}
@@ -8,6 +8,7 @@ use Rattle.wasm_frames.proofs.Common.{Report, MatchesGrammar, ReadsByGrammar, co
 use Rattle.std.specs.List.{list_any}
 use Rattle.wasm_grammar.specs.Grammar.{wrong_count, code_grammar, body_of}
 use Rattle.wasm_grammar.specs.Reading.{code_entry}
+use Rattle.wasm_frames.specs.Heads.{after_size}
 use Rattle.wasm_frames.proofs.Framed.{HasContent, has_content, too_few}
 use Rattle.wasm_frames.proofs.ReadingFields.{report_bytes, report_missing, report_number, report_no_number, report_wrong, report_right}
 use Rattle.wasm_frames.proofs.ReadingFields.{report_whole, report_stops, ReadNumber, read_number}
@@ -79,7 +80,7 @@ right_count context offset count d n = grind arith
 -- ---- a body
 
 -- a body remains
-a_body : (bodies code_bytes offset : ℕ) → 0 < bodies → body_grammar bodies code_bytes offset
+pub a_body : (bodies code_bytes offset : ℕ) → 0 < bodies → body_grammar bodies code_bytes offset
     ≡ u32_field offset (λ size width. body_of offset code_bytes size width)
 unfolding body_grammar
 a_body bodies code_bytes offset l = grind arith
@@ -108,11 +109,11 @@ past_same size x y z e f = (λ i. nat_lt (sym x i) (sym y i - sym z i + size)) �
 
 -- where a size is read, and a body remains
 module _ (bodies code_bytes : ℕ) (p q : Place) (size : ℕ) (l : 0 < bodies) (h : unsigned_at VarU32 p ≡ Ok (size, q)) where
-  its_size : ReadNumber p size q
+  pub its_size : ReadNumber p size q
   its_size = read_number p size q h
 
   -- by whether the body passes its section
-  body_sized : (past : Bool) (r : Result Report Error) (a : Place) → nat_lt code_bytes (q.offset - p.offset + size) ≡ past
+  pub body_sized : (past : Bool) (r : Result Report Error) (a : Place) → nat_lt code_bytes (q.offset - p.offset + size) ≡ past
       → ((s : ℕ) → MatchesGrammar s (advanced its_size.used p) (check (when past (at_offset UnexpectedEof p.offset))
       (bytes size (p.offset + its_size.used) (λ content. accept (Grammar.code_entry content)))) r a)
       → ReadsByGrammar (body_grammar bodies code_bytes p.offset) p r a
@@ -127,22 +128,18 @@ module _ (bodies code_bytes : ℕ) (p q : Place) (size : ℕ) (l : 0 < bodies) (
       → ReadsByGrammar (body_grammar bodies code_bytes p.offset) p (Err e) a
   body_past e a past f hint = body_sized true (Err e) a past (λ s. report_wrong s _ _ _ e a (ap Some (sym f)) hint)
 
-  -- bytes that are missing of a body that lies in its section
-  pub body_missing : (e : Error) (a : Place) → nat_lt code_bytes (q.offset - p.offset + size) ≡ false → content_at size q ≡ Err (fault_at e)
-      → hint_of e ≡ hint_at (missing_at size q) (fault_at e).fault → ReadsByGrammar (body_grammar bodies code_bytes p.offset) p (Err e) a
-  body_missing e a past c hint =
-      let t = too_few size (advanced its_size.used p) (fault_at e) (rw its_size.after at c) in
-      body_sized false (Err e) a past (λ s. report_right s _ None _ (Err e) a refl
-      (report_missing s _ size _ _ e a t.0 t.1 (rw its_size.after at hint)))
+-- ---- a body after its size
 
-  -- a body
-  pub body_read : (w : Window) (b : Place) (report : Report) → nat_lt code_bytes (q.offset - p.offset + size) ≡ false
-      → content_at size q ≡ Ok (w, b) → report ≡ code_entry w
-      → ReadsByGrammar (body_grammar bodies code_bytes p.offset) p (Ok report) b
-  body_read w b report past k same =
-      let c : HasContent size (advanced its_size.used p) w b = has_content size (advanced its_size.used p) w b (rw its_size.after at k) in
-      let content = take size (drop its_size.used p.rest) in
-      let n : length content ≡ size = length-take-le size (drop its_size.used p.rest) c.there in
-      let said : report ≡ code_entry (window_over p.features (p.offset + its_size.used + size - length content) content) =
-      grind arith in
-      body_sized false (Ok report) b past (λ s. report_right s _ None _ (Ok report) b refl (search (report_bytes, report_whole)))
+-- its bytes, or too few
+pub body_given : (size : ℕ) (p q : Place) (w : Window) → content_at size p ≡ Ok (w, q)
+    → ReadsByGrammar (after_size size p) p (Ok (code_entry w)) q
+body_given size p q w h =
+    let c : HasContent size p w q = has_content size p w q h in
+    let n : length (take size p.rest) ≡ size = length-take-le size p.rest c.there in
+    let said : code_entry w ≡ code_entry (window_over p.features (p.offset + size - length (take size p.rest)) (take size p.rest)) =
+    grind arith in
+    search (report_bytes, report_whole)
+
+pub body_lacking : (size : ℕ) (p : Place) (e : Error) (a : Place) → content_at size p ≡ Err (fault_at e)
+    → hint_of e ≡ hint_at (missing_at size p) (fault_at e).fault → ReadsByGrammar (after_size size p) p (Err e) a
+body_lacking size p e a h hint = let t = too_few size p (fault_at e) h in λ s. report_missing s p size _ _ e a t.0 t.1 hint

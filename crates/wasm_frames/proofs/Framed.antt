@@ -1,16 +1,15 @@
 -- What is at the start of a section, and what is read there.
 use Rattle.wasm_frames.proofs.Common.{◌≡◌, ℕ, ◌+◌, ◌^◌, ◌<◌, ◌≤◌, Bool, true, false, List, [], ◌∷◌, length, Result, Ok, Err, refl, sym, ap}
 use Rattle.wasm_frames.proofs.Common.{subst₂, arith, nat_eq, nat_lt, ◌-◌, not, ◌&&◌, take, drop, Some, None, le-ltb, lt-ltb, nat_le, le-leb}
-use Rattle.wasm_frames.proofs.Common.{length-take-le, FaultAt, fault_at, at_offset, hint_of, magic, agree, hint_at, missing_at, name_limit}
-use Rattle.wasm_frames.proofs.Common.{text_at, unsigned_at, Window, Place, advanced, window_over, place, Error, UnexpectedEof}
-use Rattle.wasm_frames.proofs.Common.{MagicAtSection, OutOfOrder, VarU32, when, Form, Kind, custom, unknown, kind_of, wrong_content}
+use Rattle.wasm_frames.proofs.Common.{length-take-le, FaultAt, fault_at, at_offset, hint_of, magic, agree, hint_at, missing_at}
+use Rattle.wasm_frames.proofs.Common.{unsigned_at, Window, Place, advanced, window_over, Error, UnexpectedEof}
+use Rattle.wasm_frames.proofs.Common.{MagicAtSection, OutOfOrder, VarU32, when, Form, Kind, kind_of, wrong_content}
 use Rattle.wasm_frames.proofs.Common.{SectionContext, whole_grammar, wrong_data, content_grammar, after_length, verdict, section_grammar}
 use Rattle.wasm_frames.proofs.Common.{section_report, waiting, Report, ReadsByGrammar, MatchesVerdict, ParserState, known_context}
-use Rattle.wasm_frames.proofs.Common.{content_at, custom_in, unknown_in}
+use Rattle.wasm_frames.proofs.Common.{content_at}
 use Rattle.std.proofs.lemmas.Bool.{lt-leb}
 use Rattle.std.specs.List.{starts_with}
 use Rattle.wasm_base.specs.Name.{first_of, byte_at}
-use Rattle.wasm_base.specs.Window.{KeepsWindow}
 use Rattle.wasm_base.specs.declared.fault.Fault.TheVariants.{MalformedSectionId, SectionTooLarge}
 use Rattle.wasm_grammar.specs.Content.{rank_of}
 use Rattle.wasm_grammar.specs.Grammar.{after_id}
@@ -23,7 +22,7 @@ pub framed_bad : (context : SectionContext) (start id : ℕ) (p : Place) (e : Er
     ≡ at_offset MalformedSectionId start → hint_of e ≡ None → ReadsByGrammar (after_id context start id) p (Err e) a
 framed_bad context start id p e a h f hint = λ s. report_wrong s p _ _ e a (rw (le-leb 128 id h) (ap Some (sym f))) hint
 
-good_id : (start id : ℕ) → id < 128 → when (nat_le 128 id) (at_offset MalformedSectionId start) ≡ None
+pub good_id : (start id : ℕ) → id < 128 → when (nat_le 128 id) (at_offset MalformedSectionId start) ≡ None
 good_id start id h = rw (lt-leb 128 id h) refl
 
 module _ (context : SectionContext) (start id : ℕ) (p : Place) where
@@ -66,12 +65,6 @@ pub sized_ordered : (context : SectionContext) (kind : Kind) (id field size : �
 sized_ordered context kind id field size p r a h k next =
     λ s. report_right s p _ _ r a (rw (le-ltb (2 ^ 64 - 1) (p.offset + size) h) refl) (report_right s p _ _ r a (rw k refl) (next s))
 
--- the same for the kind that was found
-pub sized_as : (context : SectionContext) (found kind : Kind) (id field size : ℕ) (p : Place) (r : Result Report Error) (a : Place)
-    → found ≡ kind → ReadsByGrammar (after_length context found id field p.offset size) p r a
-    → ReadsByGrammar (after_length context kind id field p.offset size) p r a
-sized_as context found kind id field size p r a same next = rw same at next
-
 pub too_few : (size : ℕ) (p : Place) (f : FaultAt) → content_at size p ≡ Err f → (length p.rest < size)
     × (f ≡ at_offset UnexpectedEof p.offset)
 unfolding content_at
@@ -100,61 +93,6 @@ pub whole_good : (context : SectionContext) (kind : Form) (id size : ℕ) (p : P
     → ReadsByGrammar (whole_grammar context kind id p.offset size) p (Ok report) q
 whole_good context kind id size p w q report h good counts same =
     grind (arith, has_content, length-take-le, report_bytes, report_right, report_whole)
-
--- bad content
-pub whole_bad : (context : SectionContext) (kind : Form) (id size : ℕ) (p : Place) (w : Window) (q : Place) (e : Error) (a : Place)
-    → content_at size p ≡ Ok (w, q) → wrong_content kind p.offset (take size p.rest) ≡ Some (fault_at e)
-    → hint_of e ≡ None → ReadsByGrammar (whole_grammar context kind id p.offset size) p (Err e) a
-whole_bad context kind id size p w q e a h wrong hint =
-    let c : HasContent size p w q = has_content size p w q h in
-    search (report_bytes, report_wrong)
-
--- good content whose count differs from the one that was announced
-pub whole_miscounted : (context : SectionContext) (kind : Form) (id size : ℕ) (p : Place) (w : Window) (q : Place) (e : Error) (a : Place)
-    → content_at size p ≡ Ok (w, q) → wrong_content kind p.offset (take size p.rest) ≡ None → wrong_data context kind id (p.offset + size)
-    (take size p.rest) ≡ Some (fault_at e) → hint_of e ≡ None → ReadsByGrammar (whole_grammar context kind id p.offset size) p (Err e) a
-whole_miscounted context kind id size p w q e a h good wrong hint =
-    let c : HasContent size p w q = has_content size p w q h in
-    search (report_bytes, report_right, report_wrong)
-
--- content whose name was read, and its report
-pub record GoodCustom (features offset to : ℕ) (content name : List ℕ) (reader : Window) : Type 0 where
-  pub good : wrong_content custom offset content ≡ None
-  pub report : custom_in name reader ≡ section_report features offset to custom 0 content
-
-pub good_custom : (features offset to : ℕ) (content name : List ℕ) (reader : Window)
-    → text_at (Some name_limit) (place (window_over features offset content)) ≡ Ok (name, place reader)
-    → KeepsWindow (window_over features offset content) reader → GoodCustom features offset to content name reader
-unfolding wrong_content text_at
-good_custom features offset to content name reader is keeps = grind arith
-
-pub bad_custom : (features offset : ℕ) (content : List ℕ) (f : FaultAt)
-    → text_at (Some name_limit) (place (window_over features offset content)) ≡ Err f → wrong_content custom offset content ≡ Some f
-unfolding wrong_content text_at
-bad_custom features offset content f h = grind arith
-
--- any bytes are an unknown section
-pub good_unknown : (offset : ℕ) (content : List ℕ) → wrong_content unknown offset content ≡ None
-unfolding wrong_content
-good_unknown offset content = refl
-
--- a custom section that was read, and one whose name was refused
-pub custom_read : (context : SectionContext) (id size : ℕ) (p : Place) (w : Window) (q : Place) (name : List ℕ) (reader : Window)
-    → content_at size p ≡ Ok (w, q) → text_at (Some name_limit) (place w) ≡ Ok (name, place reader) → KeepsWindow w reader
-    → ReadsByGrammar (whole_grammar context custom id p.offset size) p (Ok (custom_in name reader)) q
-custom_read context id size p w q name reader h is keeps = grind (arith, has_content, good_custom, whole_good)
-
-pub custom_refused : (context : SectionContext) (id size : ℕ) (p : Place) (w : Window) (q : Place) (e : Error) (a : Place)
-    → content_at size p ≡ Ok (w, q) → text_at (Some name_limit) (place w) ≡ Err (fault_at e)
-    → hint_of e ≡ None → ReadsByGrammar (whole_grammar context custom id p.offset size) p (Err e) a
-custom_refused context id size p w q e a h wrong hint =
-    let k : HasContent size p w q = has_content size p w q h in
-    whole_bad context custom id size p w q e a h (grind (arith, bad_custom)) hint
-
--- an unknown section
-pub unknown_read : (context : SectionContext) (id size : ℕ) (p : Place) (w : Window) (q : Place) → content_at size p ≡ Ok (w, q)
-    → ReadsByGrammar (whole_grammar context unknown id p.offset size) p (Ok (unknown_in id w)) q
-unknown_read context id size p w q h = grind (arith, has_content, length-take-le, whole_good, good_unknown)
 
 -- a magic where a section may start
 pub section_magic : (p : ParserState) (here : Place) (e : Error) (a : Place) → true ≡ (agree here.rest magic && nat_le 4 (length here.rest))

@@ -1,9 +1,12 @@
 pub mod Bodies
 pub mod Bounds
 pub mod Common
-pub mod Counted
+pub mod Forms
+pub mod CutParts
+pub mod Cuts
 pub mod Framed
 pub mod Headers
+pub mod Heads
 pub mod NextParts
 pub mod Passing
 pub mod ReadingFields

@@ -1,7 +1,7 @@
 -- The state after a frame, by its kind.
-use Rattle.wasm_frames.proofs.Common.{◌≡◌, ℕ, ◌+◌, arith, Report, ParserState, state_after}
-use Rattle.wasm_frames.specs.Frame.{count_in, encoding_in, id_in, kind_in, size_in}
-use Rattle.wasm_frames.specs.StateAfter.{opened, past_body, state_after_section, with_count, with_rank}
+use Rattle.wasm_frames.proofs.Common.{◌≡◌, ℕ, arith, Report, ParserState, state_after}
+use Rattle.wasm_frames.specs.Frame.{count_in, id_in, kind_in}
+use Rattle.wasm_frames.specs.StateAfter.{state_after_section, with_count, with_rank}
 use Rattle.wasm_frames.specs.declared.kind.FrameKind.TheVariants as kinds
 
 module _ (p : ParserState) (to : ℕ) (r : Report) (id count : ℕ) where

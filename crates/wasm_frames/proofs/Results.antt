@@ -1,10 +1,10 @@
 -- What a call of `next` returns.
 use Rattle.wasm_frames.proofs.Common.{◌≡◌, ℕ, ◌+◌, ◌^◌, ◌<◌, ◌≤◌, Bool, true, false, List, [], length, refl, arith, nat_eq, cond, Some}
 use Rattle.wasm_frames.proofs.Common.{fault_at, at_offset, Error, OffsetRange, Guarded-header, Guarded-inside_at, Ending, fault, ended}
-use Rattle.wasm_frames.proofs.Common.{Tile, Verdict, tile, final, SectionContext, verdict, header_grammar, section_grammar, inside}
-use Rattle.wasm_frames.proofs.Common.{Waiting, enough, wants, asked_at_section, waiting, tile_report, Report, GivesFrame, answer_by}
+use Rattle.wasm_frames.proofs.Common.{Tile, tile, final, SectionContext, verdict, header_grammar, section_grammar, inside}
+use Rattle.wasm_frames.proofs.Common.{Waiting, enough, asked_at_section, waiting, tile_report, Report, GivesFrame, answer_by}
 use Rattle.wasm_frames.proofs.Common.{answer_in_time, answer_to, content_of, is_end, state_after_result, ParserState, grammar_of}
-use Rattle.wasm_frames.proofs.Common.{known_context, ended_state, is_at_section, is_lacking, state_after, state_after_tile, stream_end}
+use Rattle.wasm_frames.proofs.Common.{known_context, ended_state, is_at_section, is_lacking, state_after_tile, stream_end}
 use Rattle.wasm_frames.proofs.Common.{NextFrame, NeedMoreData, Parsed, Fault, lt-ltb}
 use Rattle.wasm_base.specs.declared.fault.Fault.TheVariants.{FunctionWithoutCode, DataCountWithoutData}
 use Rattle.wasm_grammar.specs.Grammar.{end_at_section, Shape}

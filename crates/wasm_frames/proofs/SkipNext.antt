@@ -1,29 +1,32 @@
 -- What is skipped by its first fields is the next tile of every stream that goes on with them.
-use Rattle.wasm_frames.proofs.Common.{◌≡◌, ℕ, ◌+◌, ◌^◌, ◌<◌, ◌≤◌, Bool, true, false, List, [], ◌∷◌, ◌++◌, length, Ok, Err, refl, sym, ap}
-use Rattle.wasm_frames.proofs.Common.{subst, ◌∙◌, arith, length-append, append-nil, ltb-true, nat_eq, cond, nat_lt, zero, suc, ◌-◌, not}
-use Rattle.wasm_frames.proofs.Common.{◌&&◌, take, drop, option_to_list, Some, None, le-ltb, nat_le, le-leb, Option, is_some, and_parts}
-use Rattle.wasm_frames.proofs.Common.{length-take-le, number-used, FaultAt, at_offset, magic, agree, name_limit, text_at, number, read}
-use Rattle.wasm_frames.proofs.Common.{unsigned_at, Outcome, ◌>>=◌, Place, advanced, window_over, place, UnexpectedEof, VarU32, fault, items}
-use Rattle.wasm_frames.proofs.Common.{index, data_count, Form, Kind, custom, unknown, kind_of, wrong_content, Tile, tile, final, Grammar}
-use Rattle.wasm_frames.proofs.Common.{Shape, SectionContext, accept, check, u32_field, bytes, whole_grammar, wrong_data, after_length}
-use Rattle.wasm_frames.proofs.Common.{section, code_entry, verdict, body_grammar, section_grammar, data_id, tile_report, Report}
-use Rattle.wasm_frames.proofs.Common.{section_report, asked_at_section, ParserState, grammar_of, known_context, Skip, SkipsPart, skip_in}
-use Rattle.std.proofs.Common.{leb-true, ◌||◌, ◌==◌}
+use Rattle.wasm_frames.proofs.Common.{◌≡◌, ℕ, ◌+◌, ◌^◌, ◌<◌, ◌≤◌, Bool, true, false, List, [], ◌∷◌, ◌++◌, length, refl, sym, ap}
+use Rattle.wasm_frames.proofs.Common.{subst, ◌∙◌, arith, length-append, append-nil, nat_eq, cond, zero, suc, ◌-◌}
+use Rattle.wasm_frames.proofs.Common.{take, drop, Some, None, nat_le, le-leb, Option, length-take-le, number-used, FaultAt}
+use Rattle.wasm_frames.proofs.Common.{at_offset, magic, agree, name_limit, number, read, Place, place, Window, window_over, UnexpectedEof}
+use Rattle.wasm_frames.proofs.Common.{VarU32, fault}
+use Rattle.wasm_frames.proofs.Common.{items, index, data_count, Form, Kind, custom, unknown, kind_of, wrong_content, Tile, tile, final}
+use Rattle.wasm_frames.proofs.Common.{Ending, Grammar, Shape, SectionContext, accept, check, u32_field, bytes, whole_grammar, wrong_data}
+use Rattle.wasm_frames.proofs.Common.{content_grammar, section, code_entry, verdict, body_grammar, when}
+use Rattle.wasm_frames.proofs.Common.{section_grammar, tile_report, Report, section_report, inside, ParserState, grammar_of, known_context}
+use Rattle.wasm_frames.proofs.Common.{Skip}
+use Rattle.wasm_frames.proofs.Common.{SkipsPart, skip_in, state_after}
+use Rattle.std.proofs.Common.{leb-true, leb-false}
+use Rattle.std.proofs.lemmas.Bool.{lt-leb}
+use Rattle.std.specs.Prelude.{option_map}
 use Rattle.std.proofs.Math.Seq.{take-append-add}
 use Rattle.std.proofs.lemmas.List.{take-append-le, drop-append-le, length-drop}
-use Rattle.wasm_base.proofs.Announced.{in_steps}
 use Rattle.wasm_base.proofs.NumberLaws.{number-more}
-use Rattle.wasm_base.specs.Name.{Name, named, refused, name, name_in_window}
+use Rattle.wasm_base.specs.Name.{Name, named, refused, name}
+use Rattle.wasm_base.specs.Number.{Number, bad, short}
+use Rattle.wasm_frames.specs.Cuts.{Cuts}
+use Rattle.wasm_frames.specs.SkipNext.{CanPass, Head, body, cut_part, head_in, part_of, report_with, skip_of, so_far}
 use Rattle.wasm_grammar.specs.Content.{whole, code}
+use Rattle.wasm_grammar.specs.Cut.{Cut, cut_content, form_grows, may_grow}
+unfoldable use Rattle.wasm_grammar.specs.Cut.{cut}
 use Rattle.wasm_grammar.specs.Grammar.{section_start}
 use Rattle.wasm_grammar.specs.Reading.{code_entry as body_report}
-use Rattle.wasm_frames.specs.ReadsPart.{is_other}
-use Rattle.wasm_frames.specs.SkipNext.{Head, report_with, skip_at, fields_at, is_cut, is_in_order, content_skip_at, body_skip_at}
-use Rattle.wasm_frames.specs.SkipNext.{section_skip_at}
-use Rattle.wasm_frames.specs.StateAfter.{state_after}
 use Rattle.wasm_grammar.proofs.parts.Verdicts.{agree-more}
-use Rattle.wasm_frames.proofs.ReadingFields.{ReadNumber, read_number}
-use Rattle.wasm_frames.specs.SkipNext as skip
+use Rattle.wasm_frames.proofs.CutParts.{code_cut}
 
 -- Whatever bytes come after these, the grammar has a tile of this many bytes if there are enough, and otherwise a fault
 -- at this offset.
@@ -115,202 +118,247 @@ same_name : (xs ys text : List ℕ) (used : ℕ) → name (Some name_limit) xs �
 unfolding name
 same_name xs ys text used n = grind (arith, number_fits, same_number, drop-append-le, length-append, take-append-le)
 
--- what is read where the part does not stay
-unless_stays : {A : Type 0} (b : Bool) (e : FaultAt) (o : Outcome A) (x : A × Place) → cond b o (Err e) ≡ Ok x → (b ≡ true) × (o ≡ Ok x)
-unless_stays b e o x f = grind arith
-
-unless_stayed : {A : Type 0} (b : Bool) (e : FaultAt) (o : Outcome A) (x : A × Place) → cond b (Err e) o ≡ Ok x
-    → (b ≡ false) × (o ≡ Ok x)
-unless_stayed b e o x f = grind arith
-
-abbrev head_or : Head → Outcome Head → Head
-head_or h (Ok x) = x.0
-head_or h (Err e) = h
-
 -- a part with content of this size at an offset
 abbrev sized : (offset size : ℕ) → Head → Skip
 sized offset size head = record { from = offset; to = offset + size; head = head }
+
+-- the first fields of content of this form, at this offset
+abbrev head_of : (features offset : ℕ) → Form → (id : ℕ) → List ℕ → Head
+head_of features offset form id xs = head_in (section_report features offset (offset + length xs) form id xs)
+
+-- what content that goes on with these bytes is: right, and with the same first fields
+record Fields (context : SectionContext) (features offset : ℕ) (form : Form) (id : ℕ) (xs zs : List ℕ) : Type 0 where
+  right : wrong_content form offset (xs ++ zs) ≡ None
+  counts : wrong_data context form id (offset + length (xs ++ zs)) (xs ++ zs) ≡ None
+  says : skip_in (section_report features offset (offset + length (xs ++ zs)) form id (xs ++ zs))
+      ≡ Some (sized offset (length (xs ++ zs)) (head_of features offset form id xs))
+
+none_at : (b : Bool) (f g : FaultAt) → when b f ≡ None → when b g ≡ None
+none_at b f g e = grind arith
+
+fields_grow : (context : SectionContext) (features offset end : ℕ) (form : Form) (id : ℕ) (xs : List ℕ) → form_grows form ≡ true
+    → wrong_content form offset xs ≡ None → wrong_data context form id end xs ≡ None
+    → (zs : List ℕ) → Fields context features offset form id xs zs
+unfolding wrong_content
+fields_grow context features offset end custom id xs g right counts zs = by_name (name (Some name_limit) xs) refl
+  where
+    by_name : (n : Name) → name (Some name_limit) xs ≡ n → Fields context features offset custom id xs zs
+    by_name (named text used) e =
+        let m = same_name xs zs text used e in record { right = rw m refl; counts = refl; says = rw (m, e) refl }
+    by_name (refused f i) e = let some = rw e at right in cc
+fields_grow context features offset end items id xs g right counts zs = by_number (number VarU32 xs) refl
+  where
+    by_number : (n : Number) → number VarU32 xs ≡ n → Fields context features offset items id xs zs
+    by_number (read v k) e =
+        let m = same_number xs zs v k e in
+        record { right = rw m refl; counts = rw m (none_at _ _ _ (rw e at counts)); says = rw (m, e) refl }
+    by_number (bad f k) e = let some = rw e at right in cc
+    by_number short e = let some = rw e at right in cc
+fields_grow context features offset end unknown id xs g right counts zs = record { right = refl; counts = refl; says = refl }
+fields_grow context features offset end index id xs g right counts zs = cc
+fields_grow context features offset end data_count id xs g right counts zs = cc
+
+-- ---- what a grammar cuts is skipped
+
+-- the part that is cut
+abbrev part_in : (features : ℕ) → Cut → Skip
+part_in features c = part_of (so_far features c.offset c.shape, c.offset + c.size)
 
 -- a tile of this shape is the part
 abbrev SaysSkip : (features : ℕ) → Skip → Shape → Type 0
 SaysSkip features s shape = (from : ℕ) → skip_in (tile_report features from s.to shape) ≡ Some s
 
--- what content that goes on with these bytes is: of this form, right, and with these first fields
-pub record Fields (context : SectionContext) (features : ℕ) (form : Form) (id : ℕ) (p : Place) (head : Head) (zs : List ℕ) : Type 0 where
-  pub right : wrong_content form p.offset (p.rest ++ zs) ≡ None
-  pub counts : wrong_data context form id (p.offset + length (p.rest ++ zs)) (p.rest ++ zs) ≡ None
-  pub says : skip_in (section_report features p.offset (p.offset + length (p.rest ++ zs)) form id (p.rest ++ zs))
-      ≡ Some (sized p.offset (length (p.rest ++ zs)) head)
-
-abbrev pub FieldsOf : SectionContext → (features : ℕ) → Kind → (id : ℕ) → Place → Head → Type 0
-FieldsOf context features (whole form) id p head = (zs : List ℕ) → Fields context features form id p head zs
-FieldsOf context features code id p head = ⊥
-
-pub fields_say : (context : SectionContext) (announced : Option ℕ) (features : ℕ) (kind : Kind) (id : ℕ) (p q : Place) (head : Head)
-    → context.data_counts ≡ option_to_list announced
-    → fields_at announced kind id p ≡ Ok (head, q) → FieldsOf context features kind id p head
-unfolding fields_at text_at unsigned_at wrong_content
-fields_say context announced features (whole custom) id p q head c f = λ zs. by_name (name (Some name_limit) p.rest) refl f zs
-  where
-    by_name : (n : Name) → name (Some name_limit) p.rest ≡ n
-        → (name_in_window p n >>= (λ name. let x : Outcome Head = Ok (skip.custom name.0 name.1.offset, name.1) in x)) ≡ Ok (head, q)
-        → (zs : List ℕ) → Fields context features custom id p head zs
-    by_name (named text used) e f zs =
-        let m = same_name p.rest zs text used e in
-        record { right = rw m refl; counts = refl; says = grind arith }
-    by_name (refused g i) e f zs = cc
-fields_say context announced features (whole items) id p q head c f = λ zs.
-    let n = in_steps (unsigned_at VarU32 p) _ (head, q) f in
-    let m : ReadNumber p n.between.0 n.between.1 = read_number p n.between.0 n.between.1 n.one in
-    let e = same_number p.rest zs n.between.0 m.used m.reads in
-    let (o, same) = unless_stayed (id == data_id && is_other announced n.between.0) _ _ _ n.other in
-    record {
-      right = rw e refl;
-      counts = rw (e, c, o) refl;
-      says = rw e (ap (λ (x : Outcome Head). Some (sized p.offset (length (p.rest ++ zs)) (head_or head x))) same);
-    }
-fields_say context announced features (whole unknown) id p q head c f = λ zs. record {
-  right = refl;
-  counts = refl;
-  says = ap (λ (x : Outcome Head). Some (sized p.offset (length (p.rest ++ zs)) (head_or head x))) f;
-}
-fields_say context announced features (whole index) id p q head c f = cc
-fields_say context announced features (whole data_count) id p q head c f = cc
-fields_say context announced features code id p q head c f = cc
-
--- ---- a part, by its first fields
-
--- The grammar skips this part at this place, of which bytes are missing.
-pub record SkipsAs (g : Grammar) (features : ℕ) (p : Place) (s : Skip) : Type 0 where
+-- The grammar skips this part at this offset, of which bytes are missing.
+pub record SkipsAs (g : Grammar) (features at : ℕ) (xs : List ℕ) (c : Cut) : Type 0 where
   pub size : ℕ
-  pub ends : p.offset + size ≡ s.to
-  pub missing : length p.rest < size
-  pub fits : s.to < 2 ^ 64
-  pub skips : Skips g p.rest size s.from (SaysSkip features s)
+  pub starts : (part_in features c).from ≡ c.offset
+  pub ends : at + size ≡ c.offset + c.size
+  pub missing : length xs < size
+  pub skips : Skips g xs size c.offset (SaysSkip features (part_in features c))
 
-abbrev skip_or : Skip → Outcome Skip → Skip
-skip_or s (Ok x) = x.0
-skip_or s (Err e) = s
+module _ (features at : ℕ) (c : Cut) where
+  as_check : (x : Option FaultAt) (next : Grammar) (xs : List ℕ) → (cut next xs ≡ Some c → SkipsAs next features at xs c)
+      → cut (check x next) xs ≡ Some c → SkipsAs (check x next) features at xs c
+  unfolding cut
+  as_check None next xs f e =
+      let s = f e in record {
+        size = s.size;
+        starts = s.starts;
+        ends = s.ends;
+        missing = s.missing;
+        skips = skips_check None next xs s.size c.offset _ refl s.skips;
+      }
+  as_check (Some x) next xs f e = cc
 
-not_is : (b : Bool) → not b ≡ true → b ≡ false
-not_is b e = grind arith
+  as_number : (o : ℕ) (next : ℕ → ℕ → Grammar) (xs : List ℕ)
+      → ((v k : ℕ) → cut (next v k) (drop k xs) ≡ Some c → SkipsAs (next v k) features (at + k) (drop k xs) c)
+      → cut (u32_field o next) xs ≡ Some c → SkipsAs (u32_field o next) features at xs c
+  unfolding cut
+  as_number o next xs f e = by_number (number VarU32 xs) refl
+    where
+      by_number : (n : Number) → number VarU32 xs ≡ n → SkipsAs (u32_field o next) features at xs c
+      by_number (read v k) n =
+          let s = f v k (rw n at e) in
+          record {
+            size = k + s.size;
+            starts = s.starts;
+            ends = omega (arith, s.ends);
+            missing = omega (arith, length-drop k xs, s.missing);
+            skips = skips_number o next xs v k s.size c.offset _ n s.skips;
+          }
+      by_number (bad x k) n = let none = rw n at e in cc
+      by_number short n = let none = rw n at e in cc
 
--- the bytes of content that are missing
-cut_short : (size : ℕ) (p : Place) → is_cut size p ≡ true → (length p.rest < size) × (p.offset + size < 2 ^ 64)
-cut_short size p e = let q = and_parts _ _ e in (ltb-true _ _ q.0, ltb-true _ _ q.1)
+  as_start : (o : ℕ) (end : Ending) (next : ℕ → Grammar) (xs : List ℕ)
+      → ((id : ℕ) (ys : List ℕ) → cut (next id) ys ≡ Some c → SkipsAs (next id) features (at + 1) ys c)
+      → cut (section_start o end next) xs ≡ Some c → SkipsAs (section_start o end next) features at xs c
+  unfolding cut
+  as_start o end next [] f e = cc
+  as_start o end next (id ∷ xs) f e = by_magic (agree (id ∷ xs) magic) refl
+    where
+      by_magic : (b : Bool) → agree (id ∷ xs) magic ≡ b → SkipsAs (section_start o end next) features at (id ∷ xs) c
+      by_magic true m = let none = rw m at e in cc
+      by_magic false m =
+          let s = f id xs (rw m at e) in
+          record {
+            size = suc s.size;
+            starts = s.starts;
+            ends = omega (arith, s.ends);
+            missing = omega (arith, s.missing);
+            skips = skips_id o id end next xs s.size c.offset _ m s.skips;
+          }
 
-body_is : (offset size features : ℕ) (content : List ℕ) → length content ≡ size
-    → skip_in (body_report (window_over features (offset + size - length content) content)) ≡ Some (sized offset size skip.body)
-body_is offset size features content n = grind arith
+-- ---- content whose end is missing
 
-body_skips : (bodies code_bytes features : ℕ) (p : Place) (size used : ℕ) → number VarU32 p.rest ≡ read size used
-    → length (drop used p.rest) < size → nat_eq bodies 0 ≡ false → nat_lt code_bytes (used + size) ≡ false
-    → Skips (body_grammar bodies code_bytes p.offset) p.rest (used + size) (p.offset + used)
-    (SaysSkip features (sized (p.offset + used) size skip.body))
-unfolding body_grammar verdict
-body_skips zero code_bytes features p size used n l b c = cc
-body_skips (suc bodies) code_bytes features p size used n l b c =
-    skips_number p.offset _ p.rest size used size (p.offset + used) _ n
-    (skips_check _ _ (drop used p.rest) size (p.offset + used) _ (rw c refl)
-    (skips_content size (p.offset + used) (λ content. accept (code_entry content)) (drop used p.rest) _ l
-    (λ zs m. (
-      code_entry (drop used p.rest ++ zs),
-      λ rest. refl,
-      λ from. body_is (p.offset + used) size features (drop used p.rest ++ zs) m,
-    ))))
+-- what is cut has no fault, and grows
+record Grows (x y : Option FaultAt) (s : Shape) (offset size : ℕ) (c : Cut) : Type 0 where
+  right : x ≡ None
+  counts : y ≡ None
+  grows : may_grow s ≡ true
+  is : record { shape = s; offset = offset; size = size } ≡ c
 
-pub body_skips_as : (q : ParserState) (features : ℕ) (p after : Place) (s : Skip) → body_skip_at q p ≡ Ok (s, after)
-    → SkipsAs (body_grammar q.bodies q.code_bytes p.offset) features p s
-unfolding body_skip_at unsigned_at
-body_skips_as q features p after s f =
-    let n = in_steps (unsigned_at VarU32 p) _ (s, after) f in
-    let size = n.between.0 in
-    let m : ReadNumber p size n.between.1 = read_number p size n.between.1 n.one in
-    let (t, f) = unless_stays _ _ _ _ (rw m.after at n.other) in
-    let (ab, c) = and_parts _ _ t in
-    let (a, b) = and_parts _ _ ab in
-    let cut = cut_short size (advanced m.used p) a in
-    let w : p.offset + m.used - p.offset ≡ m.used = omega arith in
-    let is : sized (p.offset + m.used) size skip.body ≡ s = ap (skip_or s) f in
-    rw (← is) (record {
-      size = m.used + size;
-      ends = omega arith;
-      missing = omega (arith, length-drop m.used p.rest, cut.0);
-      fits = cut.1;
-      skips = body_skips q.bodies q.code_bytes features p size m.used m.reads cut.0 (not_is _ b) (rw w at (not_is _ c));
-    })
+grows_at : (x y : Option FaultAt) (s : Shape) (offset size : ℕ) (c : Cut)
+    → cut_content offset size (verdict (check x (check y (accept s))) []) ≡ Some c → Grows x y s offset size c
+unfolding verdict
+grows_at None None s offset size c e = by_growth (may_grow s) refl
+  where
+    by_growth : (b : Bool) → may_grow s ≡ b → Grows None None s offset size c
+    by_growth true g = record { right = refl; counts = refl; grows = g; is = let some = rw g at e in cc }
+    by_growth false g = let none = rw g at e in cc
+grows_at None (Some f) s offset size c e = cc
+grows_at (Some f) y s offset size c e = cc
+
+none_whole : (x y : Option FaultAt) (s : Shape) (xs : List ℕ) (c : Cut) → cut (check x (check y (accept s))) xs ≡ Some c → ⊥
+unfolding cut
+none_whole None None s xs c e = cc
+none_whole None (Some f) s xs c e = cc
+none_whole (Some f) y s xs c e = cc
+
+-- whatever bytes follow
+grown : (context : SectionContext) (features : ℕ) (form : Form) (id offset size : ℕ) (xs : List ℕ) → length xs < size
+    → ((zs : List ℕ) → Fields context features offset form id xs zs)
+    → Skips (whole_grammar context form id offset size) xs size offset
+    (SaysSkip features (sized offset size (head_of features offset form id xs)))
+unfolding verdict
+grown context features form id offset size xs l f =
+    skips_content size offset
+    (λ content. check (wrong_content form offset content)
+    (check (wrong_data context form id (offset + size) content) (accept (section form id content)))) xs
+    (SaysSkip features (sized offset size (head_of features offset form id xs))) l
+    (λ zs n.
+    let x = f zs in
+    let counts : wrong_data context form id (offset + size) (xs ++ zs) ≡ None = rw n at x.counts in
+    let w : offset + size - length (xs ++ zs) ≡ offset = omega (arith, n) in (
+      section form id (xs ++ zs),
+      λ rest. rw (x.right, counts) refl,
+      λ from. rw w (subst (λ (k : ℕ). skip_in (section_report features offset (offset + k) form id (xs ++ zs))
+          ≡ Some (sized offset k (head_of features offset form id xs))) n x.says),
+    ))
+
+-- the content begins where the part says
+part_is : (features offset size : ℕ) (form : Form) (id : ℕ) (xs : List ℕ) → form_grows form ≡ true
+    → part_in features (record { shape = section form id xs; offset = offset; size = size })
+    ≡ sized offset size (head_of features offset form id xs)
+part_is features offset size custom id xs g = grind arith
+part_is features offset size items id xs g = refl
+part_is features offset size unknown id xs g = refl
+part_is features offset size index id xs g = cc
+part_is features offset size data_count id xs g = cc
+
+whole_skips : (context : SectionContext) (features : ℕ) (form : Form) (id offset size : ℕ) (xs : List ℕ) (c : Cut)
+    → cut (whole_grammar context form id offset size) xs ≡ Some c
+    → SkipsAs (whole_grammar context form id offset size) features offset xs c
+unfolding cut
+whole_skips context features form id offset size xs c e = by_length (nat_le size (length xs)) refl
+  where
+    by_length : (b : Bool) → nat_le size (length xs) ≡ b → SkipsAs (whole_grammar context form id offset size) features offset xs c
+    by_length true l = absurd (none_whole _ _ _ _ c (rw l at e))
+    by_length false l =
+        let k = grows_at _ _ (section form id xs) offset size c (rw l at e) in
+        let m : length xs < size = leb-false _ _ l in
+        let part = part_is features offset size form id xs k.grows in
+        rw (← k.is) (record {
+          size = size;
+          starts = ap (λ (s : Skip). s.from) part;
+          ends = refl;
+          missing = m;
+          skips = subst (λ (s : Skip). Skips (whole_grammar context form id offset size) xs size offset (SaysSkip features s))
+              (sym part) (grown context features form id offset size xs m
+              (fields_grow context features offset (offset + size) form id xs k.grows k.right k.counts));
+        })
 
 -- ---- a section
 
-content_skips : (q : ParserState) (features : ℕ) (form : Form) (id size : ℕ) (p : Place) (head : Head) → length p.rest < size
-    → ((zs : List ℕ) → Fields (known_context q) features form id p head zs)
-    → Skips (whole_grammar (known_context q) form id p.offset size) p.rest size p.offset (SaysSkip features (sized p.offset size head))
-unfolding verdict
-content_skips q features form id size p head l f =
-    skips_content size p.offset
-    (λ content. check (wrong_content form p.offset content)
-    (check (wrong_data (known_context q) form id (p.offset + size) content) (accept (section form id content)))) p.rest
-    (SaysSkip features (sized p.offset size head)) l
-    (λ zs n.
-    let x = f zs in
-    let counts : wrong_data (known_context q) form id (p.offset + size) (p.rest ++ zs) ≡ None = rw n at x.counts in
-    let w : p.offset + size - length (p.rest ++ zs) ≡ p.offset = omega (arith, n) in (
-      section form id (p.rest ++ zs),
-      λ rest. rw (x.right, counts) refl,
-      λ from. rw w (subst (λ (k : ℕ). skip_in (section_report features p.offset (p.offset + k) form id (p.rest ++ zs))
-          ≡ Some (sized p.offset k head)) n x.says),
-    ))
+as_content : (context : SectionContext) (features : ℕ) (kind : Kind) (id offset size : ℕ) (xs : List ℕ) (c : Cut)
+    → cut (content_grammar context kind id offset size) xs ≡ Some c
+    → SkipsAs (content_grammar context kind id offset size) features offset xs c
+as_content context features (whole form) id offset size xs c e = whole_skips context features form id offset size xs c e
+as_content context features code id offset size xs c e = let none = sym (code_cut context offset size xs _ refl) ∙ e in cc
 
-sized_skips : (q : ParserState) (features : ℕ) (kind : Kind) (id field size : ℕ) (p : Place) (head : Head) → p.offset + size < 2 ^ 64
-    → is_in_order q kind id ≡ true → length p.rest < size → FieldsOf (known_context q) features kind id p head
-    → Skips (after_length (known_context q) kind id field p.offset size) p.rest size p.offset (SaysSkip features (sized p.offset size head))
-sized_skips q features kind id field size p head b o l f = grind (arith, le-ltb, skips_check, not_is, content_skips)
-
--- one with this id and size
-content_skips_as : (q : ParserState) (features id size used : ℕ) (r : List ℕ) (p after : Place) (s : Skip) → p.rest ≡ id ∷ r
-    → agree (id ∷ r) magic ≡ false → nat_le 128 id ≡ false → number VarU32 r ≡ read size used
-    → content_skip_at q id size (advanced used (advanced 1 (record p { rest = id ∷ r }))) ≡ Ok (s, after)
-    → SkipsAs (section_grammar (known_context q) p.offset) features p s
+section_skips : (context : SectionContext) (features offset : ℕ) (xs : List ℕ) (c : Cut)
+    → cut (section_grammar context offset) xs ≡ Some c → SkipsAs (section_grammar context offset) features offset xs c
 unfolding section_grammar
-content_skips_as q features id size used r p after s w a t n f =
-    let content = advanced used (advanced 1 (record p { rest = id ∷ r })) in
-    let (c, f) = unless_stays _ _ _ _ f in
-    let (cuts, order) = and_parts _ _ c in
-    let cut = cut_short size content cuts in
-    let h = in_steps (fields_at q.data_counts (kind_of q.encoding id) id content) _ (s, after) f in
-    let says = fields_say (known_context q) q.data_counts features (kind_of q.encoding id) id content h.between.1 h.between.0 refl h.one in
-    let is : sized (p.offset + 1 + used) size h.between.0 ≡ s = ap (skip_or s) h.other in
-    rw (← is) (record {
-      size = suc (used + size);
-      ends = omega arith;
-      missing = rw w (omega (arith, length-drop used r, cut.0));
-      fits = cut.1;
-      skips = rw w (skips_id p.offset id _ _ r (used + size) (p.offset + 1 + used) _ a
-          (skips_check _ _ r (used + size) (p.offset + 1 + used) _ (rw t refl)
-          (skips_number (p.offset + 1) _ r size used size (p.offset + 1 + used) _ n
-          (sized_skips q features (kind_of q.encoding id) id (p.offset + 1) size content h.between.0 cut.1 order cut.0 says))));
-    })
+section_skips context features offset xs c e = as_start features offset c offset _ _ xs
+    (λ id ys. as_check features (offset + 1) c _ _ ys
+    (as_number features (offset + 1) c (offset + 1) _ ys
+    (λ v k. as_check features (offset + 1 + k) c _ _ (drop k ys)
+    (as_check features (offset + 1 + k) c _ _ (drop k ys)
+    (as_content context features (kind_of context.encoding id) id (offset + 1 + k) v (drop k ys) c))))) e
 
--- bytes that begin no header, nor may
-no_header : (id : ℕ) (r : List ℕ) → (is_some (asked_at_section (id ∷ r)) || agree (id ∷ r) magic && nat_le 4 (length (id ∷ r))) ≡ false
-    → agree (id ∷ r) magic ≡ false
-no_header id r e = grind arith
+-- ---- a body
 
-section_at : (q : ParserState) (features : ℕ) (r : List ℕ) (p after : Place) (s : Skip) → p.rest ≡ r
-    → section_skip_at q (record p { rest = r }) ≡ Ok (s, after) → SkipsAs (section_grammar (known_context q) p.offset) features p s
-unfolding section_skip_at
-section_at q features [] p after s w f = cc
-section_at q features (id ∷ r) p after s w f =
-    let here = advanced 1 (record p { rest = id ∷ r }) in
-    let (none, f) = unless_stayed _ _ _ _ f in
-    let (t, f) = unless_stayed _ _ _ _ f in
-    let n = in_steps (unsigned_at VarU32 here) _ (s, after) f in
-    let m : ReadNumber here n.between.0 n.between.1 = read_number here n.between.0 n.between.1 n.one in
-    content_skips_as q features id n.between.0 m.used r p after s w (no_header id r none) t m.reads (rw m.after at n.other)
+body_is : (offset size features : ℕ) (content : List ℕ) → length content ≡ size
+    → skip_in (body_report (window_over features (offset + size - length content) content)) ≡ Some (sized offset size body)
+body_is offset size features content n = grind arith
 
-pub section_skips_as : (q : ParserState) (features : ℕ) (p after : Place) (s : Skip) → section_skip_at q p ≡ Ok (s, after)
-    → SkipsAs (section_grammar (known_context q) p.offset) features p s
-section_skips_as q features p after s f = section_at q features p.rest p after s refl f
+bytes_skip : (features offset size : ℕ) (xs : List ℕ) (c : Cut)
+    → cut (bytes size offset (λ content. accept (code_entry content))) xs ≡ Some c
+    → SkipsAs (bytes size offset (λ content. accept (code_entry content))) features offset xs c
+unfolding cut verdict
+bytes_skip features offset size xs c e = by_length (nat_le size (length xs)) refl
+  where
+    by_length : (b : Bool) → nat_le size (length xs) ≡ b
+        → SkipsAs (bytes size offset (λ content. accept (code_entry content))) features offset xs c
+    by_length true l = let none = rw l at e in cc
+    by_length false l =
+        let some = rw l at e in
+        let is : record { shape = code_entry xs; offset = offset; size = size } ≡ c = cc in
+        let m : length xs < size = leb-false _ _ l in
+        rw (← is) (record {
+          size = size;
+          starts = refl;
+          ends = refl;
+          missing = m;
+          skips = skips_content size offset (λ content. accept (code_entry content)) xs _ m
+              (λ zs n. (code_entry (xs ++ zs), λ rest. refl, λ from. body_is offset size features (xs ++ zs) n));
+        })
+
+body_skips : (bodies code_bytes features offset : ℕ) (xs : List ℕ) (c : Cut) → cut (body_grammar bodies code_bytes offset) xs ≡ Some c
+    → SkipsAs (body_grammar bodies code_bytes offset) features offset xs c
+unfolding body_grammar cut
+body_skips zero code_bytes features offset xs c e = cc
+body_skips (suc bodies) code_bytes features offset xs c e = as_number features offset c offset _ xs
+    (λ v k. as_check features (offset + k) c _ _ (drop k xs) (bytes_skip features (offset + k) v (drop k xs) c)) e
 
 -- ---- the parser
 
@@ -319,24 +367,24 @@ same_state : (p : ParserState) (to : ℕ) (report : Report) (s : Skip) → skip_
     → state_after p to (report_with s.head) ≡ state_after p to report
 same_state p to report s e = grind arith
 
-at_grammar : (p : ParserState) (xs : List ℕ) (s : Skip) (after : Place) (b : Bool) → nat_eq (p.bodies + p.code_bytes) 0 ≡ b
-    → cond b (section_skip_at p (record { features = p.features; offset = p.offset; rest = xs }))
-    (body_skip_at p (record { features = p.features; offset = p.offset; rest = xs })) ≡ Ok (s, after)
-    → SkipsAs (cond b (section_grammar (known_context p) p.offset) (body_grammar p.bodies p.code_bytes p.offset)) p.features
-    (record { features = p.features; offset = p.offset; rest = xs }) s
-at_grammar p xs s after true e f = section_skips_as p p.features _ after s f
-at_grammar p xs s after false e f = body_skips_as p p.features _ after s f
+inside_skips : (context : SectionContext) (features bodies code_bytes offset : ℕ) (xs : List ℕ) (c : Cut) (b : Bool)
+    → nat_eq (bodies + code_bytes) 0 ≡ b
+    → cut (cond b (section_grammar context offset) (body_grammar bodies code_bytes offset)) xs ≡ Some c
+    → SkipsAs (cond b (section_grammar context offset) (body_grammar bodies code_bytes offset)) features offset xs c
+inside_skips context features bodies code_bytes offset xs c true z e = section_skips context features offset xs c e
+inside_skips context features bodies code_bytes offset xs c false z e = body_skips bodies code_bytes features offset xs c e
 
-place_is : (features offset : ℕ) (xs : List ℕ) → place (window_over features offset xs)
-    ≡ record { features = features; offset = offset; rest = xs }
-place_is features offset xs = grind arith
+-- the grammar of what comes where a parser is that expects no header
+abbrev grammar_in : ParserState → Grammar
+grammar_in p = inside (known_context p) p.bodies p.code_bytes p.offset
 
-pub skips_part : (p new : ParserState) (xs : List ℕ) (s : Skip) (after : Place) → p.expects_header ≡ false
-    → skip_at p (place (window_over p.features p.offset xs)) ≡ Ok (s, after)
-    → new ≡ state_after p s.to (report_with s.head) → SkipsPart p xs s new
-skips_part p new xs s after h f n =
-    let k : SkipsAs (grammar_of p) p.features (record { features = p.features; offset = p.offset; rest = xs }) s =
-    rw h (at_grammar p xs s after (nat_eq (p.bodies + p.code_bytes) 0) refl (rw (place_is p.features p.offset xs) at f)) in
+skips_part : (p new : ParserState) (xs : List ℕ) (c : Cut) → p.expects_header ≡ false → cut (grammar_in p) xs ≡ Some c
+    → c.offset + c.size < 2 ^ 64 → new ≡ state_after p (part_in p.features c).to (report_with (part_in p.features c).head)
+    → SkipsPart p xs (part_in p.features c) new
+skips_part p new xs c h e fits n =
+    let k : SkipsAs (grammar_of p) p.features p.offset xs c =
+    rw h (inside_skips (known_context p) p.features p.bodies p.code_bytes p.offset xs c _ refl e) in
+    let s = part_in p.features c in
     record {
       whole = λ more l.
           let (t, v, size_is, says) = k.skips.whole more (omega (arith, l, k.ends)) in
@@ -349,7 +397,38 @@ skips_part p new xs s after h f n =
             state = n ∙ (same_state p s.to (tile_report p.features p.offset s.to t.shape) s (says p.offset)
                 ∙ ap (λ (x : ℕ). state_after p x (tile_report p.features p.offset x t.shape)) (sym ends));
           };
-      short = λ more l. k.skips.short more (omega (arith, l, k.ends));
+      short = λ more l. rw k.starts (k.skips.short more (omega (arith, l, k.ends)));
       missing = omega (arith, k.missing, k.ends);
-      fits = k.fits;
+      fits = fits;
     }
+
+place_is : (features offset : ℕ) (xs : List ℕ) → place (window_over features offset xs)
+    ≡ record { features = features; offset = offset; rest = xs }
+place_is features offset xs = grind arith
+
+same_part : (x y : Report × ℕ) → Some x ≡ Some y → x ≡ y
+same_part x y e = cc
+
+-- what was read of the bytes at the parser
+module _ (p : ParserState) (xs : List ℕ) (w : Window) (report : Report) (end : ℕ) (same : w ≡ window_over p.features p.offset xs)
+    (h : p.expects_header ≡ false) (is : Cuts p (place w) (Some (report, end))) where
+  cut_is : Some (report, end) ≡ cut_part p.features (cut (grammar_in p) xs)
+  cut_is = subst (λ (x : Place). Cuts p x (Some (report, end))) (ap place same ∙ place_is p.features p.offset xs) is
+
+  pub is_skipped : p.offset + length xs < 2 ^ 64 → skip_of p xs ≡ Some (part_of (report, end))
+  is_skipped l = rw (h, lt-leb (2 ^ 64) (p.offset + length xs) l) (ap (option_map part_of) (sym cut_is))
+
+  pub part_skips : (new : ParserState) → CanPass p report end → end < 2 ^ 64 → new ≡ state_after p end report
+      → SkipsPart p xs (part_of (report, end)) new
+  part_skips new pass fits n = by_cut (cut (grammar_in p) xs) refl
+    where
+      by_cut : (c : Option Cut) → cut (grammar_in p) xs ≡ c → SkipsPart p xs (part_of (report, end)) new
+      by_cut None e =
+          let none : Some (report, end) ≡ cut_part p.features None = cut_is ∙ ap (cut_part p.features) e in cc
+      by_cut (Some c) e =
+          let part = same_part (report, end) (so_far p.features c.offset c.shape, c.offset + c.size)
+          (cut_is ∙ ap (cut_part p.features) e) in
+          let says : report ≡ so_far p.features c.offset c.shape = ap (λ (x : Report × ℕ). x.0) part in
+          let ends : end ≡ c.offset + c.size = ap (λ (x : Report × ℕ). x.1) part in
+          rw (says, ends) (skips_part p new xs c h e (rw ends at fits) (n ∙ (sym pass.first_fields ∙ (λ i.
+          state_after p (ends i) (report_with (head_in (says i)))))))

@@ -2,7 +2,7 @@
 use Rattle.std.specs.Prelude.{◌≡◌, ℕ, ◌+◌, List, [], length, Ok}
 use Rattle.std.specs.declared.ops.Range.{Range}
 use Rattle.wasm_base.specs.Number.{unsigned_at}
-use Rattle.wasm_base.specs.Window.{Window, place, range_of}
+use Rattle.wasm_base.specs.Window.{Window, Place, place, range_of}
 use Rattle.wasm_base.specs.declared.fault.NumberKind.TheVariants.{VarU32}
 use Rattle.wasm_frames.specs.declared.kind.FrameKind.{FrameKind}
 use Rattle.wasm_frames.specs.declared.kind.FrameKind.TheVariants as kinds
@@ -135,6 +135,13 @@ Reads (report.custom_section name data_offset window) reader = custom_in name re
     ≡ report.custom_section name data_offset window
 Reads (report.unknown_section id contents from to) reader = (place reader).rest ≡ contents
 Reads other reader = Unit {0}
+
+-- This is the offset of the data of a custom section, or of the first item of a section of items.
+abbrev pub StartsData : Report → (offset : ℕ) → Type 0
+StartsData (report.custom_section name data_offset window) offset = offset ≡ data_offset
+StartsData (report.counted id count window) offset = (first : Place) → unsigned_at VarU32 (place window)
+    ≡ Ok (count, first) → offset ≡ first.offset
+StartsData other offset = Unit {0}
 
 -- A part of a stream, or its end, is reported, and no fault.
 abbrev pub IsPart : Report → Type 0

@@ -1,6 +1,9 @@
 pub mod Answer
 pub mod Checkpoint
+pub mod Contents
+pub mod Cuts
 pub mod Frame
+pub mod Heads
 pub mod ParserState
 pub mod ReadsPart
 pub mod SkipNext

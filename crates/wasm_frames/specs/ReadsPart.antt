@@ -7,16 +7,16 @@ use Rattle.wasm_base.specs.Header.{magic, agree}
 use Rattle.wasm_base.specs.Name.{bytes_at}
 use Rattle.wasm_base.specs.Number.{number}
 use Rattle.wasm_base.specs.Outcome.{Outcome, ◌>>=◌}
-use Rattle.wasm_base.specs.Window.{Place, Window, place, advanced, window_over}
+use Rattle.wasm_base.specs.Window.{Place, Window, advanced, window_over}
 use Rattle.wasm_base.specs.declared.error.Error.{Error}
 use Rattle.wasm_base.specs.declared.fault.Fault.{Fault}
 use Rattle.wasm_base.specs.declared.fault.NumberKind.TheVariants.{VarU32}
 use Rattle.wasm_frames.specs.ParserState.{ParserState, known_context, grammar_of, is_at_section}
 use Rattle.wasm_frames.specs.declared.next.NextFrame.{NextFrame}
 use Rattle.wasm_frames.specs.declared.next.NextFrame.TheVariants as next
-use Rattle.wasm_grammar.specs.Content.{Kind, items, kind_of, wrong_single, value_of, Form, fault, ended}
+use Rattle.wasm_grammar.specs.Content.{Kind, kind_of, wrong_single, value_of, fault, ended}
 use Rattle.wasm_grammar.specs.Grammar.{SectionContext, Grammar, Verdict, tile, final, verdict, header_grammar}
-use Rattle.wasm_grammar.specs.Grammar.{section_grammar, after_id, after_length, content_grammar, whole_grammar}
+use Rattle.wasm_grammar.specs.Grammar.{section_grammar, content_grammar}
 use Rattle.wasm_grammar.specs.Grammar.{code_grammar, body_grammar}
 use Rattle.wasm_grammar.specs.Ids.{data_id}
 use Rattle.wasm_grammar.specs.Reading.{Report, tile_report}
@@ -54,9 +54,8 @@ abbrev pub HintsUnlessBegun : ParserState → (before : Place) → Result Report
 HintsUnlessBegun p before result =
     (is_at_section p ≡ true → is_magic_begun before.rest ≡ false) → HintsAs (waiting (grammar_of p) before.rest) result
 
--- | what is read of each part, by what the parser knows: a header, a section, what comes after its id and its length,
---   contents, a body [`ReadsHeader`, `ReadsNextSection`, `ReadsAfterId`, `ReadsAfterLength`, `ReadsContent`,
---   `ReadsAnywhere`, `ReadsItems`, `ReadsCodeStart`, `ReadsBody`]
+-- | what is read of each part, by what the parser knows: a header, a section, its content, the start of a code section,
+--   a body [`ReadsHeader`, `ReadsNextSection`, `ReadsContent`, `ReadsCodeStart`, `ReadsBody`]
 -- what comes where the parser is
 abbrev pub ReadsNext : ParserState → (before : Place) → Result Report Error → (after : Place) → Type 0
 ReadsNext p before result after =
@@ -96,34 +95,11 @@ ReadsNextSection p before result after =
     × (is_magic_begun before.rest ≡ false → HintsAs (waiting (section_grammar (known_context p) before.offset)
     before.rest) result)
 
--- what comes after the id of a section, which is at this offset
-abbrev pub ReadsAfterId : ParserState → (start id : ℕ) → (before : Place) → Result Report Error → (after : Place)
-    → Type 0
-ReadsAfterId p start id before result after = ReadsByGrammar (after_id (known_context p) start id) before result after
-
--- what comes after the length of a section, whose field is at this offset
-abbrev pub ReadsAfterLength : ParserState → (id field size : ℕ) → (before : Place) → Result Report Error
-    → (after : Place) → Type 0
-ReadsAfterLength p id field size before result after =
-    ReadsByGrammar (after_length (known_context p) (kind_of p.encoding id) id field before.offset size) before result
-    after
-
 -- the content of a section of this kind
 abbrev pub ReadsContent : ParserState → Kind → (id size : ℕ) → (before : Place) → Result Report Error → (after : Place)
     → Type 0
 ReadsContent p kind id size before result after =
     ReadsByGrammar (content_grammar (known_context p) kind id before.offset size) before result after
-
--- the content of a complete section, whatever came before it
-abbrev pub ReadsAnywhere : Form → (id size : ℕ) → (before : Place) → Result Report Error → (after : Place) → Type 0
-ReadsAnywhere form id size before result after = (context : SectionContext) →
-    ReadsByGrammar (whole_grammar context form id before.offset size) before result after
-
--- the content of a section of items, after a data count section with this count, or none
-abbrev pub ReadsItems : Option ℕ → (id size : ℕ) → (before : Place) → Result Report Error → (after : Place) → Type 0
-ReadsItems announced id size before result after = (context : SectionContext) → context.data_counts
-    ≡ option_to_list announced →
-    ReadsByGrammar (whole_grammar context items id before.offset size) before result after
 
 -- a code section up to its count, after a function section with this count, or none
 abbrev pub ReadsCodeStart : Option ℕ → (size : ℕ) → (before : Place) → Result Report Error → (after : Place) → Type 0

@@ -1,26 +1,21 @@
 -- Skipping a section or body by its first fields. Core specification, Binary format, Modules.
-use Rattle.std.specs.Prelude.{◌≡◌, ℕ, ◌+◌, ◌-◌, ◌<◌, ◌≤◌, ◌^◌, ◌||◌, ◌&&◌, not, Bool, List, [], ◌∷◌, ◌++◌, length}
-use Rattle.std.specs.Prelude.{Option}
-use Rattle.std.specs.Prelude.{Some, None, Ok, Err, is_some, nat_lt, nat_le, nat_eq, ◌==◌, if◌then◌else◌}
+use Rattle.std.specs.Prelude.{◌≡◌, ℕ, ◌+◌, ◌-◌, ◌<◌, ◌≤◌, ◌^◌, ◌||◌, false, true, List, [], ◌++◌, length, Option}
+use Rattle.std.specs.Prelude.{Some, None, IfSome, option_map, nat_le, if◌then◌else◌}
 use Rattle.wasm_base.specs.FaultAt.{at_offset}
-use Rattle.wasm_base.specs.Name.{byte_at, name_limit, text_at}
-use Rattle.wasm_base.specs.Number.{unsigned_at}
-use Rattle.wasm_base.specs.Outcome.{Outcome, ◌>>=◌}
-use Rattle.wasm_base.specs.Window.{Place, Window, window_over}
+use Rattle.wasm_base.specs.Window.{Window, window_over}
 use Rattle.wasm_base.specs.declared.fault.Fault.TheVariants.{UnexpectedEof}
-use Rattle.wasm_base.specs.declared.fault.NumberKind.TheVariants.{VarU32}
-use Rattle.wasm_grammar.specs.Content as content
-use Rattle.wasm_grammar.specs.Content.{Kind, whole, fault, kind_of, rank_of}
-use Rattle.wasm_grammar.specs.Grammar.{Tile, tile, final, verdict}
-use Rattle.wasm_grammar.specs.Ids.{data_id}
-use Rattle.wasm_grammar.specs.Reading.{Report, custom_section, counted, unknown_section, code_entry, tile_report}
-use Rattle.wasm_grammar.specs.Waiting.{asked_at_section}
-use Rattle.wasm_frames.specs.ParserState.{ParserState, grammar_of}
-use Rattle.wasm_frames.specs.ReadsPart.{is_magic_next, is_other}
-use Rattle.wasm_frames.specs.StateAfter.{state_after, state_after_tile}
+use Rattle.wasm_frames.specs.Frame.{range_in}
+use Rattle.wasm_frames.specs.ParserState.{ParserState, grammar_of, is_at_section}
+use Rattle.wasm_frames.specs.StateAfter.{implies_nothing, missing_bytes, state_after, state_after_tile}
 use Rattle.wasm_frames.specs.declared.skipping.PartHead.{PartHead}
 use Rattle.wasm_frames.specs.declared.skipping.PartHead.TheVariants as code
 use Rattle.wasm_frames.specs.declared.skipping.SkippedPart.{SkippedPart}
+use Rattle.wasm_grammar.specs.Content.{fault}
+use Rattle.wasm_grammar.specs.Cut.{Cut, cut}
+use Rattle.wasm_grammar.specs.Grammar
+use Rattle.wasm_grammar.specs.Grammar.{Shape, section, Tile, tile, final, verdict}
+use Rattle.wasm_grammar.specs.Reading.{Report, custom_section, counted, unknown_section, code_entry, section_report}
+use Rattle.wasm_grammar.specs.Reading.{tile_report}
 
 -- what the first fields of a section or body say
 pub data Head : Type 0 where
@@ -48,74 +43,33 @@ head_is code.Body = body
 abbrev pub skip_is : SkippedPart → Skip
 skip_is s = record { from = s.range.start; to = s.range.end; head = head_is s.head }
 
--- a part that can't be skipped here
-abbrev pub stays : {A : Type 0} → Place → Outcome A
-stays p = Err (at_offset UnexpectedEof p.offset)
+-- the first fields of a part, by its report
+abbrev pub head_in : Report → Head
+head_in (custom_section text data_offset window) = custom text data_offset
+head_in (counted id count window) = items id count
+head_in (unknown_section id contents from to) = unknown id
+head_in other = body
 
--- the first fields of a section's content: a name, or a count, which is the announced one if there is one
-unfoldable pub fields_at : (announced : Option ℕ) → Kind → (id : ℕ) → Place → Outcome Head
-fields_at announced (whole content.custom) id p = do
-  name ← text_at (Some name_limit) p
-  Ok (custom name.0 name.1.offset, name.1)
-fields_at announced (whole content.items) id p = do
-  count ← unsigned_at VarU32 p
-  if id == data_id && is_other announced count.0 then stays count.1 else Ok (items id count.0, count.1)
-fields_at announced (whole content.unknown) id p = Ok (unknown id, p)
-fields_at announced other id p = stays p
+-- the report of a part at this offset, with the content so far
+abbrev pub so_far : (features offset : ℕ) → Shape → Report
+so_far features offset (section form id content) =
+    section_report features offset (offset + length content) form id content
+so_far features offset (Grammar.code_entry content) = code_entry (window_over features offset content)
+so_far features offset other = tile_report features offset offset other
 
--- whether bytes are missing at the end of content of this size, which ends within the offsets of a stream
-abbrev pub is_cut : (size : ℕ) → Place → Bool
-is_cut size p = nat_lt (length p.rest) size && nat_lt (p.offset + size) (2 ^ 64)
+-- the report of a part whose end is missing, and the offset of that end
+abbrev pub cut_part : (features : ℕ) → Option Cut → Option (Report × ℕ)
+cut_part features c = option_map (λ c. (so_far features c.offset c.shape, c.offset + c.size)) c
 
--- whether a section of this kind may come where the parser is
-abbrev pub is_in_order : ParserState → Kind → (id : ℕ) → Bool
-is_in_order p kind id = not (nat_lt 0 (rank_of kind id) && not (nat_lt p.rank (rank_of kind id)))
+-- the part with this report and this end
+abbrev pub part_of : Report × ℕ → Skip
+part_of part = record { from = (range_in part.0).start; to = part.1; head = head_in part.0 }
 
-abbrev pub skip_of_head : (size : ℕ) → Place → Outcome Head → Outcome Skip
-skip_of_head size p fields = do
-  head ← fields
-  Ok (record { from = p.offset; to = p.offset + size; head = head.0 }, head.1)
-
--- a section with this id and size, of which the end is missing
-abbrev pub content_skip_at : ParserState → (id size : ℕ) → Place → Outcome Skip
-content_skip_at p id size place =
-    if is_cut size place && is_in_order p (kind_of p.encoding id) id
-    then skip_of_head size place (fields_at p.data_counts (kind_of p.encoding id) id place) else stays place
-
-abbrev pub sized_skip_at : ParserState → (id : ℕ) → Place → Outcome Skip
-sized_skip_at p id place = do
-  size ← unsigned_at VarU32 place
-  content_skip_at p id size.0 size.1
-
--- a section, unless the bytes begin a header, or may
-unfoldable pub section_skip_at : ParserState → Place → Outcome Skip
-section_skip_at p place =
-    if is_some (asked_at_section place.rest) || is_magic_next place then stays place else (do
-      id ← byte_at place
-      if nat_le 128 id.0 then stays id.1 else sized_skip_at p id.0 id.1)
-
--- a body of which the end is missing
-unfoldable pub body_skip_at : ParserState → Place → Outcome Skip
-body_skip_at p place = do
-  size ← unsigned_at VarU32 place
-  if is_cut size.0 size.1 && not (nat_eq p.bodies 0)
-      && not (nat_lt p.code_bytes (size.1.offset - place.offset + size.0))
-      then skip_of_head size.0 size.1 (Ok (body, size.1)) else stays size.1
-
--- the section or body where the parser is
-abbrev pub skip_at : ParserState → Place → Outcome Skip
-skip_at p place =
-    if nat_eq (p.bodies + p.code_bytes) 0 then section_skip_at p place else body_skip_at p place
-
-abbrev pub skip_or_none : Outcome Skip → Option Skip
-skip_or_none (Ok skip) = Some skip.0
-skip_or_none (Err e) = None
-
--- what a parser skips, by the bytes from its offset on
+-- what a parser skips, by the bytes from its offset on: the part there, if its end is missing
 abbrev pub skip_of : ParserState → (bytes : List ℕ) → Option Skip
 skip_of p bytes =
     if p.expects_header || nat_le (2 ^ 64) (p.offset + length bytes) then None else
-    skip_or_none (skip_at p (record { features = p.features; offset = p.offset; rest = bytes }))
+    option_map part_of (cut_part p.features (cut (grammar_of p) bytes))
 
 -- the report of a part with these first fields, as far as it says something to later parts
 abbrev pub report_with : Head → Report
@@ -140,6 +94,16 @@ skip_in (counted id count window) = Some (windowed window (items id count))
 skip_in (unknown_section id contents from to) = Some (record { from = from; to = to; head = unknown id })
 skip_in (code_entry window) = Some (windowed window body)
 skip_in other = None
+
+-- A part with this report that ends at this offset can be passed: its first fields are all that later parts need.
+pub record CanPass (p : ParserState) (report : Report) (end : ℕ) : Type 0 where
+  pub after : p.offset ≤ end
+  pub fits : end + missing_bytes report (end - p.offset) p.code_bytes < 2 ^ 64
+  pub where_sections_are : p.expects_header ≡ false → implies_nothing report ≡ true → is_at_section p ≡ true
+  pub first_fields : state_after p end (report_with (head_in report)) ≡ state_after p end report
+
+abbrev pub PartCanPass : ParserState → Option (Report × ℕ) → Type 0
+PartCanPass p part = IfSome part (λ x. CanPass p x.0 x.1)
 
 -- The next tile of a stream that goes on with these bytes is the part that was skipped, with the same first fields and
 -- offsets, and the parser is after it.

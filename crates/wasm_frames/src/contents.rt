@@ -3,73 +3,97 @@ ghost use Rattle.std.specs.Prelude.{◌≡◌, ◌+◌, ◌<◌, ◌^◌, option
 ghost use Rattle.wasm_base.specs.Hints.{Hints, HintsNothing, missing_at};
 ghost use Rattle.wasm_base.specs.Outcome.{GivesBy};
 ghost use Rattle.wasm_base.specs.Window.{place, KeepsWindow};
-ghost use Rattle.wasm_frames.specs.ReadsPart.{content_at, is_lacking, is_miscounted as miscounted, is_other, kind_of_module, ReadsAnywhere, ReadsCodeStart, ReadsItems, ReadsSingleNumber};
+ghost use Rattle.wasm_frames.specs.Contents.{IsWhole, ReadsAll, ReadsAnywhere, ReadsItems};
+ghost use Rattle.wasm_frames.specs.ReadsPart.{content_at, is_lacking, is_miscounted as miscounted, is_other, kind_of_module, ReadsCodeStart, ReadsSingleNumber};
 ghost use Rattle.wasm_grammar.specs.Content.{custom, items, index, data_count, unknown, whole};
+ghost use Rattle.wasm_grammar.specs.KindInCode.{kind_is};
 
 use crate::frame::Frame;
 use wasm_base::{BinaryReader, Error, Fault, Result};
-use wasm_grammar::DATA_SECTION;
+use wasm_grammar::{DATA_SECTION, SectionKind};
 
-/// Reads the content of a custom section.
-pub(crate) fn custom<'a>(id: u8, size: u32, reader: &mut BinaryReader<'a>) -> Result<Frame<'a>>
-    ensures { ReadsAnywhere custom id size (place reader.old) result (place reader.new) }
+/// Reads content of this kind, which ends at this offset, or as much of it as there is.
+///
+/// The count of a data section must be the announced one, if a data count section announced one.
+pub(crate) fn content<'a>(
+    announced: Option<u32>,
+    kind: SectionKind,
+    id: u8,
+    end: u64,
+    window: BinaryReader<'a>,
+) -> Result<Frame<'a>>
+    requires whole { IsWhole (kind_is kind) id }
+    requires begins { window.position ≡ 0 }
+    ensures { ReadsAll announced (kind_is kind) id end window.entry result }
 {
-    let mut window = window(size, reader)?;
+    match kind {
+        SectionKind::Custom => custom(id, window),
+        SectionKind::Items => items(announced, id, end, window),
+        SectionKind::Index => start(id, window),
+        SectionKind::DataCount => data_count(id, window),
+        SectionKind::Unknown => unknown(id, window),
+        SectionKind::Code => unreachable!(),
+    }
+}
+
+// Reads the content of a custom section.
+fn custom<'a>(id: u8, mut window: BinaryReader<'a>) -> Result<Frame<'a>>
+    requires { window.position ≡ 0 }
+    ensures { ReadsAnywhere custom id window.entry result }
+{
     match window.read_string() {
         Ok(name) => Ok(Frame::custom(name, window)),
         Err(error) => Err(error.without_needed_hint()),
     }
 }
 
-/// Reads the content of a start section: the index of a function.
-pub(crate) fn start<'a>(id: u8, size: u32, reader: &mut BinaryReader<'a>) -> Result<Frame<'a>>
-    ensures { ReadsAnywhere index id size (place reader.old) result (place reader.new) }
-{
-    let window = window(size, reader)?;
-    let range = window.range();
-    let func = only_u32(window, Fault::StartContent)?;
-    Ok(Frame::start(func, range))
-}
-
-/// Reads the content of a data count section: the number of data segments.
-pub(crate) fn data_count<'a>(id: u8, size: u32, reader: &mut BinaryReader<'a>) -> Result<Frame<'a>>
-    ensures { ReadsAnywhere data_count id size (place reader.old) result (place reader.new) }
-{
-    let window = window(size, reader)?;
-    let range = window.range();
-    let count = only_u32(window, Fault::DataCountContent)?;
-    Ok(Frame::data_count(count, range))
-}
-
-/// Reads the content of an unknown section.
-pub(crate) fn unknown<'a>(id: u8, size: u32, reader: &mut BinaryReader<'a>) -> Result<Frame<'a>>
-    ensures { ReadsAnywhere unknown id size (place reader.old) result (place reader.new) }
-{
-    let window = window(size, reader)?;
-    Ok(Frame::unknown(id, window))
-}
-
-/// Reads the content of a section that is a count and its items.
-///
-/// The count of a data section must be the announced one, if a data count section announced one.
-pub(crate) fn items<'a>(
+// Reads the content of a section that is a count and its items.
+fn items<'a>(
     announced: Option<u32>,
     id: u8,
-    size: u32,
-    reader: &mut BinaryReader<'a>,
+    end: u64,
+    mut window: BinaryReader<'a>,
 ) -> Result<Frame<'a>>
-    requires { kind_of_module id ≡ whole items }
-    ensures { ReadsItems announced id size (place reader.old) result (place reader.new) }
+    requires known { kind_of_module id ≡ whole items }
+    requires begins { window.position ≡ 0 }
+    ensures { ReadsItems announced id end window.entry result }
 {
-    let mut window = window(size, reader)?;
     let count = match window.read_var_u32() {
         Ok(count) => count,
         Err(error) => return Err(error.without_needed_hint()),
     };
     if is_miscounted(announced, id, count) {
-        return Err(Error::new(Fault::DataCountDiffer, reader.original_position()));
+        return Err(Error::new(Fault::DataCountDiffer, end));
     }
     Ok(Frame::items(id, count, window))
+}
+
+// Reads the content of a start section: the index of a function.
+fn start<'a>(id: u8, window: BinaryReader<'a>) -> Result<Frame<'a>>
+    requires { window.position ≡ 0 }
+    ensures { ReadsAnywhere index id window.entry result }
+{
+    let range = window.range();
+    let func = only_u32(window, Fault::StartContent)?;
+    Ok(Frame::start(func, range))
+}
+
+// Reads the content of a data count section: the number of data segments.
+fn data_count<'a>(id: u8, window: BinaryReader<'a>) -> Result<Frame<'a>>
+    requires { window.position ≡ 0 }
+    ensures { ReadsAnywhere data_count id window.entry result }
+{
+    let range = window.range();
+    let count = only_u32(window, Fault::DataCountContent)?;
+    Ok(Frame::data_count(count, range))
+}
+
+// Returns the content of an unknown section, which is any bytes.
+fn unknown<'a>(id: u8, window: BinaryReader<'a>) -> Result<Frame<'a>>
+    requires { window.position ≡ 0 }
+    ensures { ReadsAnywhere unknown id window.entry result }
+{
+    Ok(Frame::unknown(id, window))
 }
 
 /// Reads `size` bytes and returns them as a window of their own.
@@ -134,8 +158,8 @@ fn only_u32(mut window: BinaryReader, trailing: Fault) -> Result<u32>
     Ok(number)
 }
 
-/// Returns whether an earlier section announced another count than this.
-pub(crate) fn differs(known: Option<u32>, count: u32) -> bool
+// Whether an earlier section announced another count than this.
+fn differs(known: Option<u32>, count: u32) -> bool
     ensures { result ≡ is_other known count }
 {
     match known {

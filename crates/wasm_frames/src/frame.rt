@@ -1,7 +1,7 @@
 // One part of a stream.
 ghost use Rattle.std.specs.Prelude.{◌≡◌, ◌+◌, ◌<◌, ◌^◌};
 ghost use Rattle.wasm_base.specs.Window.{place};
-ghost use Rattle.wasm_frames.specs.Frame.{HoldsCount, IsPart, Reads, counted_in, count_in, custom_in, encoding_in, id_in, kind_in, name_in, range_in, size_in, unknown_in, unread, version_in};
+ghost use Rattle.wasm_frames.specs.Frame.{HoldsCount, IsPart, Reads, StartsData, counted_in, count_in, custom_in, encoding_in, id_in, kind_in, name_in, range_in, size_in, unknown_in, unread, version_in};
 ghost use Rattle.wasm_grammar.specs.Content.{ended};
 ghost use Rattle.wasm_grammar.specs.Reading.{version, start_section, data_count_section, code_start, code_entry, stream_end};
 
@@ -312,6 +312,15 @@ impl<'a> Frame<'a> {
         ensures { result ≡ range_in self.now }
     {
         self.start..self.end
+    }
+
+    /// Returns the offset of the data of a custom section, after its name, and of the first item of a section of items.
+    /// Of other frames it means nothing.
+    #[inline(always)]
+    pub fn data_offset(&self) -> u64
+        ensures { StartsData self.now result }
+    {
+        self.reader.original_position()
     }
 
     /// Returns a reader of the content: of a body or an unknown section from its first byte, after the count of a section

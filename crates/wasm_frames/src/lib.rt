@@ -13,6 +13,7 @@ mod advance;
 mod checkpoint;
 mod contents;
 mod frame;
+mod head;
 mod header;
 mod kind;
 mod next;

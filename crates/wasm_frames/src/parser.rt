@@ -1,20 +1,21 @@
 // The parser of frames.
-ghost use Rattle.std.specs.Prelude.{◌≡◌, ◌+◌, ◌<◌, ◌≤◌, ◌^◌, ◌&&◌, not, true, [], length, nat_lt, nat_eq};
+ghost use Rattle.std.specs.Prelude.{◌≡◌, ◌+◌, ◌<◌, ◌^◌, not, true, [], length, nat_eq};
 ghost use Rattle.wasm_base.specs.Window.{place, window_over};
 ghost use Rattle.wasm_frames.specs.Answer.{GivesFrame};
 ghost use Rattle.wasm_frames.specs.ParserState.{is_at_section as at_section};
-ghost use Rattle.wasm_frames.specs.ReadsPart.{HasSection, IsBegun, ReadsAfterId, ReadsAfterLength, ReadsBody, ReadsContent, ReadsNext, ReadsNextSection, Refuses};
+ghost use Rattle.wasm_frames.specs.Contents.{IsWhole};
+ghost use Rattle.wasm_frames.specs.ReadsPart.{HasSection, IsBegun, ReadsBody, ReadsContent, ReadsNext, ReadsNextSection, Refuses};
 ghost use Rattle.wasm_frames.specs.Stored.{numbers_of, parser_of};
-ghost use Rattle.wasm_grammar.specs.Content.{kind_of};
 ghost use Rattle.wasm_grammar.specs.KindInCode.{kind_is};
 
-use crate::contents::{code, custom, data_count, items, lacks, start, unknown, window};
+use crate::contents::{code, content, lacks, window};
 use crate::frame::Frame;
-use crate::header::{magic_follows, missing_at_section, read_header};
+use crate::head::SectionHead;
+use crate::header::{missing_at_section, read_header};
 use crate::next::NextFrame;
 use crate::stored::StoredParser;
 use wasm_base::{BinaryReader, Error, Fault, Result, fits};
-use wasm_grammar::{SectionKind, section_kind, section_rank};
+use wasm_grammar::SectionKind;
 
 impl StoredParser {
     /// Returns the next frame of the stream, or requests more bytes. `bytes` are the stream's bytes from the parser's
@@ -135,82 +136,27 @@ impl StoredParser {
         BinaryReader::new_features(bytes, self.offset, self.features())
     }
 
-    // Whether a section of this rank is out of order here: it has a rank, and that of an earlier one is no lower.
-    pub(crate) fn is_out_of_order(&self, rank: u8) -> bool
-        ensures { result ≡ (nat_lt 0 rank && not (nat_lt self.now.rank rank)) }
-    {
-        rank > 0 && rank <= self.rank
-    }
-
-    // Reads what comes where a section may start, if bytes remain.
+    // Reads a section, if bytes remain.
     fn section<'a>(&self, reader: &mut BinaryReader<'a>) -> Result<Frame<'a>>
         requires { 0 < length (place reader.old).rest }
         ensures { ReadsNextSection (numbers_of self.now) (place reader.old) result (place reader.new) }
     {
-        let start = reader.original_position();
-        if magic_follows(reader) {
-            return Err(Error::new(Fault::MagicAtSection, start));
+        let head = self.section_head(reader)?;
+        match head.kind {
+            SectionKind::Code => code(self.functions(), head.size, reader),
+            _ => self.whole(head, reader),
         }
-        let id = reader.read_u8()?;
-        self.after_id(start, id, reader)
     }
 
-    // Reads a section with this id, which is at this offset, just before the reader. In place, like `only_u32`.
-    #[inline(always)]
-    fn after_id<'a>(&self, start: u64, id: u8, reader: &mut BinaryReader<'a>) -> Result<Frame<'a>>
-        requires { start + 1 ≡ (place reader.old).offset }
-        ensures { ReadsAfterId (numbers_of self.now) start id (place reader.old) result (place reader.new) }
-    {
-        if id >= 128 {
-            return Err(Error::new(Fault::MalformedSectionId, start));
-        }
-        let field = reader.original_position();
-        let size = reader.read_var_u32()?;
-        self.after_length(id, field, size, reader)
-    }
-
-    // Reads a section with this id and size, whose length field begins at this offset.
-    fn after_length<'a>(
-        &self,
-        id: u8,
-        field: u64,
-        size: u32,
-        reader: &mut BinaryReader<'a>,
-    ) -> Result<Frame<'a>>
-        ensures { ReadsAfterLength (numbers_of self.now) id field size
+    // Reads the content of a section that is a frame of its own.
+    fn whole<'a>(&self, head: SectionHead, reader: &mut BinaryReader<'a>) -> Result<Frame<'a>>
+        requires { IsWhole (kind_is head.kind) head.id }
+        ensures { ReadsContent (numbers_of self.now) (kind_is head.kind) head.id head.size
             (place reader.old) result (place reader.new) }
     {
-        if u64::from(size) > u64::MAX - reader.original_position() {
-            return Err(Error::new(Fault::SectionTooLarge, field).with_number(u64::from(size)));
-        }
-        let kind = section_kind(self.encoding(), id);
-        if self.is_out_of_order(section_rank(kind, id)) {
-            return Err(Error::new(Fault::OutOfOrder, reader.original_position()));
-        }
-        self.content(kind, id, size, reader)
-    }
-
-    // Reads the content of a section of this kind.
-    fn content<'a>(
-        &self,
-        kind: SectionKind,
-        id: u8,
-        size: u32,
-        reader: &mut BinaryReader<'a>,
-    ) -> Result<Frame<'a>>
-        requires known { kind_is kind ≡ kind_of (numbers_of self.now).encoding id }
-        requires fits { (place reader.old).offset + size < 2 ^ 64 }
-        ensures { ReadsContent (numbers_of self.now) (kind_is kind) id size
-            (place reader.old) result (place reader.new) }
-    {
-        match kind {
-            SectionKind::Custom => custom(id, size, reader),
-            SectionKind::Items => items(self.data_counts(), id, size, reader),
-            SectionKind::Index => start(id, size, reader),
-            SectionKind::DataCount => data_count(id, size, reader),
-            SectionKind::Code => code(self.functions(), size, reader),
-            SectionKind::Unknown => unknown(id, size, reader),
-        }
+        let window = window(head.size, reader)?;
+        let end = reader.original_position();
+        content(self.data_counts(), head.kind, head.id, end, window)
     }
 
     // Reads the next part, if bytes remain, or a header or a body is expected.
@@ -232,28 +178,9 @@ impl StoredParser {
     fn body<'a>(&self, reader: &mut BinaryReader<'a>) -> Result<Frame<'a>>
         ensures { ReadsBody (numbers_of self.now) (place reader.old) result (place reader.new) }
     {
-        let start = reader.original_position();
-        if self.bodies == 0 {
-            return Err(Error::new(Fault::TrailingCode, start));
-        }
-        let size = reader.read_var_u32()?;
-        if passes(self.code_bytes, reader.original_position() - start, size) {
-            return Err(Error::new(Fault::UnexpectedEof, start));
-        }
+        let size = self.body_head(reader)?;
         let window = window(size, reader)?;
         Ok(Frame::body(window))
-    }
-}
-
-// Whether a field of this width, and the bytes that it counts, exceed the remaining bytes.
-pub(crate) fn passes(code_bytes: u32, width: u64, size: u32) -> bool
-    ensures { result ≡ nat_lt code_bytes (width + size) }
-{
-    let left = u64::from(code_bytes);
-    if width > left {
-        true
-    } else {
-        u64::from(size) > left - width
     }
 }
 

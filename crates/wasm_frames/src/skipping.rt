@@ -1,22 +1,21 @@
 // Skipping a section or body by its first fields.
-ghost use Rattle.std.specs.Prelude.{◌≡◌, ◌+◌, ◌<◌, ◌≤◌, ◌^◌, option_map};
-ghost use Rattle.wasm_base.specs.FaultAt.{at_offset, fault_at};
-ghost use Rattle.wasm_base.specs.Outcome.{Gives, GivesBy};
+ghost use Rattle.std.specs.Prelude.{◌≡◌, ◌+◌, ◌<◌, ◌≤◌, ◌^◌, length, nat_eq, nat_lt, option_map, true};
 ghost use Rattle.wasm_base.specs.Window.{place};
-ghost use Rattle.wasm_base.specs.declared.fault.Fault.TheVariants.{UnexpectedEof};
+ghost use Rattle.wasm_frames.specs.Cuts.{Cuts, CutsBody, CutsContent, CutsSection, kind_grows};
+ghost use Rattle.wasm_frames.specs.SkipNext.{PartCanPass, SkipsNext, head_in, head_is, part_of, skip_is, skip_of, state_after_skip};
+ghost use Rattle.wasm_frames.specs.Stored.{numbers_of, parser_of};
 ghost use Rattle.wasm_grammar.specs.Content.{kind_of};
 ghost use Rattle.wasm_grammar.specs.KindInCode.{kind_is};
-ghost use Rattle.wasm_frames.specs.SkipNext.{SkipsNext, body_skip_at, content_skip_at, fields_at, head_is, is_cut, items, report_with, section_skip_at, skip_at, skip_is, skip_of, state_after_skip};
-ghost use Rattle.wasm_frames.specs.StateAfter.{state_after};
-ghost use Rattle.wasm_frames.specs.Stored.{numbers_of, parser_of};
 
-use crate::contents::differs;
-use crate::header::{magic_follows, missing_at_section};
-use crate::parser::passes;
-use crate::stored::{StoredParser, byte_of};
+use crate::contents::content;
+use crate::frame::Frame;
+use crate::head::SectionHead;
+use crate::header::missing_at_section;
+use crate::kind::FrameKind;
+use crate::stored::StoredParser;
 use std::ops::Range;
-use wasm_base::{BinaryReader, Error, Fault, Result, fits};
-use wasm_grammar::{DATA_SECTION, SectionKind, section_kind, section_rank};
+use wasm_base::{BinaryReader, fits};
+use wasm_grammar::SectionKind;
 
 /// A section or body that `skip_next` skipped.
 ///
@@ -96,151 +95,137 @@ impl StoredParser {
             return None;
         }
         let mut reader = self.reader(bytes);
-        match self.skipped(&mut reader) {
-            Ok(part) => {
-                self.pass_part(&part.head, part.range.end);
-                Some(part)
+        match self.cut(&mut reader) {
+            Some((frame, end)) => {
+                self.advance(&frame, end);
+                Some(skipped_part(&frame, end))
             }
-            Err(_) => None,
+            None => None,
         }
     }
 
-    // Reads the first fields of a section or body of which the end is missing.
-    fn skipped<'a>(&self, reader: &mut BinaryReader<'a>) -> Result<SkippedPart<'a>>
-        ensures { GivesBy skip_is result reader.old reader.new (skip_at (numbers_of self.now)) }
+    // Reads the first fields of a section or body of which the end is missing. The frame has the bytes that there are, and
+    // the part ends at the offset.
+    fn cut<'a>(&self, reader: &mut BinaryReader<'a>) -> Option<(Frame<'a>, u64)>
+        requires starts { (place reader.old).offset ≡ self.now.offset }
+        requires room { self.now.offset + self.now.code_bytes < 2 ^ 64 }
+        ensures gives { Cuts (numbers_of self.now) (place reader.old) result }
+        ensures passes { PartCanPass (numbers_of self.now) result }
     {
         if self.is_code_open() {
-            self.skipped_body(reader)
+            self.cut_body(reader)
         } else {
-            self.skipped_section(reader)
+            self.cut_section(reader)
         }
     }
 
     // Reads the first fields of a section of which the end is missing.
-    #[tactic(auto, unfolding(crate::specs::SkipNext::section_skip_at))]
-    fn skipped_section<'a>(&self, reader: &mut BinaryReader<'a>) -> Result<SkippedPart<'a>>
-        ensures { GivesBy skip_is result reader.old reader.new (section_skip_at (numbers_of self.now)) }
+    fn cut_section<'a>(&self, reader: &mut BinaryReader<'a>) -> Option<(Frame<'a>, u64)>
+        requires starts { (place reader.old).offset ≡ self.now.offset }
+        requires closed { nat_eq (self.now.bodies + self.now.code_bytes) 0 ≡ true }
+        ensures gives { CutsSection (numbers_of self.now) (place reader.old) result }
+        ensures passes { PartCanPass (numbers_of self.now) result }
     {
-        if missing_at_section(reader.remaining_buffer()).is_some() || magic_follows(reader) {
-            return Err(stays(reader));
+        if missing_at_section(reader.remaining_buffer()).is_some() {
+            return None;
         }
-        let id = reader.read_u8()?;
-        if id >= 128 {
-            return Err(stays(reader));
+        match self.section_head(reader) {
+            Ok(head) => self.cut_content(head, reader),
+            Err(_) => None,
         }
-        let size = reader.read_var_u32()?;
-        self.skipped_content(id, size, reader)
     }
 
-    // Reads the first fields of a section with this id and size, of which the end is missing.
-    fn skipped_content<'a>(
+    // Reads the first fields of content after the head of a section, if its end is missing.
+    fn cut_content<'a>(
         &self,
-        id: u8,
-        size: u32,
-        reader: &mut BinaryReader<'a>,
-    ) -> Result<SkippedPart<'a>>
-        ensures { GivesBy skip_is result reader.old reader.new
-            (content_skip_at (numbers_of self.now) id size) }
+        head: SectionHead,
+        reader: &BinaryReader<'a>,
+    ) -> Option<(Frame<'a>, u64)>
+        requires starts { self.now.offset ≤ (place reader.now).offset }
+        requires known { kind_is head.kind ≡ kind_of (numbers_of self.now).encoding head.id }
+        requires fits { (place reader.now).offset + head.size < 2 ^ 64 }
+        requires closed { nat_eq (self.now.bodies + self.now.code_bytes) 0 ≡ true }
+        ensures gives { CutsContent (numbers_of self.now) head (place reader.now) result }
+        ensures passes { PartCanPass (numbers_of self.now) result }
     {
-        let kind = section_kind(self.encoding(), id);
-        if !is_cut(size, reader) || self.is_out_of_order(section_rank(kind, id)) {
-            return Err(stays(reader));
+        if !may_grow(head.kind) {
+            return None;
         }
-        let start = reader.original_position();
-        let head = fields(self.data_counts(), kind, id, reader)?;
-        Ok(SkippedPart {
-            range: start..start + u64::from(size),
-            head,
-        })
+        if !is_cut(head.size, reader) {
+            return None;
+        }
+        let end = reader.original_position() + u64::from(head.size);
+        match content(self.data_counts(), head.kind, head.id, end, reader.shrink()) {
+            Ok(frame) => Some((frame, end)),
+            Err(_) => None,
+        }
     }
 
     // Reads the size of a body of which the end is missing.
-    #[tactic(auto, unfolding(crate::specs::SkipNext::body_skip_at))]
-    fn skipped_body<'a>(&self, reader: &mut BinaryReader<'a>) -> Result<SkippedPart<'a>>
-        ensures { GivesBy skip_is result reader.old reader.new (body_skip_at (numbers_of self.now)) }
+    fn cut_body<'a>(&self, reader: &mut BinaryReader<'a>) -> Option<(Frame<'a>, u64)>
+        requires starts { (place reader.old).offset ≡ self.now.offset }
+        requires room { self.now.offset + self.now.code_bytes < 2 ^ 64 }
+        ensures gives { CutsBody (numbers_of self.now) (place reader.old) result }
+        ensures passes { PartCanPass (numbers_of self.now) result }
     {
-        let before = reader.original_position();
-        let size = reader.read_var_u32()?;
-        let start = reader.original_position();
-        if !is_cut(size, reader)
-            || self.bodies == 0
-            || passes(self.code_bytes, start - before, size)
-        {
-            return Err(stays(reader));
+        match self.body_head(reader) {
+            Ok(size) => {
+                if !is_cut(size, reader) {
+                    return None;
+                }
+                let end = reader.original_position() + u64::from(size);
+                Some((Frame::body(reader.shrink()), end))
+            }
+            Err(_) => None,
         }
-        Ok(SkippedPart {
-            range: start..start + u64::from(size),
-            head: PartHead::Body,
-        })
-    }
-
-    // Moves to the end of a part with these first fields, which is at this offset.
-    fn pass_part(&mut self, head: &PartHead, end: u64)
-        ensures state { numbers_of self.new
-            ≡ state_after (numbers_of self.old) end (report_with (head_is head.now)) }
-        ensures room { self.old.offset + self.old.code_bytes < 2 ^ 64
-            → self.new.offset + self.new.code_bytes < 2 ^ 64 }
-    {
-        let is_body = matches!(head, PartHead::Body);
-        if let PartHead::Items { id, count } = head {
-            self.learn(*id, *count);
-        }
-        let taken = end.saturating_sub(self.offset);
-        self.bodies = if is_body {
-            self.bodies.saturating_sub(1)
-        } else {
-            0
-        };
-        self.code_bytes = if is_body {
-            u64::from(self.code_bytes).saturating_sub(taken) as u32
-        } else {
-            0
-        };
-        self.offset = end;
-        self.is_begun = 1;
-        self.in_code = byte_of(is_body);
     }
 }
 
-// Reads the first fields of the content of a section of this kind.
-#[tactic(auto, unfolding(crate::specs::SkipNext::fields_at))]
-fn fields<'a>(
-    announced: Option<u32>,
-    kind: SectionKind,
-    id: u8,
-    reader: &mut BinaryReader<'a>,
-) -> Result<PartHead<'a>>
-    ensures { GivesBy head_is result reader.old reader.new (fields_at announced (kind_is kind) id) }
+// Whether more content of this kind changes nothing of what its first fields say.
+fn may_grow(kind: SectionKind) -> bool
+    ensures { result ≡ kind_grows (kind_is kind) }
 {
     match kind {
-        SectionKind::Custom => {
-            let name = reader.read_string()?;
-            let data_offset = reader.original_position();
-            Ok(PartHead::Custom { name, data_offset })
-        }
-        SectionKind::Items => {
-            let count = reader.read_var_u32()?;
-            if id == DATA_SECTION && differs(announced, count) {
-                return Err(stays(reader));
-            }
-            Ok(PartHead::Items { id, count })
-        }
-        SectionKind::Unknown => Ok(PartHead::Unknown { id }),
-        SectionKind::Index | SectionKind::DataCount | SectionKind::Code => Err(stays(reader)),
+        SectionKind::Custom => true,
+        SectionKind::Items => true,
+        SectionKind::Unknown => true,
+        SectionKind::Index => false,
+        SectionKind::DataCount => false,
+        SectionKind::Code => false,
     }
 }
 
-// Whether bytes are missing at the end of content of this size, which ends within the offsets of a stream.
+// Whether bytes are missing at the end of content of this size.
 fn is_cut(size: u32, reader: &BinaryReader<'_>) -> bool
-    ensures { result ≡ is_cut size (place reader.now) }
+    ensures { result ≡ nat_lt (length (place reader.now).rest) size }
 {
-    let size = u64::from(size);
-    (reader.bytes_remaining() as u64) < size && size <= u64::MAX - reader.original_position()
+    (reader.bytes_remaining() as u64) < u64::from(size)
 }
 
-// Says that a part can't be skipped. The error is not returned to a caller of the parser.
-fn stays(reader: &BinaryReader<'_>) -> Error
-    ensures { fault_at result ≡ at_offset UnexpectedEof (place reader.now).offset }
+// The part with this frame and this end.
+fn skipped_part<'a>(frame: &Frame<'a>, end: u64) -> SkippedPart<'a>
+    ensures { skip_is result ≡ part_of (frame.now, end) }
 {
-    Error::new(Fault::UnexpectedEof, reader.original_position())
+    SkippedPart {
+        range: frame.range().start..end,
+        head: part_head(frame),
+    }
+}
+
+// The first fields of a frame.
+fn part_head<'a>(frame: &Frame<'a>) -> PartHead<'a>
+    ensures { head_is result ≡ head_in frame.now }
+{
+    match frame.kind() {
+        FrameKind::Custom => PartHead::Custom {
+            name: frame.name(),
+            data_offset: frame.data_offset(),
+        },
+        FrameKind::Items => PartHead::Items {
+            id: frame.id(),
+            count: frame.count(),
+        },
+        FrameKind::Unknown => PartHead::Unknown { id: frame.id() },
+        _ => PartHead::Body,
+    }
 }

@@ -7,6 +7,7 @@ pub mod Reading
 pub mod Accepted
 pub mod Sections
 pub mod FrameEvents
+pub mod Cut
 pub mod EventRanges
 pub mod SectionEvents
 pub mod Shifted

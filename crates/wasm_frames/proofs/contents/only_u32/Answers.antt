@@ -1,5 +1,5 @@
 use Rattle.wasm_frames.proofs.Common.{Err, sym, ap, ◌∙◌, eqb-true, at_offset, place}
-use Rattle.wasm_frames.proofs.Counted.{single_refused, single_trailing, single_read}
+use Rattle.wasm_frames.proofs.Forms.{single_refused, single_trailing, single_read}
 use Rattle.wasm_frames.proofs.contents.only_u32.Goals as goal
 
 pub returns-in-Err-clause-reads : goal.returns-in-Err-clause-reads

@@ -1,14 +1,9 @@
-use Rattle.wasm_frames.proofs.Common.{ap, ◌∙◌, at_offset, place, MagicAtSection, numbers_of}
-use Rattle.wasm_frames.proofs.Framed.{section_magic, section_framed}
+use Rattle.wasm_frames.proofs.Common.{numbers_of, known_context, ap, sym, option_to_list}
 use Rattle.wasm_frames.proofs.stored.StoredParser.section.Goals as goal
 
-pub returns-then-magic_follows : goal.returns-then-magic_follows
-returns-then-magic_follows c =
-    section_magic (numbers_of c.args.self.now) (place c.args.reader.now) c.new.result _ c.if-magic_follows.ensures c.requires
-    (c.new.ensures.report ∙ ap (at_offset MagicAtSection) c.original_position-start.ensures.offset) c.new.ensures.hint
+pub returns-in-Code : goal.returns-in-Code
+returns-in-Code c = c.in_ok-head.ensures.next _ _
+    (rw c.in-Code.is (c.code.ensures (known_context (numbers_of c.args.self.now)) (ap option_to_list (sym c.functions.ensures))))
 
-pub returns : goal.returns
-returns c =
-    section_framed (numbers_of c.args.self.now) (place c.args.reader.now) (place c.read_u8.new.self) c.in_ok-id.id c.after_id.result _
-    c.if-magic_follows.ensures c.in_ok-id.ensures.gives
-    (rw c.original_position-start.ensures.offset at c.after_id.ensures)
+pub returns-in_default : goal.returns-in_default
+returns-in_default c = c.in_ok-head.ensures.next _ _ c.whole.ensures
