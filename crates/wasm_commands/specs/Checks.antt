@@ -1,5 +1,5 @@
 -- What a check of an input finds.
-use Rattle.std.specs.Prelude.{◌≡◌, Bool, true, false, [], ◌∷◌, Result, Ok, Err}
+use Rattle.std.specs.Prelude.{Bool, [], ◌∷◌, Result, Ok, Err}
 use Rattle.wasm_dumper.specs.Checks.{IsFaulty}
 use Rattle.wasm_dumper.specs.declared.events.Only.TheVariants.{All}
 use Rattle.wasm_feeder.specs.declared.turns.Ended.{Ended}

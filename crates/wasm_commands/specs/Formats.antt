@@ -1,5 +1,5 @@
 -- The formats of dumps.
-use Rattle.std.specs.Prelude.{◌≡◌, ℕ, Bool, true, false, ◌&&◌, ◌++◌, not, List, codes, bytes_eq, Option, Some, None}
+use Rattle.std.specs.Prelude.{ℕ, Bool, true, false, ◌&&◌, ◌++◌, not, List, codes, bytes_eq, Option, Some, None}
 use Rattle.std.specs.Prelude.{Result, Ok, Err, if◌then◌else◌}
 use Rattle.wasm_text.specs.declared.digits.Base.{Base}
 use Rattle.wasm_text.specs.declared.digits.Base.TheVariants.{Decimal, Hexadecimal}

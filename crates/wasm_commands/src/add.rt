@@ -18,7 +18,7 @@ struct Addition<'a> {
 }
 
 // Parses `NAME=FILE`.
-fn addition(word: &str) -> Option<Addition<'_>> {
+fn parse_addition(word: &str) -> Option<Addition<'_>> {
     match word.split_once('=') {
         Some((name, file)) => Some(Addition { name, file }),
         None => None,
@@ -66,7 +66,7 @@ fn append<S: System, E: Sink>(
     system: &S,
     errors: &mut E,
 ) -> Result<(), u8> {
-    let Some(Addition { name, file }) = addition(word) else {
+    let Some(Addition { name, file }) = parse_addition(word) else {
         return Err(complain(Complaint::NoData(word), errors));
     };
     let data = data_of(alloc, file, system, errors)?;
@@ -99,11 +99,65 @@ fn tail_of<S: System, E: Sink>(
 fn names_of<'a>(alloc: Global, words: &[&'a str]) -> Result<Vec<&'a str>, AllocError> {
     let mut names = Vec::new(alloc);
     for word in words {
-        if let Some(Addition { name, .. }) = addition(word) {
+        if let Some(Addition { name, .. }) = parse_addition(word) {
             names.push(name)?;
         }
     }
     Ok(names)
+}
+
+// The operands of the command: what is added, and the file to which it is added.
+#[derive(Clone, Copy)]
+struct Operands<'a> {
+    words: &'a [&'a str],
+    file: &'a str,
+}
+
+// Returns the operands, if there are enough.
+fn operands_of<'a>(operands: &'a [&'a str]) -> Option<Operands<'a>> {
+    match operands {
+        [] | [_] => None,
+        [words @ .., file] => Some(Operands { words, file }),
+    }
+}
+
+// What is done with the file: the sections with these names go, if they are replaced, and these bytes come after the rest.
+fn rewrite_of<'a>(replaces: bool, names: &'a [&'a str], tail: &'a [u8]) -> Rewrite<'a> {
+    if replaces {
+        let keep = Keep {
+            names: false,
+            kept: &[],
+            removed: names,
+        };
+        return Rewrite { keep, tail };
+    }
+    Rewrite {
+        keep: keep_all(),
+        tail,
+    }
+}
+
+// Writes a file with these sections after its own. Returns the exit status.
+fn add_all<S: System, W: Write, E: Sink>(
+    alloc: Global,
+    operands: Operands<'_>,
+    arguments: &Arguments<'_>,
+    system: &S,
+    output: &mut WriteSink<W>,
+    errors: &mut E,
+) -> Result<u8, AllocError> {
+    let names = names_of(alloc, operands.words)?;
+    let tail = match tail_of(alloc, operands.words, system, errors) {
+        Ok(tail) => tail,
+        Err(status) => return Ok(status),
+    };
+    let rewrite = rewrite_of(
+        arguments.has(Flag::Replace),
+        names.as_slice(),
+        tail.as_slice(),
+    );
+    let name = operands.file;
+    Ok(write_rewritten(alloc, rewrite, arguments, system, name, output, errors))
 }
 
 /// Runs `add`. Returns the exit status.
@@ -118,28 +172,9 @@ pub(crate) fn add<S: System, W: Write, E: Sink>(
     output: &mut WriteSink<W>,
     errors: &mut E,
 ) -> Result<u8, AllocError> {
-    let operands = arguments.operands(alloc)?;
-    let (words, name) = match operands.as_slice() {
-        [] | [_] => return Ok(complain(Complaint::Few(Verb::Add, "NAME=DATA and FILE"), errors)),
-        [words @ .., name] => (words, *name),
-    };
-    let names = names_of(alloc, words)?;
-    let tail = match tail_of(alloc, words, system, errors) {
-        Ok(tail) => tail,
-        Err(status) => return Ok(status),
-    };
-    let keep = if arguments.has(Flag::Replace) {
-        Keep {
-            names: false,
-            kept: &[],
-            removed: names.as_slice(),
-        }
-    } else {
-        keep_all()
-    };
-    let rewrite = Rewrite {
-        keep,
-        tail: tail.as_slice(),
-    };
-    Ok(write_rewritten(alloc, rewrite, arguments, system, name, output, errors))
+    let words = arguments.operands(alloc)?;
+    match operands_of(words.as_slice()) {
+        Some(operands) => add_all(alloc, operands, arguments, system, output, errors),
+        None => Ok(complain(Complaint::Few(Verb::Add, "NAME=DATA and FILE"), errors)),
+    }
 }

@@ -1,4 +1,4 @@
-use Rattle.std.proofs.Common.{◌≡◌, ◌++◌, length, map, string_bytes}
+use Rattle.std.proofs.Common.{◌≡◌, length, map, string_bytes}
 use Rattle.wasm_commands.specs.ArgumentLists.{arguments_of}
 use Rattle.wasm_commands.proofs.Parsing.{after_some}
 use Rattle.wasm_commands.specs.Parsing.{read_of}

@@ -37,3 +37,12 @@ returns-in-NamesOfInput-clause-says g c =
 
 pub returns-in-NotUtf8-clause-says : goal.returns-in-NotUtf8-clause-says
 returns-in-NotUtf8-clause-says g c = rw c.in-NotUtf8.is (rw c.as_slice-in-NotUtf8.ensures at c.say-in-NotUtf8.ensures)
+
+pub returns-in-NoData-clause-says : goal.returns-in-NoData-clause-says
+returns-in-NoData-clause-says g c = rw c.in-NoData.is c.complain_of-in-NoData.ensures.says
+
+pub returns-in-TooLarge-clause-says : goal.returns-in-TooLarge-clause-says
+returns-in-TooLarge-clause-says g c =
+    rw c.in-TooLarge.is
+    (rw (c.command_words-in-TooLarge.ensures, c.as_slice-in-TooLarge.ensures, c.as_bytes-in-TooLarge.ensures.value)
+    at c.say-in-TooLarge.ensures)

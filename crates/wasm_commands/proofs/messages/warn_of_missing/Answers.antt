@@ -2,5 +2,11 @@ use Rattle.wasm_commands.proofs.messages.warn_of_missing.Goals as goal
 
 pub returns : goal.returns
 returns g c = record {
-  says = rw (c.as_slice.ensures, c.as_bytes.ensures.value, c.shown_name.ensures, c.as_bytes-2.ensures.value) at c.say.ensures;
+  says = rw (
+    c.command_words.ensures,
+    c.as_slice.ensures,
+    c.as_bytes.ensures.value,
+    c.shown_name.ensures,
+    c.as_bytes-2.ensures.value,
+  ) at c.say.ensures;
 }
