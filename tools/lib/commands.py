@@ -9,6 +9,7 @@ COMMANDS = {
         "listings": ("compare_streams:listings", "listings of random streams"),
         "check": ("compare_dumps:check", "the malformed items of random streams and of modules"),
         "dump": ("compare_dumps:dump", "dumps of random streams and of modules"),
+        "edits": ("compare_streams:edits", "streams with custom sections that were added, replaced and extracted"),
         "forms": ("compare_forms", "dumps as JSON, with names, bytes, colors and hexadecimal offsets, with those in lines"),
         "golden": ("compare_dumps:golden", "listings and dumps with what wasmparser 0.263.0 says of the streams of tools/golden.jsonl"),
         "items": ("compare_dumps:items", "items of random bytes and of modules"),

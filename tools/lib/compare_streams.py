@@ -250,3 +250,87 @@ def strip():
         return strip_differs(given.command, lister, given.known, data) or (wabt_differs(given.command, data) if data in others else None)
 
     return comparing.compare(given, comparing.drawn(given, some_stream), comparing.one_by_one(differs))
+
+
+# ---- editing
+
+# Names and data of sections that are added: lengths at the ends of one and two bytes among them.
+NEW = [("c", b"xyz"), ("", b""), ("name", b"\0\2\1x"), ("a", bytes(124)), ("a", bytes(125)), ("d", bytes(16_380)), ("\u03b1", bytes(range(256)))]
+
+
+def new_section(name, data):
+    """A custom section as the standard has it, with lengths in as few bytes as possible."""
+    content = common.leb(len(name.encode())) + name.encode() + data
+    return b"\0" + common.leb(len(content)) + content
+
+
+def custom_sections(data):
+    """The names and data of the custom sections of a stream without a fault."""
+    found = [(name_of(content), content) for ident, _, content in sections(data) if ident == CUSTOM_SECTION]
+    return [(name, content[number_at(content, 0)[1] + len(name.encode()) :]) for name, content in found]
+
+
+def extracts_differ(words, names, data):
+    """What differs of the data of sections with these names."""
+    for name in set(names):
+        for index, content in enumerate([content for other, content in custom_sections(data) if other == name], 1):
+            text = differing(programs.run([*words, "--index=%d" % index, name], data), (content, 0, b""))
+            if text:
+                return text
+    return None
+
+
+def edit_differs(adds, extracts, model, data):
+    """What differs of a stream to which sections are added, and of each section that is extracted again."""
+    lines, rng = model.reading(data, 0, True), random.Random(len(data) + sum(data))
+    added, replaces = rng.choices(NEW, k=rng.randrange(1, 4)), rng.random() < 0.5
+    names, wanted = [name for name, _ in added], b""
+    if programs.status(lines) == 0:
+        kept = stripped(data, lambda name: not (replaces and name in names))
+        wanted = kept + b"".join(new_section(*one) for one in added)
+    told = (wanted, programs.status(lines), b"" if wanted else message(lines[-1]))
+    with tempfile.TemporaryDirectory() as folder:
+        words = ["--replace"] * replaces
+        for number, (name, content) in enumerate(added):
+            words.append("%s=%s" % (name, common.write(os.path.join(folder, str(number)), content)))
+        path = common.write(os.path.join(folder, "a.wasm"), data)
+        text = differing(programs.run([*adds, *words, path]), told) or differing(programs.run([*adds, *words, "-"], data), told)
+    if text or not wanted:
+        return text
+    if programs.status(model.reading(wanted, 0, True)):
+        return "the edited stream has a fault by the model"
+    return extracts_differ(extracts, names, wanted)
+
+
+# What must take a module after an edit if it took it before.
+READERS = (["wasm-objdump", "-h"], ["llvm-readobj", "--sections"],
+           ["node", "-e", "WebAssembly.compile(require('fs').readFileSync(process.argv[1])).catch(() => process.exit(1))"])
+
+
+def others_differ(adds, data):
+    """Whether node, wabt or LLVM refuses a module after an edit that it took before."""
+    with tempfile.TemporaryDirectory() as folder:
+        before, new = common.write(os.path.join(folder, "a.wasm"), data), common.write(os.path.join(folder, "new"), b"xyz")
+        after = common.write(os.path.join(folder, "b.wasm"), programs.run([*adds, "c=" + new, before])[0])
+        for words in READERS:
+            if shutil.which(words[0]) and programs.run([*words, before])[1] == 0 and programs.run([*words, after])[1]:
+                return "%s refuses the edited module" % words[0]
+    return None
+
+
+def edits():
+    """Adds custom sections to random streams and given files, extracts them again, and compares the results with a model.
+
+    tools/compare edits               1,000 streams, from seed 1
+    tools/compare edits 7 0 a.wasm    the modules of a file, which node, wabt and LLVM must take as before
+
+    An edited stream is its header, its sections but the replaced ones, byte for byte, and the new sections as the standard encodes them. It
+    must have no fault. Of a stream with a fault nothing is written, and the fault is reported.
+    """
+    given = comparing.arguments(edits.__doc__, "add", common.MODEL, numbers=[("seed", 1), ("count", 1000)], files=True)
+    others, extracts = set(common.modules_of(given.files)), [given.command[0], "extract"]
+
+    def differs(data):
+        return edit_differs(given.command, extracts, given.known, data) or (others_differ(given.command, data) if data in others else None)
+
+    return comparing.compare(given, comparing.drawn(given, some_stream), comparing.one_by_one(differs))

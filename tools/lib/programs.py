@@ -15,6 +15,7 @@ WORDS = {
     "dump": ["pulleynavy", "dump"],
     "check": ["pulleynavy", "check"],
     "strip": ["pulleynavy", "strip"],
+    "add": ["pulleynavy", "add"],
     "rows": ["wasm_rows"],
 }
 
