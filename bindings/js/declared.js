@@ -1,7 +1,7 @@
 // SPDX-License-Identifier: Apache-2.0 OR MIT
 // The declarations of the library, written by tools/generate header from its sources.
 
-export const VERSION = "0.15.0";
+export const VERSION = "0.16.0";
 
 // The kind of an event.
 export const EventKind = Object.freeze({

@@ -6,7 +6,7 @@ import ctypes
 import enum
 from typing import Any
 
-VERSION = "0.15.0"
+VERSION = "0.16.0"
 
 
 class EventKind(enum.IntEnum):

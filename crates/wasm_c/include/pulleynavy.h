@@ -100,11 +100,11 @@ extern "C" {
  * The version of this header. Before 1.0.0 a new minor version may change anything; from then on a new minor version only adds
  * declarations, and a new major version may change them. Enumerators keep their numbers.
  */
-#define PULLEYNAVY_VERSION_STRING "0.15.0"
+#define PULLEYNAVY_VERSION_STRING "0.16.0"
 /** Its major version. */
 #define PULLEYNAVY_VERSION_MAJOR 0
 /** Its minor version. */
-#define PULLEYNAVY_VERSION_MINOR 15
+#define PULLEYNAVY_VERSION_MINOR 16
 /** Its patch. */
 #define PULLEYNAVY_VERSION_PATCH 0
 /** The version as a number, as `pulleynavy_version` returns it. */

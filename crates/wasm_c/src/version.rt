@@ -13,7 +13,7 @@ ghost use Rattle.std.specs.Prelude.{◌≡◌};
 pub extern "C" fn pulleynavy_version() -> u32
     // Proved: `pulleynavy_version` returns the version of the library as a number; that it is that
     //   of the header is only tested
-    ensures { result ≡ 3840 }
+    ensures { result ≡ 4096 }
 {
-    3840
+    4096
 }

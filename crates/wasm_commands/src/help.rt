@@ -243,7 +243,7 @@ Exit status:
 ";
 
 /// The text of `--version`.
-const VERSION: &[u8] = b"pulleynavy 0.15.0 (follows wasmparser 0.263.0)\n";
+const VERSION: &[u8] = b"pulleynavy 0.16.0 (follows wasmparser 0.263.0)\n";
 
 /// Returns a help text.
 pub(crate) fn help_of(topic: Topic) -> &'static [u8] {

@@ -6,7 +6,7 @@ use std::process::Abort;
 use std::test::Fail;
 use wasm_feed::BoundedSink;
 
-const VERSION: &[u8] = b"pulleynavy 0.15.0 (follows wasmparser 0.263.0)\n";
+const VERSION: &[u8] = b"pulleynavy 0.16.0 (follows wasmparser 0.263.0)\n";
 
 #[test]
 fn prints_its_version(rt: HostRuntime) -> Result<(), Fail> {
