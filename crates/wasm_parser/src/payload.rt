@@ -159,11 +159,34 @@ fn counted_section<T>(id: u8, section: &SectionLimited<'_, T>) -> Option<Counted
 pub(crate) fn chunk_of<'a>(next: NextFrame<'a>) -> Result<Chunk<'a>>
     ensures { IsChunk next.entry result }
 {
+    // As in `Parser::parse`, each of the frequent kinds returns on its own.
     match next {
-        NextFrame::Parsed { frame, consumed } => Ok(Chunk::Parsed {
-            consumed,
-            payload: Payload::from(frame),
-        }),
+        NextFrame::Parsed { frame, consumed } => match frame.kind() {
+            FrameKind::Body => {
+                return Ok(Chunk::Parsed {
+                    consumed,
+                    payload: Payload::from(frame),
+                });
+            }
+            FrameKind::Custom => {
+                return Ok(Chunk::Parsed {
+                    consumed,
+                    payload: Payload::from(frame),
+                });
+            }
+            FrameKind::Unknown => {
+                return Ok(Chunk::Parsed {
+                    consumed,
+                    payload: Payload::from(frame),
+                });
+            }
+            _ => {
+                return Ok(Chunk::Parsed {
+                    consumed,
+                    payload: Payload::from(frame),
+                });
+            }
+        },
         NextFrame::NeedMoreData(hint) => Ok(Chunk::NeedMoreData(hint)),
         NextFrame::Fault(error) => Err(error),
     }
