@@ -36,7 +36,6 @@ impl StoredParser {
     /// assert!(rt; matches!(parser.next(&stream[8..], true), NextFrame::Parsed { consumed: 4, .. }));
     /// assert_eq!(rt; parser.offset, 12);
     /// ```
-    #[inline(always)]
     pub fn next<'a>(&mut self, bytes: &'a [u8], eof: bool) -> NextFrame<'a>
         // Proved: `next` returns what the grammar says of the bytes, by what the parser knows: a
         //   frame, a fault, or a request where they do not decide; the parser is then after the
