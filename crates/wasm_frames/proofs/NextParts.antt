@@ -1,14 +1,17 @@
 -- What a parser reads at its offset, and what it then returns.
 use Rattle.wasm_frames.proofs.Common.{◌≡◌, ℕ, ◌+◌, ◌^◌, ◌<◌, Bool, true, false, List, length, Result, Ok, Err, refl, subst, arith, nat_eq}
 use Rattle.wasm_frames.proofs.Common.{◌-◌, not, Window, Place, window_over, place, Error, headed, bodied, fault, ended, Tile, Verdict, tile}
-use Rattle.wasm_frames.proofs.Common.{final, Grammar, verdict, body_grammar, tile_report, Report, GivesFrame, MatchesGrammar}
+use Rattle.wasm_frames.proofs.Common.{final, Grammar, verdict, body_grammar, header_grammar, section_grammar, known_context, and_parts}
+use Rattle.wasm_frames.proofs.Common.{tile_report, Report, GivesFrame, MatchesGrammar}
 use Rattle.wasm_frames.proofs.Common.{MatchesVerdict, ParserState, grammar_of, is_at_section, state_after, NextFrame, Parsed}
-use Rattle.std.proofs.Common.{add-zero}
-use Rattle.wasm_frames.specs.ReadsPart.{IsBegun, Refuses, ReadsBody, ReadsNext}
+use Rattle.wasm_frames.specs.ReadsPart.{IsBegun, place_of, Refuses, ReadsBody, ReadsHeader, ReadsNext, ReadsNextSection}
 use Rattle.wasm_frames.specs.StateAfter.{implies_nothing}
 use Rattle.wasm_frames.proofs.Results.{gives_tile, gives_refused}
 
 -- ---- by what the parser expects
+
+not_false : (b : Bool) → not b ≡ true → b ≡ false
+not_false b e = grind arith
 
 pub not_true : (b : Bool) → true ≡ not b → b ≡ false
 not_true b e = grind arith
@@ -17,7 +20,7 @@ module _ (p : ParserState) (here after : Place) (r : Result Report Error) where
   matches : (g : Grammar) → grammar_of p ≡ g → MatchesGrammar p.offset here g r after → ReadsNext p here r after
   matches g e m = grind arith
 
-pub next_body : (p : ParserState) (here after : Place) (r : Result Report Error) → p.expects_header ≡ false
+next_body : (p : ParserState) (here after : Place) (r : Result Report Error) → p.expects_header ≡ false
     → nat_eq (p.bodies + p.code_bytes) 0 ≡ false → here.offset ≡ p.offset → ReadsBody p here r after → ReadsNext p here r after
 next_body p here after r h c o m = matches p here after r (body_grammar p.bodies p.code_bytes p.offset) (rw (h, c) refl)
     (subst (λ (x : ℕ). MatchesGrammar p.offset here (body_grammar p.bodies p.code_bytes x) r after) o (m p.offset))
@@ -52,25 +55,42 @@ gives_read : (p q : ParserState) (eof : Bool) (here after : Place) (report : Rep
     → q ≡ state_after p end report → GivesFrame p eof here.rest (Parsed report (end - p.offset)) q
 gives_read p q eof here after report end m l o f at a = gives_at _ _ _ _ _ _ _ _ refl m.0 l o f at a
 
--- ---- what is read of bytes that begin where the parser is
+-- ---- what is read of bytes where the parser is
 
-at_window : (p : ParserState) (w : Window) (bytes : List ℕ) (r : Result Report Error) (after : Place) → w
-    ≡ window_over p.features p.offset bytes → ReadsNext p (place w) r after
-    → ReadsNext p (place (window_over p.features p.offset bytes)) r after
-at_window p w bytes r after e m = subst (λ (x : Window). ReadsNext p (place x) r after) e m
+module _ (p : ParserState) (bytes : List ℕ) (after : Place) (report : Report) where
+  pub given_section : ReadsNext p (place_of p bytes) (Ok report) after → implies_nothing report ≡ true → is_at_section p ≡ true
+  given_section m n = section_of p (place_of p bytes) after report m n
 
-module _ (p : ParserState) (w : Window) (bytes : List ℕ) (after : Place) (report : Report) where
-  pub window_section : w ≡ window_over p.features p.offset bytes → ReadsNext p (place w) (Ok report) after
-      → implies_nothing report ≡ true → is_at_section p ≡ true
-  window_section e m n = section_of p _ after report (at_window p w bytes _ after e m) n
+pub frame_given : (p q : ParserState) (eof : Bool) (bytes : List ℕ) (after : Place) (report : Report) (end : ℕ)
+    → ReadsNext p (place_of p bytes) (Ok report) after → p.offset + length bytes < 2 ^ 64 → end ≡ after.offset
+    → q ≡ state_after p end report → GivesFrame p eof bytes (Parsed report (end - p.offset)) q
+frame_given p q eof bytes after report end m l at a = gives_read p q eof (place_of p bytes) after report end m l refl refl at a
 
-pub window_given : (p q : ParserState) (eof : Bool) (w : Window) (bytes : List ℕ) (after : Place) (report : Report) (start end : ℕ) → w
-    ≡ window_over p.features p.offset bytes → start ≡ p.offset → ReadsNext p (place w) (Ok report) after → p.offset + length bytes < 2 ^ 64
-    → end ≡ after.offset → q ≡ state_after p end report → GivesFrame p eof bytes (Parsed report (end - start)) q
-window_given p q eof w bytes after report start end e s m l at a =
-    rw s (gives_read p q eof _ after report end (at_window p w bytes _ after e m) l (add-zero p.offset) refl at a)
-
-pub window_refused : (p : ParserState) (eof : Bool) (w : Window) (bytes : List ℕ) (after : Place) (e : Error) (r : NextFrame)
-    → w ≡ window_over p.features p.offset bytes → ReadsNext p (place w) (Err e) after → p.offset + length bytes < 2 ^ 64
+pub fault_given : (p : ParserState) (eof : Bool) (bytes : List ℕ) (after : Place) (e : Error) (r : NextFrame)
+    → ReadsNext p (place_of p bytes) (Err e) after → p.offset + length bytes < 2 ^ 64
     → IsBegun p eof bytes → Refuses eof e r → GivesFrame p eof bytes r p
-window_refused p eof w bytes after e r same m l b f = grind (arith, gives_refused)
+fault_given p eof bytes after e r m l b f = grind (arith, gives_refused)
+
+-- ---- where a reader of them is
+
+pub place_at : (p : ParserState) (w : Window) (bytes : List ℕ) → w ≡ window_over p.features p.offset bytes → place w ≡ place_of p bytes
+place_at p w bytes e = grind arith
+
+pub next_header : (p : ParserState) (bytes : List ℕ) (here after : Place) (r : Result Report Error) → p.expects_header ≡ true
+    → here ≡ place_of p bytes → ReadsHeader here r after → ReadsNext p (place_of p bytes) r after
+next_header p bytes here after r h at m = matches p (place_of p bytes) after r (header_grammar p.offset) (rw h refl) (rw at at m)
+
+section_here : (p : ParserState) → is_at_section p ≡ true → grammar_of p ≡ section_grammar (known_context p) p.offset
+section_here p c = let (h, closed) = and_parts _ _ c in rw (not_false p.expects_header h, closed) refl
+
+pub next_section : (p : ParserState) (bytes : List ℕ) (here after : Place) (r : Result Report Error) → is_at_section p ≡ true
+    → here ≡ place_of p bytes → ReadsNextSection p here r after → ReadsNext p (place_of p bytes) r after
+next_section p bytes here after r c at m =
+    let n : ReadsNextSection p (place_of p bytes) r after = rw at at m in
+    let g = section_here p c in
+    (rw g (n.0 p.offset), λ begun. rw g (n.1 (begun c)))
+
+pub next_in_code : (p : ParserState) (bytes : List ℕ) (here after : Place) (r : Result Report Error) → p.expects_header ≡ false
+    → nat_eq (p.bodies + p.code_bytes) 0 ≡ false → here ≡ place_of p bytes → ReadsBody p here r after
+    → ReadsNext p (place_of p bytes) r after
+next_in_code p bytes here after r h c at m = next_body p (place_of p bytes) after r h c refl (rw at at m)

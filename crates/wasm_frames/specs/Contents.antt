@@ -1,10 +1,11 @@
 -- What the content of a section is read as, or as much of it as there is.
 use Rattle.std.specs.Prelude.{◌≡◌, ℕ, ◌+◌, length, Option, option_to_list, None, Some, Result, Ok, Err}
 use Rattle.wasm_base.specs.FaultAt.{FaultAt, fault_at, hint_of}
-use Rattle.wasm_base.specs.Window.{Window}
+use Rattle.wasm_base.specs.Window.{Place, Window}
 use Rattle.wasm_base.specs.declared.error.Error.{Error}
 use Rattle.wasm_grammar.specs.Content.{Form, Kind, code, items, kind_of, whole, wrong_content}
-use Rattle.wasm_grammar.specs.Grammar.{SectionContext, wrong_data}
+use Rattle.wasm_frames.specs.ReadsPart.{ReadsByGrammar}
+use Rattle.wasm_grammar.specs.Grammar.{SectionContext, whole_grammar, wrong_data}
 use Rattle.wasm_grammar.specs.Reading.{Report, section_report}
 use Rattle.wasm_grammar.specs.declared.encoding.Encoding.TheVariants.{Module}
 
@@ -30,6 +31,11 @@ ReadsForm context form id end w (Err e) = (first_wrong context form id end w ≡
 -- content that has the same meaning whatever came before it
 abbrev pub ReadsAnywhere : Form → (id : ℕ) → Window → Result Report Error → Type 0
 ReadsAnywhere form id w result = (context : SectionContext) (end : ℕ) → ReadsForm context form id end w result
+
+-- The content of a complete section with this size, whatever came before it, was read from one place to another.
+abbrev pub ReadsWhole : Form → (id size : ℕ) → (before : Place) → Result Report Error → (after : Place) → Type 0
+ReadsWhole form id size before result after = (context : SectionContext)
+    → ReadsByGrammar (whole_grammar context form id before.offset size) before result after
 
 -- a count and items, after a data count section with this count, or none
 abbrev pub ReadsItems : Option ℕ → (id end : ℕ) → Window → Result Report Error → Type 0

@@ -61,6 +61,10 @@ abbrev pub ReadsNext : ParserState → (before : Place) → Result Report Error 
 ReadsNext p before result after =
     MatchesVerdict p.offset before (verdict (grammar_of p) before.rest) result after × HintsUnlessBegun p before result
 
+-- where a parser is, with these bytes in front of it
+abbrev pub place_of : ParserState → List ℕ → Place
+place_of p bytes = record { features = p.features; offset = p.offset; rest = bytes }
+
 -- Where a section may start, bytes are left; and where more may come, they don't only begin a header.
 pub record IsBegun (p : ParserState) (eof : Bool) (bytes : List ℕ) : Type 0 where
   pub some : is_at_section p ≡ true → 0 < length bytes

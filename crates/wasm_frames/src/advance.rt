@@ -15,6 +15,8 @@ impl StoredParser {
     /// Moves to the end of a frame, which is at this offset, and records what later parts must fit.
     ///
     /// Sections that imply nothing for later parts come where no code section is open.
+    // In place, where the kind of the frame is known.
+    #[inline(always)]
     pub(crate) fn advance(&mut self, frame: &Frame, end: u64)
         requires after { self.old.offset ≤ end }
         requires section { implies_nothing frame.now ≡ true

@@ -3,7 +3,7 @@ ghost use Rattle.std.specs.Prelude.{◌≡◌, ◌+◌, ◌<◌, ◌^◌, option
 ghost use Rattle.wasm_base.specs.Hints.{Hints, HintsNothing, missing_at};
 ghost use Rattle.wasm_base.specs.Outcome.{GivesBy};
 ghost use Rattle.wasm_base.specs.Window.{place, KeepsWindow};
-ghost use Rattle.wasm_frames.specs.Contents.{IsWhole, ReadsAll, ReadsAnywhere, ReadsItems};
+ghost use Rattle.wasm_frames.specs.Contents.{IsWhole, ReadsAll, ReadsAnywhere, ReadsItems, ReadsWhole};
 ghost use Rattle.wasm_frames.specs.ReadsPart.{content_at, is_lacking, is_miscounted as miscounted, is_other, kind_of_module, ReadsCodeStart, ReadsSingleNumber};
 ghost use Rattle.wasm_grammar.specs.Content.{custom, items, index, data_count, unknown, whole};
 ghost use Rattle.wasm_grammar.specs.KindInCode.{kind_is};
@@ -36,7 +36,33 @@ pub(crate) fn content<'a>(
     }
 }
 
-// Reads the content of a custom section.
+/// Reads the content of a custom section, of this size.
+// Custom and unknown sections are the most frequent ones. So these have a call of their own, without a look at the kind.
+pub(crate) fn whole_custom<'a>(
+    id: u8,
+    size: u32,
+    reader: &mut BinaryReader<'a>,
+) -> Result<Frame<'a>>
+    ensures { ReadsWhole custom id size (place reader.old) result (place reader.new) }
+{
+    let window = window(size, reader)?;
+    custom(id, window)
+}
+
+/// Reads the content of an unknown section, of this size.
+pub(crate) fn whole_unknown<'a>(
+    id: u8,
+    size: u32,
+    reader: &mut BinaryReader<'a>,
+) -> Result<Frame<'a>>
+    ensures { ReadsWhole unknown id size (place reader.old) result (place reader.new) }
+{
+    let window = window(size, reader)?;
+    unknown(id, window)
+}
+
+// Reads the content of a custom section. In place, like `only_u32`.
+#[inline(always)]
 fn custom<'a>(id: u8, mut window: BinaryReader<'a>) -> Result<Frame<'a>>
     requires { window.position ≡ 0 }
     ensures { ReadsAnywhere custom id window.entry result }
@@ -89,6 +115,7 @@ fn data_count<'a>(id: u8, window: BinaryReader<'a>) -> Result<Frame<'a>>
 }
 
 // Returns the content of an unknown section, which is any bytes.
+#[inline(always)]
 fn unknown<'a>(id: u8, window: BinaryReader<'a>) -> Result<Frame<'a>>
     requires { window.position ≡ 0 }
     ensures { ReadsAnywhere unknown id window.entry result }

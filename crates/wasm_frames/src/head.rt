@@ -29,6 +29,7 @@ impl StoredParser {
     }
 
     /// Reads the id and the length of a section, which ends within the offsets of a stream and is in order.
+    #[inline(always)]
     pub(crate) fn section_head(&self, reader: &mut BinaryReader<'_>) -> Result<SectionHead>
         requires { 0 < length (place reader.old).rest }
         ensures { ReadsHead (numbers_of self.now) (place reader.old) result (place reader.new) }
@@ -64,6 +65,7 @@ impl StoredParser {
 
     // Returns the head of a section with this id and size before its content, where the reader is. The length field is at
     // this offset.
+    #[inline(always)]
     fn head_of(
         &self,
         id: u8,
@@ -84,6 +86,7 @@ impl StoredParser {
     }
 
     /// Reads the size of a body, which ends within its code section.
+    #[inline(always)]
     pub(crate) fn body_head(&self, reader: &mut BinaryReader<'_>) -> Result<u32>
         ensures { ReadsBodyHead (numbers_of self.now) (place reader.old) result (place reader.new) }
     {

@@ -4,11 +4,11 @@ ghost use Rattle.wasm_base.specs.Window.{place, window_over};
 ghost use Rattle.wasm_frames.specs.Answer.{GivesFrame};
 ghost use Rattle.wasm_frames.specs.ParserState.{is_at_section as at_section};
 ghost use Rattle.wasm_frames.specs.Contents.{IsWhole};
-ghost use Rattle.wasm_frames.specs.ReadsPart.{HasSection, IsBegun, ReadsBody, ReadsContent, ReadsNext, ReadsNextSection, Refuses};
+ghost use Rattle.wasm_frames.specs.ReadsPart.{IsBegun, place_of, ReadsBody, ReadsContent, ReadsNext, Refuses};
 ghost use Rattle.wasm_frames.specs.Stored.{numbers_of, parser_of};
 ghost use Rattle.wasm_grammar.specs.KindInCode.{kind_is};
 
-use crate::contents::{code, content, lacks, window};
+use crate::contents::{code, content, lacks, whole_custom, whole_unknown, window};
 use crate::frame::Frame;
 use crate::head::SectionHead;
 use crate::header::{missing_at_section, read_header};
@@ -36,7 +36,6 @@ impl StoredParser {
     /// assert!(rt; matches!(parser.next(&stream[8..], true), NextFrame::Parsed { consumed: 4, .. }));
     /// assert_eq!(rt; parser.offset, 12);
     /// ```
-    #[inline(always)]
     pub fn next<'a>(&mut self, bytes: &'a [u8], eof: bool) -> NextFrame<'a>
         // Proved: `next` returns what the grammar says of the bytes, by what the parser knows: a
         //   frame, a fault, or a request where they do not decide; the parser is then after the
@@ -49,7 +48,6 @@ impl StoredParser {
 
     /// Does what `next` does, for a parser whose code section ends within the offsets of a stream. That is so after
     /// each call.
-    #[inline(always)]
     pub fn next_settled<'a>(&mut self, bytes: &'a [u8], eof: bool) -> NextFrame<'a>
         requires room { self.old.offset + self.old.code_bytes < 2 ^ 64 }
         ensures answers { GivesFrame (numbers_of self.old) eof bytes.now result (numbers_of self.new) }
@@ -68,29 +66,83 @@ impl StoredParser {
                 return self.end();
             }
         }
-        self.read_on(bytes, eof)
+        let mut reader = self.reader(bytes);
+        if self.expects_header() {
+            let read = read_header(&mut reader);
+            return self.given(read, bytes, &reader, eof);
+        }
+        if self.is_code_open() {
+            let read = self.body(&mut reader);
+            return self.given(read, bytes, &reader, eof);
+        }
+        self.section(bytes, &mut reader, eof)
     }
 
-    // Reads the next part. Where a section may start, some bytes remain, and more than a prefix of the magic.
-    fn read_on<'a>(&mut self, bytes: &'a [u8], eof: bool) -> NextFrame<'a>
+    // Moves past the frame that was read of these bytes, or refuses. In place, so that each kind of frame is looked at where
+    // it is known.
+    #[inline(always)]
+    fn given<'a>(
+        &mut self,
+        read: Result<Frame<'a>>,
+        bytes: &'a [u8],
+        reader: &BinaryReader<'a>,
+        eof: bool,
+    ) -> NextFrame<'a>
         requires fits { self.old.offset + length bytes.now < 2 ^ 64 }
         requires room { self.old.offset + self.old.code_bytes < 2 ^ 64 }
         requires begun { IsBegun (numbers_of self.old) eof bytes.now }
+        requires reads { ReadsNext (numbers_of self.old) (place_of (numbers_of self.old) bytes.now)
+            read (place reader.now) }
         ensures answers { GivesFrame (numbers_of self.old) eof bytes.now result (numbers_of self.new) }
         ensures room { self.new.offset + self.new.code_bytes < 2 ^ 64 }
     {
-        let start = self.offset;
-        let mut reader = self.reader(bytes);
-        match self.read(&mut reader) {
+        match read {
             Ok(frame) => {
                 let end = reader.original_position();
+                let consumed = (end - self.offset) as usize;
                 self.advance(&frame, end);
-                NextFrame::Parsed {
-                    frame,
-                    consumed: (end - start) as usize,
-                }
+                NextFrame::Parsed { frame, consumed }
             }
             Err(error) => refused(error, eof),
+        }
+    }
+
+    // Reads a section of these bytes, where one may start. Frequent kinds come first, each on its own.
+    fn section<'a>(
+        &mut self,
+        bytes: &'a [u8],
+        reader: &mut BinaryReader<'a>,
+        eof: bool,
+    ) -> NextFrame<'a>
+        requires fits { self.old.offset + length bytes.now < 2 ^ 64 }
+        requires room { self.old.offset + self.old.code_bytes < 2 ^ 64 }
+        requires begun { IsBegun (numbers_of self.old) eof bytes.now }
+        requires at { place reader.old ≡ place_of (numbers_of self.old) bytes.now }
+        requires closed { at_section (numbers_of self.old) ≡ true }
+        ensures answers { GivesFrame (numbers_of self.old) eof bytes.now result (numbers_of self.new) }
+        ensures room { self.new.offset + self.new.code_bytes < 2 ^ 64 }
+    {
+        let head = match self.section_head(reader) {
+            Ok(head) => head,
+            Err(error) => return refused(error, eof),
+        };
+        match head.kind {
+            SectionKind::Custom => {
+                let read = whole_custom(head.id, head.size, reader);
+                self.given(read, bytes, reader, eof)
+            }
+            SectionKind::Unknown => {
+                let read = whole_unknown(head.id, head.size, reader);
+                self.given(read, bytes, reader, eof)
+            }
+            SectionKind::Code => {
+                let read = code(self.functions(), head.size, reader);
+                self.given(read, bytes, reader, eof)
+            }
+            _ => {
+                let read = self.whole(head, reader);
+                self.given(read, bytes, reader, eof)
+            }
         }
     }
 
@@ -136,18 +188,6 @@ impl StoredParser {
         BinaryReader::new_features(bytes, self.offset, self.features())
     }
 
-    // Reads a section, if bytes remain.
-    fn section<'a>(&self, reader: &mut BinaryReader<'a>) -> Result<Frame<'a>>
-        requires { 0 < length (place reader.old).rest }
-        ensures { ReadsNextSection (numbers_of self.now) (place reader.old) result (place reader.new) }
-    {
-        let head = self.section_head(reader)?;
-        match head.kind {
-            SectionKind::Code => code(self.functions(), head.size, reader),
-            _ => self.whole(head, reader),
-        }
-    }
-
     // Reads the content of a section that is a frame of its own.
     fn whole<'a>(&self, head: SectionHead, reader: &mut BinaryReader<'a>) -> Result<Frame<'a>>
         requires { IsWhole (kind_is head.kind) head.id }
@@ -157,21 +197,6 @@ impl StoredParser {
         let window = window(head.size, reader)?;
         let end = reader.original_position();
         content(self.data_counts(), head.kind, head.id, end, window)
-    }
-
-    // Reads the next part, if bytes remain, or a header or a body is expected.
-    fn read<'a>(&self, reader: &mut BinaryReader<'a>) -> Result<Frame<'a>>
-        requires starts { (place reader.old).offset ≡ self.now.offset }
-        requires some { HasSection (numbers_of self.now) (place reader.old) }
-        ensures { ReadsNext (numbers_of self.now) (place reader.old) result (place reader.new) }
-    {
-        if self.expects_header() {
-            read_header(reader)
-        } else if self.is_code_open() {
-            self.body(reader)
-        } else {
-            self.section(reader)
-        }
     }
 
     // Reads the next body of a code section that has remaining bytes or bodies.

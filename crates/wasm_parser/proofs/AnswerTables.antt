@@ -1,12 +1,11 @@
 -- The result of a call by what comes next: the equation of `ParseAnswer`, case by case.
 use Rattle.wasm_parser.proofs.Common.{◌≡◌, ℕ, ◌+◌, ◌^◌, ◌<◌, ◌≤◌, Bool, true, false, List, length, Result, Ok, Err, refl, arith, ltb-true}
 use Rattle.wasm_parser.proofs.Common.{nat_lt, ltb-false, FaultAt, fault_at, at_offset, Error, OffsetRange, fault, ended, Verdict, tile}
-use Rattle.wasm_parser.proofs.Common.{final, Shape, verdict, stream_end, tile_report, Waiting, wants, waiting, IsPayload, is_end, said}
+use Rattle.wasm_parser.proofs.Common.{final, verdict, stream_end, tile_report, Waiting, wants, waiting, IsPayload, said}
 use Rattle.wasm_parser.proofs.Common.{refuses, ParseAnswer, ParserState, grammar_of, ended_state, state_after_tile, Chunk, NeedMoreData}
 use Rattle.wasm_parser.proofs.Common.{Parsed}
 use Rattle.wasm_frames.specs.Answer.{Answer, answer_by, answer_in_time, answer_to}
 use Rattle.wasm_parser.specs.ParseAnswer.{state_after_answer, AnswerBegins}
-use Rattle.wasm_frames.proofs.Results.{goes_on}
 
 -- ---- the tables
 

@@ -4,14 +4,13 @@ use Rattle.std.specs.Prelude.{if◌then◌else◌}
 use Rattle.wasm_base.specs.FaultAt.{fault_at}
 use Rattle.wasm_base.specs.Number.{unsigned_at}
 use Rattle.wasm_base.specs.Section.{Section}
-use Rattle.wasm_base.specs.Window.{Window, place, range_of}
+use Rattle.wasm_base.specs.Window.{place, range_of}
 use Rattle.wasm_base.specs.declared.error.Error.{Error}
 use Rattle.wasm_base.specs.declared.fault.NumberKind.TheVariants.{VarU32}
-use Rattle.wasm_frames.specs.Answer.{Answer, asks, reports, refuses, answer_to, content_of, is_end}
+use Rattle.wasm_frames.specs.Answer.{Answer, asks, reports, refuses, answer_to, is_end}
 use Rattle.wasm_frames.specs.Frame.{unread}
 use Rattle.wasm_frames.specs.ParserState.{ParserState, ended_state}
 use Rattle.wasm_frames.specs.StateAfter.{state_after}
-use Rattle.wasm_frames.specs.declared.next.NextFrame.{NextFrame}
 use Rattle.wasm_grammar.specs.Content.{ended}
 use Rattle.wasm_grammar.specs.Ids.{data_id, element_id, export_id, function_id, global_id, import_id, memory_id}
 use Rattle.wasm_grammar.specs.Ids.{table_id, tag_id, type_id}
@@ -115,11 +114,6 @@ abbrev pub AnswerBegins : Result Chunk Error → Type 0
 AnswerBegins (Ok (NeedMoreData hint)) = Unit {0}
 AnswerBegins (Ok (Parsed consumed payload)) = ItemsBegin payload
 AnswerBegins (Err e) = Unit {0}
-
--- The result has the content of what a parser of frames returned.
-pub record IsChunk (next : NextFrame) (result : Result Chunk Error) : Type 0 where
-  pub says : said result ≡ content_of next
-  pub items : AnswerBegins result
 
 -- | what `parse` returns for all the rest of a stream, or for bytes after which more may come, by what the parser
 --   knows [`state_after_answer`; `wasm_frames`: `Answer.answer_to`, `answer_by`, `answer_in_time`]

@@ -16,12 +16,12 @@ ghost use Rattle.wasm_parser.specs.ParseAnswer.{AsksForSome, Consumes, ParseAnsw
 ghost use Rattle.wasm_parser.specs.Skipped.{SkipsSection};
 
 use crate::parse_all::ParseAll;
-use crate::payload::{Chunk, chunk_of};
+use crate::payload::{Chunk, Payload};
 use bitflags::Flags;
 use std::alloc::AllocError;
 use std::marker::Model;
 use wasm_base::{BinaryReader, Result, WasmFeatures};
-use wasm_frames::{Checkpoint, SkippedPart, StoredParser};
+use wasm_frames::{Checkpoint, FrameKind, NextFrame, SkippedPart, StoredParser};
 use wasm_grammar::{COMPONENT_HEADER, CORE_HEADER};
 
 /// A parser of a module or component, one part at a time (core specification, Binary format, Modules).
@@ -130,7 +130,37 @@ impl Parser {
         // Proved: after a fault or a request the parser is unchanged
         ensures unchanged { IsUnchanged self.old result self.new }
     {
-        chunk_of(self.stored.next_settled(bytes, eof))
+        // Each of the frequent kinds returns on its own, so that its fields go straight to the caller's memory.
+        match self.stored.next_settled(bytes, eof) {
+            NextFrame::Parsed { frame, consumed } => match frame.kind() {
+                FrameKind::Body => {
+                    return Ok(Chunk::Parsed {
+                        consumed,
+                        payload: Payload::from(frame),
+                    });
+                }
+                FrameKind::Custom => {
+                    return Ok(Chunk::Parsed {
+                        consumed,
+                        payload: Payload::from(frame),
+                    });
+                }
+                FrameKind::Unknown => {
+                    return Ok(Chunk::Parsed {
+                        consumed,
+                        payload: Payload::from(frame),
+                    });
+                }
+                _ => {
+                    return Ok(Chunk::Parsed {
+                        consumed,
+                        payload: Payload::from(frame),
+                    });
+                }
+            },
+            NextFrame::NeedMoreData(hint) => Ok(Chunk::NeedMoreData(hint)),
+            NextFrame::Fault(error) => Err(error),
+        }
     }
 
     /// Returns an iterator over the payloads of a stream in memory, up to its end or its first error.

@@ -1,15 +1,15 @@
 // What a parser says of a stream.
 ghost use Rattle.std.specs.Prelude.{◌≡◌};
 ghost use Rattle.wasm_frames.specs.Frame.{HoldsCount, counted_in as counted_frame};
-ghost use Rattle.wasm_parser.specs.ParseAnswer.{IsChunk, IsPayload, counted_in, report_of};
+ghost use Rattle.wasm_parser.specs.ParseAnswer.{IsPayload, counted_in, report_of};
 ghost use Rattle.wasm_grammar.specs.Reading.{counted};
 ghost use Rattle.wasm_grammar.specs.Sections.{parts_of, section_of};
 
 use std::fmt;
 use std::ops::Range;
-use wasm_base::{BinaryReader, Result, SectionLimited};
+use wasm_base::{BinaryReader, SectionLimited};
 use wasm_custom::CustomSectionReader;
-use wasm_frames::{Frame, FrameKind, NextFrame};
+use wasm_frames::{Frame, FrameKind};
 use wasm_grammar::{
     CODE_SECTION, CUSTOM_SECTION, DATA_COUNT_SECTION, DATA_SECTION, ELEMENT_SECTION,
     EXPORT_SECTION, Encoding, FUNCTION_SECTION, GLOBAL_SECTION, IMPORT_SECTION, MEMORY_SECTION,
@@ -152,21 +152,6 @@ fn counted_section<T>(id: u8, section: &SectionLimited<'_, T>) -> Option<Counted
         count: section.count(),
         range: section.range(),
     })
-}
-
-/// Returns the payload of what a parser of frames returned, or the request or error that it returned.
-#[inline(always)]
-pub(crate) fn chunk_of<'a>(next: NextFrame<'a>) -> Result<Chunk<'a>>
-    ensures { IsChunk next.entry result }
-{
-    match next {
-        NextFrame::Parsed { frame, consumed } => Ok(Chunk::Parsed {
-            consumed,
-            payload: Payload::from(frame),
-        }),
-        NextFrame::NeedMoreData(hint) => Ok(Chunk::NeedMoreData(hint)),
-        NextFrame::Fault(error) => Err(error),
-    }
 }
 
 // The section with this id, count and window.

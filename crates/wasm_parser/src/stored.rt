@@ -4,9 +4,9 @@ ghost use Rattle.wasm_parser.specs.AsksWhereOpen.{AsksWhereOpen};
 ghost use Rattle.wasm_parser.specs.GivesNextEvent.{GivesNextEvent};
 ghost use Rattle.wasm_parser.specs.ParseAnswer.{AsksForSome, Consumes, FaultsWithin, IsUnchanged, ParseAnswer};
 
-use crate::payload::{Chunk, chunk_of};
+use crate::payload::{Chunk, Payload};
 use wasm_base::Result;
-use wasm_frames::StoredParser;
+use wasm_frames::{FrameKind, NextFrame, StoredParser};
 
 /// What a parser as numbers returns, as payloads.
 pub trait ParsePayloads {
@@ -29,7 +29,6 @@ pub trait ParsePayloads {
 }
 
 impl ParsePayloads for StoredParser {
-    #[inline(always)]
     fn parse<'a>(&mut self, bytes: &'a [u8], eof: bool) -> Result<Chunk<'a>>
         // Proved: every bit pattern of the 48 bytes of a stored parser is a parser, and each parser
         //   can be stored [`parse` of `StoredParser` and `stored` of `Parser` in `wasm_parser`
@@ -43,6 +42,36 @@ impl ParsePayloads for StoredParser {
         ensures faults { FaultsWithin (parser_of self.old) bytes.now result }
         ensures unchanged { IsUnchanged (parser_of self.old) result (parser_of self.new) }
     {
-        chunk_of(self.next(bytes, eof))
+        // As in `Parser::parse`, each of the frequent kinds returns on its own.
+        match self.next(bytes, eof) {
+            NextFrame::Parsed { frame, consumed } => match frame.kind() {
+                FrameKind::Body => {
+                    return Ok(Chunk::Parsed {
+                        consumed,
+                        payload: Payload::from(frame),
+                    });
+                }
+                FrameKind::Custom => {
+                    return Ok(Chunk::Parsed {
+                        consumed,
+                        payload: Payload::from(frame),
+                    });
+                }
+                FrameKind::Unknown => {
+                    return Ok(Chunk::Parsed {
+                        consumed,
+                        payload: Payload::from(frame),
+                    });
+                }
+                _ => {
+                    return Ok(Chunk::Parsed {
+                        consumed,
+                        payload: Payload::from(frame),
+                    });
+                }
+            },
+            NextFrame::NeedMoreData(hint) => Ok(Chunk::NeedMoreData(hint)),
+            NextFrame::Fault(error) => Err(error),
+        }
     }
 }
