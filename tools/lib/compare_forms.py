@@ -1,4 +1,4 @@
-"""Compares dumps as JSON, with names, with bytes, and with hexadecimal offsets, by the built program wasm_dump, with its dump in lines.
+"""Compares dumps as JSON, with names, with bytes, and with hexadecimal offsets, by `pulleynavy dump`, with its dump in lines.
 
     tools/compare forms               the golden streams and 300 random ones, from seed 1
     tools/compare forms 7 0 a.wasm    the golden streams and the files
