@@ -544,12 +544,6 @@ def index_page(site):
     return page("Pulleynavy API", guide.replace("<p>@CRATES@</p>", '<ul class="contents crates">%s</ul>' % "".join(rows)), here=CRATES)
 
 
-def script(site):
-    """The script of the pages, with the index that it searches."""
-    index = json.dumps(site.index, ensure_ascii=False, separators=(",", ":"))
-    return "const INDEX = %s;\n%s" % (index, common.read("tools", "lib", "api.js"))
-
-
 def files(more):
     """All files of the reference by their names, and the site that they show. `more` has what writes further pages, by their names."""
     site = Site()
@@ -559,5 +553,6 @@ def files(more):
     found.update((name, write(site)) for name, write in more.items())
     found[CRATES] = index_page(site)
     found["api.css"] = common.read("tools", "lib", "api.css")
-    found["api.js"] = script(site)
+    index = json.dumps(site.index, ensure_ascii=False, separators=(",", ":"))
+    found["api.js"] = "const INDEX = %s;\n%s" % (index, common.read("tools", "lib", "api.js"))
     return found, site

@@ -79,14 +79,10 @@ def rows_of(path, count):
         cells = [cell.strip() for cell in line.strip("|").split(" | ")] if line.startswith("|") else []
         if not line.startswith("|---"):
             if len(cells) == count and not is_head:
-                yield number, crates_in(heading), cells
+                yield number, [name for name in re.findall(r"`(wasm_\w+)`", heading) if name in common.crates()], cells
             is_head = not cells
         else:
             is_head = False
-
-
-def crates_in(text):
-    return [name for name in re.findall(r"`(wasm_\w+)`", text) if name in common.crates()]
 
 
 def with_libraries(crates):
