@@ -170,16 +170,12 @@ def comment_html(lines):
     return "<p>%s</p>" % inline(" ".join(lines)) if lines else ""
 
 
-def of_library(targets):
-    """The paths of what a clause cites of the standard library, without its prelude and without operators."""
-    paths = [target.path for target in targets]
-    return [path for path in paths if not path.startswith("Prelude.") and re.match(r"\w", path.split(".")[-1])]
-
-
 def folded_definitions(site, targets, others):
     """The definitions that a clause cites, folded. Of those of the standard library it says only where they are."""
     found = list(dict.fromkeys(api_names.definition(target.crate, *target.path) for target in targets))
-    library = of_library(others)
+    # Without the prelude and operators.
+    paths = [target.path for target in others if not target.path.startswith("Prelude.")]
+    library = [path for path in paths if re.match(r"\w", path.split(".")[-1])]
     if not found and not library:
         return ""
     names = [one.name for one in found] + [path.split(".")[-1] for path in library]

@@ -175,11 +175,6 @@ def with_names(lines, names):
         yield line if name is None else "%s %s%s" % (found[1], quoted(name), found[4])
 
 
-def check_names(lines, named, stream):
-    for line, wanted in zip_longest(named, with_names(lines, names_in(stream)), fillvalue=""):
-        assert line == wanted, "%s in place of %s" % (line, wanted)
-
-
 # ---- bytes, offsets and files
 
 def check_rows_before(line, start, end):
@@ -224,7 +219,8 @@ class Dumps:
         text, rows, hexadecimal = self.run(), self.run("--bytes"), self.run("--hex")
         lines, named = text.decode().splitlines(), self.run("--names").decode().splitlines()
         check_objects(lines, objects_in(self.run("--json")))
-        check_names(lines, named, stream)
+        for line, wanted in zip_longest(named, with_names(lines, names_in(stream)), fillvalue=""):
+            assert line == wanted, "%s in place of %s" % (line, wanted)
         check_objects(named, objects_in(self.run("--names", "--json")))
         check_bytes(lines, rows, stream)
         check_hexadecimal(text, hexadecimal)
