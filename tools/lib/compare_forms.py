@@ -239,8 +239,7 @@ class Dumps:
 def forms_differ(words, stream):
     """What differs of the dumps of a stream; of each tenth two files are dumped too."""
     with tempfile.NamedTemporaryFile(suffix=".wasm") as file:
-        file.write(stream)
-        file.flush()
+        common.write(file.name, stream)
         dumps = Dumps(words, file.name)
         try:
             dumps.check(stream)
