@@ -170,16 +170,12 @@ def comment_html(lines):
     return "<p>%s</p>" % inline(" ".join(lines)) if lines else ""
 
 
-def of_library(targets):
-    """The paths of what a clause cites of the standard library, without its prelude and without operators."""
-    paths = [target.path for target in targets]
-    return [path for path in paths if not path.startswith("Prelude.") and re.match(r"\w", path.split(".")[-1])]
-
-
 def folded_definitions(site, targets, others):
     """The definitions that a clause cites, folded. Of those of the standard library it says only where they are."""
     found = list(dict.fromkeys(api_names.definition(target.crate, *target.path) for target in targets))
-    library = of_library(others)
+    # Without the prelude and operators.
+    paths = [target.path for target in others if not target.path.startswith("Prelude.")]
+    library = [path for path in paths if re.match(r"\w", path.split(".")[-1])]
     if not found and not library:
         return ""
     names = [one.name for one in found] + [path.split(".")[-1] for path in library]
@@ -544,12 +540,6 @@ def index_page(site):
     return page("Pulleynavy API", guide.replace("<p>@CRATES@</p>", '<ul class="contents crates">%s</ul>' % "".join(rows)), here=CRATES)
 
 
-def script(site):
-    """The script of the pages, with the index that it searches."""
-    index = json.dumps(site.index, ensure_ascii=False, separators=(",", ":"))
-    return "const INDEX = %s;\n%s" % (index, common.read("tools", "lib", "api.js"))
-
-
 def files(more):
     """All files of the reference by their names, and the site that they show. `more` has what writes further pages, by their names."""
     site = Site()
@@ -559,5 +549,6 @@ def files(more):
     found.update((name, write(site)) for name, write in more.items())
     found[CRATES] = index_page(site)
     found["api.css"] = common.read("tools", "lib", "api.css")
-    found["api.js"] = script(site)
+    index = json.dumps(site.index, ensure_ascii=False, separators=(",", ":"))
+    found["api.js"] = "const INDEX = %s;\n%s" % (index, common.read("tools", "lib", "api.js"))
     return found, site

@@ -49,7 +49,7 @@ class Source:
 
     def __init__(self, text):
         self.lines = text.split("\n")
-        self.items, self.members, self.traits, self.impls = [], {}, {}, []
+        self.items, self.members, self.impls = [], {}, []
         self.scan()
 
     def doc_lines(self, at):
@@ -106,16 +106,13 @@ class Source:
                 if kind == "struct" and signature.endswith(")") and not re.search(r"pub [^(]", signature.split("(", 1)[1]):
                     signature = signature.split("(", 1)[0] + "(..)"
                 self.items.append(Item(kind, name, signature, at))
-                self.traits.setdefault(name, []).extend(self.derives_before(at))
                 if kind == "trait":
                     self.scan_members(at, name, "    (final fn|fn|type|const) ")
             elif line.startswith("impl"):
                 header = self.signature(at)[0]
                 found = re.match(r"impl(?:<.*?>)?\s+(?:(.+?) for )?&?(?:'\w+ )?(?:mut )?(\(.*\)|[\w:]+)(<.*)?", re.sub(r"^impl<[^<>]*(<[^<>]*(<[^<>]*>)?[^<>]*>)?[^<>]*>", "impl", header))
                 self.impls.append(Impl(header, found and found[1], found and found[2], at))
-                if found and found[1]:
-                    self.traits.setdefault(found[2], []).append(re.sub(r"<.*", "", found[1]))
-                elif found:
+                if found and not found[1]:
                     self.scan_members(at, found[2], "    pub (fn|const|const fn) ")
             at += 1
 

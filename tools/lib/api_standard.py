@@ -41,7 +41,7 @@ class Section:
     """A section of the standard, and where its rows are: by its own title unless the table names others."""
 
     def __init__(self, chapter, title, tested_by):
-        self.chapter, self.title, self.productions = chapter, title, []
+        self.title, self.productions = title, []
         self.tested_by = tested_by.split("; ") if tested_by else [title]
         self.place = anchor(chapter.lower(), title.lower().replace(" ", "-"))
 

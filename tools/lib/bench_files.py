@@ -55,10 +55,6 @@ def calling_body(callees):
     return leb(len(code)) + code
 
 
-def producers():
-    return custom("producers", leb(1) + text("language") + leb(1) + text("Rust") + text("1.85"))
-
-
 def linked(scale):
     """A module as wasm-ld links it with --emit-relocs: functions that call others, names, symbols and relocations."""
     count, calls = int(45_000 * scale), 60
@@ -80,7 +76,7 @@ def linked(scale):
         custom("linking", b"\2" + section(8, symbols)),
         custom("reloc.CODE", leb(4) + leb(len(entries)) + b"".join(entries)),
         function_names(count),
-        producers(),
+        custom("producers", leb(1) + text("language") + leb(1) + text("Rust") + text("1.85")),
     ]
     return module(*parts)
 

@@ -6,12 +6,11 @@
     tools/bench tables --count --original DIR    next to the source of wasmparser in DIR
     tools/bench tables a.wasm                    a file of one's own
 
-It proves and builds the benchmark, benches/, and the programs where they aren't built from these sources, and the C library where the
-prebuilt one isn't. Instructions are counted by
-callgrind, where valgrind is there, on files of a tenth of the size. The made files are as large as their row says, times each of the
-sizes; --only takes the rows that contain WORD. Times in memory are of the fastest of the rounds of a second, all in one process.
-`tools/bench files` has times of processes. Where there are compilers for C and for Rust, a table has the events from these beside those from Rattle. Machines differ, so read
-times as ratios.
+It proves and builds the benchmark, benches/, and the programs where they aren't built from these sources, and the C library where the prebuilt one
+isn't. Instructions are counted by callgrind, where valgrind is there, on files of a tenth of the size. The made files are as large as their row says,
+times each of the sizes; --only takes the rows that contain WORD. Times in memory are of the fastest of the rounds of a second, all in one process.
+`tools/bench files` has times of processes. Where there are compilers for C and for Rust, a table has the events from these beside those from Rattle.
+Machines differ, so read times as ratios.
 
 --original builds bench.rs of bindings/rust/examples/programs over a crate with the API of wasmparser, with link-time optimization
 (`-C lto=fat`), and counts the same work on the same files. The checksums must agree. Cargo runs offline, so the crate's dependencies

@@ -16,13 +16,9 @@ ROWS["serde"]["cksum"] = "bb7d1f0d3021d347a83e556fc4683dea2ea09d87bccdf88ff5c125
 SETTINGS = '[source.crates-io]\nreplace-with = "%s-crates"\n\n[source.%s-crates]\n%s = "%s"\n'
 
 
-def manifest():
-    return common.read(os.path.join(CRATE, "Cargo.toml"))
-
-
 def oldest():
     """The oldest Rust that the crate needs, as numbers."""
-    return tuple(map(int, re.search(r'^rust-version = "([0-9.]+)"', manifest(), re.M)[1].split(".")))
+    return tuple(map(int, re.search(r'^rust-version = "([0-9.]+)"', common.read(CRATE, "Cargo.toml"), re.M)[1].split(".")))
 
 
 def version():

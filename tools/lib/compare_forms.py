@@ -1,4 +1,4 @@
-"""Compares dumps as JSON, with names, with bytes, and with hexadecimal offsets, by the built program wasm_dump, with its dump in lines.
+"""Compares dumps as JSON, with names, with bytes, and with hexadecimal offsets, by `pulleynavy dump`, with its dump in lines.
 
     tools/compare forms               the golden streams and 300 random ones, from seed 1
     tools/compare forms 7 0 a.wasm    the golden streams and the files
@@ -263,11 +263,6 @@ def with_names(lines, names):
         yield line
 
 
-def check_names(lines, named, stream):
-    for line, wanted in zip_longest(named, with_names(lines, names_in(stream)), fillvalue=""):
-        assert line == wanted, "%s in place of %s" % (line, wanted)
-
-
 # ---- bytes, offsets and files
 
 def check_rows_before(line, start, end):
@@ -312,7 +307,8 @@ class Dumps:
         text, rows, hexadecimal = self.run(), self.run("--bytes"), self.run("--hex")
         lines, named = text.decode().splitlines(), self.run("--names").decode().splitlines()
         check_objects(lines, objects_in(self.run("--json")))
-        check_names(lines, named, stream)
+        for line, wanted in zip_longest(named, with_names(lines, names_in(stream)), fillvalue=""):
+            assert line == wanted, "%s in place of %s" % (line, wanted)
         check_objects(named, objects_in(self.run("--names", "--json")))
         check_bytes(lines, rows, stream)
         check_hexadecimal(text, hexadecimal)
@@ -331,8 +327,7 @@ class Dumps:
 def forms_differ(words, stream):
     """What differs of the dumps of a stream; of each tenth two files are dumped too."""
     with tempfile.NamedTemporaryFile(suffix=".wasm") as file:
-        file.write(stream)
-        file.flush()
+        common.write(file.name, stream)
         dumps = Dumps(words, file.name)
         try:
             dumps.check(stream)

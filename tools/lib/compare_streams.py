@@ -206,8 +206,7 @@ def strip_differs(words, lister, model, data):
     """What differs of a stream that is stripped from its input and from a file, which is read twice; the result must list and strip the same."""
     lines = model.reading(data, 0, True)
     with tempfile.NamedTemporaryFile(suffix=".wasm") as file:
-        file.write(data)
-        file.flush()
+        common.write(file.name, data)
         for options, stays in CHOICES:
             wanted = (b"", 1, message(lines[-1])) if programs.status(lines) else (stripped(data, stays), 0, b"")
             for way, stream in (([], data), ([file.name], b"")):
@@ -224,8 +223,7 @@ def strip_differs(words, lister, model, data):
 def wabt_differs(words, data):
     """Whether a stripped stream has other sections than wasm-strip leaves, which writes their lengths anew."""
     with tempfile.NamedTemporaryFile(suffix=".wasm") as file:
-        file.write(data)
-        file.flush()
+        common.write(file.name, data)
         done = subprocess.run(["wasm-strip", file.name], stderr=subprocess.PIPE)
         others = common.read_bytes(file.name)
     left = programs.run(words, data)[0]

@@ -38,12 +38,6 @@ def runner(place, system):
     return script
 
 
-def without_serde(path):
-    """Removes the optional dependency from a manifest. Cargo looks for it too, and it isn't among the crates that the standard library needs."""
-    text = common.read(path)
-    common.write(path, re.sub(r"^serde = .*\n", "", text, flags=re.M))
-
-
 def differences(library, system):
     """What is wrong with the tests of the crate, linked with the archive for Windows of this folder."""
     found = compiler() if cargo.found() else None
@@ -52,7 +46,9 @@ def differences(library, system):
     place, crate = os.path.join(system.folder, "rust"), os.path.join(system.folder, "rust", "crate")
     os.mkdir(place)
     shutil.copytree(os.path.join(common.TOP, "bindings", "rust"), crate)
-    without_serde(os.path.join(crate, "Cargo.toml"))
+    # Cargo looks for the optional dependency too, and it isn't among the crates that the standard library needs.
+    manifest = os.path.join(crate, "Cargo.toml")
+    common.write(manifest, re.sub(r"^serde = .*\n", "", common.read(manifest), flags=re.M))
     settings = {"RUSTC": found[0], "RUSTC_BOOTSTRAP": "1", "PULLEYNAVY_LIB": library, "PULLEYNAVY_GOLDEN": common.GOLDEN}
     settings |= {"CARGO_TARGET_DIR": os.path.join(place, "target")}
     name = "CARGO_TARGET_%s_" % TARGET.upper().replace("-", "_")

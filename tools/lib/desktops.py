@@ -49,17 +49,11 @@ def lines_of(triple):
     return {found[1]: found[0] for found in LINES.finditer(common.must([toolchain.clang(), *words]))}
 
 
-def changed(text, other):
-    """The lines of a text that are others in the other text."""
-    pairs = itertools.zip_longest(text.split("\n"), other.split("\n"))
-    return [(line, there) for line, there in pairs if line != there]
-
-
 def retargeted(text, triple):
     """The text of a module with the data layout and triple of another system. Nothing else may change, and the triple has to."""
     lines = lines_of(triple)
     made = LINES.sub(lambda found: lines[found[1]], text)
-    differing = changed(text, made)
+    differing = [pair for pair in itertools.zip_longest(text.split("\n"), made.split("\n")) if pair[0] != pair[1]]
     kinds = [LINES.fullmatch(line or "") and LINES.fullmatch(line)[1] for line, _ in differing]
     if sorted(map(str, kinds)) not in (["datalayout", "triple"], ["triple"]) or [there for _, there in differing] != [lines[kind] for kind in kinds]:
         raise common.Failed("the module for %s differs from that of Linux in other lines: %s" % (triple, differing[:5]))

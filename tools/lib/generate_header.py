@@ -142,11 +142,6 @@ def upper(name):
     return re.sub(r"(?<!^)(?<![0-9])(?=[A-Z]|[0-9][A-Z])", "_", name).upper()
 
 
-def details(name):
-    """The numbers above the kind of a fault, of this enum."""
-    return numbered(r"\b%s::(\w+) => (\d+)," % name, source("faults"), name)
-
-
 def enumeration(comment, tag, prefix, rows):
     values = ",\n".join("    %s_%s = %d" % (prefix, name, number) for name, number in rows)
     return boxed(wrapped(comment, "")) + "typedef enum %s {\n%s\n} %s;\n" % (tag, values, tag)
@@ -223,11 +218,6 @@ def subsection_ids(file, of):
     return sorted(((upper(name.replace("Types", "Type")), int(number)) for number, name in rows), key=lambda row: row[1])
 
 
-def flag_bits(name):
-    """The bits of flags, as `wasm_custom` names them."""
-    return numbered(r"pub const (\w+): %s = %s\(([0-9x_a-f]+)\);" % (name, name), custom_source("flags"), name)
-
-
 def coded_fields():
     """The enumerations of coded fields. Where the sources have a `match`, the numbers are those."""
     for comment, tag, prefix, names, of in CODED:
@@ -241,7 +231,7 @@ def coded_fields():
         yield comment, tag, prefix, subsection_ids(file, of)
     yield "The opcode of an instruction of a constant expression. An opcode of two parts is 256 times the first plus the second.", "pulleynavy_opcode", "PULLEYNAVY_OP", opcodes()
     for comment, tag, prefix, of in FLAGS:
-        yield comment, tag, prefix, flag_bits(of)
+        yield comment, tag, prefix, numbered(r"pub const (\w+): %s = %s\(([0-9x_a-f]+)\);" % (of, of), custom_source("flags"), of)
 
 
 def enumerations(has_events=False):
@@ -251,7 +241,7 @@ def enumerations(has_events=False):
         yield "The kind of an event.", "pulleynavy_event_kind", "PULLEYNAVY_EVENT", [(name, int(number)) for name, number in rows]
     yield "The kind of a fault." if has_events else FAULT_KINDS, "pulleynavy_fault_kind", "PULLEYNAVY_FAULT", faults()
     for comment, tag, prefix, name in DETAILS:
-        yield comment, tag, prefix, details(name)
+        yield comment, tag, prefix, numbered(r"\b%s::(\w+) => (\d+)," % name, source("faults"), name)
     yield from coded_fields()
 
 

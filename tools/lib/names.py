@@ -79,14 +79,10 @@ def rows_of(path, count):
         cells = [cell.strip() for cell in line.strip("|").split(" | ")] if line.startswith("|") else []
         if not line.startswith("|---"):
             if len(cells) == count and not is_head:
-                yield number, crates_in(heading), cells
+                yield number, [name for name in re.findall(r"`(wasm_\w+)`", heading) if name in common.crates()], cells
             is_head = not cells
         else:
             is_head = False
-
-
-def crates_in(text):
-    return [name for name in re.findall(r"`(wasm_\w+)`", text) if name in common.crates()]
 
 
 def with_libraries(crates):
@@ -239,20 +235,13 @@ def pairs_in(cells, crates):
                 yield target, clause
 
 
-def names_in_row(cell):
-    """The names that a cell of clauses cites."""
-    for quoted in QUOTED.findall(cell):
-        if re.fullmatch(r"\w+(?:::\w+)*", quoted):
-            yield quoted
-
-
 def wrong_clauses(path):
     """Clauses and definitions that the crates of the heading don't have, and functions without the clause that a row says."""
     for number, heading, cells in rows_of(path, 2):
         crates = with_libraries(heading + ["wasm_plain"] * ("wasm_c" in heading))
         if not heading:
             continue
-        for name in names_in_row(cells[1]):
+        for name in [quoted for quoted in QUOTED.findall(cells[1]) if re.fullmatch(r"\w+(?:::\w+)*", quoted)]:
             is_known = name in KNOWN_ELSEWHERE or name in common.crates()
             if not (is_known or is_declared(name, crates) or is_declared("pulleynavy_" + name, crates)):
                 yield number, "no %s in %s" % (name, ", ".join(heading))

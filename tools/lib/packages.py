@@ -312,19 +312,14 @@ def write_zip(path, files):
             made.writestr(entry, data)
 
 
-def cmake_version():
-    """What CMake asks of the version."""
-    text = common.read_bytes(source("crates", "wasm_c", "pulleynavyConfigVersion.cmake"))
-    return text.replace(b"@VERSION@", common.version().encode())
-
-
 def for_c(target):
     """What a package for C has, below a folder with its name: the libraries of a target, the header, and what CMake needs to find them."""
     cmake = "lib/cmake/pulleynavy/pulleynavy-config"
     files = [("bin/pulleynavy.dll", "pulleynavy.dll"), *(("lib/" + name, name) for name in (*desktops.LIBRARIES, "libpulleynavy.dylib"))]
     files = [(name, common.read_bytes(path)) for name, file in files for path in built(target, file)]
     files += [("include/pulleynavy.h", common.read_bytes(HEADER)), (cmake + ".cmake", common.read_bytes(source("crates", "wasm_c", "pulleynavy-config.cmake")))]
-    files += [(cmake + "-version.cmake", cmake_version())]
+    version = common.read("crates", "wasm_c", "pulleynavyConfigVersion.cmake").replace("@VERSION@", common.version())
+    files += [(cmake + "-version.cmake", version.encode())]
     files += [("doc/" + name, common.read_bytes(source(name))) for name in (*LICENSES, "README.md", "CHANGELOG.md")]
     top = "pulleynavy-%s-%s" % (common.version(), target)
     return top, [("%s/%s" % (top, name), data) for name, data in files]

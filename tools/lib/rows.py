@@ -39,17 +39,13 @@ def is_result(line):
     return line.startswith("  ")
 
 
-def is_row(line):
-    return bool(re.match(r"[^#\s]", line))
-
-
 def results(lines):
     """Each row of a table: the number of its line, that line, and the lines of its result."""
     found = []
     for number, line in enumerate(lines, 1):
         if is_result(line):
             found[-1][2].append(line)
-        elif is_row(line):
+        elif re.match(r"[^#\s]", line):
             found.append((number, line, []))
     return found
 

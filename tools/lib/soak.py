@@ -4,10 +4,11 @@
     tools/soak --minutes 480 --seed 7 FILE  eight hours, with real files
     tools/soak --archive FILE --jobs 1      another archive, on one core
 
-A stream is a random one, a module with items, a FILE or a part of it, two of these joined at random places, or any of them with bytes changed, cut off or
-put in. Each is listed whole with its items and some features, stripped, and read in three random cuttings, by a feeder and by a parser. Callers are built with sanitizers, and the
-bytes of each call end before a page that nothing may read. The same streams are then read by random calls in any order (tools/lib/sequences.c), and some are
-listed by `wasm_list` in little memory, and read in chunks by `wasm_rows` if it is built. Each difference is made smaller and printed as bytes.
+A stream is a random one, a module with items, a FILE or a part of it, two of these joined at random places, or any of them with bytes changed, cut off or put
+in. Each is listed whole with its items and some features, stripped, and read in three random cuttings, by a feeder and by a parser. Callers are built with
+sanitizers, and the bytes of each call end before a page that nothing may read. The same streams are then read by random calls in any order
+(tools/lib/sequences.c), and some are listed by `wasm_list` in little memory, and read in chunks by `wasm_rows` if it is built. Each difference is made smaller
+and printed as bytes.
 """
 import contextlib
 import itertools

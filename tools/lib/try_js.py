@@ -63,17 +63,6 @@ def with_wide_memory(node, place, streams):
     common.must([node, *flags, "tests/streams.test.js"], folder=place, env={"PULLEYNAVY_STREAMS": streams})
 
 
-def in_browser(node, browser, place, streams):
-    """The comparisons with streams in a browser, where fetch loads the module. Returns what it says."""
-    return common.must([node, "tests/browser.js", browser, streams], folder=place).splitlines()[0]
-
-
-def with_tsc(place):
-    """The declarations with the library dom, and with that of the language alone."""
-    common.must(["tsc", *TSC, "tests/types.ts"], folder=place)
-    common.must(["tsc", *TSC, "--lib", "es2022", "tests/plain.ts"], folder=place)
-
-
 # The entry of the package, the platform of a bundle, and whether the bundle needs the module beside it.
 BUNDLES = [("pulleynavy", "browser", True), ("pulleynavy", "node", True), ("pulleynavy/inline", "browser", False), ("pulleynavy/inline", "node", False)]
 BUNDLED = 'import { load } from "%s";\nconst { parse } = await load(globalThis.source);\nconsole.log([...parse(new Uint8Array(0))][0].fault);\n'
@@ -148,9 +137,11 @@ def tried(given, folder, node):
     for name, program in (("Chromium", "chromium"), ("Firefox", "firefox-esr")):
         browser = common.found(program)
         if browser:
-            said += ", in %s %s" % (name, in_browser(node, browser, place, streams))
+            said += ", in %s %s" % (name, common.must([node, "tests/browser.js", browser, streams], folder=place).splitlines()[0])
     if common.found("tsc"):
-        with_tsc(place)
+        # The declarations with the library dom, and with that of the language alone.
+        common.must(["tsc", *TSC, "tests/types.ts"], folder=place)
+        common.must(["tsc", *TSC, "--lib", "es2022", "tests/plain.ts"], folder=place)
         said += ", tsc --strict"
     if common.found("esbuild"):
         said += ", %d bundles" % bundled(node, place, folder)
