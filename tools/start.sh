@@ -1,12 +1,12 @@
 # For pulleynavy and wasm_list at the top: runs the prebuilt program of a name, with the arguments after it.
 #
-# prebuilt/SOURCES has the checksum of each source that the programs are made of. If one differs, tools/run proves and builds the program,
+# prebuilt/SOURCES.gz has the checksum of each source that the programs are made of. If one differs, tools/run proves and builds the program,
 # or without `rt` the prebuilt one runs as it is.
 start() {
     local name=$1 prebuilt=$top/prebuilt/$1
     shift
     if [ "${1:-}" != --build ] && [ "$(uname -sm)" = "Linux x86_64" ] && [ -x "$prebuilt" ]; then
-        if (cd "$top" && sha256sum --check --status --strict prebuilt/SOURCES 2> /dev/null); then
+        if (cd "$top" && gzip -dc prebuilt/SOURCES.gz | sha256sum --check --status --strict) 2> /dev/null; then
             exec "$prebuilt" "$@"
         elif ! command -v rt > /dev/null; then
             echo "$name: a source differs from that of the prebuilt program, which runs since there is no rt to build it" >&2
