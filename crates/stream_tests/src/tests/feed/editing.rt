@@ -128,20 +128,20 @@ fn refuses_what_is_not_accepted(rt: HostRuntime) {
     );
 }
 
-// How many allocations are refused before the edit succeeds. Each refusal is out of memory, at offset 0.
+// With so many allocations the edit succeeds. With fewer it is out of memory, at offset 0.
 #[test]
 fn memory_runs_out(rt: HostRuntime) {
-    let mut refused = 0;
+    let mut needed = None;
     for blocks in 0..AMPLE {
         let heap = Sparing::new(rt.alloc(), blocks);
         match edited(&heap, STREAM, keep_all(), &[C, EMPTY]).expect(&rt, "too large") {
             Ok(bytes) => {
                 assert_eq!(rt; bytes.len(), STREAM.len() + 10);
+                needed = Some(blocks);
                 break;
             }
             Err(error) => same_at(&rt, error, Error::new(Fault::OutOfMemory, 0), &blocks),
         }
-        refused += 1;
     }
-    assert!(rt; refused >= 1 && refused < AMPLE, "{refused}");
+    assert!(rt; matches!(needed, Some(1..)), "{needed:?}");
 }
