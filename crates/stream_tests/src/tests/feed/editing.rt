@@ -128,7 +128,7 @@ fn refuses_what_is_not_accepted(rt: HostRuntime) {
     );
 }
 
-// With so many allocations the edit succeeds. With fewer it is out of memory, at offset 0.
+// The edit succeeds with enough allocations. With fewer it is out of memory, at offset 0.
 #[test]
 fn memory_runs_out(rt: HostRuntime) {
     let mut needed = None;
