@@ -4,8 +4,8 @@
     tools/try examples wasm_base wasm_feed   those of these crates
 
 An example is a block that begins with ```rattle in a doc comment of crates/*/src. It is the body of a test: `rt` is the runtime, `alloc` its
-allocator, and `?` takes any error. The public names of its crate and of the libraries of that are imported; another crate's are if it says so
-by `use`. Status 3: `rt` is not on the path.
+allocator, and `?` takes any error. The public names of its crate, of the libraries of that, and of the crates that export its names again are
+imported; another crate's are if it says so by `use`. Status 3: `rt` is not on the path.
 """
 import os
 import re
@@ -56,11 +56,21 @@ def examples(crate):
                 yield path, number, lines
 
 
+def root_of(crate):
+    """The root file of a crate, without comments; empty for a program."""
+    path = os.path.join(common.TOP, "crates", crate, "src", "lib.rt")
+    return re.sub(r"//.*", "", common.read(path)) if os.path.exists(path) else ""
+
+
+def exporting(crate):
+    """The crates that export names of a crate again, through which most users see them."""
+    return [name for name in common.crates() if re.search("^pub use %s::" % crate, root_of(name), re.M)]
+
+
 def exported(crate):
     """The public names of a crate, each with the crate that it is imported from, and those that are traits."""
     names, traits = {}, set()
-    root = os.path.join(common.TOP, "crates", crate, "src", "lib.rt")
-    text = re.sub(r"//.*", "", common.read(root))
+    text = root_of(crate)
     for _, several, one in re.findall(r"^pub use ([\w:]+)::(?:\{([^}]*)\}|(\w+));", text, re.M):
         names.update({name: crate for name in re.findall(r"\w+", several or one)})
     names.update({name: crate for name in re.findall(r"^pub (?:fn|struct|enum|trait|const|type|mod) (\w+)", text, re.M)})
@@ -71,9 +81,9 @@ def exported(crate):
 
 
 def visible(crate):
-    """The names that an example of a crate sees: its own first, then those of the libraries, lowest first."""
+    """The names that an example of a crate sees: its own, those of the libraries, lowest first, and those of crates that export its names again."""
     names, traits = {}, set()
-    for of in [crate] + common.crates_of(crate)[:-1]:
+    for of in [crate, *common.crates_of(crate)[:-1], *exporting(crate)]:
         more, are_traits = exported(of)
         names = {**more, **names}
         traits |= are_traits
@@ -91,7 +101,8 @@ def imports(names, traits, code):
 def written(folder, crates):
     """Writes the crate of tests. The path and the line of each example, by the name of its test."""
     named = {name for crate in crates for _, _, lines in examples(crate) for name in re.findall(r"\buse (wasm_\w+)", "\n".join(lines))}
-    wanted, places = trial.copied(folder, {*crates, *named}), {}
+    again = {name for crate in crates for name in exporting(crate)}
+    wanted, places = trial.copied(folder, {*crates, *named, *again}), {}
     source = os.path.join(folder, "crates", CRATE, "src")
     os.makedirs(source)
     for crate in crates:
