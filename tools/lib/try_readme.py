@@ -61,6 +61,12 @@ class Reader:
         self.run([self.clone + "/pulleynavy", "strip", self.file, "-o", other])
         assert common.read_bytes(other) == common.load(common.MODEL).strip(self.stream), "pulleynavy strip writes something else"
 
+    def add(self):
+        data, program = self.write("data", b"by hand"), self.clone + "/pulleynavy"
+        added = self.run([program, "add", "note=" + data, self.file])
+        assert added == self.stream + b"\0\x0c\4noteby hand", "pulleynavy add writes something else"
+        assert self.run([program, "extract", "note", self.write("added.wasm", added)]) == b"by hand", "pulleynavy extract writes something else"
+
     def dump(self):
         for words in OPTIONS:
             assert self.run([self.clone + "/pulleynavy", "dump", *words, self.file]), "pulleynavy dump %s writes nothing" % words
@@ -114,7 +120,7 @@ class Reader:
 
 COMMANDS = {"./pulleynavy list FILE...": Reader.list, "./pulleynavy dump FILE...": Reader.dump, "./pulleynavy check FILE...": Reader.check}
 COMMANDS |= {"./pulleynavy strip FILE -o OTHER": Reader.strip, "./pulleynavy help dump": lambda reader: reader.run([reader.clone + "/pulleynavy", "help", "dump"])}
-COMMANDS |= {"./install PREFIX": Reader.install, "tools/package": Reader.package}
+COMMANDS |= {"./pulleynavy add NAME=DATA FILE": Reader.add, "./install PREFIX": Reader.install, "tools/package": Reader.package}
 PROGRAMS = {"c": Reader.c, "js": Reader.js, "python": Reader.python, "rust": Reader.rust}
 # What the machine needs for a program. `./install` makes the library for Python with a C compiler.
 NEEDED = {"c": ["cc", "pkg-config"], "js": ["node"], "python": ["cc"], "rust": ["cargo"]}
