@@ -298,7 +298,7 @@ class Trial:
             system.put(path, os.path.basename(path))
         system.inside("dpkg -i *.deb")
         self.expect(system.inside("cc -Wall -Werror t.c $(pkg-config --cflags --libs pulleynavy) -o t; ./t < a.wasm"), "the C program of the packages for Debian")
-        if self.end not in system.inside("cd /; pulleynavy list ~/a.wasm; wasm_list strip ~/a.wasm | wasm_dump"):
+        if self.end not in system.inside("cd /; pulleynavy list ~/a.wasm; wasm_list strip < ~/a.wasm | wasm_dump"):
             raise Failed("pulleynavy of the package does not list the stream")
         for page, heading in (("wasm_list", "EXIT STATUS"), ("pulleynavy", "EXIT STATUS"), ("wasm_dump", "EXIT STATUS"), ("pulleynavy_parse", "ERRORS")):
             require(heading in system.inside("man %s | cat" % page), "there is no manual page %s" % page)
