@@ -25,9 +25,9 @@ pub use Rattle.wasm_text.proofs.ForCallers.{cut_of}
 pub use Rattle.wasm_text.specs.Calls.{from_to}
 pub use Rattle.wasm_text.specs.Page.{IsCut, PutsBytes}
 pub use Rattle.wasm_text.specs.declared.devices.ListError.{ListError}
-pub use Rattle.wasm_feed.specs.StripStream.{StopsHere}
-pub use Rattle.wasm_feed.specs.Stripped.{frame_stays, event_stays, kept_bytes, EndsWithFault, IsStripped}
-pub use Rattle.wasm_feed.specs.Strips.{HasKept, ReadsKept}
+pub use Rattle.wasm_feed.specs.EditStream.{StopsHere}
+pub use Rattle.wasm_feed.specs.Stripped.{frame_stays, event_stays, EndsWithFault, IsStripped}
+pub use Rattle.wasm_feed.specs.EditParts.{HasEdited, ReadsEdited}
 pub use Rattle.wasm_feeder.proofs.ForCallers.{AtEnd, arrived, cut, cut_within, is_short, past, puts_more, begun, begun_beside, both}
 pub use Rattle.wasm_feeder.proofs.ForCallers.{nothing_read, same_lighter}
 pub use Rattle.wasm_feeder.specs.Beside.{seen, lending, beside}

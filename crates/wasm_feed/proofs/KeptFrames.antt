@@ -1,19 +1,19 @@
 -- The kept events of sections.
 use Rattle.wasm_feed.proofs.Common.{◌≡◌, ℕ, ◌+◌, ◌⊎◌, inl, inr, Bool, true, false, List, [], ◌∷◌, ◌++◌, length, Some, refl, sym, subst}
-use Rattle.wasm_feed.proofs.Common.{arith, length-append, append-nil, append_assoc, eqb-true, All-tail, All, filter, flat_map, SectionFrame}
-use Rattle.wasm_feed.proofs.Common.{frame_bytes, IsFrame, consumed_by, Event, Encoding, frame_stays, event_stays, kept_bytes}
-use Rattle.std.proofs.lemmas.Bool.{false_from_ne_true}
-use Rattle.std.proofs.lemmas.Grind.{flat_map-append}
-use Rattle.std.proofs.lemmas.List.Elements.{All-head, filter-append}
+use Rattle.wasm_feed.proofs.Common.{arith, ap, ◌∙◌, length-append, append_assoc, All-tail, All, filter, flat_map, SectionFrame}
+use Rattle.wasm_feed.proofs.Common.{frame_bytes, IsFrame, Event, Encoding, frame_stays, event_stays}
+use Rattle.std.proofs.Common.{not, ◌||◌}
+use Rattle.std.proofs.lemmas.List.Elements.{All-head}
 use Rattle.std.specs.List.{AllZip}
-use Rattle.wasm_base.specs.Name.{named, name_limit, name}
-use Rattle.wasm_feed.specs.Stripped.{staying, IsMovedBack}
-use Rattle.wasm_grammar.specs.Accepted.{Sized, sized_bytes, IsGood, IsFormed, CodeDivision}
-use Rattle.wasm_grammar.specs.Content.{Kind, custom, code, kind_of, Form, whole}
-use Rattle.wasm_grammar.specs.FrameEvents.{section_event, body_events, code_events, KindEvents, FrameEvents, FramesEvents}
-use Rattle.wasm_grammar.specs.Ids.{custom_id}
+use Rattle.wasm_base.specs.Name.{name_limit, name}
+use Rattle.wasm_feed.proofs.OnePass.{named_stays}
+use Rattle.wasm_feed.proofs.SectionEvents.{IsCustom, NoneCustom, OtherOrCustom, events_here, is_custom}
+use Rattle.wasm_feed.specs.Stripped.{staying, IsMovedBack, name_stays}
+use Rattle.wasm_feeder.specs.Fates.{report_stays}
+use Rattle.wasm_grammar.specs.FrameEvents.{FrameEvents, FramesEvents}
+use Rattle.wasm_grammar.specs.Reading.{Report, custom_section}
 use Rattle.wasm_grammar.specs.Shifted.{shifted_events}
-use Rattle.wasm_parser.proofs.ForCallers.{frames_read_the_same, custom_has_its_id}
+use Rattle.wasm_parser.proofs.ForCallers.{frames_read_the_same}
 
 -- ---- the events of one section
 
@@ -25,51 +25,33 @@ AllStay keeps (e ∷ events) = (event_stays keeps e ≡ true) × AllStay keeps e
 -- A section stays with all its events, or is dropped with its only one; its events consumed its bytes.
 abbrev pub StaysOrGoes : (keeps : List ℕ → Bool) → SectionFrame → List Event → Type 0
 StaysOrGoes keeps f events =
-    ((frame_stays keeps f ≡ true) × AllStay keeps events × (consumed_by events ≡ frame_bytes f))
+    ((frame_stays keeps f ≡ true) × AllStay keeps events)
     ⊎ ((frame_stays keeps f ≡ false) × (e : Event) × (events ≡ e ∷ []) × (event_stays keeps e ≡ false) × (e.consumed ≡ frame_bytes f))
 
-custom_at : (keeps : List ℕ → Bool) (features at : ℕ) (f : SectionFrame) (text : List ℕ) (used : ℕ) → name (Some name_limit) f.sized.content
-    ≡ named text used → f.id ≡ custom_id → (b : Bool) → keeps text ≡ b
-    → StaysOrGoes keeps f (section_event features at custom f ∷ [])
-custom_at keeps features at f text used e z true s = inl (rw (z, e) s, (rw e s, tt), append-nil (frame_bytes f))
-custom_at keeps features at f text used e z false s = inr (rw (z, e) s, section_event features at custom f, refl, rw e s, refl)
+other_stays : (keeps : List ℕ → Bool) (r : Report) → is_custom r ≡ false → report_stays keeps r ≡ true
+other_stays keeps (custom_section text data_offset window) e = cc
+other_stays keeps _ e = refl
 
-custom_frame : (keeps : List ℕ → Bool) (features at : ℕ) (f : SectionFrame) (text : List ℕ) (used : ℕ)
-    → name (Some name_limit) f.sized.content ≡ named text used → f.id ≡ custom_id
-    → StaysOrGoes keeps f (section_event features at custom f ∷ [])
-custom_frame keeps features at f text used e z = custom_at keeps features at f text used e z (keeps text) refl
+others_stay : (keeps : List ℕ → Bool) (events : List Event) → NoneCustom events → AllStay keeps events
+others_stay keeps [] n = tt
+others_stay keeps (e ∷ events) n = (other_stays keeps e.report n.0, others_stay keeps events n.1)
 
-form_at : (keeps : List ℕ → Bool) (features at : ℕ) (encoding : Encoding) (f : SectionFrame) (form : Form)
-    → kind_of encoding f.id ≡ whole form
-    → IsFormed form f.sized.content → StaysOrGoes keeps f (section_event features at form f ∷ [])
-form_at keeps features at encoding f form k g = grind (arith, custom_frame, custom_has_its_id, append-nil, false_from_ne_true, eqb-true)
+custom_at : (keeps : List ℕ → Bool) (f : SectionFrame) (events : List Event) (c : IsCustom f events) (b : Bool) → keeps c.text ≡ b
+    → StaysOrGoes keeps f events
+custom_at keeps f events c true s =
+    let e : event_stays keeps c.event ≡ true = ap (report_stays keeps) c.reports ∙ s in
+    inl (named_stays keeps c.text f c.named ∙ s, subst (AllStay keeps) (sym c.alone) (e, tt))
+custom_at keeps f events c false s =
+    inr (named_stays keeps c.text f c.named ∙ s, c.event, c.alone, ap (report_stays keeps) c.reports ∙ s, c.whole)
 
-bodies_stay : (keeps : List ℕ → Bool) (features at : ℕ) (bodies : List Sized) → AllStay keeps (body_events features at bodies)
-bodies_stay keeps features at [] = tt
-bodies_stay keeps features at (s ∷ bodies) = (refl, bodies_stay keeps features (at + length (sized_bytes s)) bodies)
-
-bodies_consumed : (features at : ℕ) (bodies : List Sized) → consumed_by (body_events features at bodies) ≡ flat_map sized_bytes bodies
-bodies_consumed features at [] = refl
-bodies_consumed features at (s ∷ bodies) = rw (bodies_consumed features (at + length (sized_bytes s)) bodies) refl
-
-code_consumed : (features at : ℕ) (f : SectionFrame) (d : CodeDivision f.sized.content) → consumed_by (code_events features at f d)
-    ≡ frame_bytes f
-code_consumed features at f d = grind (arith, bodies_consumed, append_assoc)
-
-kind_at : (keeps : List ℕ → Bool) (features at : ℕ) (encoding : Encoding) (f : SectionFrame) (k : Kind) (events : List Event)
-    → kind_of encoding f.id
-    ≡ k → IsGood k f.sized.content → KindEvents features at k f events → StaysOrGoes keeps f events
-kind_at keeps features at encoding f (whole form) events k g e = rw e (form_at keeps features at encoding f form k g)
-kind_at keeps features at encoding f code events k g (d, e) =
-    rw e (inl (
-      grind arith,
-      (search bodies_stay),
-      code_consumed features at f d,
-    ))
+stays_or_goes : (keeps : List ℕ → Bool) (f : SectionFrame) (events : List Event) → OtherOrCustom f events → StaysOrGoes keeps f events
+stays_or_goes keeps f events (inl o) =
+    inl (ap (λ (b : Bool). not b || name_stays keeps (name (Some name_limit) f.sized.content)) o.other, others_stay keeps events o.none)
+stays_or_goes keeps f events (inr c) = custom_at keeps f events c (keeps c.text) refl
 
 frame_at : (keeps : List ℕ → Bool) (features at : ℕ) (encoding : Encoding) (f : SectionFrame) (events : List Event) → IsFrame encoding f
     → FrameEvents features encoding at f events → StaysOrGoes keeps f events
-frame_at keeps features at encoding f events i e = kind_at keeps features at encoding f (kind_of encoding f.id) events refl i.content e
+frame_at keeps features at encoding f events i e = stays_or_goes keeps f events (events_here features at encoding f events i e)
 
 -- ---- the events of all sections
 
@@ -80,14 +62,6 @@ stay_first : (keeps : List ℕ → Bool) (dropped : ℕ) (here : List Event) (re
     → AllZip IsMovedBack (staying keeps dropped (shifted_events dropped here ++ rest)) (here ++ kept)
 stay_first keeps dropped [] rest kept s z = z
 stay_first keeps dropped (e ∷ here) rest kept s z = grind (arith, stay_first keeps dropped here rest kept s.1 z)
-
--- the bytes of events that stay
-stay_bytes : (keeps : List ℕ → Bool) (events : List Event) → AllStay keeps events → filter (event_stays keeps) events ≡ events
-stay_bytes keeps [] s = refl
-stay_bytes keeps (e ∷ events) s = search (stay_bytes keeps events s.1)
-
-pub kept_more : (keeps : List ℕ → Bool) (xs ys : List Event) → kept_bytes keeps (xs ++ ys) ≡ kept_bytes keeps xs ++ kept_bytes keeps ys
-kept_more keeps xs ys = search (filter-append, flat_map-append)
 
 -- the bytes of the sections that stay
 abbrev pub bytes_of_frames : (keeps : List ℕ → Bool) → List SectionFrame → List ℕ
@@ -100,7 +74,6 @@ pub record KeptOf (keeps : List ℕ → Bool) (features : ℕ) (encoding : Encod
   pub others : List Event
   pub sections : FramesEvents features encoding at (filter (frame_stays keeps) frames) others
   pub moved : AllZip IsMovedBack (staying keeps dropped (inner ++ rest)) (others ++ kept)
-  pub bytes : kept_bytes keeps inner ≡ bytes_of_frames keeps frames
 
 -- the kept events after those of sections, however many bytes of the sections were dropped
 abbrev pub KeptAfter : (keeps : List ℕ → Bool) (at dropped : ℕ) (frames : List SectionFrame) (rest kept : List Event) → Type 0
@@ -111,16 +84,15 @@ KeptAfter keeps at dropped frames rest kept =
 -- one section that stays
 kept_stays : (keeps : List ℕ → Bool) (features : ℕ) (encoding : Encoding) (at dropped : ℕ) (f : SectionFrame) (frames : List SectionFrame)
     (first more rest kept : List Event) → FrameEvents features encoding (at + dropped) f first
-    → frame_stays keeps f ≡ true → AllStay keeps first → consumed_by first ≡ frame_bytes f
+    → frame_stays keeps f ≡ true → AllStay keeps first
     → KeptOf keeps features encoding (at + length (frame_bytes f)) dropped frames more rest kept
     → KeptOf keeps features encoding at dropped (f ∷ frames) (first ++ more) rest kept
-kept_stays keeps features encoding at dropped f frames first more rest kept h s a c t =
+kept_stays keeps features encoding at dropped f frames first more rest kept h s a t =
     let (here, e, m) = ((frames_read_the_same encoding [] [] f refl).1 features at dropped first).0 h in
     record {
       others = here ++ t.others;
       sections = rw s (here, t.others, refl, e, t.sections);
       moved = grind (arith, append_assoc, stay_first);
-      bytes = grind (arith, kept_more, stay_bytes);
     }
 
 -- one section that is dropped
@@ -139,7 +111,7 @@ pub kept_of : (keeps : List ℕ → Bool) (features : ℕ) (encoding : Encoding)
 kept_of keeps features encoding at dropped [] inner rest kept a i k = grind arith
 kept_of keeps features encoding at dropped (f ∷ frames) inner rest kept a (first, more, w, h, t) k =
     rw w (elim (frame_at keeps features (at + dropped) encoding f first (All-head (IsFrame encoding) f frames a) h) [
-      | inl (s, b, c) ↦ kept_stays keeps features encoding at dropped f frames first more rest kept h s b c
+      | inl (s, b) ↦ kept_stays keeps features encoding at dropped f frames first more rest kept h s b
           (kept_of keeps features encoding (at + length (frame_bytes f)) dropped frames more rest kept
           (All-tail (IsFrame encoding) f frames a) (grind arith)
           (λ total e. k total (grind (arith, length-append))))

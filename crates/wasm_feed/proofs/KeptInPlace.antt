@@ -1,9 +1,9 @@
 -- The kept bytes of a stream, moved to its front.
-use Rattle.wasm_feed.proofs.Common.{◌≡◌, ℕ, ◌+◌, Bool, List, ◌++◌, length, sym, arith, length-append, append_assoc, ◌-◌, ◌≤◌, ◌<◌, take}
-use Rattle.wasm_feed.proofs.Common.{drop, ap, ◌∙◌, take_at, copy_within, HasKept, feed_of, Cursor}
+use Rattle.wasm_feed.proofs.Common.{◌≡◌, ℕ, ◌+◌, List, ◌++◌, length, sym, arith, length-append, append_assoc, ◌-◌, ◌≤◌, take}
+use Rattle.wasm_feed.proofs.Common.{drop, ap, ◌∙◌, take_at, copy_within, HasEdited, feed_of, Cursor}
 use Rattle.std.proofs.lemmas.List.{drop-drop, length-drop, take-append-drop}
 use Rattle.std.proofs.lemmas.List.Edits.{take-paste, drop-paste}
-use Rattle.wasm_feed.specs.Strips.{EndsAtMark}
+use Rattle.wasm_feed.specs.declared.edits.Edit.{Edit}
 
 -- a part that is moved down, after what is at the front, changes nothing of what comes after it
 module _ (bytes part : List ℕ) (kept start end : ℕ) (order : kept ≤ start) (within : start ≤ length bytes)
@@ -36,15 +36,11 @@ mark_within bytes part old new within (size, parts) =
     let n : length (drop old bytes) ≡ length part + length (drop new bytes) = grind (arith, length-append) in
     omega (arith, within, size, n, length-drop old bytes)
 
--- a part after which fewer bytes are held isn't empty
-pub not_empty : (bytes part : List ℕ) (old new : ℕ) → drop old bytes ≡ part ++ drop new bytes
-    → length (drop new bytes) < length (drop old bytes) → 0 < length part
-not_empty bytes part old new parts fewer = grind (arith, length-append)
-
 -- so the kept bytes go on with it
-pub moves_on : (keeps : List ℕ → Bool) (stream bytes items part : List ℕ) (kept old : ℕ) (new : Cursor) → kept ≤ old
-    → (at : EndsAtMark bytes old part new.mark)
+pub moves_on : (edits : List Edit) (stream bytes items part : List ℕ) (kept old : ℕ) (new : Cursor) → kept ≤ old → old ≤ length bytes
+    → new.mark ≡ old + length part → drop old bytes ≡ part ++ drop new.mark bytes
     → items ≡ copy_within bytes (new.mark - length part) (new.mark - length part + length part) kept
-    → HasKept keeps stream (feed_of bytes new) (take kept bytes ++ part)
-    → HasKept keeps stream (feed_of items new) (take (kept + length part) items)
-moves_on keeps stream bytes items part kept old new before at i (events, a, b) = grind (arith, moved_rest, take-paste, fits, take_at)
+    → HasEdited edits stream (feed_of bytes new) (take kept bytes ++ part)
+    → HasEdited edits stream (feed_of items new) (take (kept + length part) items)
+moves_on edits stream bytes items part kept old new before within size parts i (events, a, b) =
+    grind (arith, moved_rest, take-paste, fits, take_at)

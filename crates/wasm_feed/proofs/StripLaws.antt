@@ -1,13 +1,13 @@
 -- A stripped stream is accepted, and is read as the stream is but for what was dropped.
-use Rattle.wasm_feed.proofs.Common.{◌≡◌, ℕ, ◌+◌, ◌⊎◌, inl, inr, Bool, true, false, List, [], ◌∷◌, ◌++◌, length, refl, arith, length-append}
-use Rattle.wasm_feed.proofs.Common.{eqb-true, ◌≤◌, ◌<◌, take, ◌∙◌, ◌^◌, Ok, Err, Result, All-tail, All, filter, flat_map, fault_at}
+use Rattle.wasm_feed.proofs.Common.{◌≡◌, ℕ, ◌+◌, Bool, true, false, List, [], ◌∷◌, ◌++◌, length, refl, arith, length-append, subst}
+use Rattle.wasm_feed.proofs.Common.{eqb-true, ◌≤◌, ◌<◌, ◌∙◌, ◌^◌, All-tail, All, filter, flat_map, fault_at}
 use Rattle.wasm_feed.proofs.Common.{all_features, Error, SectionFrame, frame_bytes, IsFrame, fault, Ending, Event, last_event, Reading}
-use Rattle.wasm_feed.proofs.Common.{Encoding, frame_stays, EndsWithFault, IsStripped, ReadsKept}
-use Rattle.std.proofs.Common.{cond}
+use Rattle.wasm_feed.proofs.Common.{Encoding, frame_stays, EndsWithFault, IsStripped}
+use Rattle.std.proofs.Common.{cond, slice_index_or, Fits, w8}
+use Rattle.std.proofs.Math.Facts.{Fits-lt-pow}
+use Rattle.std.proofs.lemmas.List.{get_or_default}
 use Rattle.std.proofs.lemmas.List.Elements.{All-append}
-use Rattle.wasm_base.specs.Owned.{out_of_memory}
-use Rattle.wasm_feed.specs.Stripped.{stripped, AreKept, RefusesToStrip, LeavesStream, StripsToFront, StrippingTwiceIsOnce}
-use Rattle.wasm_feed.specs.Strips.{MovesKept}
+use Rattle.wasm_feed.specs.Stripped.{stripped, AreKept, StrippingTwiceIsOnce}
 use Rattle.wasm_grammar.specs.Accepted.{header_bytes, IsAccepted}
 use Rattle.wasm_grammar.specs.Content.{ended}
 use Rattle.wasm_grammar.specs.FrameEvents.{header_event, TellsFrames}
@@ -19,7 +19,7 @@ use Rattle.wasm_parser.proofs.ForCallers.{reads_accepted, fault_ends, rankless_m
 
 -- ---- how a reading ends
 
-push_same : {X : Type 0} (xs ys : List X) (x y : X) → xs ++ x ∷ [] ≡ ys ++ y ∷ [] → (xs ≡ ys) × (x ≡ y)
+pub push_same : {X : Type 0} (xs ys : List X) (x y : X) → xs ++ x ∷ [] ≡ ys ++ y ∷ [] → (xs ≡ ys) × (x ≡ y)
 push_same [] [] x y e = (refl, cc)
 push_same [] (b ∷ []) x y e = let z : [] ≡ y ∷ [] = cc in cc
 push_same [] (b ∷ c ∷ ys) x y e = let z : [] ≡ c ∷ (ys ++ y ∷ []) = cc in cc
@@ -34,33 +34,24 @@ ends_so : (stream : List ℕ) (events : List Event) (end : Ending) → Reading s
     → (tiles : List Tile) × Reads stream 0 tiles end
 ends_so stream events end r = grind (arith, push_same)
 
+-- a slice of bytes is a stream
+pub stream_of : (bytes : List ℕ) → ((i : ℕ) → Fits w8 (slice_index_or bytes i 0)) → length bytes < 2 ^ 64 → Stream bytes 0
+stream_of bytes fits l = record {
+  each = λ k d lt. subst (λ (b : ℕ). b < 256) (get_or_default bytes k 0 d lt) (Fits-lt-pow (fits k));
+  fits = omega (arith, l);
+}
+
 -- a stream that is read up to its end is accepted
-accepted_of : (keeps : List ℕ → Bool) (stream kept : List ℕ) → Stream stream 0 → ReadsKept keeps stream kept → IsAccepted stream
-accepted_of keeps stream kept s r =
-    let (tiles, reads) = ends_so stream r.events (ended r.offset) r.reading in
+pub accepted_of : (stream : List ℕ) (events : List Event) (offset : ℕ) → Stream stream 0
+    → Reading stream 0 all_features (events ++ last_event (ended offset) ∷ []) → IsAccepted stream
+accepted_of stream events offset s r =
+    let (tiles, reads) = ends_so stream events (ended offset) r in
     search reads_accepted
 
 -- one whose reading ends with a fault isn't
-not_accepted : (stream : List ℕ) (e : Error) → Stream stream 0 → EndsWithFault stream e → IsAccepted stream → ⊥
+pub not_accepted : (stream : List ℕ) (e : Error) → Stream stream 0 → EndsWithFault stream e → IsAccepted stream → ⊥
 not_accepted stream e s (events, r) = let (tiles, reads) = ends_so stream events (fault (fault_at e)) r in
     (fault_ends stream 0 s).1 (tiles, fault_at e, reads)
-
-pub refused_fault : (stream : List ℕ) (e : Error) → Stream stream 0 → EndsWithFault stream e → RefusesToStrip stream e
-refused_fault stream e s h = record { memory = λ a. absurd (not_accepted stream e s h a); fault = λ n. h }
-
-pub refused_memory : (keeps : List ℕ → Bool) (stream kept : List ℕ) (e : Error) → Stream stream 0 → ReadsKept keeps stream kept → fault_at e
-    ≡ out_of_memory → RefusesToStrip stream e
-refused_memory keeps stream kept e s r m = record { memory = λ a. m; fault = λ n. absurd (n (accepted_of keeps stream kept s r)) }
-
-pub refused_copy : (keeps : List ℕ → Bool) (stream kept : List ℕ) (e : Error) → Stream stream 0 → ReadsKept keeps stream kept
-    → EndsWithFault stream e
-    ⊎ (fault_at e ≡ out_of_memory) → RefusesToStrip stream e
-refused_copy keeps stream kept e s r (inl h) = refused_fault stream e s h
-refused_copy keeps stream kept e s r (inr m) = refused_memory keeps stream kept e s r m
-
-pub left_as_it_was : (stream after : List ℕ) (e : Error) → Stream stream 0 → EndsWithFault stream e → after ≡ stream
-    → LeavesStream stream e after
-left_as_it_was stream after e s h u = record { refused = λ a. not_accepted stream e s h a; fault = h; unchanged = u }
 
 -- ---- the stripped stream is accepted
 
@@ -97,7 +88,7 @@ stream_kept keeps stream a s =
     let n : length stream ≡ length h + length (flat_map frame_bytes a.frames) = grind (arith, length-append) in
     let f : 0 + length stream < 2 ^ 64 = s.fits in
     record {
-      each = search (All-append, bytes_of_frames, all_prefix, all_kept, all_rest);
+      each = search (All-append, all_prefix, all_kept, all_rest);
       fits = omega (arith, f, n, length_kept (frame_stays keeps) a.frames, length-append h (bytes_of_frames keeps a.frames));
     }
 
@@ -134,7 +125,7 @@ read_kept keeps stream a s features events r =
     )
 
 -- the stream is stripped
-is_stripped : (keeps : List ℕ → Bool) (stream : List ℕ) (a : IsAccepted stream) → Stream stream 0
+pub is_stripped : (keeps : List ℕ → Bool) (stream : List ℕ) (a : IsAccepted stream) → Stream stream 0
     → IsStripped keeps stream (stripped keeps a.encoding a.frames)
 is_stripped keeps stream a s = record {
   accepted = a;
@@ -142,31 +133,6 @@ is_stripped keeps stream a s = record {
   still = (accepted_kept keeps stream a).0;
   reading = read_kept keeps stream a s;
 }
-
--- the bytes of the events that stay are those
-kept_is : (keeps : List ℕ → Bool) (stream kept : List ℕ) (a : IsAccepted stream) → Stream stream 0 → ReadsKept keeps stream kept → kept
-    ≡ stripped keeps a.encoding a.frames
-kept_is keeps stream kept a s r =
-    let all : List Event = r.events ++ last_event (ended r.offset) ∷ [] in
-    let t : TellsFrames 0 all_features a.encoding a.frames all = (frames_give_events stream 0 all_features all s a).0 r.reading in
-    let l = kept_here keeps all_features a.encoding a.frames all a.each t in
-    let q : ((r.events ≡ header_event 0 a.encoding ∷ t.inner) × (last_event (ended r.offset)
-    ≡ last_event (ended (0 + length (header_bytes a.encoding ++ flat_map frame_bytes a.frames))))) =
-    push_same r.events (header_event 0 a.encoding ∷ t.inner) (last_event (ended r.offset))
-    (last_event (ended (0 + length (header_bytes a.encoding ++ flat_map frame_bytes a.frames)))) t.whole in
-    grind arith
-
-pub strips_so : (keeps : List ℕ → Bool) (stream kept : List ℕ) → Stream stream 0 → ReadsKept keeps stream kept
-    → IsStripped keeps stream kept
-strips_so keeps stream kept s r =
-    let a : IsAccepted stream = accepted_of keeps stream kept s r in
-    rw (kept_is keeps stream kept a s r) (is_stripped keeps stream a s)
-
--- the kept bytes were moved to the front, which cannot end with a fault if the stream is accepted
-pub strips_to_front : (keeps : List ℕ → Bool) (stream kept after : List ℕ) (r : Result ℕ Error) → Stream stream 0
-    → ReadsKept keeps stream kept → MovesKept keeps stream r after → StripsToFront keeps stream r after
-strips_to_front keeps stream kept after (Ok size) s reads m = (strips_so keeps stream (take size after) s m.0, m.1, m.2)
-strips_to_front keeps stream kept after (Err e) s reads m = absurd (not_accepted stream e s m (accepted_of keeps stream kept s reads))
 
 -- ---- twice
 

@@ -1,5 +1,9 @@
 pub mod Dropping
+pub mod EditParts
+pub mod EditStream
+pub mod Edited
+pub mod Edits
+pub mod Encoded
+pub mod EncodedLaws
 pub mod ListStream
-pub mod StripStream
 pub mod Stripped
-pub mod Strips

@@ -9,7 +9,6 @@ use Rattle.wasm_base.specs.Owned.{out_of_memory}
 use Rattle.wasm_base.specs.declared.error.Error.{Error}
 use Rattle.wasm_grammar.specs.Accepted.{header_bytes, SectionFrame, frame_bytes, IsAccepted}
 use Rattle.wasm_grammar.specs.Content.{fault}
-use Rattle.wasm_grammar.specs.EventRanges.{consumed_by}
 use Rattle.wasm_grammar.specs.Reading.{Event, last_event, Reading}
 use Rattle.wasm_grammar.specs.Shifted.{shifted_event}
 use Rattle.wasm_grammar.specs.declared.encoding.Encoding.{Encoding}
@@ -35,10 +34,6 @@ stripped keeps encoding frames = header_bytes encoding ++ flat_map frame_bytes (
 
 abbrev pub event_stays : (keeps : List ℕ → Bool) → Event → Bool
 event_stays keeps e = report_stays keeps e.report
-
--- the bytes that the events that stay consumed, joined
-abbrev pub kept_bytes : (keeps : List ℕ → Bool) → List Event → List ℕ
-kept_bytes keeps events = consumed_by (filter (event_stays keeps) events)
 
 -- the events that stay, each with the number of bytes that were dropped before it, which is `dropped` before the first
 -- event

@@ -16,17 +16,23 @@
 //! ```
 #![tactic(auto)]
 
+mod editing;
+mod edits;
+mod encoding;
 pub mod laws;
 mod listing;
 mod streaming;
 mod stripping;
 
+pub use editing::{edit, edit_to, edited_len};
+pub use edits::{Edit, all_fit};
+pub use encoding::{NewSection, encode};
 pub use listing::{list, list_in};
-pub use streaming::strip_stream;
+pub use streaming::{edit_stream, strip_stream};
 pub use stripping::{strip, strip_in, strip_in_place, strip_to_front};
 pub use wasm_feeder::{
     Ahead, Cursor, Ended, Event, EventKind, Feeder, Keep, Opened, Step, Turn, fits_pieces,
-    parse_next, read_pieces, read_pieces_in, seen,
+    parse_next, read_pieces, read_pieces_in, seen, stays,
 };
 pub use wasm_text::{
     BoundedSink, Failed, ListError, ReadSource, Sink, SliceSource, Source, WriteSink, write_all,

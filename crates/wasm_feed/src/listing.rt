@@ -85,8 +85,8 @@ fn without_name(part: SkippedPart<'_>) -> SkippedPart<'static>
 
 // Skips the part at the cursor, if its first fields are in these bytes.
 fn skip_dropped(cursor: &mut Cursor, bytes: &[u8]) -> Option<Dropped>
-    // Proved: when they look, `list` and `strip_stream` skip the part at the cursor whenever
-    //   `skip_next` can skip it. `strip_stream` reads more only if it can't [the clauses of
+    // Proved: when they look, `list` and `edit_stream` skip the part at the cursor whenever
+    //   `skip_next` can skip it. `edit_stream` reads more only if it can't [the clauses of
     //   `skip_dropped` and `skip_part` (`DropsIfAny`, `SkipsIfAny`: `SkipsNothing`); `reads`,
     //   `stops` on `read_or_pass` (`ReadsOrPasses`, `StopsHere`). All three are private]
     ensures { DropsIfAny cursor.old bytes.now result cursor.new }

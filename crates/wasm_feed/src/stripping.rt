@@ -1,87 +1,25 @@
 // A stream without its custom sections.
-ghost use Rattle.std.specs.Prelude.{◌≡◌, ◌+◌, ◌<◌, ◌≤◌, ◌^◌, true, length};
+ghost use Rattle.std.specs.Prelude.{◌≡◌, ◌+◌, ◌<◌, ◌≤◌, ◌^◌, [], ◌∷◌, length};
 ghost use Rattle.std.specs.List.{copy_within};
-ghost use Rattle.wasm_feeder.specs.Cursors.{feed_of};
-ghost use Rattle.wasm_feeder.specs.Fates.{custom_stays, stays_by};
+ghost use Rattle.wasm_feed.specs.EditParts.{MovesKept};
+ghost use Rattle.wasm_feed.specs.Edited.{MeasuresEdited};
 ghost use Rattle.wasm_feed.specs.Stripped.{Strips, StripsInPlace, StripsToFront};
-ghost use Rattle.wasm_feed.specs.Strips.{CountsKept, CopiesKept, GoesOn, MovesKept, Passes, PassesKept, TakesKept, TakesPart};
+ghost use Rattle.wasm_feed.specs.declared.edits.Edit.TheVariants as edit;
+ghost use Rattle.wasm_feeder.specs.Fates.{custom_stays, stays_by};
 ghost use Rattle.wasm_grammar.specs.Reading.{Stream};
 
+use crate::editing::{edit, edited_len, next_part};
+use crate::edits::{Edit, Fate};
 use std::alloc::{Allocator, Global};
-use wasm_feeder::{Cursor, Fate, Keep, Step, fate_of, parse_next};
-use wasm_parser::{Error, Fault, Parser, Result};
-use wasm_text::list_of_capacity;
+use wasm_feeder::{Cursor, Keep};
+use wasm_parser::{Parser, Result};
 
-/// A part of a stream that is stripped.
-#[derive(Clone, Copy)]
-pub(crate) struct Part<'a> {
-    bytes: &'a [u8],
-    fate: Fate,
-}
-
-// The next part of these bytes, which are all of the stream.
-fn next_part<'a>(cursor: &mut Cursor, bytes: &'a [u8], keep: Keep<'_>) -> Result<Part<'a>>
-    requires { cursor.old.is_finished ≡ true }
-    ensures takes { TakesPart (stays_by keep.entry) (feed_of bytes.now cursor.old) result
-        (feed_of bytes.now cursor.new) }
-    ensures goes_on { GoesOn (feed_of bytes.now cursor.old) result
-        (feed_of bytes.now cursor.new) }
-    ensures finished { cursor.new.is_finished ≡ true }
-    ensures passes { Passes bytes.now cursor.old.mark result cursor.new.mark }
-{
-    match parse_next(cursor, bytes)? {
-        Step::NeedMoreData(_) => unreachable!(),
-        Step::Parsed { bytes, payload } => Ok(Part {
-            bytes,
-            fate: fate_of(&payload, keep),
-        }),
-    }
-}
-
-// The next part of these bytes that stays, after those that go; none at the end of the stream, which they are all of.
-fn next_kept<'a>(cursor: &mut Cursor, bytes: &'a [u8], keep: Keep<'_>) -> Result<Option<&'a [u8]>>
-    requires { cursor.old.is_finished ≡ true }
-    ensures takes { TakesKept (stays_by keep.entry) (feed_of bytes.now cursor.old) result
-        (feed_of bytes.now cursor.new) }
-    ensures finished { cursor.new.is_finished ≡ true }
-    ensures passes { PassesKept bytes.now cursor.old.mark result cursor.new.mark }
-{
-    'parts: loop {
-        let part = next_part(cursor, bytes, keep)?;
-        match part.fate {
-            Fate::Stays => return Ok(Some(part.bytes)),
-            Fate::Goes => {}
-            Fate::End => return Ok(None),
-        }
-    }
-}
-
-// How many bytes are left of a stream.
-fn count_kept(bytes: &[u8], keep: Keep<'_>) -> Result<usize>
-    requires { length bytes.now < 2 ^ 64 }
-    ensures counts { CountsKept (stays_by keep.entry) bytes.now result }
+// Returns the length of the stripped stream, if it has no fault.
+fn stripped_len(bytes: &[u8], keep: Keep<'_>) -> Result<usize>
+    ensures measures { MeasuresEdited (edit.Keep keep.entry ∷ []) bytes.now result }
     ensures stream { Stream bytes.now 0 }
 {
-    let mut cursor = Cursor::over_all(Parser::new(0));
-    let mut count = 0;
-    'parts: while let Some(part) = next_kept(&mut cursor, bytes, keep)? {
-        count += part.len();
-    }
-    Ok(count)
-}
-
-// Appends a stream without the dropped sections to these bytes.
-fn copy_kept<A: Allocator>(bytes: &[u8], keep: Keep<'_>, kept: &mut Vec<u8, A>) -> Result<()>
-    requires { length bytes.now < 2 ^ 64 }
-    ensures { CopiesKept (stays_by keep.entry) bytes.now kept.old.items result kept.new.items }
-{
-    let mut cursor = Cursor::over_all(Parser::new(0));
-    'parts: while let Some(part) = next_kept(&mut cursor, bytes, keep)? {
-        if kept.extend_from_slice(part).is_err() {
-            return Err(Error::new(Fault::OutOfMemory, 0));
-        }
-    }
-    Ok(())
+    edited_len(bytes, &[Edit::Keep(keep)])
 }
 
 // Moves `size` bytes from `start` down to another place, if they are not there already.
@@ -99,14 +37,20 @@ fn move_down(bytes: &mut [u8], start: usize, size: usize, to: usize)
 // Moves the stripped stream to the front of its bytes, and returns its length in bytes.
 fn move_kept(bytes: &mut [u8], keep: Keep<'_>) -> Result<usize>
     requires { length bytes.old < 2 ^ 64 }
-    ensures { MovesKept (stays_by keep.entry) bytes.old result bytes.new }
+    ensures { MovesKept (edit.Keep keep.entry ∷ []) bytes.old result bytes.new }
 {
     let mut cursor = Cursor::over_all(Parser::new(0));
     let mut kept = 0;
-    'parts: while let Some(part) = next_kept(&mut cursor, bytes, keep)? {
-        let size = part.len();
-        move_down(bytes, cursor.mark() - size, size, kept);
-        kept += size;
+    'parts: while let Some(part) = next_part(&mut cursor, bytes, &[Edit::Keep(keep)])? {
+        match part.fate {
+            Fate::Stays => {
+                let size = part.bytes.len();
+                move_down(bytes, cursor.mark() - size, size, kept);
+                kept += size;
+            }
+            Fate::Goes => {}
+            Fate::Becomes(_) => unreachable!(),
+        }
     }
     Ok(kept)
 }
@@ -132,10 +76,8 @@ pub fn strip_to_front(bytes: &mut [u8], keep: Keep<'_>) -> Result<usize>
     //   `LeavesStream`)]
     ensures { StripsToFront (stays_by keep.entry) bytes.old result bytes.new }
 {
-    // A slice is shorter than 2^64 bytes, which the functions below want to know.
-    let _length = bytes.len();
     // In place, so that a program holds only its input: of 40 MB, a copy cost a third of the time, by the page faults of fresh memory.
-    count_kept(bytes, keep)?;
+    stripped_len(bytes, keep)?;
     move_kept(bytes, keep)
 }
 
@@ -172,15 +114,7 @@ pub fn strip_in<A: Allocator>(alloc: A, bytes: &[u8], keep: Keep<'_>) -> Result<
     //   names [their clauses (`stays_by`)]
     ensures { Strips (stays_by keep.entry) bytes.now result }
 {
-    // A slice is shorter than 2^64 bytes, which the functions below want to know.
-    let _length = bytes.len();
-    // The first pass finds a fault however little memory there is, and the size to allocate at once.
-    let count = count_kept(bytes, keep)?;
-    let Ok(mut kept) = list_of_capacity(alloc, count) else {
-        return Err(Error::new(Fault::OutOfMemory, 0));
-    };
-    copy_kept(bytes, keep, &mut kept)?;
-    Ok(kept)
+    edit(alloc, bytes, &[Edit::Keep(keep)])
 }
 
 /// Returns a copy of a stream without its custom sections.

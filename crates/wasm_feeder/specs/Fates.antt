@@ -3,10 +3,7 @@ use Rattle.std.specs.Prelude.{◌≡◌, ℕ, Bool, true, false, ◌&&◌, ◌||
 use Rattle.std.specs.Borrow.{Bor}
 use Rattle.std.specs.List.{list_any}
 use Rattle.wasm_grammar.specs.Reading.{Report, custom_section}
-use Rattle.wasm_frames.specs.Answer.{is_end}
 use Rattle.wasm_frames.specs.SkipNext.{Head, custom}
-use Rattle.wasm_feeder.specs.declared.fates.Fate.{Fate}
-use Rattle.wasm_feeder.specs.declared.fates.Fate.TheVariants.{Stays, Goes, End}
 use Rattle.wasm_feeder.specs.declared.fates.Keep.{Keep}
 
 -- whether a custom section with this name stays where the one named `name` is kept, or none is
@@ -28,22 +25,12 @@ abbrev pub stays_by : Keep → (text : List ℕ) → Bool
 stays_by keep text =
     is_among text keep.kept.now || (others_stay keep.removed.now text || custom_stays keep.names text)
 
+-- | whether a part of a stream that is stripped stays, also if it is skipped [`stays_by`, `report_stays`,
+--   `head_stays`] <Custom Section>
 -- whether what is reported stays
 abbrev pub report_stays : (keeps : List ℕ → Bool) → Report → Bool
 report_stays keeps (custom_section text data_offset window) = keeps text
 report_stays keeps other = true
-
--- what becomes of a custom section that stays, or doesn't
-abbrev pub custom_fate : (stays : Bool) → Fate
-custom_fate stays = if stays then Stays else Goes
-
--- | what becomes of a part of a stream that is stripped, also if it is skipped [`report_stays`, `head_stays`] <Custom
---   Section>
--- This becomes of what is reported.
-abbrev pub IsFateOf : (keeps : List ℕ → Bool) → Report → Fate → Type 0
-IsFateOf keeps report Stays = (is_end report ≡ false) × (report_stays keeps report ≡ true)
-IsFateOf keeps report Goes = (is_end report ≡ false) × (report_stays keeps report ≡ false)
-IsFateOf keeps report End = is_end report ≡ true
 
 -- whether a part with these first fields stays
 abbrev pub head_stays : (keeps : List ℕ → Bool) → Head → Bool

@@ -1,10 +1,6 @@
-// What becomes of the parts of a stream that is stripped.
+// Which custom sections of a stream stay.
 ghost use Rattle.std.specs.Prelude.{◌≡◌};
-ghost use Rattle.wasm_feeder.specs.Fates.{IsFateOf, custom_fate, custom_stays, head_stays, is_among as is_one_of, others_stay, stays_by};
-ghost use Rattle.wasm_parser.specs.ParseAnswer.{report_of};
-ghost use Rattle.wasm_frames.specs.SkipNext.{head_is};
-
-use wasm_parser::{PartHead, Payload};
+ghost use Rattle.wasm_feeder.specs.Fates.{custom_stays, is_among as is_one_of, others_stay, stays_by};
 
 /// The choice of custom sections that stay in a stripped stream.
 ///
@@ -44,17 +40,6 @@ impl Keep<'_> {
     }
 }
 
-/// What becomes of a part of a stream when it is stripped.
-#[derive(Clone, Copy)]
-pub enum Fate {
-    /// It stays.
-    Stays,
-    /// It is removed.
-    Goes,
-    /// It is the end of the stream.
-    End,
-}
-
 // Whether a name is one of these.
 #[tactic(auto, using(std::proofs::lemmas::List::Folds::list_any_more, std::proofs::lemmas::List::Folds::list_any_at))]
 fn is_among(name: &str, names: &[&str]) -> bool
@@ -77,42 +62,8 @@ fn is_other(name: &str, removed: &[&str]) -> bool
 
 /// Returns whether a custom section with this name stays.
 pub fn stays(name: &str, keep: Keep<'_>) -> bool
-    // Proved: a custom section stays if its name is chosen, the end is the end, and every other
-    //   part stays; a part that is skipped stays like its payload [the clauses of `stays`
-    //   (`stays_by`), `fate_of` (`IsFateOf`) and `head_stays`]
+    // Proved: a custom section stays if its name is chosen
     ensures { result ≡ stays_by keep.entry name.now }
 {
     is_among(name, keep.kept) || is_other(name, keep.removed) || keep.names && name == "name"
-}
-
-// What becomes of a custom section with this name.
-fn fate_of_custom(name: &str, keep: Keep<'_>) -> Fate
-    ensures { result ≡ custom_fate (stays_by keep.entry name.now) }
-{
-    if stays(name, keep) {
-        Fate::Stays
-    } else {
-        Fate::Goes
-    }
-}
-
-/// Returns what becomes of a part with this payload.
-pub fn fate_of(payload: &Payload, keep: Keep<'_>) -> Fate
-    ensures { IsFateOf (stays_by keep.entry) (report_of payload.now) result }
-{
-    match payload {
-        Payload::End(_) => Fate::End,
-        Payload::CustomSection(section) => fate_of_custom(section.name(), keep),
-        _ => Fate::Stays,
-    }
-}
-
-/// Returns whether a part that is skipped stays, by its first fields.
-pub fn head_stays(head: &PartHead<'_>, keep: Keep<'_>) -> bool
-    ensures { result ≡ head_stays (stays_by keep.entry) (head_is head.now) }
-{
-    match head {
-        PartHead::Custom { name, .. } => stays(name, keep),
-        _ => true,
-    }
 }

@@ -44,7 +44,7 @@ mod turns;
 
 pub use ahead::Ahead;
 pub use events::{Event, EventKind};
-pub use fates::{Fate, Keep, fate_of, head_stays, stays};
+pub use fates::{Keep, stays};
 pub use feeder::{Cursor, Feeder, Opened, Step, parse_next, seen};
 pub use passing::{Passing, pass_part, put_all};
 pub use pieces::{fits_pieces, read_pieces, read_pieces_in};

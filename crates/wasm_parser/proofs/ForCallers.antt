@@ -3,6 +3,8 @@ pub use Rattle.wasm_base.proofs.SameFaults.{error as equal_errors}
 pub use Rattle.wasm_base.proofs.Walks.{gives, gives_owned, item_came, fault_came, after_item, at_a_fault}
 pub use Rattle.wasm_grammar.proofs.accepted.Frames.{reads_accepted}
 pub use Rattle.wasm_grammar.proofs.accepted.Accepting.{fault_ends}
+pub use Rattle.wasm_grammar.proofs.accepted.Walks.{accepted_reads}
+pub use Rattle.wasm_grammar.proofs.readings.Readings.{reading_same}
 pub use Rattle.wasm_parser.proofs.Along.{answers_go_along}
 pub use Rattle.wasm_parser.proofs.AnswerBounds.{answers_last}
 pub use Rattle.wasm_parser.proofs.Consumed.{end_consumes_all}

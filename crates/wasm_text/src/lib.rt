@@ -17,4 +17,4 @@ pub use devices::{
 pub use digits::{Base, write_number, write_offset};
 pub use messages::{complain, give_up};
 pub use page::Page;
-pub use short_text::{ShortText, TEXT_BYTES, write_word};
+pub use short_text::{ShortText, TEXT_BYTES, write_bytes, write_word};

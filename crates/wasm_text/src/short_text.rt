@@ -34,9 +34,9 @@ pub trait ShortText {
         ensures written { take result bytes.new ≡ take at bytes.old ++ text self.now };
 }
 
-/// Writes these bytes at the index `at`, and returns the index after them.
+/// Writes bytes at the index `at`, where there must be room for them, and returns the index after them.
 #[inline(always)]
-pub(crate) fn write_bytes(bytes: &mut [u8], at: usize, more: &[u8]) -> usize
+pub fn write_bytes(bytes: &mut [u8], at: usize, more: &[u8]) -> usize
     requires { at + length more.now ≤ length bytes.old }
     ensures end { result ≡ at + length more.now }
     ensures written { take result bytes.new ≡ take at bytes.old ++ more.now }

@@ -1,6 +1,7 @@
 // The parser by its calls, and payloads by their fields. Tables of rows are in `wasm_rows`.
 mod calls;
 mod debug;
+mod frames;
 mod imports;
 mod payloads;
 mod surface;

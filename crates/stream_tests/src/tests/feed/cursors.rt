@@ -5,7 +5,7 @@ use std::alloc::Allocator;
 use std::process::Abort;
 use std::test::Fail;
 use wasm_feed::{Ahead, Cursor, Failed, Keep, SliceSource, Step, parse_next};
-use wasm_feeder::{Fate, fate_of, head_stays, stays};
+use wasm_feeder::stays;
 use wasm_lines::{FaultLine, PayloadLine, SkippedLine};
 use wasm_parser::{Error, Fault, Parser, Payload};
 use wasm_text::{Base, ShortText, TEXT_BYTES};
@@ -108,17 +108,8 @@ fn a_chunk_by_its_calls(rt: HostRuntime) -> Result<(), Fail> {
     Ok(())
 }
 
-// Whether a part is removed, or is the end.
-fn fate_name(payload: &Payload<'_>, keep: Keep<'_>) -> &'static str {
-    match fate_of(payload, keep) {
-        Fate::Stays => "stays",
-        Fate::Goes => "goes",
-        Fate::End => "end",
-    }
-}
-
 #[test]
-fn parts_that_stay(rt: HostRuntime) -> Result<(), Fail> {
+fn names_that_stay(rt: HostRuntime) -> Result<(), Fail> {
     let keep_a = Keep {
         names: false,
         kept: &["a"],
@@ -139,35 +130,6 @@ fn parts_that_stay(rt: HostRuntime) -> Result<(), Fail> {
         same(&rt, stays(name, keep_a), of_a);
         same(&rt, stays(name, all_but_a), of_others);
     }
-    let mut fates = Vec::new(rt.alloc());
-    for payload in Parser::new(0).parse_all(PARTS) {
-        let payload = payload?;
-        same(&rt, fate_name(&payload, keep_a) == "goes", false);
-        fates.push(fate_name(&payload, Keep::names(false)))?;
-    }
-    same(
-        &rt,
-        (fates.get(1), fates.last()),
-        (Some(&"goes"), Some(&"end")),
-    );
-    same(&rt, fates.iter().filter(|fate| **fate == "goes").count(), 1);
-    Ok(())
-}
-
-#[test]
-fn skipped_parts_that_stay(rt: HostRuntime) -> Result<(), Fail> {
-    let mut parser = Parser::new(0);
-    drop(parser.parse(PARTS, false)?);
-    let custom = parser.skip_next(&PARTS[8..20]).ok_or("no custom section")?;
-    same(&rt, head_stays(&custom.head, Keep::names(true)), false);
-    let kept = Keep {
-        names: false,
-        kept: &["a"],
-        removed: &[],
-    };
-    same(&rt, head_stays(&custom.head, kept), true);
-    let types = parser.skip_next(&PARTS[32..40]).ok_or("no types")?;
-    same(&rt, head_stays(&types.head, Keep::names(false)), true);
     Ok(())
 }
 

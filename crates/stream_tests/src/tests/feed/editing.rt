@@ -3,8 +3,10 @@ use crate::tests::same_at;
 use std::alloc::{Allocator, Global};
 use std::process::Abort;
 use std::test::Fail;
-use wasm_edit::{Changes, NewSection, all_fit, edit, encode, keep_all};
-use wasm_feed::Keep;
+use wasm_feed::{
+    BoundedSink, Edit, Ended, Keep, NewSection, SliceSource, all_fit, edit, edit_stream, edit_to,
+    edited_len, encode,
+};
 use wasm_parser::{Error, Fault, Result};
 use wasm_testing::Sparing;
 
@@ -25,48 +27,117 @@ const EMPTY: NewSection<'static> = NewSection {
 const AMPLE: u64 = 100;
 
 // The edited stream, if all new sections can be written.
-fn edited<A: Allocator>(
-    alloc: A,
-    stream: &[u8],
-    keep: Keep<'_>,
-    added: &[NewSection<'_>],
-) -> Option<Result<Vec<u8, A>>> {
-    if !all_fit(added) {
+fn edited<A: Allocator>(alloc: A, stream: &[u8], edits: &[Edit<'_>]) -> Option<Result<Vec<u8, A>>> {
+    if !all_fit(edits) {
         return None;
     }
-    Some(edit(alloc, stream, Changes { keep, added }))
+    Some(edit(alloc, stream, edits))
 }
 
-// The choice that removes the sections with one name.
-fn without<'a>(names: &'a [&'a str]) -> Keep<'a> {
-    Keep {
-        names: false,
-        kept: &[],
-        removed: names,
+// The stream after the edits is this, in memory of its own, in other memory, and while it is read.
+fn makes(rt: &impl Abort, alloc: Global, edits: &[Edit<'_>], wanted: &[u8]) {
+    let bytes = edited(alloc, STREAM, edits).expect(rt, "too large");
+    same_at(
+        rt,
+        bytes.expect(rt, "a fault").as_slice(),
+        wanted,
+        &edits.len(),
+    );
+    if all_fit(edits) {
+        same_at(
+            rt,
+            edited_len(STREAM, edits),
+            Ok(wanted.len()),
+            &edits.len(),
+        );
+        let mut out = [1; 60];
+        same_at(
+            rt,
+            edit_to(STREAM, edits, &mut out),
+            Ok(wanted.len()),
+            &edits.len(),
+        );
+        same_at(rt, out.get(..wanted.len()), Some(wanted), &edits.len());
+        for piece in [1, 2, 7, 100] {
+            let mut input = SliceSource::new(STREAM);
+            let mut output = BoundedSink::new(alloc, 100).expect(rt, "out of memory");
+            let how = edit_stream(alloc, edits, &mut input, &mut output, piece);
+            same_at(rt, how, Ok(Ended::End), &piece);
+            same_at(rt, output.written(), wanted, &piece);
+        }
     }
-}
-
-// The edited stream is this.
-fn makes(rt: &impl Abort, alloc: Global, keep: Keep<'_>, added: &[NewSection<'_>], wanted: &[u8]) {
-    let bytes = edited(alloc, STREAM, keep, added).expect(rt, "too large");
-    let bytes = bytes.expect(rt, "a fault");
-    same_at(rt, bytes.as_slice(), wanted, &added.len());
 }
 
 #[test]
-fn edits_custom_sections(rt: HostRuntime) {
+fn appends_and_removes(rt: HostRuntime) {
     let kept = b"\0asm\x01\0\0\0\0\x02\x01a\x01\x01\0\0\x03\x01bB\0\x05\x01cxyz\0\x01\0";
-    makes(&rt, rt.alloc(), keep_all(), &[C, EMPTY], kept);
-    let replaced = b"\0asm\x01\0\0\0\x01\x01\0\0\x03\x01bB\0\x05\x01cxyz";
-    makes(&rt, rt.alloc(), without(&["a", "c"]), &[C], replaced);
     makes(
         &rt,
         rt.alloc(),
-        Keep::names(false),
-        &[],
-        b"\0asm\x01\0\0\0\x01\x01\0",
+        &[Edit::Append(C), Edit::Append(EMPTY)],
+        kept,
     );
-    makes(&rt, rt.alloc(), keep_all(), &[], STREAM);
+    let removed = b"\0asm\x01\0\0\0\x01\x01\0\0\x03\x01bB\0\x05\x01cxyz";
+    makes(
+        &rt,
+        rt.alloc(),
+        &[Edit::Remove("a"), Edit::Append(C)],
+        removed,
+    );
+    let stripped = b"\0asm\x01\0\0\0\x01\x01\0";
+    makes(&rt, rt.alloc(), &[Edit::Keep(Keep::names(false))], stripped);
+    makes(&rt, rt.alloc(), &[], STREAM);
+}
+
+const B: NewSection<'static> = NewSection {
+    name: "b",
+    data: b"",
+};
+
+#[test]
+fn replaces_in_place(rt: HostRuntime) {
+    let a = NewSection {
+        name: "a",
+        data: b"123",
+    };
+    let replaced = b"\0asm\x01\0\0\0\0\x05\x01a123\x01\x01\0\0\x02\x01b";
+    makes(
+        &rt,
+        rt.alloc(),
+        &[Edit::Replace(a), Edit::Replace(B), Edit::Replace(C)],
+        replaced,
+    );
+}
+
+// A later edit changes what an earlier one added.
+#[test]
+fn edits_in_turn(rt: HostRuntime) {
+    let longer = NewSection {
+        name: "c",
+        data: b"later",
+    };
+    makes(
+        &rt,
+        rt.alloc(),
+        &[
+            Edit::Append(C),
+            Edit::Append(EMPTY),
+            Edit::Replace(longer),
+            Edit::Remove(""),
+        ],
+        b"\0asm\x01\0\0\0\0\x02\x01a\x01\x01\0\0\x03\x01bB\0\x07\x01clater",
+    );
+    makes(
+        &rt,
+        rt.alloc(),
+        &[
+            Edit::Replace(B),
+            Edit::Append(C),
+            Edit::Keep(Keep::names(false)),
+            Edit::Append(B),
+        ],
+        b"\0asm\x01\0\0\0\x01\x01\0\0\x02\x01b",
+    );
 }
 
 // The section is a prefix of these bytes, followed by its data.
@@ -111,14 +182,14 @@ fn names_have_a_limit(rt: HostRuntime) -> Result<(), Fail> {
         data: b"",
     };
     assert!(rt; !long.fits());
-    assert!(rt; !all_fit(&[C, long]));
+    assert!(rt; !all_fit(&[Edit::Append(C), Edit::Replace(long)]));
     Ok(())
 }
 
 #[test]
 fn refuses_what_is_not_accepted(rt: HostRuntime) {
     let cut = STREAM.get(..19).unwrap_or(STREAM);
-    let how = edited(rt.alloc(), cut, keep_all(), &[C]).expect(&rt, "too large");
+    let how = edited(rt.alloc(), cut, &[Edit::Append(C)]).expect(&rt, "too large");
     let fault = how.err().expect(&rt, "no fault");
     same_at(
         &rt,
@@ -134,7 +205,10 @@ fn memory_runs_out(rt: HostRuntime) {
     let mut needed = None;
     for blocks in 0..AMPLE {
         let heap = Sparing::new(rt.alloc(), blocks);
-        match edited(&heap, STREAM, keep_all(), &[C, EMPTY]).expect(&rt, "too large") {
+        match edited(&heap, STREAM, &[Edit::Append(C), Edit::Append(EMPTY)]).expect(
+            &rt,
+            "too large",
+        ) {
             Ok(bytes) => {
                 assert_eq!(rt; bytes.len(), STREAM.len() + 10);
                 needed = Some(blocks);

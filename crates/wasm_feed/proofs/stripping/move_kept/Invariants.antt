@@ -1,10 +1,11 @@
-use Rattle.wasm_feed.proofs.Common.{◌≡◌, true, length, ◌-◌, ◌≤◌, take, HasKept, feed_of, stays_by}
+use Rattle.wasm_feed.proofs.Common.{◌≡◌, true, [], ◌∷◌, length, ◌-◌, ◌≤◌, take, HasEdited, feed_of}
+use Rattle.wasm_feed.specs.declared.edits.Edit.TheVariants as edit
 use Rattle.wasm_feed.proofs.stripping.move_kept.Given as goal
 
 -- the kept ones of the parts so far are at the front, and the remaining parts have not moved
 abbrev pub invariant-parts : goal.invariant-parts
 invariant-parts l = record {
-  comes : HasKept (stays_by l.fn.keep) l.fn.bytes (feed_of l.bytes l.cursor) (take l.kept l.bytes);
+  comes : HasEdited (edit.Keep l.fn.keep ∷ []) l.fn.bytes (feed_of l.bytes l.cursor) (take l.kept l.bytes);
   finished : l.cursor.is_finished ≡ true;
   order : l.kept ≤ l.cursor.mark;
   within : l.cursor.mark ≤ length l.bytes;
