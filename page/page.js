@@ -6,6 +6,8 @@ import { Tree } from "./tree.js";
 
 const $ = id => document.getElementById(id), PAUSE = 150, SCRIPT = "worker.js", OFFSET = /^0x[0-9a-f]+$/i;
 let worker = null, waiting = new Map(), requests = 0, file = null, opened = null, fault = -1, word = "", pause = 0, link = location.hash;
+// The custom section that is selected, or null, and whether the file has edits.
+let selected = null, isEdited = false;
 const made = (tag, properties) => Object.assign(document.createElement(tag), properties);
 const say = (text, isFault = false) => Object.assign($("said"), { textContent: text, className: isFault ? "fault" : "" });
 
@@ -39,19 +41,22 @@ const loading = Promise.all([moduleOf($("wasm")?.textContent), addressOf($("work
 loading.catch(error => say(`The parser cannot be loaded: ${error.message}`, true));
 
 // A file that is opened meanwhile ends the worker of this one, whose answer then never comes.
-async function open(given) {
+async function open(given, hasEdits = false) {
     const [module, address] = await loading;
     file = given;
+    isEdited = hasEdits;
+    selectCustom(null);
     startWorker(address);
     say(`Reading ${shown(file.name)}, ${plural(file.size, "byte")}`);
     Object.assign($("progress"), { max: Math.max(1, file.size), value: 0, hidden: false });
     opened = await ask("open", module, file);
     $("progress").hidden = $("empty").hidden = true;
     document.querySelector("main").hidden = document.querySelector("footer").hidden = $("search").disabled = false;
-    $("search").value = word = "";
+    $("search").value = $("name").value = word = "";
     fault = -1;
     $("next").hidden = !opened.faults.length;
-    $("strip").disabled = $("keep").disabled = !opened.isWhole;
+    for (const id of ["strip", "keep", "name", "add", "replace", "remove"]) $(id).disabled = !opened.isWhole;
+    $("save").disabled = !isEdited;
     hexView.open(file, opened.faults.map(it => it.offset));
     $("bar").replaceChildren(...opened.bar.map(segment));
     tree.reset(opened.count);
@@ -63,15 +68,21 @@ async function open(given) {
 
 function tell() {
     const { faults: [first, ...more], problem, sections, took } = opened;
-    const what = `${shown(file.name)}: ${plural(file.size, "byte")}, ${plural(sections, "section")}, read in ${Math.round(took)} ms. `;
+    const what = `${shown(file.name)}${isEdited ? ", edited" : ""}: ${plural(file.size, "byte")}, ${plural(sections, "section")}, read in ${Math.round(took)} ms. `;
     const others = more.length ? `, and ${plural(more.length, "more fault")}` : "";
     const said = first ? `Fault at ${hex(first.offset)}: ${shown(first.text)}${others}.` : "No faults.";
     say(what + (problem || said), Boolean(problem || first));
 }
 
+function selectCustom(section) {
+    selected = section;
+    $("section").hidden = !section;
+}
+
 async function choose(row) {
     if (!tree.scroller.count) return;
-    const { first, start, end, place, rows, isBad } = await ask("details", row), all = [...$("bar").children];
+    const { first, start, end, place, rows, isBad, custom } = await ask("details", row), all = [...$("bar").children];
+    selectCustom(custom && { ...custom, first, end });
     $("hex-title").textContent = isBad ? `Bytes, fault at ${hex(first)}` : `Bytes ${hex(first)} to ${hex(end)}`;
     $("details").replaceChildren(...rows.flatMap(([term, text]) => [made("dt", { textContent: term }), made("dd", { textContent: text })]));
     // After the details, which share the height with the bytes.
@@ -148,29 +159,61 @@ $("bar").addEventListener("keydown", event => {
     next.focus();
 });
 
-async function saveStripped() {
-    $("strip").disabled = true;
-    try {
-        const { bytes, why } = await ask("strip", $("keep").checked);
-        if (why) throw new Error(why);
-        const href = URL.createObjectURL(new Blob([bytes])), download = file.name.replace(/(\.wasm)?$/i, ".stripped.wasm");
-        made("a", { href, download }).click();
-        setTimeout(() => URL.revokeObjectURL(href), 60_000);
-        say(`Saved ${shown(download)}: ${plural(bytes.length, "byte")} of ${plural(file.size, "byte")}.`);
-    } catch (error) {
-        say(`Not saved: ${error.message}`, true);
-    }
-    $("strip").disabled = false;
+function save(blob, ending) {
+    const href = URL.createObjectURL(blob), download = file.name.replace(/(\.wasm)?$/i, ending);
+    made("a", { href, download }).click();
+    setTimeout(() => URL.revokeObjectURL(href), 60_000);
+    say(`Saved ${shown(download)}: ${plural(blob.size, "byte")} of ${plural(file.size, "byte")}.`);
 }
+
+// Does what a button or a file asks for. If that fails, says so.
+async function attempt(failure, action) {
+    try {
+        await action();
+    } catch (error) {
+        say(`${failure}: ${error.message}`, true);
+    }
+}
+
+async function saveStripped() {
+    const { bytes, why } = await ask("strip", $("keep").checked);
+    if (why) throw new Error(why);
+    save(new Blob([bytes]), ".stripped.wasm");
+}
+
+// Opens the file with other bytes in the place of those between two offsets, and selects what is there.
+async function splice(from, to, bytes) {
+    link = `#${hex(from)}`;
+    await open(new File([file.slice(0, from), bytes, file.slice(to)], file.name), true);
+}
+
+// The name of a section as a part of the name of a file.
+const inFileName = name => name.replace(/[^\w.-]/g, "_").replace(/^\.+/, "");
+const saveData = () => save(file.slice(selected.dataStart, selected.end), `.${inFileName(selected.name)}.bin`);
+const removeSection = () => splice(selected.first, selected.end, "");
+const replaceData = async data => splice(selected.first, selected.end, await ask("encode", selected.name, data));
+const addSection = async data => splice(file.size, file.size, await ask("encode", $("name").value || data.name, data));
 
 const tree = new Tree($("tree"), ask, choose);
 const hexView = new Hex($("hex"), goTo, error => say(`The file cannot be read any more: ${error.message}`, true));
-const openFirst = ([given]) => given && open(given);
-// Choosing the same file again is a change too.
-$("file").addEventListener("click", () => ($("file").value = ""));
-$("file").addEventListener("change", () => openFirst($("file").files));
+// What takes a file, by the id of its input, and what to say if it fails.
+const TAKERS = { file: ["Not opened", data => open(data)], replace: ["Not replaced", replaceData], add: ["Not added", addSection] };
+function take(id, [data]) {
+    const [failure, taker] = TAKERS[id];
+    if (data && !$(id).disabled) attempt(failure, () => taker(data));
+}
+
+for (const id of Object.keys(TAKERS)) {
+    // Choosing the same file again is a change too.
+    $(id).addEventListener("click", () => ($(id).value = ""));
+    $(id).addEventListener("change", () => take(id, $(id).files));
+}
+const BUTTONS = {
+    strip: ["Not saved", saveStripped], save: ["Not saved", () => save(file, ".edited.wasm")], data: ["Not saved", saveData],
+    remove: ["Not removed", removeSection],
+};
+for (const [id, [failure, action]] of Object.entries(BUTTONS)) $(id).addEventListener("click", () => attempt(failure, action));
 $("next").addEventListener("click", () => nextFault());
-$("strip").addEventListener("click", saveStripped);
 $("theme").addEventListener("change", () => (document.documentElement.style.colorScheme = $("theme").value));
 $("search").addEventListener("input", () => {
     clearTimeout(pause);
@@ -182,6 +225,6 @@ for (const kind of ["dragover", "dragleave", "drop"]) {
     addEventListener(kind, event => {
         event.preventDefault();
         document.body.classList.toggle("over", kind === "dragover");
-        if (kind === "drop") openFirst(event.dataTransfer.files);
+        if (kind === "drop") take(event.target.closest?.("label.file")?.control.id ?? "file", event.dataTransfer.files);
     });
 }

@@ -66,12 +66,15 @@ const CALLS = {
         .filter(index => model.rows[index]).sort((a, b) => a - b).map(row),
     details(index) {
         const { part } = model.rows[index], first = firstOf(part), start = part.start ?? first, place = placeIn(model.parts, first);
-        return { first, start, end: endOf(part), isBad: part.kind === "fault", place, rows: detailsOf(part, model) };
+        const custom = part.kind === "custom" ? { name: part.name, dataStart: part.dataStart } : null;
+        return { first, start, end: endOf(part), isBad: part.kind === "fault", place, rows: detailsOf(part, model), custom };
     },
     async strip(keepNames) {
         const { fault, bytes } = parser.strip(await file.arrayBuffer(), { keepNames });
         return fault ? { why: faultOf(fault) } : { bytes };
     },
+    /** The bytes of a custom section with the data of a file. */
+    encode: async (name, data) => parser.encodeCustom(name, await data.arrayBuffer()),
 };
 
 onmessage = async ({ data: { id, call, args } }) => {

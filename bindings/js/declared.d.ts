@@ -262,6 +262,24 @@ export declare const CoreValueKind: {
     readonly F64: 4;
 };
 
+/** The kind of an edit. */
+export declare const EditKind: {
+    readonly APPEND: 0;
+    readonly REPLACE: 1;
+    readonly REMOVE: 2;
+    readonly KEEP: 3;
+};
+
+/** Whether an edited stream was written, and why not. */
+export declare const EditStatus: {
+    readonly DONE: 0;
+    readonly NO_ROOM: 1;
+    readonly MALFORMED: 2;
+    readonly UNKNOWN_KIND: 3;
+    readonly NAME_NOT_UTF8: 4;
+    readonly SECTION_TOO_LARGE: 5;
+};
+
 /** The id of a subsection of `name`. */
 export declare const NameId: {
     readonly MODULE: 0;
@@ -828,6 +846,13 @@ export declare const StrippedLayout: {
     readonly SIZE: 32;
     readonly fault: 0;
     readonly size: 24;
+};
+
+export declare const EditedLayout: {
+    readonly SIZE: 40;
+    readonly fault: 0;
+    readonly size: 24;
+    readonly status: 32;
 };
 
 export declare const CALLS: readonly string[];

@@ -262,6 +262,24 @@ export const CoreValueKind = Object.freeze({
     F64: 4,
 });
 
+// The kind of an edit.
+export const EditKind = Object.freeze({
+    APPEND: 0,
+    REPLACE: 1,
+    REMOVE: 2,
+    KEEP: 3,
+});
+
+// Whether an edited stream was written, and why not.
+export const EditStatus = Object.freeze({
+    DONE: 0,
+    NO_ROOM: 1,
+    MALFORMED: 2,
+    UNKNOWN_KIND: 3,
+    NAME_NOT_UTF8: 4,
+    SECTION_TOO_LARGE: 5,
+});
+
 // The id of a subsection of `name`.
 export const NameId = Object.freeze({
     MODULE: 0,
@@ -778,6 +796,12 @@ export const StrippedLayout = Object.freeze({
     fault: 0,
     size: 24,
 });
+export const EditedLayout = Object.freeze({
+    SIZE: 40,
+    fault: 0,
+    size: 24,
+    status: 32,
+});
 
 // The calls that the module exports.
 export const CALLS = Object.freeze([
@@ -884,4 +908,6 @@ export const CALLS = Object.freeze([
     "pulleynavy_check_custom_end",
     "pulleynavy_check_name_end",
     "pulleynavy_strip",
+    "pulleynavy_encode_custom",
+    "pulleynavy_edit",
 ]);

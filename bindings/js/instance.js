@@ -20,6 +20,14 @@ export function offsetAt(view, p) {
     return high === 0 ? view.getUint32(p, true) : high * MOST + view.getUint32(p, true);
 }
 
+/** The bytes of a typed array, a view or a buffer. Throws a TypeError if the source is none of these. */
+export function bytesOf(source) {
+    if (source instanceof Uint8Array) return source;
+    if (ArrayBuffer.isView(source)) return new Uint8Array(source.buffer, source.byteOffset, source.byteLength);
+    if (Object.prototype.toString.call(source).endsWith("ArrayBuffer]")) return new Uint8Array(source);
+    throw new TypeError("the input is not a typed array or an ArrayBuffer");
+}
+
 export class Instance {
     constructor(module) {
         const { memory, __heap_base: base, ...calls } = new WebAssembly.Instance(module).exports;

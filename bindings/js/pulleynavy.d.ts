@@ -581,7 +581,18 @@ export interface Parser {
  * assert.deepEqual(kinds, ["version", "end"]);
  */
 export interface ParserStream extends TransformStream<Bytes, Event> {}
-/** The result of `strip`: the stripped stream, or the fault of a malformed one. */
+/** An edit of the custom sections of a stream, with the name of its section. */
+export type Edit =
+    /** Appends a section. */
+    | { readonly append: string; readonly data: Bytes }
+    /** Replaces each custom section with this name, in its place. */
+    | { readonly replace: string; readonly data: Bytes }
+    /** Removes each custom section with this name. */
+    | { readonly remove: string }
+    /** Removes the custom sections with other names. */
+    | { readonly keep: string };
+
+/** The result of `strip` and `edit`: the new stream, or the fault of a malformed one. */
 export type Stripped = { readonly fault: Fault; readonly bytes: null } | { readonly fault: null; readonly bytes: Uint8Array };
 
 /**
@@ -624,6 +635,41 @@ export interface Pulleynavy {
      * assert.equal(strip(module).bytes.length, 8);
      */
     strip(bytes: Bytes, options?: { readonly keepNames?: boolean }): Stripped;
+    /**
+     * Returns a copy of a stream after edits of its custom sections, one after the other.
+     *
+     * The other sections keep their bytes and their order. A later edit also changes the sections that an earlier one added. `fault` is the
+     * fault of a malformed stream; `bytes` is then null.
+     *
+     * @throws {TypeError} if `bytes` or data is not a typed array, a view or a buffer, or an edit has none of the keys
+     * @throws {RangeError} if a new section is one that `encodeCustom` refuses, or memory can't grow
+     *
+     * @example
+     * import assert from "node:assert";
+     * import { load } from "pulleynavy";
+     *
+     * const { edit } = await load();
+     * const module = Uint8Array.of(0, 0x61, 0x73, 0x6d, 1, 0, 0, 0, 0, 2, 1, 0x61);
+     * const { bytes } = edit(module, [{ remove: "a" }, { append: "b", data: Uint8Array.of(7) }]);
+     * assert.deepEqual([...bytes.subarray(8)], [0, 3, 1, 0x62, 7]);
+     */
+    edit(bytes: Bytes, edits: Iterable<Edit>): Stripped;
+    /**
+     * Returns the bytes of a custom section: its id, its length, its name with its size, and its data.
+     *
+     * Numbers have as few bytes as possible.
+     *
+     * @throws {TypeError} if `data` is not a typed array, a view or a buffer
+     * @throws {RangeError} if the name has more than 100,000 bytes, the name and the data 2^32 or more, or memory can't grow
+     *
+     * @example
+     * import assert from "node:assert";
+     * import { load } from "pulleynavy";
+     *
+     * const { encodeCustom } = await load();
+     * assert.deepEqual([...encodeCustom("b", Uint8Array.of(7))], [0, 3, 1, 0x62, 7]);
+     */
+    encodeCustom(name: string, data: Bytes): Uint8Array;
     /** The class of parsers for chunked input. */
     readonly Parser: new (options?: Options) => Parser;
     /** The class of transform streams from chunks to events. */

@@ -1,8 +1,9 @@
 // SPDX-License-Identifier: Apache-2.0 OR MIT
 // A streaming parser for WebAssembly binaries. README.md says how to use it, pulleynavy.d.ts what every object has.
-import { CALLS, CustomKind, EventLayout, FeedLayout, StrippedLayout, VERSION } from "./declared.js";
+import { CALLS, CustomKind, EventLayout, FeedLayout, VERSION } from "./declared.js";
 import { contentsOf } from "./customs.js";
-import { CHUNK, Instance, batchOf, offsetAt } from "./instance.js";
+import { edit, encodeCustom, strip } from "./edits.js";
+import { CHUNK, Instance, batchOf, bytesOf, offsetAt } from "./instance.js";
 import { itemsOf } from "./items.js";
 import { Window } from "./window.js";
 
@@ -36,14 +37,6 @@ export function typeText(type) {
  */
 export function faultText(fault) {
     return `${fault.text}${fault.number === null ? "" : `: ${fault.number}`} (at offset 0x${fault.offset.toString(16)})`;
-}
-
-// Throws a TypeError if the source is neither a typed array, nor a view, nor a buffer.
-function bytesOf(source) {
-    if (source instanceof Uint8Array) return source;
-    if (ArrayBuffer.isView(source)) return new Uint8Array(source.buffer, source.byteOffset, source.byteLength);
-    if (Object.prototype.toString.call(source).endsWith("ArrayBuffer]")) return new Uint8Array(source);
-    throw new TypeError("the input is not a typed array or an ArrayBuffer");
 }
 
 // Reads one event after the other of the bytes that the feeder of an instance holds.
@@ -233,18 +226,6 @@ class Feeder {
     }
 }
 
-function strip(pool, bytes, { keepNames = false } = {}) {
-    const instance = pool.take();
-    instance.reserve(bytes.length);
-    instance.bytes.set(bytes, instance.storage);
-    instance.calls.pulleynavy_strip(instance.answerPointer, instance.storagePointer, BigInt(bytes.length), keepNames ? 1 : 0);
-    const { view, answer } = instance, isFault = view.getUint32(answer + StrippedLayout.fault, true) !== 0;
-    const fault = isFault ? instance.fault(answer + StrippedLayout.fault) : null, size = view.getUint32(answer + StrippedLayout.size, true);
-    const stripped = isFault ? null : instance.bytes.slice(instance.storage, instance.storage + size);
-    pool.give(instance);
-    return { fault, bytes: stripped };
-}
-
 // Throws a TypeError if the module is another one, or of another version.
 function checked(module) {
     const exported = new Set(WebAssembly.Module.exports(module).map(one => one.name));
@@ -258,7 +239,7 @@ function checked(module) {
 }
 
 /**
- * Returns the functions of a compiled `pulleynavy.wasm`: `parse`, `strip`, `Parser` and `ParserStream`.
+ * Returns the functions of a compiled `pulleynavy.wasm`: `parse`, `strip`, `edit`, `encodeCustom`, `Parser` and `ParserStream`.
  *
  * @param {WebAssembly.Module} module
  * @returns {import("./pulleynavy.js").Pulleynavy}
@@ -293,6 +274,8 @@ export function fromModule(module) {
     return {
         parse: (bytes, options) => parse(pool, bytesOf(bytes), options),
         strip: (bytes, options) => strip(pool, bytesOf(bytes), options),
+        edit: (bytes, edits) => edit(pool, bytesOf(bytes), edits),
+        encodeCustom: (name, data) => encodeCustom(pool, name, bytesOf(data)),
         Parser,
         ParserStream,
     };

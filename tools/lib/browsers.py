@@ -64,9 +64,9 @@ class Browser:
     def press(self, *keys):
         self.send("actions", {"actions": pressed(keys)})
 
-    def choose(self, path):
-        """Gives a file to the input of the page."""
-        self.send_to(self.element("#file"), "value", {"text": path})
+    def choose(self, path, selector="#file"):
+        """Gives a file to an input of the page."""
+        self.send_to(self.element(selector), "value", {"text": path})
 
     def label(self, element):
         return self.send_to(element, "computedlabel")
@@ -85,7 +85,7 @@ class Chromium(Browser):
         self.process = subprocess.Popen([driver, "--port=0"], stdout=subprocess.PIPE, stderr=subprocess.DEVNULL, text=True)
         port = next(line.split()[-1].rstrip(".") for line in self.process.stdout if "started successfully on port" in line)
         self.place = "http://127.0.0.1:%s/session" % port
-        words = ["--headless=new", "--no-sandbox", "--hide-scrollbars", "--disable-gpu", "--disable-dev-shm-usage"]
+        words = ["--headless=new", "--disable-ipc-flooding-protection", "--no-sandbox", "--hide-scrollbars", "--disable-gpu", "--disable-dev-shm-usage"]
         preferences = {"download.default_directory": folder}
         wanted = {"goog:chromeOptions": {"binary": program, "args": words, "prefs": preferences}, "goog:loggingPrefs": {"browser": "ALL"}}
         made = self.call("POST", "", {"capabilities": {"alwaysMatch": wanted}})

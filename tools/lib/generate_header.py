@@ -18,7 +18,7 @@ TARGET = os.path.join(CRATE, "include", "pulleynavy.h")
 TYPES = {"u8": ("uint8_t", 1), "u32": ("uint32_t", 4), "u64": ("uint64_t", 8), "i64": ("int64_t", 8), "usize": ("size_t", 8), "bool": ("bool", 1)}
 # The order of the sources, which is that of the declarations.
 SOURCES = ["version", "faults", "messages", "events", "stored", "parsing", "event_batches", "feeding", "cursors", "spans", "numbers", "values", "types", "kinds"]
-SOURCES += ["imports", "flat_imports", "exports", "instructions", "segments", "names", "producers", "hints", "dylink", "linking", "symbols", "target_features", "relocations", "coredumps", "customs", "ends", "strip"]
+SOURCES += ["imports", "flat_imports", "exports", "instructions", "segments", "names", "producers", "hints", "dylink", "linking", "symbols", "target_features", "relocations", "coredumps", "customs", "ends", "strip", "edits"]
 
 # The header without what is written from the sources. Compilers of older standards, of C or C++ before 2011, skip its assertions.
 TEMPLATE = common.read("tools", "lib", "templates", "header.h")
@@ -168,6 +168,9 @@ CODED = [
     ("The kind of a symbol of a comdat.", "pulleynavy_comdat_kind", "PULLEYNAVY_COMDAT", "DATA FUNC GLOBAL EVENT TABLE SECTION", "ComdatSymbolKind"),
     ("The type of a relocation.", "pulleynavy_relocation_kind", "PULLEYNAVY_RELOCATION", None, "RelocationType"),
     ("The kind of a value of a core dump.", "pulleynavy_core_value_kind", "PULLEYNAVY_CORE_VALUE", "MISSING I32 I64 F32 F64", "CoreDumpValue"),
+    ("The kind of an edit.", "pulleynavy_edit_kind", "PULLEYNAVY_EDIT", "APPEND REPLACE REMOVE KEEP", "Edit"),
+    ("Whether an edited stream was written, and why not.", "pulleynavy_edit_status", "PULLEYNAVY_EDIT_STATUS",
+     "DONE NO_ROOM MALFORMED UNKNOWN_KIND NAME_NOT_UTF8 SECTION_TOO_LARGE", "EditStatus"),
 ]
 # The ids of subsections: a comment, the enumeration, its prefix, and the file and the enum of `wasm_custom` that has them.
 SUBSECTIONS = [
@@ -190,8 +193,9 @@ FLAGS = [
 
 
 def matched(name):
-    """The numbers that the sources turn the variants of an enum into, by the names of enumerators."""
+    """The numbers that the sources turn the variants of an enum into, or turn into them, by the names of enumerators."""
     rows = [row for one in SOURCES for row in re.findall(r"\b%s::(\w+)(?:\(\w+\)| \{ \.\. \})? => \(?(\d+)[,)]" % name, source(one))]
+    rows += [(variant, number) for one in SOURCES for number, variant in re.findall(r"\b(\d+) => Some\(%s::(\w+)\(" % name, source(one))]
     return sorted({(upper(variant), int(number)) for variant, number in rows}, key=lambda row: row[1])
 
 
@@ -284,7 +288,10 @@ def argument(name, kind):
 def declared_call(name, result, arguments):
     arguments = arguments or ["void"]
     line = "%s %s(%s);\n" % (result, name, ", ".join(arguments))
-    return line if len(line) <= 120 else "%s %s(\n    %s);\n" % (result, name, ", ".join(arguments))
+    if len(line) <= 120:
+        return line
+    whole = wrapped(", ".join(one.replace(" ", "~") for one in arguments), "    ")
+    return "%s %s(\n    %s);\n" % (result, name, "\n    ".join(whole).replace("~", " "))
 
 
 def header():

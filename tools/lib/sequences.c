@@ -294,27 +294,96 @@ static bool step_others(struct actor *it) {
     return draw(3);
 }
 
-/* Strips a copy. It is the stream without the bytes of its custom sections. */
+/* ---- custom sections */
+
+struct text {
+    const uint8_t *bytes;
+    size_t size;
+};
+
+static bool is_name_of(const pulleynavy_event *event, struct text name) {
+    if (event->kind != PULLEYNAVY_EVENT_CUSTOM || event->name_size != name.size) return false;
+    return !memcmp(stream + (event->data_offset - start) - name.size, name.bytes, name.size);
+}
+
+/* The stream after an edit, as its events have it. */
+static uint8_t *stream_after(uint32_t kind, struct text name, struct text section, size_t *size) {
+    uint8_t *out = malloc(stream_size + (event_count + 1) * section.size + 1), *end = out;
+    const uint8_t *bytes = stream;
+    for (size_t i = 0; i < event_count; bytes += events[i++].consumed) {
+        struct text part = {bytes, events[i].consumed};
+        bool is_custom = events[i].kind == PULLEYNAVY_EVENT_CUSTOM, is_named = is_name_of(&events[i], name);
+        if (kind == PULLEYNAVY_EDIT_KEEP ? is_custom && !is_named : kind == PULLEYNAVY_EDIT_REMOVE && is_named) part.size = 0;
+        if (kind == PULLEYNAVY_EDIT_REPLACE && is_named) part = section;
+        memcpy(end, part.bytes, part.size);
+        end += part.size;
+    }
+    *size = (size_t)(end - out) + (kind == PULLEYNAVY_EDIT_APPEND ? section.size : 0);
+    if (kind == PULLEYNAVY_EDIT_APPEND) memcpy(end, section.bytes, section.size);
+    return out;
+}
+
+/* Whether calls that begin at offset 0 find what the events have. */
+static bool has_events(void) { return start == 0 && event_count < MOST_EVENTS; }
+
+/* Strips a copy. No section has a name that is not UTF-8. */
 static bool step_strip(struct actor *it) {
     bool keeps_names = draw(2), is_fault = events[event_count - 1].kind == PULLEYNAVY_EVENT_FAULT;
-    uint8_t *bytes = exact(stream, stream_size), *kept = malloc(stream_size + 1);
-    size_t size = 0, at = 0;
-    for (size_t i = 0; i < event_count; at += events[i++].consumed) {
-        bool is_custom = events[i].kind == PULLEYNAVY_EVENT_CUSTOM;
-        size_t data = is_custom ? at + events[i].at + (size_t)(events[i].data_offset - events[i].start) : 0;
-        bool is_name = is_custom && events[i].name_size == 4 && !memcmp(stream + data - 4, "name", 4);
-        if (is_custom && !(keeps_names && is_name)) continue;
-        memcpy(kept + size, stream + at, events[i].consumed);
-        size += events[i].consumed;
-    }
+    struct text name = {(const uint8_t *)(keeps_names ? "name" : "\xff"), keeps_names ? 4 : 1};
+    size_t size;
+    uint8_t *bytes = exact(stream, stream_size), *kept = stream_after(PULLEYNAVY_EDIT_KEEP, name, (struct text){stream, 0}, &size);
     pulleynavy_stripped stripped = CALL(pulleynavy_strip, bytes, stream_size, keeps_names);
-    if (start == 0 && event_count < MOST_EVENTS) {
+    if (has_events()) {
         require((stripped.fault.kind != 0) == is_fault && (is_fault || stripped.size == size), "the size of a stripped stream");
         require(!memcmp(bytes, is_fault ? stream : kept, is_fault ? stream_size : size), "a stripped stream");
     }
     (void)it;
     free(kept);
     free(bytes);
+    return false;
+}
+
+/* A name: often that of a section. */
+static struct text draw_name(void) {
+    const pulleynavy_event *event = &events[draw((uint32_t)event_count)];
+    if (event->kind != PULLEYNAVY_EVENT_CUSTOM) return (struct text){(const uint8_t *)"a", draw(2)};
+    return (struct text){stream + (event->data_offset - start) - event->name_size, event->name_size};
+}
+
+/* A custom section that was encoded into just as many bytes as it has. */
+static struct text encoded(struct text name, struct text data) {
+    uint8_t none, *out;
+    size_t size = CALL(pulleynavy_encode_custom, name.bytes, name.size, data.bytes, data.size, &none, 0);
+    out = malloc(size);
+    require(CALL(pulleynavy_encode_custom, name.bytes, name.size, data.bytes, data.size, out, size) == size, "the size of a section");
+    return (struct text){out, size};
+}
+
+/* Edits the stream into as many bytes as it then has, or one less, which are left unchanged. */
+static void edit_into(size_t room, uint32_t kind, struct text name, struct text data, struct text wanted) {
+    bool is_fault = events[event_count - 1].kind == PULLEYNAVY_EVENT_FAULT, is_written = !is_fault && wanted.size <= room;
+    uint8_t *bytes = exact(stream, stream_size), *out = malloc(room + 1), *before = malloc(room + 1);
+    memset(out, 0xaa, room), memset(before, 0xaa, room);
+    pulleynavy_edited edited = CALL(pulleynavy_edit, bytes, stream_size, kind, name.bytes, name.size, data.bytes, data.size, out, room);
+    if (has_events()) {
+        require((edited.status == PULLEYNAVY_EDIT_STATUS_MALFORMED) == is_fault, "the status of an edit");
+        require(!edited.status == is_written && edited.size == (is_fault ? 0 : wanted.size), "the size of an edited stream");
+        require(!memcmp(out, is_written ? wanted.bytes : before, is_written ? wanted.size : room), "an edited stream");
+    }
+    free(before);
+    free(out);
+    free(bytes);
+}
+
+static bool step_edit(struct actor *it) {
+    uint32_t kind = draw(4);
+    struct text name = draw_name(), data = {stream, draw((uint32_t)stream_size + 1)}, wanted;
+    name.bytes = exact(name.bytes, name.size), data.bytes = exact(data.bytes, data.size);
+    struct text section = encoded(name, data);
+    wanted.bytes = stream_after(kind, name, section, &wanted.size);
+    edit_into(wanted.size - (wanted.size ? draw(2) : 0), kind, name, data, wanted);
+    (void)it;
+    free((void *)wanted.bytes), free((void *)section.bytes), free((void *)data.bytes), free((void *)name.bytes);
     return false;
 }
 
@@ -377,7 +446,7 @@ static void begin(struct actor *it) {
             slice(it);
             it->step = step_others;
             break;
-        case 5: it->step = step_strip; break;
+        case 5: it->step = draw(2) ? step_strip : step_edit; break;
         case 6: begin_reader(it); break;
         default: begin_cursor(it); break;
     }

@@ -4,7 +4,7 @@
     tools/try c 7 2000        2000 random streams, from seed 7
     tools/try c --archive A   the archive A, in place of those that are built here; more than one may be given
 
-Each stream is listed in pieces of 1, 7, 100 and 65,536 bytes and whole, with its items, and stripped; every repeated byte is tried as a parser.
+Each stream is listed in pieces of 1, 7, 100 and 65,536 bytes and whole, with its items, stripped and edited; every repeated byte is tried as a parser.
 Random calls of all functions, in any order that the header allows, return for a minute what they return in plain order (tools/lib/sequences.c).
 The package for Python also reads 20,000 streams with changed bytes, and must not make memory grow.
 The examples of the header run too, and Doxygen reads it without a warning. What a machine lacks (a compiler, valgrind, cargo) is said in one line, and the rest is done.
@@ -40,7 +40,7 @@ WARNINGS = ["-Wall", "-Wextra", "-Wpedantic", "-Werror"]
 CHECKED = ["-g", "-O1", "-fsanitize=address,undefined", "-fno-sanitize-recover=all"]
 # The examples, with the standards that each is built by.
 PROGRAMS = {"list.c": ("c99", "c11"), "whole.cpp": ("c++11", "c++17")}
-PROGRAMS.update({name: ("c99",) for name in ("items.c", "imports.c", "calls.c", "patterns.c", "strip.c", "fuzz.c", "names.c")})
+PROGRAMS.update({name: ("c99",) for name in ("items.c", "imports.c", "calls.c", "patterns.c", "strip.c", "edit.c", "fuzz.c", "names.c")})
 
 
 def run(command, stream=b"", **options):
@@ -184,6 +184,38 @@ def stripped(built, streams):
     """Each stream stripped, as the model has it, or nothing if it has a fault."""
     strip = common.load(common.MODEL).strip
     return each(built["strip"], streams, lambda stream, lines: (b"", 1) if status_of(lines) else (strip(stream), 0))
+
+
+# Edits, each with a name that streams have or lack.
+EDITS = [("append", "a", "xyz"), ("replace", "name", ""), ("remove", "", ""), ("keep", "name", ""), ("append", "a name", "z" * 130)]
+EDITS += [("replace", "x", "z" * 126), ("remove", "name", ""), ("keep", "x", "")]
+
+
+def modelled_edit(number, stream, lines):
+    """An edit of a stream with this number, and the edited stream in hexadecimal, or none of a malformed one."""
+    kind, name, data = EDITS[number % len(EDITS)]
+    found = None if status_of(lines) else common.load(common.MODEL).edit(stream, kind, name.encode(), data.encode()).hex()
+    return {"edit": [kind, name, data], "edited": found}
+
+
+def row(number, stream, lines):
+    """A stream as the tests of the bindings read it."""
+    return {"hex": stream.hex(), "lines": lines, **modelled_edit(number, stream, lines)}
+
+
+def edited_by(built, streams, kind, name, data):
+    """Streams after an edit, as the model has them, or nothing if they have a fault."""
+    edit = common.load(common.MODEL).edit
+
+    def wanted_of(stream, lines):
+        return (b"", 1) if status_of(lines) else (edit(stream, kind, name.encode(), data.encode()), 0)
+
+    return each(built["edit"], streams, wanted_of, lambda number: [kind, name, data])
+
+
+def edited(built, streams):
+    """Each stream after one of the edits."""
+    return [text for turn, edit in enumerate(EDITS) for text in edited_by(built, streams[turn :: len(EDITS)], *edit)]
 
 
 def named_in(data):
@@ -348,7 +380,7 @@ def with_python(folder, archive, streams, changed, is_first):
     os.environ["PULLEYNAVY_LIB"] = library
     package = os.path.join(common.TOP, "bindings", "python")
     os.environ["PULLEYNAVY_STREAMS"] = os.path.join(folder, "streams.jsonl")
-    common.write(os.environ["PULLEYNAVY_STREAMS"], "".join(json.dumps({"hex": stream.hex(), "lines": lines}) + "\n" for stream, lines in streams + changed))
+    common.write(os.environ["PULLEYNAVY_STREAMS"], "".join(json.dumps(row(number, *one)) + "\n" for number, one in enumerate(streams + changed)))
     common.must([sys.executable, "-B", "-m", "unittest", "discover", "-q", "-s", "tests", "-t", "."], folder=package)
     if is_first and common.found("mypy"):
         common.must(["mypy", "--strict", "--cache-dir", os.path.join(folder, "mypy"), "pulleynavy", "tests"], folder=package)
@@ -368,7 +400,7 @@ def main():
         with_doxygen(folder)
         patterns(built, streams)
         sequences(folder, made, streams, given.seed)
-        differ = [text for test in (compared, stripped, names, imports, under_valgrind) for text in test(built, streams)]
+        differ = [text for test in (compared, stripped, edited, names, imports, under_valgrind) for text in test(built, streams)]
         changed = [(stream, modelled(stream)) for stream in mutants(random.Random(given.seed), [stream for stream, _ in common.golden()], MUTANTS)]
         for number, archive in enumerate(made.values()):
             with_cargo(folder, archive, number == 0)

@@ -29,15 +29,15 @@ MUTANTS = 20_000
 
 def stripped(stream, lines):
     """The stripped stream in hexadecimal, or none of a malformed one."""
-    is_fault = programs.status([line for line in lines if not line.startswith("  ")])
-    return None if is_fault else common.load(common.MODEL).strip(stream).hex()
+    return None if try_c.status_of(lines) else common.load(common.MODEL).strip(stream).hex()
 
 
 def write_streams(path, seed, count, mutant_count=0):
     """Writes the golden streams and random ones, with the lines of the models. Returns how many there are."""
     changed = mutants(random.Random(seed), [stream for stream, _ in common.golden()], mutant_count)
     rows = common.golden() + try_c.drawn(seed, count) + [(stream, try_c.modelled(stream)) for stream in changed]
-    common.write(path, "".join(json.dumps({"hex": stream.hex(), "lines": lines, "stripped": stripped(stream, lines)}) + "\n" for stream, lines in rows))
+    objects = ({**try_c.row(number, *one), "stripped": stripped(*one)} for number, one in enumerate(rows))
+    common.write(path, "".join(json.dumps(one) + "\n" for one in objects))
     return len(rows)
 
 

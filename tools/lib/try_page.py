@@ -1,4 +1,4 @@
-"""Tests the page in headless Chromium and Firefox: what it shows, its keys, names, contrast and width, and that it makes no requests.
+"""Tests the page in headless Chromium and Firefox: what it shows and saves, its keys, names, contrast and width, and that it makes no requests.
 
     tools/try page                   everything, with 20 random streams from seed 1
     tools/try page 7 100             100 random streams, from seed 7
@@ -264,7 +264,7 @@ ROLES = {"#tree": "tree", "#tree .row": "treeitem", "#bar": "toolbar", "#bar but
 def labels(page):
     """Every control has an accessible name, and the browser sees the roles."""
     # The rows are drawn again when these take room.
-    page.run("for (const id of ['progress', 'next', 'none']) $(id).hidden = false; await pause(200);")
+    page.run("for (const id of ['progress', 'next', 'none', 'section']) $(id).hidden = false; await pause(200);")
     seen = "return [...document.querySelectorAll(arguments[0])].filter(it => it.checkVisibility() && it.role !== 'none')"
     found = [one[browsers.ELEMENT] for one in page.run(seen, CONTROLS)]
     for element in found:
@@ -282,6 +282,7 @@ def contrast(page, paths):
     for path in [None, *paths]:
         page.start()
         said = path and page.load(path)
+        page.run("$('section').hidden = false")
         for theme in ("light", "dark"):
             page.run("$('theme').value = arguments[0]; $('theme').dispatchEvent(new Event('change')); await pause(50);", theme)
             lowest = min(lowest, page.run(CONTRAST))
@@ -298,6 +299,7 @@ def narrow(page, folder, path, picture):
     page.browser.send("frame", {"id": {browsers.ELEMENT: page.browser.element("iframe")}} if page.browser.name == "Chromium" else
                       {"element": page.browser.element("iframe")})
     page.load(path)
+    page.run("$('section').hidden = false")
     excess = page.run("const it = document.documentElement; return [innerWidth, it.scrollWidth - it.clientWidth]")
     same(excess, [NARROW, 0], "the width of the page")
     same(page.run("return cutOff()"), [], "what is cut off")
@@ -368,18 +370,95 @@ def search(page, path):
     becomes(lambda: page.chosen()["offset"], 8, "the row of an offset")
 
 
+def saved_by(page, button, path):
+    """The bytes that a button saves to a file. Chromium saves a second file only after a key or a click of the user."""
+    page.run("$(arguments[0]).focus()", button)
+    page.browser.press("Enter")
+    waited(lambda: os.path.exists(path) and os.path.getsize(path) > 0 or None, "saved file")
+    found = common.read_bytes(path)
+    os.remove(path)
+    return found
+
+
 def saving(page, folder, path):
     """What is saved is what the model strips: without names, and with them if that is ticked."""
     page.start()
     page.load(path)
     model, saved = common.load(common.MODEL), os.path.join(folder, "named.stripped.wasm")
     for keeps_names in (False, True, False):
-        # Chromium saves a second file only after a key or a click of the user.
-        page.run("if ($('keep').checked !== arguments[0]) $('keep').click(); $('strip').focus()", keeps_names)
-        page.browser.press("Enter")
-        waited(lambda: os.path.exists(saved) and os.path.getsize(saved) > 0 or None, "saved file")
-        same(common.read_bytes(saved), model.strip(named_module(), keeps_names), "the saved file, %s names" % ("with" if keeps_names else "without"))
-        os.remove(saved)
+        page.run("if ($('keep').checked !== arguments[0]) $('keep').click()", keeps_names)
+        wanted = model.strip(named_module(), keeps_names)
+        same(saved_by(page, "strip", saved), wanted, "the saved file, %s names" % ("with" if keeps_names else "without"))
+
+
+# ---- custom sections
+
+TYPES, NEW = section(1, vector([b"\x60\0\0"])), bytes(range(256))
+
+
+class Edited:
+    """The page with a module of which custom sections are edited."""
+
+    def __init__(self, page, folder, stream):
+        self.page, self.folder = page, folder
+        self.data = common.write(os.path.join(folder, "new data"), NEW)
+        page.opened(folder, "edits.wasm", stream)
+
+    def choose(self, name):
+        """Gives the data to an input, which may have it already."""
+        self.page.run("$(arguments[0]).value = ''", name)
+        self.page.browser.choose(self.data, "#" + name)
+
+    def saved(self, button, ending):
+        return saved_by(self.page, button, os.path.join(self.folder, "edits" + ending))
+
+    def select(self, row):
+        """Selects a custom section by the number of its row."""
+        self.page.run("document.querySelector(`.row[data-row='${arguments[0]}']`).click()", row)
+        becomes(lambda: self.page.run("return selected(arguments[0])", row), True, "the buttons of row %d" % row)
+
+    def becomes(self, stream, offset, what):
+        """The module is this one now, and the row at an offset is selected. It can be saved."""
+        said = "edits.wasm, edited: %d bytes" % len(stream)
+        becomes(lambda: self.page.said()[: len(said)], said, what)
+        becomes(lambda: self.page.chosen()["offset"], offset, what)
+        same(self.saved("save", ".edited.wasm"), stream, what)
+
+
+def editing(page, folder):
+    """A custom section is saved, replaced, removed and added. The other sections keep their bytes."""
+    first, last = custom("a/b", b"xyz"), custom("a/b", b"\0")
+    it = Edited(page, folder, module(first, TYPES, custom("", b""), last))
+    same(page.run("return [$('save').disabled, $('section').hidden]"), [True, True], "the buttons before an edit")
+    it.select(1)
+    same(it.saved("data", ".a_b.bin"), b"xyz", "the data of a section")
+    it.choose("replace")
+    first = custom("a/b", NEW)
+    it.becomes(module(first, TYPES, custom("", b""), last), 8, "a section that is replaced")
+    it.select(4)
+    page.run("$('remove').focus()")
+    page.browser.press("Enter")
+    kept = module(first, TYPES, custom("", b""))
+    it.becomes(kept, len(kept) - 3, "a section that is removed")
+    for name, wanted in (("\u03b1", "\u03b1"), ("", os.path.basename(it.data))):
+        page.run("$('name').value = arguments[0]", name)
+        it.choose("add")
+        kept += custom(wanted, NEW)
+        it.becomes(kept, len(kept) - len(custom(wanted, NEW)), "a section that is added")
+    page.run("$('name').value = 'a'.repeat(100_001)")
+    it.choose("add")
+    becomes(lambda: page.said()[:11], "Not added: ", "a section that is too large")
+    dropped(it)
+    Edited(page, folder, MODULE + b"\xff")
+    same(page.run("return ['add', 'name', 'strip', 'save'].map(id => $(id).disabled)"), [True] * 4, "what is disabled")
+
+
+def dropped(it):
+    """A file that is dropped on the input of a new section is added, and one that is dropped elsewhere is opened."""
+    it.page.run("$('name').value = ''; drop($('add').parentElement, 'b', [7])")
+    becomes(lambda: it.page.rows()[-1]["texts"][1], "b", "a section that is dropped")
+    it.page.run("drop(document.body, 'b.wasm', [0, 97, 115, 109, 1, 0, 0, 0])")
+    becomes(lambda: it.page.said()[:16], "b.wasm: 8 bytes,", "a module that is dropped")
 
 
 # ---- big files
@@ -549,6 +628,7 @@ def tried(browser, given, made, folder):
     links(page, named)
     search(page, named)
     saving(page, folder, named)
+    editing(page, folder)
     said += [big(page, folder), huge(page, folder)]
     quiet(page)
     if given.pictures:

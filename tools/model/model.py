@@ -1,5 +1,5 @@
 #!/usr/bin/env python3
-"""A model of framing: what a stream's events are, which data is too short, and stripped streams.
+"""A model of framing: what a stream's events are, which data is too short, and stripped and edited streams.
 
   model.py [--offset O] [--at-once] [--pieces N [--hints] | --prefix] < STREAM
   model.py --strip [--keep-names] < STREAM > STRIPPED
@@ -11,7 +11,8 @@ into what a parser must know of it, and every rule is a case on a byte string. W
 is refused as soon as its size has been read; without, once its bytes are there.
 
 As a module: reading(S, o, at_once), status(lines), feed(S, n, o, at_once, hints), prefix(S, o, at_once),
-state_of(C, o, at_once), short(state, d), ending(state, d), next_event(state, d), strip(S, keep).
+state_of(C, o, at_once), short(state, d), ending(state, d), next_event(state, d), strip(S, keep),
+edit(S, kind, name, data), custom(name, data).
 """
 import argparse
 import os
@@ -400,27 +401,61 @@ def prefix(S, o=0, at_once=False, places=False):
         p += used
 
 
-def strip(S, keep=False):
-    """The stripped bytes, or the fault's line (a str)."""
-    st, p, out = State(), 0, [S[:8]]
-    dropped = True
+def parts(S):
+    """The parts of a stream after its header: the bytes of each, and the name of a custom section or None."""
+    st, p = State(), 0
     while True:
-        try:
-            line, used, st = next_event(st, S, p)
-        except Fault as f:
-            return f.line()
+        line, used, st = next_event(st, S, p)
         w = line.split(" ")
         if w[0] == "end":
-            return b"".join(out)
+            return
+        name = None
+        if w[0] == "custom":
+            b, at = int(w[1]), int(w[3])
+            name = S[b + u32(S, b, len(S))[2]:at]
         if w[0] != "version":
-            dropped = False
-            if w[0] == "custom":
-                b, at = int(w[1]), int(w[3])
-                k = u32(S, b, len(S))[2]
-                dropped = not (keep and S[b + k:at] == b"name")
-            if not dropped:
-                out.append(S[p:p + used])
+            yield S[p:p + used], name
         p += used
+
+
+def changed(S, change):
+    """The stream with other bytes for each part, by its bytes and its name, or the fault's line (a str)."""
+    try:
+        return b"".join([S[:8], *(change(part, name) for part, name in parts(S))])
+    except Fault as f:
+        return f.line()
+
+
+def strip(S, keep=False):
+    """The stripped bytes, or the fault's line (a str)."""
+    return changed(S, lambda part, name: part if name is None or keep and name == b"name" else b"")
+
+
+def shortest(n):
+    """The LEB128 number with the fewest bytes."""
+    return bytes([n]) if n < 128 else bytes([n % 128 + 128]) + shortest(n // 128)
+
+
+def custom(name, data):
+    """A custom section."""
+    content = shortest(len(name)) + name + data
+    return b"\0" + shortest(len(content)) + content
+
+
+# What an edit of each kind makes of a part, by its bytes, its name, the name of the edit and the new section.
+EDITS = {
+    "append": lambda part, name, other, new: part,
+    "replace": lambda part, name, other, new: new if name == other else part,
+    "remove": lambda part, name, other, new: b"" if name == other else part,
+    "keep": lambda part, name, other, new: part if name in (None, other) else b"",
+}
+
+
+def edit(S, kind, name, data=b""):
+    """The bytes after an edit of the custom sections, or the fault's line (a str)."""
+    new = custom(name, data)
+    got = changed(S, lambda part, other: EDITS[kind](part, other, name, new))
+    return got + new if kind == "append" and isinstance(got, bytes) else got
 
 
 # ------------------------------------------------------------------ the rows
@@ -461,8 +496,8 @@ def said(kind, words, count):
         return ask(S, H(words[1]), "eof" in words, o, at_once)
     if kind == "short":
         return "/".join(sorted({is_undecided(S, H(words[1]), once) for once in (False, True)}))
-    if kind == "strip":
-        got = strip(S, "names" in words)
+    if kind in ("strip", "edit"):
+        got = strip(S, "names" in words) if kind == "strip" else edit(S, words[1], *map(H, words[2:]))
         return got if isinstance(got, str) else "M" + got[8:].hex() if got.startswith(M) else got.hex()
     if kind in ("feed", "requests"):
         lines = [line for line in feed(S, int(words[1]), o, at_once, kind == "requests" or "hints" in words) if kind == "feed" or line.startswith("need")]

@@ -8,7 +8,7 @@ import { CALLS } from "../declared.js";
 import { ALL_FEATURES, COMPACT_IMPORTS, MEMORY64, VERSION, faultText, fromModule, load, typeText } from "../node.js";
 
 const wasm = readFileSync(new URL("../pulleynavy.wasm", import.meta.url));
-const { parse, Parser, ParserStream, strip } = await load(wasm);
+const { parse, Parser, ParserStream, strip, edit, encodeCustom } = await load(wasm);
 // The bytes of a text whose characters are bytes.
 const bytes = text => new Uint8Array(Buffer.from(text, "latin1"));
 const HEADER = "\0asm\x01\0\0\0";
@@ -234,6 +234,9 @@ test("input of each kind, and input that is none", () => {
         assert.throws(() => parse(input), TypeError);
         assert.throws(() => new Parser().push(input), TypeError);
         assert.throws(() => strip(input), TypeError);
+        assert.throws(() => edit(input, []), TypeError);
+        assert.throws(() => edit(array, [{ append: "a", data: input }]), TypeError);
+        assert.throws(() => encodeCustom("a", input), TypeError);
     }
 });
 
@@ -268,6 +271,36 @@ test("stripping", () => {
     assert.deepEqual(strip(module, { keepNames: true }).bytes, bytes(HEADER + "\0\x05\x04name"));
     assert.equal(module.length, 19);
     assert.deepEqual([strip(bytes("abcd")).fault.fault, strip(bytes("abcd")).bytes], ["BAD_MAGIC", null]);
+});
+
+test("edits", () => {
+    const data = bytes("z"), types = "\x01\x01\0", module = bytes(HEADER + "\0\x02\x01a" + types + "\0\x03\x01bx\0\x02\x01a");
+    const rows = [
+        [[{ append: "\u03b1", data }], Buffer.from(module).toString("latin1") + "\0\x04\x02\xce\xb1z"],
+        [[{ replace: "a", data }], HEADER + "\0\x03\x01az" + types + "\0\x03\x01bx\0\x03\x01az"],
+        [[{ remove: "a" }], HEADER + types + "\0\x03\x01bx"],
+        [[{ keep: "b" }], HEADER + types + "\0\x03\x01bx"],
+        [[{ keep: "" }, { append: "c", data }, { replace: "c", data: bytes("") }, { append: "", data: bytes("") }], HEADER + types + "\0\x02\x01c\0\x01\0"],
+    ];
+    for (const [edits, wanted] of rows) assert.deepEqual(edit(module, new Set(edits)), { fault: null, bytes: bytes(wanted) });
+    const copy = edit(Buffer.from(module), []).bytes;
+    assert.deepEqual(copy.fill(0), new Uint8Array(module.length));
+    assert.deepEqual([edit(bytes("abcd"), []), edit(bytes("abcd"), [{ remove: "a" }, { append: "a".repeat(100_001), data }])].map(
+        ({ fault, bytes }) => [fault.fault, fault.offset, bytes]), [["BAD_MAGIC", 0, null], ["BAD_MAGIC", 0, null]]);
+    for (const wrong of [{}, { data }, null, "remove", { remove: 5 }, { append: "a" }, { append: "a", data: "text" }]) {
+        assert.throws(() => edit(module, [wrong]), TypeError);
+    }
+});
+
+test("custom sections", () => {
+    const zeros = String.fromCharCode(0).repeat(126), longest = "a".repeat(100_000);
+    assert.deepEqual(encodeCustom("", bytes("")), bytes("\0\x01\0"));
+    assert.deepEqual(encodeCustom("", bytes(zeros)), bytes("\0\x7f\0" + zeros));
+    assert.deepEqual(encodeCustom("a", bytes(zeros)), bytes("\0\x80\x01\x01a" + zeros));
+    assert.equal(encodeCustom(longest, bytes("")).length, 1 + 3 + 3 + 100_000);
+    assert.throws(() => encodeCustom(longest + "a", bytes("")), { name: "RangeError", message: /too large/ });
+    assert.throws(() => edit(bytes(HEADER), [{ replace: longest + "a", data: bytes("") }]), { name: "RangeError", message: /too large/ });
+    assert.throws(() => encodeCustom(5, bytes("")), TypeError);
 });
 
 // ---- instances
@@ -342,12 +375,15 @@ test("a memory that cannot grow is a RangeError, and the next parse works", () =
     const script = `
         import assert from "node:assert/strict";
         import { load } from ${JSON.stringify(new URL("../node.js", import.meta.url).href)};
-        const { parse, Parser, strip } = await load();
+        const { parse, Parser, strip, edit, encodeCustom } = await load();
         const large = new Uint8Array(8_000_000), small = new Uint8Array([0, 97, 115, 109, 1, 0, 0, 0]);
         large.set([...small, 0, 0xf4, 0xa3, 0xe8, 0x03, 1, 120]);
         for (let i = 0; i < 20; i++) {
             assert.throws(() => [...parse(large)], RangeError);
             assert.throws(() => strip(large), RangeError);
+            assert.throws(() => edit(large, [{ remove: "a" }]), RangeError);
+            assert.throws(() => edit(small, [{ append: "a", data: large }]), RangeError);
+            assert.throws(() => encodeCustom("a", large), RangeError);
             assert.throws(() => new Parser().push(large), RangeError);
             assert.equal([...parse(small)].at(-1).kind, "end");
         }

@@ -6,11 +6,11 @@ import test from "node:test";
 import { load } from "../node.js";
 import { agrees, eventLine, itemLines, withoutRanges } from "./lines.js";
 
-const { parse, Parser, ParserStream, strip } = await load();
+const { parse, Parser, ParserStream, strip, edit } = await load();
 const file = process.env.PULLEYNAVY_STREAMS ?? new URL("../../../tools/golden.jsonl", import.meta.url);
 const rows = readFileSync(file, "ascii").trim().split("\n").map(row => JSON.parse(row));
 const streams = rows.map(row => ({
-    bytes: new Uint8Array(Buffer.from(row.hex, "hex")), lines: withoutRanges(row.lines), stripped: row.stripped,
+    ...row, bytes: new Uint8Array(Buffer.from(row.hex, "hex")), lines: withoutRanges(row.lines),
 }));
 
 function compare(bytes, said, wanted) {
@@ -93,5 +93,12 @@ test("stripping leaves what the model does", { skip: !streams.some(one => one.st
     for (const { bytes, stripped } of streams) {
         const { bytes: rest } = strip(bytes);
         assert.equal(rest && Buffer.from(rest).toString("hex"), stripped);
+    }
+});
+
+test("edits leave what the model does", { skip: !streams.some(one => one.edit !== undefined) }, () => {
+    for (const { bytes, edit: [kind, name, data], edited } of streams) {
+        const { fault, bytes: rest } = edit(bytes, [{ [kind]: name, data: Buffer.from(data) }]);
+        assert.deepEqual([fault, rest && Buffer.from(rest).toString("hex")], [strip(bytes).fault, edited]);
     }
 });

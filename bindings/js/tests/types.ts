@@ -1,7 +1,7 @@
 // SPDX-License-Identifier: Apache-2.0 OR MIT
 // What `tsc --strict` accepts and refuses of a program that uses the package. It is compiled, and not run.
 import { EventKind, ExportLayout } from "../declared.js";
-import type { Contents, CoreValue, Event, Fault, Import, Relocation, StorageType, TypeGroup } from "../pulleynavy.js";
+import type { Contents, CoreValue, Edit, Event, Fault, Import, Relocation, StorageType, TypeGroup } from "../pulleynavy.js";
 import { MEMORY64, faultText, fromModule, load, typeText } from "../pulleynavy.js";
 
 const never = (value: never): string => value;
@@ -70,7 +70,7 @@ function value(it: CoreValue): string {
 }
 
 export async function all(response: Response, module: WebAssembly.Module): Promise<string[]> {
-    const { parse, Parser, ParserStream, strip } = await load();
+    const { parse, Parser, ParserStream, strip, edit, encodeCustom } = await load();
     for (const source of [new URL("https://localhost/pulleynavy.wasm"), "pulleynavy.wasm", response, module]) await load(source);
     const parser = new Parser({ features: MEMORY64, items: false }), lines: string[] = [];
     for (const event of parse(new Uint8Array(8))) lines.push(shown(event));
@@ -78,12 +78,16 @@ export async function all(response: Response, module: WebAssembly.Module): Promi
     const events: ReadableStream<Event> | undefined = response.body?.pipeThrough(new ParserStream());
     const stripped = strip(new Uint8Array(8), { keepNames: true });
     lines.push(stripped.fault ? faultText(stripped.fault) : `${stripped.bytes.length}`);
+    const edits: readonly Edit[] = [{ remove: "a" }, { append: "b", data: encodeCustom("c", new ArrayBuffer(2)) }];
+    lines.push(edit(new Uint8Array(8), edits).fault?.text ?? "");
     lines.push(`${events?.locked} ${EventKind.END} ${ExportLayout.SIZE}`);
     return [...fromModule(module).parse(new DataView(new ArrayBuffer(8)))].map(shown).concat(lines);
 }
 
 // @ts-expect-error: a text is no input
 fromModule(null as unknown as WebAssembly.Module).parse("abc");
+// @ts-expect-error: an edit that appends has data
+export const appended: Edit = { append: "a" };
 // @ts-expect-error: an event cannot be changed
 export const change = (event: Event): void => void (event.kind = "end");
 // @ts-expect-error: there is no such type

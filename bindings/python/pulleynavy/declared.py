@@ -286,6 +286,26 @@ class CoreValueKind(enum.IntEnum):
     F64 = 4
 
 
+class EditKind(enum.IntEnum):
+    """The kind of an edit."""
+
+    APPEND = 0
+    REPLACE = 1
+    REMOVE = 2
+    KEEP = 3
+
+
+class EditStatus(enum.IntEnum):
+    """Whether an edited stream was written, and why not."""
+
+    DONE = 0
+    NO_ROOM = 1
+    MALFORMED = 2
+    UNKNOWN_KIND = 3
+    NAME_NOT_UTF8 = 4
+    SECTION_TOO_LARGE = 5
+
+
 class NameId(enum.IntEnum):
     """The id of a subsection of `name`."""
 
@@ -914,6 +934,14 @@ class Stripped(ctypes.Structure):
     ]
 
 
+class Edited(ctypes.Structure):
+    _fields_ = [
+        ("fault", Fault),
+        ("size", ctypes.c_size_t),
+        ("status", ctypes.c_uint32),
+    ]
+
+
 # What each call returns and takes.
 CALLS: dict[str, tuple[Any, list[Any]]] = {
     "pulleynavy_version": (ctypes.c_uint32, []),
@@ -1019,6 +1047,8 @@ CALLS: dict[str, tuple[Any, list[Any]]] = {
     "pulleynavy_check_custom_end": (Fault, [ctypes.c_void_p, ctypes.c_size_t, ctypes.c_uint64]),
     "pulleynavy_check_name_end": (Fault, [ctypes.c_void_p, ctypes.c_size_t, ctypes.c_uint64]),
     "pulleynavy_strip": (Stripped, [ctypes.c_void_p, ctypes.c_size_t, ctypes.c_bool]),
+    "pulleynavy_encode_custom": (ctypes.c_size_t, [ctypes.c_void_p, ctypes.c_size_t, ctypes.c_void_p, ctypes.c_size_t, ctypes.c_void_p, ctypes.c_size_t]),
+    "pulleynavy_edit": (Edited, [ctypes.c_void_p, ctypes.c_size_t, ctypes.c_uint32, ctypes.c_void_p, ctypes.c_size_t, ctypes.c_void_p, ctypes.c_size_t, ctypes.c_void_p, ctypes.c_size_t]),
 }
 
 FAULTS = {

@@ -23,6 +23,7 @@ from typing import Any
 import pulleynavy
 from pulleynavy import _library
 from pulleynavy import (
+    Append,
     ArrayType,
     CoreFrame,
     CoreInstance,
@@ -46,12 +47,15 @@ from pulleynavy import (
     HeapKind,
     Import,
     Instruction,
+    Keep,
     Limits,
     Memory,
     Module,
     Opcode,
     ParseError,
     Parser,
+    Remove,
+    Replace,
     Section,
     StructType,
     SubType,
@@ -556,6 +560,48 @@ class Streams(unittest.TestCase):
         self.assertEqual(pulleynavy.strip(HEADER + b"\0\5\4name\0\2\1x", keep_names=True), HEADER + b"\0\5\4name")
         with self.assertRaises(Fault):
             pulleynavy.strip(HEADER + b"\x80")
+
+    def test_edit(self) -> None:
+        types = b"\1\1\0"
+        stream = HEADER + b"\0\2\1a" + types + b"\0\3\1bx\0\2\1a"
+        rows: list[tuple[pulleynavy.Edit, bytes]] = [
+            (Append("\u03b1", b"yz"), stream + b"\0\5\2\xce\xb1yz"),
+            (Replace("a", b"z"), HEADER + b"\0\3\1az" + types + b"\0\3\1bx\0\3\1az"),
+            (Replace("c", b"z"), stream),
+            (Remove("a"), HEADER + types + b"\0\3\1bx"),
+            (Keep("a"), HEADER + b"\0\2\1a" + types + b"\0\2\1a"),
+        ]
+        for edit, wanted in rows:
+            with self.subTest(edit):
+                self.assertEqual(pulleynavy.edit(bytearray(stream), [edit]), wanted)
+        in_turn: list[pulleynavy.Edit] = [Keep(""), Append("c", b"1"), Append("c", memoryview(b"2")), Replace("c", b""), Append("", b"")]
+        self.assertEqual(pulleynavy.edit(stream, iter(in_turn)), HEADER + types + b"\0\2\1c\0\2\1c\0\1\0")
+        self.assertEqual(pulleynavy.edit(stream, []), stream)
+
+    def test_edit_that_fails(self) -> None:
+        longest = "a" * 100_000
+        several: list[list[pulleynavy.Edit]] = [[], [Remove("a")], [Append("a", b"")]]
+        for edits in several:
+            with self.assertRaises(ParseError) as raised:
+                pulleynavy.edit(HEADER + b"\3\2\1\0", edits)
+            self.assertEqual((raised.exception.kind.name, raised.exception.offset), ("FUNCTION_WITHOUT_CODE", 12))
+        self.assertEqual(len(pulleynavy.edit(HEADER, [Append(longest, b"")])), 8 + 1 + 3 + 3 + 100_000)
+        self.assertEqual(pulleynavy.edit(HEADER, [Remove(longest + "a")]), HEADER)
+        calls: list[Any] = [lambda name: pulleynavy.edit(HEADER, [Append(name, b"")]), lambda name: pulleynavy.encode_custom(name, b"")]
+        for call in calls:
+            with self.assertRaisesRegex(ValueError, "too large"):
+                call(longest + "a")
+            with self.assertRaises(UnicodeEncodeError):
+                call("\ud800")
+        wrong: Any = ["a", None, Append("a", "text")]  # type: ignore[arg-type]
+        for one in wrong:
+            with self.assertRaises(TypeError):
+                pulleynavy.edit(HEADER, [one])
+
+    def test_encode_custom(self) -> None:
+        self.assertEqual(pulleynavy.encode_custom("", b""), b"\0\1\0")
+        self.assertEqual(pulleynavy.encode_custom("", bytearray(126)), b"\0\x7f\0" + bytes(126))
+        self.assertEqual(pulleynavy.encode_custom("a", bytes(126)), b"\0\x80\1\1a" + bytes(126))
 
 
 class Copies(unittest.TestCase):

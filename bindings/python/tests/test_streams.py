@@ -3,13 +3,14 @@
 from __future__ import annotations
 
 import gc
+import io
 import json
 import os
 import tracemalloc
 import unittest
 from typing import Any, Callable, Iterator
 
-from pulleynavy import CustomKind, Module, ParseError, Parser
+from pulleynavy import Append, CustomKind, Keep, Module, ParseError, Parser, Remove, Replace, edit, events
 
 from . import lines
 
@@ -17,6 +18,7 @@ OWN = os.path.join(os.path.dirname(os.path.abspath(__file__)), "..", "..", "..",
 STREAMS = os.environ.get("PULLEYNAVY_STREAMS") or (OWN if os.path.exists(OWN) else None)
 # The sizes of chunks, in turn.
 SIZES = (1, 7, 100, 65536)
+EDITS: dict[str, Any] = {"append": Append, "replace": Replace, "remove": Remove, "keep": Keep}
 
 
 def fault_line(error: ParseError) -> str:
@@ -43,11 +45,24 @@ def items_of(expected: list[str]) -> Iterator[tuple[int, str]]:
 
 @unittest.skipUnless(STREAMS, "needs $PULLEYNAVY_STREAMS")
 class Streams(unittest.TestCase):
-    def rows(self) -> Iterator[tuple[bytes, list[str]]]:
+    def objects(self) -> Iterator[dict[str, Any]]:
         with open(str(STREAMS), encoding="ascii") as file:
-            for line in file:
-                row = json.loads(line)
-                yield bytes.fromhex(row["hex"]), row["lines"]
+            yield from map(json.loads, file)
+
+    def rows(self) -> Iterator[tuple[bytes, list[str]]]:
+        for row in self.objects():
+            yield bytes.fromhex(row["hex"]), row["lines"]
+
+    def test_edits(self) -> None:
+        """An edit of each stream that has one."""
+        for row in self.objects():
+            if "edit" not in row:
+                continue
+            kind, name, data = row["edit"]
+            one = EDITS[kind](name, data.encode()) if kind in ("append", "replace") else EDITS[kind](name)
+            with self.subTest(row["hex"], edit=row["edit"]):
+                found = read(lambda: edit(bytes.fromhex(row["hex"]), [one]).hex())
+                self.assertEqual(found, row["edited"] or read(lambda: list(events(io.BytesIO(bytes.fromhex(row["hex"]))))))
 
     def test_events_in_chunks(self) -> None:
         for number, (stream, expected) in enumerate(self.rows()):

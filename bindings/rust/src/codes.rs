@@ -241,6 +241,22 @@ pub(crate) mod core_value_kind {
     pub(crate) const F64: u32 = 4;
 }
 
+pub(crate) mod edit_kind {
+    pub(crate) const APPEND: u32 = 0;
+    pub(crate) const REPLACE: u32 = 1;
+    pub(crate) const REMOVE: u32 = 2;
+    pub(crate) const KEEP: u32 = 3;
+}
+
+pub(crate) mod edit_status {
+    pub(crate) const DONE: u32 = 0;
+    pub(crate) const NO_ROOM: u32 = 1;
+    pub(crate) const MALFORMED: u32 = 2;
+    pub(crate) const UNKNOWN_KIND: u32 = 3;
+    pub(crate) const NAME_NOT_UTF8: u32 = 4;
+    pub(crate) const SECTION_TOO_LARGE: u32 = 5;
+}
+
 pub(crate) mod name_id {
     pub(crate) const MODULE: u32 = 0;
     pub(crate) const FUNCTION: u32 = 1;

@@ -539,6 +539,14 @@ pub struct Stripped {
     pub size: usize,
 }
 
+#[repr(C)]
+#[derive(Clone, Copy, Debug)]
+pub struct Edited {
+    pub fault: Fault,
+    pub size: usize,
+    pub status: u32,
+}
+
 unsafe extern "C" {
     pub fn pulleynavy_version() -> u32;
     pub fn pulleynavy_format_message(kind: u32, out: *mut u8, out_size: usize) -> usize;
@@ -1123,4 +1131,23 @@ unsafe extern "C" {
     pub fn pulleynavy_check_custom_end(left: *const u8, left_size: usize, offset: u64) -> Fault;
     pub fn pulleynavy_check_name_end(left: *const u8, left_size: usize, offset: u64) -> Fault;
     pub fn pulleynavy_strip(bytes: *mut u8, bytes_size: usize, keep_names: bool) -> Stripped;
+    pub fn pulleynavy_encode_custom(
+        name: *const u8,
+        name_size: usize,
+        data: *const u8,
+        data_size: usize,
+        out: *mut u8,
+        out_size: usize,
+    ) -> usize;
+    pub fn pulleynavy_edit(
+        bytes: *const u8,
+        bytes_size: usize,
+        kind: u32,
+        name: *const u8,
+        name_size: usize,
+        data: *const u8,
+        data_size: usize,
+        out: *mut u8,
+        out_size: usize,
+    ) -> Edited;
 }

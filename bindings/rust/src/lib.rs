@@ -40,6 +40,7 @@ mod codes;
 mod composites;
 mod cores;
 mod custom;
+mod edits;
 mod error;
 mod fault;
 #[allow(missing_docs, dead_code, unsafe_code)]
@@ -75,6 +76,9 @@ pub use composites::{
 };
 pub use cores::{CoreDumpModulesSection, CoreDumpSection, CoreDumpStackSection, CoreDumpValue};
 pub use custom::{CustomSectionReader, Subsection, Subsections};
+pub use edits::{Edit, NewSection, edit_to, encode_to};
+#[cfg(feature = "alloc")]
+pub use edits::{edit, encode};
 pub use error::{BinaryReaderError, Error, Result};
 pub use fault::{CoreStart, Fault, Lead, NumberKind};
 pub use flags::{FlagsIter, FlagsIterNames, SegmentFlags, SymbolFlags, WasmFeatures};

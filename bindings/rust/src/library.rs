@@ -153,6 +153,19 @@ pub(crate) fn strip(bytes: &mut [u8], keep_names: bool) -> Result<usize, Fault> 
     if stripped.fault.kind == 0 { Ok(stripped.size) } else { Err(stripped.fault) }
 }
 
+/// Writes a custom section if there is room for it. Returns its size, or 0 if it can't be written.
+pub(crate) fn encode_custom(name: &str, data: &[u8], out: &mut [u8]) -> usize {
+    // SAFETY: the declaration is generated from the library's sources. Pointers and lengths are those of slices that are borrowed for the call.
+    unsafe { ffi::pulleynavy_encode_custom(name.as_ptr(), name.len(), data.as_ptr(), data.len(), out.as_mut_ptr(), out.len()) }
+}
+
+/// Writes a stream after an edit if there is room for it.
+pub(crate) fn edit(bytes: &[u8], kind: u32, name: &str, data: &[u8], out: &mut [u8]) -> ffi::Edited {
+    let (name, name_size) = (name.as_ptr(), name.len());
+    // SAFETY: the declaration is generated from the library's sources. Pointers and lengths are those of slices that are borrowed for the call.
+    unsafe { ffi::pulleynavy_edit(bytes.as_ptr(), bytes.len(), kind, name, name_size, data.as_ptr(), data.len(), out.as_mut_ptr(), out.len()) }
+}
+
 /// Writes the fixed text of the kind of a fault. Returns its length.
 #[cfg(test)]
 pub(crate) fn format_message(kind: u32, out: &mut [u8]) -> usize {

@@ -190,8 +190,44 @@ static void enumerators(void) {
     CHECK(pulleynavy_classify_custom((const uint8_t *)"dylink.0", 8) == PULLEYNAVY_CUSTOM_DYLINK0);
 }
 
+#define EDIT(kind, name, name_size, out_size) pulleynavy_edit(module, sizeof module, kind, name, name_size, data, 1, out, out_size)
+
+static const uint8_t module[] = {0x00, 0x61, 0x73, 0x6d, 0x01, 0x00, 0x00, 0x00, 0x00, 0x02, 0x01, 0x61, 0x01, 0x01, 0x00};
+
+/* An edit writes all of the stream or nothing, and says why. */
+static void edits(void) {
+    static const uint8_t a[] = {'a'}, data[] = {'z'}, long_name[100001], replaced[] = {0x00, 0x03, 0x01, 0x61, 'z', 0x01, 0x01, 0x00};
+    uint8_t out[20], unused[sizeof out];
+    memset(out, 0xaa, sizeof out), memset(unused, 0xaa, sizeof out);
+    pulleynavy_edited e = EDIT(PULLEYNAVY_EDIT_REPLACE, a, 1, 15);
+    CHECK(e.status == PULLEYNAVY_EDIT_STATUS_NO_ROOM && e.size == 16 && !e.fault.kind);
+    CHECK(EDIT(4, a, 1, 20).status == PULLEYNAVY_EDIT_STATUS_UNKNOWN_KIND && !EDIT(UINT32_MAX, a, 1, 20).size);
+    CHECK(EDIT(PULLEYNAVY_EDIT_REMOVE, (const uint8_t *)"\xff", 1, 20).status == PULLEYNAVY_EDIT_STATUS_NAME_NOT_UTF8);
+    CHECK(EDIT(PULLEYNAVY_EDIT_APPEND, long_name, 100001, 20).status == PULLEYNAVY_EDIT_STATUS_SECTION_TOO_LARGE);
+    CHECK(EDIT(PULLEYNAVY_EDIT_APPEND, long_name, 100000, 20).size == 15 + 4 + 3 + 100001);
+    e = pulleynavy_edit(module, 14, PULLEYNAVY_EDIT_REMOVE, a, 1, data, 0, out, sizeof out);
+    CHECK(e.status == PULLEYNAVY_EDIT_STATUS_MALFORMED && e.fault.kind == PULLEYNAVY_FAULT_UNEXPECTED_EOF && e.fault.offset == 14 && !e.size);
+    CHECK(!memcmp(out, unused, sizeof out));
+    e = EDIT(PULLEYNAVY_EDIT_REPLACE, a, 1, 16);
+    CHECK(!e.status && e.size == 16 && !memcmp(out, module, 8) && !memcmp(out + 8, replaced, 8) && !memcmp(out + 16, unused, 4));
+    CHECK(EDIT(PULLEYNAVY_EDIT_REMOVE, a, 1, 20).size == 11 && EDIT(PULLEYNAVY_EDIT_REMOVE, data, 1, 20).size == 15);
+    CHECK(EDIT(PULLEYNAVY_EDIT_KEEP, data, 1, 20).size == 11 && EDIT(PULLEYNAVY_EDIT_KEEP, a, 1, 20).size == 15);
+}
+
+/* A custom section is written whole or not at all. */
+static void encoding(void) {
+    static const uint8_t alpha[] = {0xce, 0xb1}, wanted[] = {0x00, 0x04, 0x02, 0xce, 0xb1, 0x07}, data[] = {7}, zeros[126];
+    uint8_t out[131], unused[sizeof out];
+    memset(out, 0xaa, sizeof out), memset(unused, 0xaa, sizeof out);
+    CHECK(pulleynavy_encode_custom(alpha, 2, data, 1, out, 5) == 6 && pulleynavy_encode_custom(alpha, 1, data, 1, out, 9) == 0);
+    CHECK(!memcmp(out, unused, sizeof out));
+    CHECK(pulleynavy_encode_custom(alpha, 2, data, 1, out, 6) == 6 && !memcmp(out, wanted, 6) && !memcmp(out + 6, unused, 4));
+    CHECK(pulleynavy_encode_custom(zeros, 0, zeros, 126, out, sizeof out) == 129 && out[1] == 127);
+    CHECK(pulleynavy_encode_custom(zeros, 1, zeros, 126, out, sizeof out) == 131 && out[1] == 0x80 && out[2] == 0x01);
+}
+
 int main(void) {
     CHECK(pulleynavy_version() == PULLEYNAVY_VERSION_NUMBER);
-    core_modules(), parser(), feeder(), moving(), places(), batches(), lists(), entries(), parts(), ends(), enumerators();
+    core_modules(), parser(), feeder(), moving(), places(), batches(), lists(), entries(), parts(), ends(), enumerators(), edits(), encoding();
     return status;
 }

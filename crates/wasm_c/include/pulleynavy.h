@@ -381,6 +381,24 @@ typedef enum pulleynavy_core_value_kind {
     PULLEYNAVY_CORE_VALUE_F64 = 4
 } pulleynavy_core_value_kind;
 
+/** The kind of an edit. */
+typedef enum pulleynavy_edit_kind {
+    PULLEYNAVY_EDIT_APPEND = 0,
+    PULLEYNAVY_EDIT_REPLACE = 1,
+    PULLEYNAVY_EDIT_REMOVE = 2,
+    PULLEYNAVY_EDIT_KEEP = 3
+} pulleynavy_edit_kind;
+
+/** Whether an edited stream was written, and why not. */
+typedef enum pulleynavy_edit_status {
+    PULLEYNAVY_EDIT_STATUS_DONE = 0,
+    PULLEYNAVY_EDIT_STATUS_NO_ROOM = 1,
+    PULLEYNAVY_EDIT_STATUS_MALFORMED = 2,
+    PULLEYNAVY_EDIT_STATUS_UNKNOWN_KIND = 3,
+    PULLEYNAVY_EDIT_STATUS_NAME_NOT_UTF8 = 4,
+    PULLEYNAVY_EDIT_STATUS_SECTION_TOO_LARGE = 5
+} pulleynavy_edit_status;
+
 /** The id of a subsection of `name`. */
 typedef enum pulleynavy_name_id {
     PULLEYNAVY_NAME_MODULE = 0,
@@ -2626,6 +2644,71 @@ typedef struct pulleynavy_stripped {
  */
 pulleynavy_stripped pulleynavy_strip(uint8_t *bytes, size_t bytes_size, bool keep_names);
 
+/** The result of an edit. */
+typedef struct pulleynavy_edited {
+    /** The fault at which the stream stops, of kind 0 if there is none. */
+    pulleynavy_fault fault;
+    /** The size of the edited stream in bytes, also if `out` has no room for it. 0 if there is no edited stream. */
+    size_t size;
+    /** A `pulleynavy_edit_status`: 0 if the edited stream was written, otherwise why it was not. */
+    uint32_t status;
+} pulleynavy_edited;
+
+/**
+ * Writes a custom section to `out`, with its id and its length, and returns its size in bytes.
+ *
+ * The name has at most 100,000 bytes of UTF-8, and the content, which is the name with its size and the data, less than 2^32. Numbers
+ * have as few bytes as possible. If `out` is shorter than the section, nothing is written.
+ *
+ * @par Errors
+ * It returns 0, and writes nothing, if the name is not UTF-8, or the name or the content is too large.
+ *
+ * @code{.c}
+ * uint8_t out[16];
+ * const uint8_t data[] = {'x', 'y', 'z'};
+ * size_t size = pulleynavy_encode_custom((const uint8_t *)"a", 1, data, sizeof data, out, sizeof out);
+ * assert(size == 7 && !memcmp(out, "\0\5\1axyz", size));
+ * assert(pulleynavy_encode_custom((const uint8_t *)"\xff", 1, data, 0, out, sizeof out) == 0);
+ * @endcode
+ *
+ * (Core specification, Binary format, Modules, Custom Section.)
+ */
+size_t pulleynavy_encode_custom(
+    const uint8_t *name, size_t name_size, const uint8_t *data, size_t data_size, uint8_t *out, size_t out_size);
+
+/**
+ * Edits the custom sections of a whole stream, and writes the edited stream to `out`.
+ *
+ * The kind of the edit is a `pulleynavy_edit_kind`:
+ * - `PULLEYNAVY_EDIT_APPEND` appends a custom section with this name and this data.
+ * - `PULLEYNAVY_EDIT_REPLACE` replaces each custom section with this name, in its place.
+ * - `PULLEYNAVY_EDIT_REMOVE` removes each custom section with this name. The data is ignored.
+ * - `PULLEYNAVY_EDIT_KEEP` removes the custom sections with other names. The data is ignored.
+ *
+ * The other sections keep their bytes and their order. The stream begins at offset 0. For several edits, call once for each, and pass
+ * the bytes that the last call wrote. If `out` is shorter than the edited stream, nothing is written, and the status is
+ * `PULLEYNAVY_EDIT_STATUS_NO_ROOM`: allocate `size` bytes, and call again.
+ *
+ * @par Errors
+ * The status says why nothing was written. For `PULLEYNAVY_EDIT_STATUS_MALFORMED` the fault is that at which the stream
+ * stops, as `pulleynavy_parse` returns it. The name of every edit must be UTF-8, and a new section must be one that
+ * `pulleynavy_encode_custom` can write.
+ *
+ * @code{.c}
+ * const uint8_t bytes[] = {0, 'a', 's', 'm', 1, 0, 0, 0, 0, 2, 1, 'a', 1, 1, 0}, data[] = {'z'};
+ * uint8_t out[16];
+ * pulleynavy_edited edited = pulleynavy_edit(
+ *     bytes, sizeof bytes, PULLEYNAVY_EDIT_REPLACE, (const uint8_t *)"a", 1, data, 1, out, sizeof out);
+ * assert(edited.status == PULLEYNAVY_EDIT_STATUS_DONE && edited.size == 16);
+ * assert(!memcmp(out + 8, "\0\3\1az\1\1\0", 8));
+ * @endcode
+ *
+ * (Core specification, Binary format, Modules, Custom Section.)
+ */
+pulleynavy_edited pulleynavy_edit(
+    const uint8_t *bytes, size_t bytes_size, uint32_t kind, const uint8_t *name, size_t name_size,
+    const uint8_t *data, size_t data_size, uint8_t *out, size_t out_size);
+
 /** For the checks of layouts below. */
 #if defined(__cplusplus) && (__cplusplus >= 201103L || defined(_MSC_VER))
 #define PULLEYNAVY_ASSERT static_assert
@@ -2687,6 +2770,7 @@ PULLEYNAVY_ASSERT(sizeof(pulleynavy_core_thread) == 48 && offsetof(pulleynavy_co
 PULLEYNAVY_ASSERT(sizeof(pulleynavy_core_frame) == 48 && offsetof(pulleynavy_core_frame, code_offset) == 40, "layout");
 PULLEYNAVY_ASSERT(sizeof(pulleynavy_core_value) == 56 && offsetof(pulleynavy_core_value, bits) == 48, "layout");
 PULLEYNAVY_ASSERT(sizeof(pulleynavy_stripped) == 32 && offsetof(pulleynavy_stripped, size) == 24, "layout");
+PULLEYNAVY_ASSERT(sizeof(pulleynavy_edited) == 40 && offsetof(pulleynavy_edited, status) == 32, "layout");
 #undef PULLEYNAVY_ASSERT
 #endif
 #ifdef __cplusplus

@@ -4,6 +4,7 @@ pub mod Coredumps
 pub mod Cursors
 pub mod Customs
 pub mod Dylink
+pub mod Edits
 pub mod EventBatches
 pub mod Events
 pub mod Exports

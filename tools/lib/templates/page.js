@@ -52,6 +52,14 @@ const byteInSight = async at => {
     return it ? [it.textContent.trim(), isIn(it, $('hex').getBoundingClientRect(), 1)] : [$('hex').querySelector('[data-at]').dataset.at, 'not there'];
 };
 // What is cut off at the left or the right.
-const cutOff = () => [...document.querySelectorAll('header, header *, #bar, #notice, .pane, .scroll, #details, footer, footer *')]
+const cutOff = () => [...document.querySelectorAll('header, header *, #bar, #notice, .pane, .scroll, #section, #section *, #details, footer, footer *')]
     .filter(it => it.checkVisibility() && (it.getBoundingClientRect().right > innerWidth || it.getBoundingClientRect().left < 0))
     .map(it => it.outerHTML.slice(0, 80));
+// Whether a row is selected, and is a custom section with buttons.
+const selected = row => document.querySelector(`.row[data-row='${row}']`)?.ariaSelected === 'true' && $('section').checkVisibility();
+// Drops a file of these bytes on an element.
+const drop = (it, name, bytes) => {
+    const dataTransfer = new DataTransfer();
+    dataTransfer.items.add(new File([new Uint8Array(bytes)], name));
+    it.dispatchEvent(new DragEvent('drop', { dataTransfer, bubbles: true, cancelable: true }));
+};
