@@ -1,7 +1,7 @@
 #compdef pulleynavy
 # Completions of pulleynavy for zsh. Made by tools/generate program.
 local -a commands
-commands=('list:list the parts of binaries' 'dump:show every item of binaries' 'check:find malformed items in binaries' 'strip:remove custom sections' 'extract:write the data of a custom section' 'add:append custom sections' 'help:print a summary')
+commands=('list:list the parts of binaries' 'dump:show every item of binaries' 'check:find malformed items in binaries' 'strip:remove custom sections' 'extract:write the data of a custom section' 'add:append or replace custom sections' 'producers:show or set the tools of a module' 'help:print a summary')
 if (( CURRENT == 2 )); then
     _describe command commands
     _arguments '--help[print a summary]' '--version[print the version]'
@@ -61,7 +61,16 @@ case $words[1] in
         ;;
     add)
         _arguments \
-            '--replace[remove sections with these names first]' \
+            '--replace[replace sections with these names]' \
+            ''{-o,--output}'[write to this file]:out:_files' \
+            '--no-progress[show no progress of large files]' \
+            ''{-h,--help}'[print a summary]' \
+            ''{-V,--version}'[print the version]' \
+            '*:file:_files'
+        ;;
+    producers)
+        _arguments \
+            '*--set[set a language or tool]:field=name[:version]:' \
             ''{-o,--output}'[write to this file]:out:_files' \
             '--no-progress[show no progress of large files]' \
             ''{-h,--help}'[print a summary]' \

@@ -9,9 +9,10 @@ _pulleynavy() {
         strip) words="--keep-names --keep --only -o --output --no-progress -h --help -V --version" ;;
         extract) words="--index -o --output --no-progress -h --help -V --version" ;;
         add) words="--replace -o --output --no-progress -h --help -V --version" ;;
+        producers) words="--set -o --output --no-progress -h --help -V --version" ;;
     esac
     if [[ $COMP_CWORD -eq 1 || ( $COMP_CWORD -eq 2 && $before == help ) ]]; then
-        words="list dump check strip extract add help --help --version"
+        words="list dump check strip extract add producers help --help --version"
     elif [[ $before == --section ]]; then
         words="custom type import function table memory global export start element code data datacount tag name producers target_features linking dylink.0"
     elif [[ $word != -* ]]; then

@@ -20,6 +20,9 @@ OTHERS = {
     ("wasm_items", "TypeLaws"): "that these are the heads of RecGroups",
     ("wasm_frames", "SkipNext"): "skipping a part by its first fields",
     ("wasm_feeder", "Fates"): "what stripping does to a part",
+    ("wasm_feed", "Edits"): "what edits of custom sections say of sections",
+    ("wasm_feed", "Edited"): "an edited stream",
+    ("wasm_feed", "Encoded"): "the bytes of a new custom section",
     ("wasm_feed", "Stripped"): "what remains of a stripped stream",
 }
 # What names more than one section of a chapter.

@@ -268,6 +268,17 @@ def custom_sections(data):
     return [(name, content[number_at(content, 0)[1] + len(name.encode()) :]) for name, content in found]
 
 
+def edited(data, added, replaces):
+    """A stream without a fault, in which sections are replaced where it has their names, and the others appended."""
+    there = {name for name, _ in custom_sections(data)} if replaces else set()
+    new = {name: content for name, content in added if name in there}
+    parts = [data[:8]]
+    for ident, whole, content in sections(data):
+        name = name_of(content) if ident == CUSTOM_SECTION else None
+        parts.append(new_section(name, new[name]) if name in new else whole)
+    return b"".join(parts + [new_section(name, content) for name, content in added if name not in there])
+
+
 def extracts_differ(words, names, data):
     """What differs of the data of sections with these names."""
     for name in set(names):
@@ -282,10 +293,8 @@ def edit_differs(adds, extracts, model, data):
     """What differs of a stream to which sections are added, and of each section that is extracted again."""
     lines, rng = model.reading(data, 0, True), random.Random(len(data) + sum(data))
     added, replaces = rng.choices(NEW, k=rng.randrange(1, 4)), rng.random() < 0.5
-    names, wanted = [name for name, _ in added], b""
-    if programs.status(lines) == 0:
-        kept = stripped(data, lambda name: not (replaces and name in names))
-        wanted = kept + b"".join(new_section(*one) for one in added)
+    names = [name for name, _ in added]
+    wanted = edited(data, added, replaces) if programs.status(lines) == 0 else b""
     told = (wanted, programs.status(lines), b"" if wanted else message(lines[-1]))
     with tempfile.TemporaryDirectory() as folder:
         words = ["--replace"] * replaces
@@ -322,8 +331,8 @@ def edits():
     tools/compare edits               1,000 streams, from seed 1
     tools/compare edits 7 0 a.wasm    the modules of a file, which node, wabt and LLVM must take as before
 
-    An edited stream is its header, its sections but the replaced ones, byte for byte, and the new sections as the standard encodes them. It
-    must have no fault. Of a stream with a fault nothing is written, and the fault is reported.
+    An edited stream is its header, its sections, byte for byte except for those that are replaced in their places, and the new sections as
+    the standard encodes them. It must have no fault. Of a stream with a fault nothing is written, and the fault is reported.
     """
     given = comparing.arguments(edits.__doc__, "add", common.MODEL, numbers=[("seed", 1), ("count", 1000)], files=True)
     others, extracts = set(common.modules_of(given.files)), [given.command[0], "extract"]

@@ -65,7 +65,8 @@ def help_of_command(name):
 def help_of_program():
     """What `pulleynavy --help` prints."""
     lines = ["usage: pulleynavy COMMAND [OPTION]... [FILE]...", "       pulleynavy help [COMMAND]", "       pulleynavy --version", "", *wrapped(program.ABOUT[0]), "", "Commands:"]
-    lines += ["  %-7s%s" % (name, about["summary"]) for name, about in program.COMMANDS.items()]
+    width = max(map(len, program.COMMANDS)) + 2
+    lines += ["  %s%s" % (name.ljust(width), about["summary"]) for name, about in program.COMMANDS.items()]
     lines += ["", *wrapped(program.ABOUT[1])]
     return "\n".join(lines) + "\n"
 

@@ -107,20 +107,36 @@ COMMANDS = {
         "examples": (("Save the notes of a build:", "pulleynavy extract build_id a.wasm -o build_id"),),
     },
     "add": {
-        "summary": "append custom sections",
+        "summary": "append or replace custom sections",
         "call": "[--replace] [-o OUT] NAME=DATA... FILE",
         "about": (
             "Writes FILE with a custom section after its other sections for each NAME=DATA: NAME is its name, and the file DATA, or standard input for '-', has its data. All other bytes stay as they are. If FILE is malformed, nothing is written.",
             "A regular FILE is read twice instead of being kept in memory: first to check it, then to write it. The data is read into memory.",
         ),
         "options": (
-            ("--replace", None, "remove sections with these names first", "Removes the custom sections of FILE that have one of these names."),
+            ("--replace", None, "replace sections with these names", "Replaces each custom section of FILE that has one of these names, in its place. A section that FILE does not have is appended."),
             ("-o, --output", "OUT", "write to this file", "Writes to OUT instead of standard output. OUT is replaced once all of it is written, and may be FILE itself. It keeps its permissions, or gets those of FILE if it is new."),
             *COMMON,
         ),
         "good": "The sections were added.",
         "bad": "The file has a fault, which is printed to standard error.",
         "examples": (("Add a license, in place:", "pulleynavy add --replace license=LICENSE a.wasm -o a.wasm"),),
+    },
+    "producers": {
+        "summary": "show or set the tools of a module",
+        "call": "[--set FIELD=NAME[:VERSION]]... [-o OUT] [FILE]",
+        "about": (
+            "Shows the custom section called 'producers' of FILE: the languages and tools that the module was produced with, as 'pulleynavy dump' shows them. With --set it writes FILE with other ones. All other sections stay as they are. If FILE is malformed, nothing is written.",
+            "With --set FILE is read into memory.",
+        ),
+        "options": (
+            ("--set", "FIELD=NAME[:VERSION]", "set a language or tool", "Sets the version of the language or tool NAME, or adds it. FIELD is 'language', 'processed-by' or 'sdk'. The option may be repeated. The section keeps its place, or is appended."),
+            ("-o, --output", "OUT", "write to this file", "With --set, writes to OUT instead of standard output. OUT is replaced once all of it is written, and may be FILE itself. It keeps its permissions, or gets those of FILE if it is new."),
+            *COMMON,
+        ),
+        "good": "The section was shown, or the file was written.",
+        "bad": "The file has a fault, which is printed to standard error, or no such section.",
+        "examples": (("Note the compiler, in place:", "pulleynavy producers --set processed-by=mycc:1.2 a.wasm -o a.wasm"),),
     },
 }
 

@@ -1,7 +1,7 @@
 /* Prints what the library says of streams, for tools/soak, which compares it with models.
 
-   A case on standard input is a batch, features, the size of a stream, a number of cuttings, the stream, and for each cutting an offset, a
-   number of chunks and their sizes; numbers have 8 bytes. Each run of bytes is passed where it ends before a page that nothing may read. After the lines
+   A case on standard input is a batch, features, the size of a stream, a number of cuttings, the stream, the kind of an edit with the size
+   of its name and this, and for each cutting an offset, a number of chunks and their sizes; numbers have 8 bytes. Each run of bytes is passed where it ends before a page that nothing may read. After the lines
    of a case comes an empty one. */
 #define _DEFAULT_SOURCE
 #include <pulleynavy.h>
@@ -16,7 +16,7 @@ static uint32_t features;
 #include <sys/mman.h>
 #include <unistd.h>
 
-enum { LARGEST = 1 << 22 };
+enum { LARGEST = 1 << 22, MOST_NAME = 16, MOST_DATA = 20 };
 
 /* The ends of memory for a stream, for the storage of a feeder, and for the bytes of a call. */
 static uint8_t *stream_end, *storage_end, *call_end;
@@ -41,6 +41,11 @@ static void require(bool holds, const char *what) {
     if (!holds) printf("DIFFERS %s\n", what);
 }
 
+static void show_bytes(const uint8_t *bytes, size_t size) {
+    for (size_t i = 0; i < size; i++) printf("%02x", bytes[i]);
+    putchar('\n');
+}
+
 /* Strips a copy, and shows its bytes or the fault that leaves it as it was. */
 static void show_stripped(size_t size, bool keeps_names) {
     uint8_t *bytes = copied(stream, size);
@@ -50,8 +55,26 @@ static void show_stripped(size_t size, bool keeps_names) {
         require(!stripped.size && !memcmp(bytes, stream, size), "a stream that is not stripped");
         return;
     }
-    for (size_t i = 0; i < stripped.size; i++) printf("%02x", bytes[i]);
-    putchar('\n');
+    show_bytes(bytes, stripped.size);
+}
+
+/* Edits the stream into just as many bytes as it then has, and shows them or its fault. The data of the edit begins the stream. */
+static void show_edited(size_t size) {
+    uint32_t kind = (uint32_t)take();
+    size_t name_size = take(), data_size = size < MOST_DATA ? size : MOST_DATA;
+    uint8_t name[MOST_NAME];
+    if (name_size > sizeof name || fread(name, 1, name_size, stdin) != name_size) exit(2);
+    pulleynavy_edited edited = pulleynavy_edit(stream, size, kind, name, name_size, stream, data_size, call_end, 0);
+    if (edited.fault.kind) {
+        require(edited.status == PULLEYNAVY_EDIT_STATUS_MALFORMED && !edited.size, "a stream that is not edited");
+        show_fault(edited.fault);
+        return;
+    }
+    uint8_t *out = call_end - edited.size;
+    require(edited.status == PULLEYNAVY_EDIT_STATUS_NO_ROOM, "an edit without room");
+    edited = pulleynavy_edit(stream, size, kind, name, name_size, stream, data_size, out, edited.size);
+    require(!edited.status && out + edited.size == call_end, "an edit with room");
+    show_bytes(out, edited.size);
 }
 
 /* A feeder and its storage, and a parser that is passed the same bytes. */
@@ -109,6 +132,7 @@ static void show_case(void) {
     show_all(size);
     show_stripped(size, false);
     show_stripped(size, true);
+    show_edited(size);
     while (cuttings--) {
         uint64_t offset = take();
         show_cut(offset, take());

@@ -5,7 +5,7 @@
     tools/soak --archive FILE --jobs 1      another archive, on one core
 
 A stream is a random one, a module with items, a FILE or a part of it, two of these joined at random places, or any of them with bytes changed, cut off or put
-in. Each is listed whole with its items and some features, stripped, and read in three random cuttings, by a feeder and by a parser. Callers are built with
+in. Each is listed whole with its items and some features, stripped, edited, and read in three random cuttings, by a feeder and by a parser. Callers are built with
 sanitizers, and the bytes of each call end before a page that nothing may read. The same streams are then read by random calls in any order
 (tools/lib/sequences.c), and some are listed by `wasm_list` in little memory, and read in chunks by `wasm_rows` if it is built. Each difference is made smaller
 and printed as bytes.
@@ -38,6 +38,8 @@ EXAMPLES = os.path.join(try_c.CRATE, "examples")
 ARCHIVE = os.path.join(common.PREBUILT, "libpulleynavy-x86_64.a")
 # How many streams a round has, how many of them may end the driver, and how many bytes are taken of a file.
 ROUND, CRASHES, LARGEST = 2000, 3, 30000
+# The kinds of edits in the order of their numbers, names of edits, and how many bytes of a stream are the data of its edit.
+KINDS, NAMES, MOST_DATA = ("append", "replace", "remove", "keep"), (b"name", b"", b"x", b"a", b"linking", b"no section"), 20
 # What the program may map beside the stream: its own text, the C library, a chunk and a page of lines.
 ROOM = 12 << 20
 
@@ -99,10 +101,17 @@ def features_of(way):
     return (3, 3, 3, 2, 1, 0)[way % 6]
 
 
+def edit_of(way):
+    """The kind of an edit and its name."""
+    return KINDS[way % 4], NAMES[way // 4 % len(NAMES)]
+
+
 def case(stream, way):
     """A stream and its cuttings, as the driver reads them."""
     cut = b"".join(numbers(offset, len(chunks), *map(len, chunks)) for offset, chunks in cuttings(stream, way))
-    return numbers(1 + way % 64, features_of(way), len(stream), 3) + stream + cut
+    kind, name = edit_of(way)
+    edit = numbers(KINDS.index(kind), len(name)) + name
+    return numbers(1 + way % 64, features_of(way), len(stream), 3) + stream + edit + cut
 
 
 def said(driver, cases):
@@ -117,10 +126,11 @@ def said(driver, cases):
 
 
 def modelled(model, stream, way):
-    """What the models say: the lines and items of a stream, its bytes when it is stripped, and each step of a feeder."""
+    """What the models say: the lines and items of a stream, its bytes when it is stripped and edited, and each step of a feeder."""
     lines = try_c.without_ranges(try_c.modelled(stream, features_of(way)))
     for keeps_names in (False, True):
         lines.append(lines[-1] if lines[-1].startswith("fault") else model.strip(stream, keeps_names).hex())
+    lines.append(lines[-1] if lines[-1].startswith("fault") else model.edit(stream, *edit_of(way), stream[:MOST_DATA]).hex())
     for offset, chunks in cuttings(stream, way):
         for line, _, held, _ in pieces.steps(model, chunks, offset):
             lines += [line, "%d" % held]

@@ -70,7 +70,7 @@ def emulated(path, runner):
 def differences(built, streams):
     """How the examples differ from the models; one stream in ten is tried as a pattern."""
     try_c.patterns(built, streams[::10])
-    return [text for compare in (try_c.compared, try_c.stripped, try_c.names, try_c.imports) for text in compare(built, streams)]
+    return [text for compare in (try_c.compared, try_c.stripped, try_c.edited, try_c.names, try_c.imports) for text in compare(built, streams)]
 
 
 def cross():

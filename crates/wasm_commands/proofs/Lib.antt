@@ -2,3 +2,4 @@ pub mod Choosing
 pub mod Coloring
 pub mod Parsing
 pub mod Running
+pub mod Refusing

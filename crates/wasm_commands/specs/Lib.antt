@@ -3,9 +3,10 @@ pub mod Checks
 pub mod Choices
 pub mod Colors
 pub mod DumpRuns
+pub mod EditsTwice
 pub mod Formats
 pub mod Messages
 pub mod Options
 pub mod Parsing
 pub mod Reasons
-pub mod StripsTwice
+pub mod Refusals

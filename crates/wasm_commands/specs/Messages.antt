@@ -51,6 +51,7 @@ command_text verb.Check = codes "pulleynavy check"
 command_text verb.Strip = codes "pulleynavy strip"
 command_text verb.Extract = codes "pulleynavy extract"
 command_text verb.Add = codes "pulleynavy add"
+command_text verb.Producers = codes "pulleynavy producers"
 
 -- a section that a command did not find in a file
 abbrev pub missing_text : Verb → (name word : List ℕ) → List ℕ
@@ -68,6 +69,15 @@ refusal_text verb (UnknownOption word) = about_word verb (codes "unknown option 
 refusal_text verb (NoValue word) = about_word verb (codes "option '") word.now (codes "' needs a value")
 refusal_text verb (UnwantedValue word) = about_word verb (codes "option '") word.now (codes "' takes no value")
 
+abbrev pub unknown_command_text : (word : List ℕ) → List ℕ
+unknown_command_text word = codes "pulleynavy: unknown command '" ++ (word ++ codes "'\nTry 'pulleynavy --help'.\n")
+
+abbrev pub unknown_option_text : (word : List ℕ) → List ℕ
+unknown_option_text word = codes "pulleynavy: unknown option '" ++ (word ++ codes "'\nTry 'pulleynavy --help'.\n")
+
+abbrev pub no_command_text : List ℕ
+no_command_text = codes "usage: pulleynavy COMMAND [OPTION]... [FILE]...\nTry 'pulleynavy --help'.\n"
+
 -- what is wrong with the arguments
 abbrev pub complaint_text : Complaint → List ℕ
 complaint_text (complaint.Argument verb refusal) = refusal_text verb refusal
@@ -77,15 +87,12 @@ complaint_text (complaint.WrongValue verb option value) = command_text verb ++ (
     ++ (codes "' of option '" ++ (option.now ++ codes "'\n"))))
 complaint_text (complaint.Extra verb word) = about_word verb (codes "unexpected argument '") word.now (codes "'")
 complaint_text (complaint.Few verb words) = about_word verb (codes "needs ") words.now []
-complaint_text (complaint.NoData word) = about_word verb.Add (codes "'") word.now (codes "' is not NAME=FILE")
-complaint_text (complaint.TooLarge word) =
-    command_text verb.Add ++ (codes ": section '" ++ (word.now ++ codes "' is too large\n"))
-complaint_text (complaint.UnknownCommand word) =
-    codes "pulleynavy: unknown command '" ++ (word.now ++ codes "'\nTry 'pulleynavy --help'.\n")
-complaint_text (complaint.UnknownOption word) =
-    codes "pulleynavy: unknown option '" ++ (word.now ++ codes "'\nTry 'pulleynavy --help'.\n")
-complaint_text complaint.NoCommand =
-    codes "usage: pulleynavy COMMAND [OPTION]... [FILE]...\nTry 'pulleynavy --help'.\n"
+complaint_text (complaint.NoData word) = about_word verb.Add (codes "'") word.now (codes "' is not NAME=DATA")
+complaint_text (complaint.TooLarge verb word) =
+    command_text verb ++ (codes ": section '" ++ (word.now ++ codes "' is too large\n"))
+complaint_text (complaint.UnknownCommand word) = unknown_command_text word.now
+complaint_text (complaint.UnknownOption word) = unknown_option_text word.now
+complaint_text complaint.NoCommand = no_command_text
 complaint_text complaint.NamesOfInput =
     codes "pulleynavy dump: --names reads each file twice, and standard input can't be: name files\n"
 complaint_text complaint.NotUtf8 = codes "pulleynavy: an argument is not valid UTF-8\n"

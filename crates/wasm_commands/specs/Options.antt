@@ -4,7 +4,7 @@ use Rattle.wasm_commands.specs.declared.options.Flag.{Flag}
 use Rattle.wasm_commands.specs.declared.options.Flag.TheVariants.{Help, Version, Json, Names, Bytes, Hex, Color}
 use Rattle.wasm_commands.specs.declared.options.Flag.TheVariants.{Section}
 use Rattle.wasm_commands.specs.declared.options.Flag.TheVariants.{Quiet, KeepNames, Keep, Only, Output, NoProgress}
-use Rattle.wasm_commands.specs.declared.options.Flag.TheVariants.{Index, Replace}
+use Rattle.wasm_commands.specs.declared.options.Flag.TheVariants.{Index, Replace, Set}
 use Rattle.wasm_commands.specs.declared.options.Takes.{Takes}
 use Rattle.wasm_commands.specs.declared.options.Takes.TheVariants.{Nothing, Value, Attached}
 use Rattle.wasm_commands.specs.declared.options.Verb.{Verb}
@@ -19,6 +19,7 @@ verb_named word =
     else if bytes_eq word (codes "strip") then Some verb.Strip
     else if bytes_eq word (codes "extract") then Some verb.Extract
     else if bytes_eq word (codes "add") then Some verb.Add
+    else if bytes_eq word (codes "producers") then Some verb.Producers
     else None
 
 -- | the options of the commands of `pulleynavy`, and whether each takes a value [`verb_named`, `accepts_option`,
@@ -46,6 +47,7 @@ option_named word =
     else if bytes_eq word (codes "--no-progress") then Some NoProgress
     else if bytes_eq word (codes "--index") then Some Index
     else if bytes_eq word (codes "--replace") then Some Replace
+    else if bytes_eq word (codes "--set") then Some Set
     else None
 
 -- whether a command shows parts
@@ -74,11 +76,16 @@ abbrev pub is_add : Verb → Bool
 is_add verb.Add = true
 is_add other = false
 
+abbrev pub is_producers : Verb → Bool
+is_producers verb.Producers = true
+is_producers other = false
+
 -- whether a command writes a file in place of another
 abbrev pub is_written : Verb → Bool
 is_written verb.Strip = true
 is_written verb.Extract = true
 is_written verb.Add = true
+is_written verb.Producers = true
 is_written other = false
 
 -- whether a command has an option
@@ -99,6 +106,7 @@ accepts_option verb Only = is_strip verb
 accepts_option verb Output = is_written verb
 accepts_option verb Index = is_extract verb
 accepts_option verb Replace = is_add verb
+accepts_option verb Set = is_producers verb
 
 -- whether an option takes a value
 abbrev pub takes_of : Flag → Takes
@@ -107,6 +115,7 @@ takes_of Keep = Value
 takes_of Only = Value
 takes_of Output = Value
 takes_of Index = Value
+takes_of Set = Value
 takes_of Color = Attached
 takes_of other = Nothing
 
@@ -128,6 +137,7 @@ place_of Output = 12
 place_of NoProgress = 13
 place_of Index = 14
 place_of Replace = 15
+place_of Set = 16
 
 abbrev pub is_same : Flag → Flag → Bool
 is_same a b = nat_eq (place_of a) (place_of b)

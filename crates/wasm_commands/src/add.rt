@@ -1,14 +1,18 @@
-// The command `add`: appends custom sections.
+// The command `add`: appends custom sections, or replaces them.
 use crate::arguments::Arguments;
 use crate::messages::{Complaint, complain, refuse_file, refuse_run};
 use crate::options::{Flag, Verb};
-use crate::strip::{Rewrite, write_rewritten};
+use crate::rewriting::{Original, hold, original_of, write_edited};
 use crate::system::System;
 use std::alloc::{AllocError, Global};
-use std::io::Write;
-use wasm_console::read_all;
-use wasm_edit::{NewSection, encode, keep_all};
-use wasm_feed::{Keep, ListError, Sink, WriteSink};
+use std::cell::Cell;
+use std::io::{self, Write};
+use wasm_console::{PIECE, report_fault};
+use wasm_dumper::{Only, Shown, dump};
+use wasm_feed::{
+    Edit, Ended, ListError, NewSection, Sink, SliceSource, Source, WriteSink, all_fit,
+};
+use wasm_tree::Faults;
 
 // A section to add: its name, and the file with its data.
 #[derive(Clone, Copy)]
@@ -17,7 +21,7 @@ struct Addition<'a> {
     file: &'a str,
 }
 
-// Parses `NAME=FILE`.
+// Parses `NAME=DATA`.
 fn parse_addition(word: &str) -> Option<Addition<'_>> {
     match word.split_once('=') {
         Some((name, file)) => Some(Addition { name, file }),
@@ -25,85 +29,122 @@ fn parse_addition(word: &str) -> Option<Addition<'_>> {
     }
 }
 
-// Reads the data of a section. Says why if that fails, and returns the exit status.
-fn data_of<S: System, E: Sink>(
+// Parses all of them. Returns the first word that has no `=`.
+fn parse_additions<'a>(
     alloc: Global,
-    file: &str,
-    system: &S,
-    errors: &mut E,
-) -> Result<Vec<u8>, u8> {
-    let mut input = match system.open(file) {
-        Ok(input) => input,
-        Err(cause) => return Err(refuse_file(file, cause, errors)),
-    };
-    match read_all(alloc, &mut input) {
-        Ok(bytes) => Ok(bytes),
-        Err(why) => Err(refuse_run(file, why, system.causes(), errors)),
-    }
-}
-
-// Returns the bytes of a section. Says why if that fails, and returns the exit status.
-fn bytes_of<S: System, E: Sink>(
-    alloc: Global,
-    section: NewSection<'_>,
-    system: &S,
-    errors: &mut E,
-) -> Result<Vec<u8>, u8> {
-    if !section.fits() {
-        return Err(complain(Complaint::TooLarge(section.name), errors));
-    }
-    match encode(alloc, section) {
-        Ok(bytes) => Ok(bytes),
-        Err(_) => Err(refuse_run("-", ListError::Memory, system.causes(), errors)),
-    }
-}
-
-// Appends the bytes of the section that a word names. Says why if that fails, and returns the exit status.
-fn append<S: System, E: Sink>(
-    alloc: Global,
-    word: &str,
-    tail: &mut Vec<u8>,
-    system: &S,
-    errors: &mut E,
-) -> Result<(), u8> {
-    let Some(Addition { name, file }) = parse_addition(word) else {
-        return Err(complain(Complaint::NoData(word), errors));
-    };
-    let data = data_of(alloc, file, system, errors)?;
-    let section = NewSection {
-        name,
-        data: data.as_slice(),
-    };
-    let bytes = bytes_of(alloc, section, system, errors)?;
-    match tail.extend_from_slice(bytes.as_slice()) {
-        Ok(()) => Ok(()),
-        Err(_) => Err(refuse_run("-", ListError::Memory, system.causes(), errors)),
-    }
-}
-
-// Returns the bytes of all sections, in order. Says why if that fails, and returns the exit status.
-fn tail_of<S: System, E: Sink>(
-    alloc: Global,
-    words: &[&str],
-    system: &S,
-    errors: &mut E,
-) -> Result<Vec<u8>, u8> {
-    let mut tail = Vec::new(alloc);
+    words: &[&'a str],
+) -> Result<Result<Vec<Addition<'a>>, &'a str>, AllocError> {
+    let mut additions = Vec::new(alloc);
     for word in words {
-        append(alloc, word, &mut tail, system, errors)?;
-    }
-    Ok(tail)
-}
-
-// Returns the names of the sections to add.
-fn names_of<'a>(alloc: Global, words: &[&'a str]) -> Result<Vec<&'a str>, AllocError> {
-    let mut names = Vec::new(alloc);
-    for word in words {
-        if let Some(Addition { name, .. }) = parse_addition(word) {
-            names.push(name)?;
+        match parse_addition(word) {
+            Some(addition) => additions.push(addition)?,
+            None => return Ok(Err(word)),
         }
     }
-    Ok(names)
+    Ok(Ok(additions))
+}
+
+// Reads the data of all sections. Says why if that fails, and returns the exit status.
+fn data_of<S: System, E: Sink>(
+    alloc: Global,
+    additions: &[Addition<'_>],
+    system: &S,
+    errors: &mut E,
+) -> Result<Result<Vec<Vec<u8>>, u8>, AllocError> {
+    let mut all = Vec::new(alloc);
+    for addition in additions {
+        match hold(alloc, addition.file, system, errors) {
+            Ok(data) => all.push(data)?,
+            Err(status) => return Ok(Err(status)),
+        }
+    }
+    Ok(Ok(all))
+}
+
+// Reads a stream for these custom sections, and sets a flag for each one that it has. Returns how the stream ended.
+fn find<R: Source>(
+    alloc: Global,
+    only: &[Only<'_>],
+    found: &[Cell<bool>],
+    input: &mut R,
+) -> Result<Ended, ListError> {
+    let shown = Shown {
+        only,
+        has_bytes: false,
+        found,
+    };
+    let mut tree = Faults::new(alloc, io::sink(), String::new(alloc), true);
+    let how = dump(alloc, shown, input, &mut tree, PIECE);
+    tree.into_output();
+    how
+}
+
+// Sets the flags of the sections that a stream has. Returns the exit status: 0, or that of a fault or a failure, which it
+// reports.
+fn find_in<S: System, E: Sink>(
+    alloc: Global,
+    only: &[Only<'_>],
+    found: &[Cell<bool>],
+    original: &Original<'_>,
+    system: &S,
+    errors: &mut E,
+) -> u8 {
+    let how = match &original.held {
+        Some(bytes) => find(alloc, only, found, &mut SliceSource::new(bytes)),
+        None => match system.open(original.name) {
+            Ok(mut input) => find(alloc, only, found, &mut input),
+            Err(cause) => return refuse_file(original.name, cause, errors),
+        },
+    };
+    match how {
+        Ok(Ended::End) => 0,
+        Ok(Ended::Fault(error)) => report_fault(alloc, error, errors),
+        Err(why) => refuse_run(original.name, why, system.causes(), errors),
+    }
+}
+
+// Returns the choices of the sections with these names.
+fn choices_of<'a>(alloc: Global, additions: &[Addition<'a>]) -> Result<Vec<Only<'a>>, AllocError> {
+    let mut only = Vec::new(alloc);
+    for addition in additions {
+        only.push(Only::Name(addition.name))?;
+    }
+    Ok(only)
+}
+
+// Returns the edits that add these sections. Those of which the flag is set are replaced.
+fn edits_of<'a>(
+    alloc: Global,
+    additions: &[Addition<'a>],
+    data: &'a [Vec<u8>],
+    found: &[Cell<bool>],
+) -> Result<Vec<Edit<'a>>, AllocError> {
+    let mut edits = Vec::new(alloc);
+    for ((addition, bytes), is_there) in additions.iter().zip(data.iter()).zip(found.iter()) {
+        let section = NewSection {
+            name: addition.name,
+            data: bytes.as_slice(),
+        };
+        edits.push(if is_there.get() {
+            Edit::Replace(section)
+        } else {
+            Edit::Append(section)
+        })?;
+    }
+    Ok(edits)
+}
+
+// Returns the name of the first section that is too large.
+fn large_name<'a>(edits: &[Edit<'a>]) -> &'a str {
+    for edit in edits {
+        match edit {
+            Edit::Append(section) | Edit::Replace(section) if !section.fits() => {
+                return section.name;
+            }
+            _ => {}
+        }
+    }
+    ""
 }
 
 // The operands of the command: what is added, and the file to which it is added.
@@ -121,23 +162,7 @@ fn operands_of<'a>(operands: &'a [&'a str]) -> Option<Operands<'a>> {
     }
 }
 
-// What is done with the file: the sections with these names go, if they are replaced, and these bytes come after the rest.
-fn rewrite_of<'a>(replaces: bool, names: &'a [&'a str], tail: &'a [u8]) -> Rewrite<'a> {
-    if replaces {
-        let keep = Keep {
-            names: false,
-            kept: &[],
-            removed: names,
-        };
-        return Rewrite { keep, tail };
-    }
-    Rewrite {
-        keep: keep_all(),
-        tail,
-    }
-}
-
-// Writes a file with these sections after its own. Returns the exit status.
+// Writes a file with these sections. Returns the exit status.
 fn add_all<S: System, W: Write, E: Sink>(
     alloc: Global,
     operands: Operands<'_>,
@@ -146,25 +171,39 @@ fn add_all<S: System, W: Write, E: Sink>(
     output: &mut WriteSink<W>,
     errors: &mut E,
 ) -> Result<u8, AllocError> {
-    let names = names_of(alloc, operands.words)?;
-    let tail = match tail_of(alloc, operands.words, system, errors) {
-        Ok(tail) => tail,
+    let additions = match parse_additions(alloc, operands.words)? {
+        Ok(additions) => additions,
+        Err(word) => return Ok(complain(Complaint::NoData(word), errors)),
+    };
+    let data = match data_of(alloc, &additions, system, errors)? {
+        Ok(data) => data,
         Err(status) => return Ok(status),
     };
-    let rewrite = rewrite_of(
-        arguments.has(Flag::Replace),
-        names.as_slice(),
-        tail.as_slice(),
-    );
-    let name = operands.file;
-    Ok(write_rewritten(alloc, rewrite, arguments, system, name, output, errors))
+    let mut original = match original_of(alloc, operands.file, system, errors) {
+        Ok(original) => original,
+        Err(status) => return Ok(status),
+    };
+    let found = vec![in alloc; Cell::new(false); additions.len()]?;
+    if arguments.has(Flag::Replace) {
+        let only = choices_of(alloc, &additions)?;
+        let status = find_in(alloc, &only, &found, &original, system, errors);
+        if status != 0 {
+            return Ok(status);
+        }
+        original.is_checked = true;
+    }
+    let edits = edits_of(alloc, &additions, &data, &found)?;
+    if !all_fit(&edits) {
+        return Ok(complain(Complaint::TooLarge(Verb::Add, large_name(&edits)), errors));
+    }
+    Ok(write_edited(alloc, &edits, &original, arguments, system, output, errors))
 }
 
 /// Runs `add`. Returns the exit status.
 ///
 /// # Errors
 ///
-/// `AllocError` when an allocation fails before anything is read.
+/// `AllocError` when an allocation fails before anything is written.
 pub(crate) fn add<S: System, W: Write, E: Sink>(
     alloc: Global,
     arguments: &Arguments<'_>,

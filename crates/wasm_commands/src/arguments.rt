@@ -88,8 +88,8 @@ fn split_attached(word: &str) -> Parts<'_>
     }
 }
 
-// Returns whether an argument is an option: a dash, and more.
-fn is_option(word: &str) -> bool
+/// Returns whether an argument is an option: a dash, and more.
+pub(crate) fn is_option(word: &str) -> bool
     ensures { result ≡ is_dashed word.now }
 {
     match word.as_bytes() {

@@ -1,6 +1,12 @@
 // Runs the program.
+ghost use Rattle.std.specs.Prelude.{◌≡◌, map, string_bytes};
+ghost use Rattle.wasm_commands.specs.ArgumentLists.{arguments_of};
+ghost use Rattle.wasm_commands.specs.Refusals.{Refuses, RefusesIfRead, RefusesOrStops, refused_by, refused_other, refused_topics, unknown_text, wrong_if_any};
+ghost use Rattle.wasm_commands.specs.Messages.{complaint_text};
+ghost use Rattle.wasm_text.specs.Calls.{device_of};
+
 use crate::add::add;
-use crate::arguments::{Arguments, parse};
+use crate::arguments::{Arguments, is_option, parse};
 use crate::check::check;
 use crate::dump::show;
 use crate::extract::extract;
@@ -8,6 +14,7 @@ use crate::help::{Topic, help_of, version};
 use crate::host::Host;
 use crate::messages::{Complaint, complain, refuse_run};
 use crate::options::{Flag, Verb, verb_of};
+use crate::producers::producers;
 use crate::streams::{Messages, Noting};
 use crate::strip::strip;
 use crate::system::System;
@@ -60,6 +67,7 @@ fn run_parsed<S: System, W: Write + Drop, E: Sink>(
         Verb::Strip => strip(alloc, arguments, system, &mut output, errors),
         Verb::Extract => extract(alloc, arguments, system, &mut output, errors),
         Verb::Add => add(alloc, arguments, system, &mut output, errors),
+        Verb::Producers => producers(alloc, arguments, system, output, errors),
     }
 }
 
@@ -71,7 +79,10 @@ fn run_verb<S: System, W: Write + Drop, E: Sink>(
     system: &S,
     output: WriteSink<W>,
     errors: &mut E,
-) -> Result<u8, AllocError> {
+) -> Result<u8, AllocError>
+    ensures { RefusesIfRead (wrong_if_any verb (arguments_of verb (map string_bytes words.now)))
+        (device_of E.taken E.has_failed errors.old errors.new) result }
+{
     match parse(alloc, verb, words)? {
         Ok(arguments) => run_parsed(alloc, verb, &arguments, system, output, errors),
         Err(refusal) => Ok(complain(Complaint::Argument(verb, refusal), errors)),
@@ -84,13 +95,27 @@ fn run_help<S: System, W: Write, E: Sink>(
     system: &S,
     output: &mut WriteSink<W>,
     errors: &mut E,
-) -> u8 {
+) -> u8
+    ensures { Refuses (refused_topics (map string_bytes words.now))
+        (device_of E.taken E.has_failed errors.old errors.new) result }
+{
     let [word, ..] = words else {
         return print(help_of(Topic::Program), system, output, errors);
     };
     match verb_of(word.as_str()) {
         Some(verb) => print(help_of(Topic::Command(verb)), system, output, errors),
         None => complain(Complaint::UnknownCommand(word.as_str()), errors),
+    }
+}
+
+// What is wrong with a first word that is neither a command nor an option of the program.
+fn unknown<'a>(word: &'a str) -> Complaint<'a>
+    ensures { complaint_text result ≡ unknown_text word.now }
+{
+    if is_option(word) {
+        Complaint::UnknownOption(word)
+    } else {
+        Complaint::UnknownCommand(word)
     }
 }
 
@@ -101,17 +126,14 @@ fn run_other<S: System, W: Write, E: Sink>(
     system: &S,
     output: &mut WriteSink<W>,
     errors: &mut E,
-) -> u8 {
+) -> u8
+    ensures { Refuses (refused_other word.now (map string_bytes more.now))
+        (device_of E.taken E.has_failed errors.old errors.new) result }
+{
     match word {
         "help" | "--help" | "-h" => run_help(more, system, output, errors),
         "--version" | "-V" => print(version(), system, output, errors),
-        _ => {
-            let complaint = match word.as_bytes() {
-                [b'-', ..] => Complaint::UnknownOption(word),
-                _ => Complaint::UnknownCommand(word),
-            };
-            complain(complaint, errors)
-        }
+        _ => complain(unknown(word), errors),
     }
 }
 
@@ -130,7 +152,14 @@ pub fn run<S: System, W: Write + Drop, E: Sink>(
     system: &S,
     mut output: WriteSink<W>,
     errors: &mut E,
-) -> u8 {
+) -> u8
+    // Proved: arguments that are wrong before anything is read give the status 2 and the message that names the first
+    //   wrong one: no command, an unknown one, an unknown option, an option without its value, or with a value that it
+    //   does not take. If memory runs out before, the status is 3, and the message says so [the clause of `run`
+    //   (`RefusesOrStops`, `refused_by`)]
+    ensures { RefusesOrStops (refused_by (map string_bytes words.now))
+        (device_of E.taken E.has_failed errors.old errors.new) result }
+{
     let [word, more @ ..] = words else {
         return complain(Complaint::NoCommand, errors);
     };

@@ -11,6 +11,7 @@ use crate::arguments::Arguments;
 use crate::files::write_heading;
 use crate::messages::{Complaint, complain, refuse_file, refuse_run, report, warn_of_missing};
 use crate::options::{Flag, Verb};
+use crate::producers::NAME;
 use crate::system::System;
 use choices::chosen_by;
 pub use colored::Colored;
@@ -27,6 +28,7 @@ use wasm_tree::ItemNames;
 // What a command shows of each file.
 #[derive(Clone, Copy)]
 struct Plan<'w> {
+    verb: Verb,
     // The values of `--section`.
     words: &'w [&'w str],
     shown: Shown<'w>,
@@ -42,7 +44,7 @@ fn warn_of_unfound<E: Sink>(plan: Plan<'_>, name: &str, status: u8, errors: &mut
     let mut all = status;
     for (word, found) in plan.words.iter().zip(plan.shown.found.iter()) {
         if !found.get() {
-            warn_of_missing(Verb::Dump, name, word, errors);
+            warn_of_missing(plan.verb, name, word, errors);
             all = 1;
         }
     }
@@ -161,7 +163,7 @@ fn show_several<S: System, W: Write + Drop, E: Sink>(
     status
 }
 
-/// Runs `list` or `dump`. Returns the exit status.
+/// Runs `list`, `dump` or `producers`. Returns the exit status.
 ///
 /// # Errors
 ///
@@ -179,7 +181,10 @@ pub(crate) fn show<S: System, W: Write + Drop, E: Sink>(
         Err(complaint) => return Ok(complain(complaint, errors)),
     };
     let names = arguments.operands(alloc)?;
-    let words = arguments.values(alloc, Flag::Section)?;
+    let mut words = arguments.values(alloc, Flag::Section)?;
+    if let Verb::Producers = verb {
+        words.push(NAME)?;
+    }
     let mut only = chosen_by(alloc, words.as_slice())?;
     match verb {
         Verb::List => only.push(Only::Parts)?,
@@ -188,6 +193,7 @@ pub(crate) fn show<S: System, W: Write + Drop, E: Sink>(
     }
     let found = vec![in alloc; Cell::new(false); words.len()]?;
     let plan = Plan {
+        verb,
         words: words.as_slice(),
         shown: Shown {
             only: only.as_slice(),

@@ -4,28 +4,32 @@ use crate::messages::{
     Complaint, complain, refuse_file, refuse_run, refuse_target, warn_of_missing,
 };
 use crate::options::{Flag, Verb};
+use crate::rewriting::{end_target, hold};
 use crate::system::System;
 use std::alloc::{AllocError, Global};
 use std::io::Write;
-use wasm_console::{read_all, report_fault};
+use wasm_console::report_fault;
 use wasm_feed::{ListError, Sink, WriteSink, write_all};
-use wasm_parser::{Parser, Payload, Result as ParserResult};
+use wasm_parser::{CustomSectionReader, Parser, Payload, Result as ParserResult};
 
-// The custom section that is looked for: its name, and how many with this name come before it.
+/// The custom section that is looked for: its name, and how many with this name come before it.
 #[derive(Clone, Copy)]
-struct Wanted<'a> {
-    name: &'a str,
-    before: u64,
+pub(crate) struct Wanted<'a> {
+    pub(crate) name: &'a str,
+    pub(crate) before: u64,
 }
 
-// Returns the data of the section, if the stream has it before its first fault.
-fn find<'a>(bytes: &'a [u8], wanted: Wanted<'_>) -> ParserResult<Option<&'a [u8]>> {
+/// Returns the section, if the stream has it before its first fault.
+pub(crate) fn find<'a>(
+    bytes: &'a [u8],
+    wanted: Wanted<'_>,
+) -> ParserResult<Option<CustomSectionReader<'a>>> {
     let mut before = wanted.before;
     for payload in Parser::new(0).parse_all(bytes) {
         if let Payload::CustomSection(section) = payload? {
             if section.name() == wanted.name {
                 if before == 0 {
-                    return Ok(Some(section.data()));
+                    return Ok(Some(section));
                 }
                 before -= 1;
             }
@@ -51,10 +55,7 @@ fn write_to_file<S: System, E: Sink>(
         Ok(()) => 0,
         Err(_) => refuse_target(target, system.causes(), errors),
     };
-    match system.replace(output, status == 0) {
-        Ok(()) => status,
-        Err(cause) => refuse_file(target, cause, errors),
-    }
+    end_target(status, target, output, system, errors)
 }
 
 // Writes the data to the output. Returns the exit status.
@@ -84,20 +85,16 @@ fn extract_from<S: System, W: Write, E: Sink>(
     output: &mut WriteSink<W>,
     errors: &mut E,
 ) -> u8 {
-    let mut input = match system.open(name) {
-        Ok(input) => input,
-        Err(cause) => return refuse_file(name, cause, errors),
-    };
-    let bytes = match read_all(alloc, &mut input) {
+    let bytes = match hold(alloc, name, system, errors) {
         Ok(bytes) => bytes,
-        Err(why) => return refuse_run(name, why, system.causes(), errors),
+        Err(status) => return status,
     };
     match find(bytes.as_slice(), wanted) {
-        Ok(Some(data)) => match arguments.last(Flag::Output) {
+        Ok(Some(section)) => match arguments.last(Flag::Output) {
             Some(Some(target)) if target != "-" => {
-                write_to_file(alloc, data, system, name, target, errors)
+                write_to_file(alloc, section.data(), system, name, target, errors)
             }
-            _ => write_to_output(data, system, output, errors),
+            _ => write_to_output(section.data(), system, output, errors),
         },
         Ok(None) => {
             warn_of_missing(Verb::Extract, name, wanted.name, errors);

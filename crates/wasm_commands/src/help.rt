@@ -19,12 +19,13 @@ pulleynavy reads WebAssembly modules, and the headers of components. It does
 not validate them, and it does not decode function bodies.
 
 Commands:
-  list   list the parts of binaries
-  dump   show every item of binaries
-  check  find malformed items in binaries
-  strip  remove custom sections
-  extractwrite the data of a custom section
-  add    append custom sections
+  list       list the parts of binaries
+  dump       show every item of binaries
+  check      find malformed items in binaries
+  strip      remove custom sections
+  extract    write the data of a custom section
+  add        append or replace custom sections
+  producers  show or set the tools of a module
 
 Options come before or after files. Without a FILE, or with '-', a command
 reads standard input. 'pulleynavy COMMAND --help' says more.
@@ -221,8 +222,9 @@ A regular FILE is read twice instead of being kept in memory: first to check
 it, then to write it. The data is read into memory.
 
 Options:
-  --replace      Removes the custom sections of FILE that have one of these
-                 names.
+  --replace      Replaces each custom section of FILE that has one of these
+                 names, in its place. A section that FILE does not have is
+                 appended.
   -o, --output OUT
                  Writes to OUT instead of standard output. OUT is replaced once
                  all of it is written, and may be FILE itself. It keeps its
@@ -242,6 +244,42 @@ Exit status:
      standard error, unless the output is a pipe that its reader has closed.
 ";
 
+// The text of `producers --help`.
+const PRODUCERS: &[u8] =
+    b"usage: pulleynavy producers [--set FIELD=NAME[:VERSION]]... [-o OUT] [FILE]
+
+Shows the custom section called 'producers' of FILE: the languages and tools
+that the module was produced with, as 'pulleynavy dump' shows them. With --set
+it writes FILE with other ones. All other sections stay as they are. If FILE is
+malformed, nothing is written.
+
+With --set FILE is read into memory.
+
+Options:
+  --set FIELD=NAME[:VERSION]
+                 Sets the version of the language or tool NAME, or adds it.
+                 FIELD is 'language', 'processed-by' or 'sdk'. The option may
+                 be repeated. The section keeps its place, or is appended.
+  -o, --output OUT
+                 With --set, writes to OUT instead of standard output. OUT is
+                 replaced once all of it is written, and may be FILE itself. It
+                 keeps its permissions, or gets those of FILE if it is new.
+  --no-progress  Shows no progress. For files above 64 MiB it is otherwise a
+                 line on standard error, if that is a terminal.
+  --             Ends the options: all arguments after it are files.
+  -h, --help     Prints a summary.
+  -V, --version  Prints the version, and that of the wasmparser crate whose
+                 names it follows.
+
+Exit status:
+  0  The section was shown, or the file was written.
+  1  The file has a fault, which is printed to standard error, or no such
+     section.
+  2  The arguments are wrong.
+  3  A file or device failed, or memory ran out. The reason is printed to
+     standard error, unless the output is a pipe that its reader has closed.
+";
+
 /// The text of `--version`.
 const VERSION: &[u8] = b"pulleynavy 0.16.0 (follows wasmparser 0.263.0)\n";
 
@@ -255,6 +293,7 @@ pub(crate) fn help_of(topic: Topic) -> &'static [u8] {
         Topic::Command(Verb::Strip) => STRIP,
         Topic::Command(Verb::Extract) => EXTRACT,
         Topic::Command(Verb::Add) => ADD,
+        Topic::Command(Verb::Producers) => PRODUCERS,
     }
 }
 

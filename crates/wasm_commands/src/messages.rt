@@ -140,6 +140,7 @@ fn command_words<'a>(verb: Verb) -> &'a [u8]
         Verb::Strip => b"pulleynavy strip",
         Verb::Extract => b"pulleynavy extract",
         Verb::Add => b"pulleynavy add",
+        Verb::Producers => b"pulleynavy producers",
     }
 }
 
@@ -158,8 +159,8 @@ pub(crate) enum Complaint<'a> {
     Few(Verb, &'a str),
     /// An operand of `add` has no `=`.
     NoData(&'a str),
-    /// A section with this name is too large to be added.
-    TooLarge(&'a str),
+    /// A section with this name is too large to be written.
+    TooLarge(Verb, &'a str),
     /// There is no such command.
     UnknownCommand(&'a str),
     /// There is no such option before a command.
@@ -250,12 +251,12 @@ pub(crate) fn complain<E: Sink>(complaint: Complaint<'_>, errors: &mut E) -> u8
         }
         Complaint::Few(verb, words) => complain_of(verb, b"needs ", words, b"", errors),
         Complaint::NoData(word) => {
-            complain_of(Verb::Add, b"'", word, b"' is not NAME=FILE", errors);
+            complain_of(Verb::Add, b"'", word, b"' is not NAME=DATA", errors);
         }
-        Complaint::TooLarge(word) => say(
+        Complaint::TooLarge(verb, word) => say(
             errors,
             &[
-                command_words(Verb::Add),
+                command_words(verb),
                 b": section '".as_slice(),
                 word.as_bytes(),
                 b"' is too large\n",

@@ -17,6 +17,8 @@ pub(crate) enum Verb {
     Extract,
     /// `add`
     Add,
+    /// `producers`
+    Producers,
 }
 
 /// An option of a command.
@@ -54,6 +56,8 @@ pub(crate) enum Flag {
     Index,
     /// `--replace`
     Replace,
+    /// `--set`
+    Set,
 }
 
 /// Whether an option takes a value.
@@ -80,6 +84,7 @@ pub(crate) fn verb_of(word: &str) -> Option<Verb>
         "strip" => Some(Verb::Strip),
         "extract" => Some(Verb::Extract),
         "add" => Some(Verb::Add),
+        "producers" => Some(Verb::Producers),
         _ => None,
     }
 }
@@ -105,6 +110,7 @@ pub(crate) fn flag_of(word: &str) -> Option<Flag>
         "--no-progress" => Some(Flag::NoProgress),
         "--index" => Some(Flag::Index),
         "--replace" => Some(Flag::Replace),
+        "--set" => Some(Flag::Set),
         _ => None,
     }
 }
@@ -122,9 +128,15 @@ impl Flag {
             }
             Flag::Quiet => matches!(verb, Verb::Check),
             Flag::KeepNames | Flag::Keep | Flag::Only => matches!(verb, Verb::Strip),
-            Flag::Output => matches!(verb, Verb::Strip | Verb::Extract | Verb::Add),
+            Flag::Output => {
+                matches!(
+                    verb,
+                    Verb::Strip | Verb::Extract | Verb::Add | Verb::Producers
+                )
+            }
             Flag::Index => matches!(verb, Verb::Extract),
             Flag::Replace => matches!(verb, Verb::Add),
+            Flag::Set => matches!(verb, Verb::Producers),
         }
     }
 
@@ -147,7 +159,9 @@ impl Flag {
         ensures { result ≡ takes_of self }
     {
         match self {
-            Flag::Section | Flag::Keep | Flag::Only | Flag::Output | Flag::Index => Takes::Value,
+            Flag::Section | Flag::Keep | Flag::Only | Flag::Output | Flag::Index | Flag::Set => {
+                Takes::Value
+            }
             Flag::Color => Takes::Attached,
             _ => Takes::Nothing,
         }

@@ -2,6 +2,7 @@
 mod arguments;
 mod checks;
 mod dumps;
+mod edits;
 mod helps;
 mod lists;
 mod strips;

@@ -136,7 +136,7 @@ fn replaces_a_file_once_it_is_complete(rt: HostRuntime) -> Result<(), Fail> {
         &["strip", "none", "-o", "out"],
         (3, said),
         None,
-        1,
+        0,
     )?;
     let said = b"pulleynavy: denied: Permission denied\n";
     writes(

@@ -1,0 +1,253 @@
+// The commands `add` and `extract`.
+use super::system::{Files, Named};
+use super::{CODELESS, answers, words_of};
+use std::alloc::Global;
+use std::io::{self, ErrorKind, Write};
+use std::test::Fail;
+use wasm_commands::run;
+use wasm_feed::{BoundedSink, WriteSink};
+
+// A module with two custom sections, a type section between them.
+const STREAM: &[u8] = b"\0asm\x01\0\0\0\0\x02\x01a\x01\x01\0\0\x03\x01bB";
+
+// A module that was produced with a language.
+const PRODUCED: &[u8] =
+    b"\0asm\x01\0\0\0\0\x1f\x09producers\x01\x08language\x01\x04Rust\x041.85\x01\x01\0";
+
+// The same with another version, and with another language and a tool.
+const NEWER: &[u8] =
+    b"\0asm\x01\0\0\0\0\x1f\x09producers\x01\x08language\x01\x04Rust\x041.90\x01\x01\0";
+
+const MORE: &[u8] =
+    b"\0asm\x01\0\0\0\0\x2b\x09producers\x02\x08language\x02\x04Rust\x041.85\x01C\0\x03sdk\x01\x01x\x011\x01\x01\0";
+
+// A module without the section, and with a new one.
+const FIRST: &[u8] =
+    b"\0asm\x01\0\0\0\0\x02\x01a\x01\x01\0\0\x03\x01bB\0\x1d\x09producers\x01\x0cprocessed-by\x01\x02cc\0";
+
+// A section whose field is none of those that there are.
+const STRANGE: &[u8] = b"\0asm\x01\0\0\0\0\x0f\x09producers\x01\x02no\0";
+
+const NAMED: [Named<'static>; 6] = [
+    Named {
+        name: "produced",
+        bytes: PRODUCED,
+        is_regular: true,
+    },
+    Named {
+        name: "strange",
+        bytes: STRANGE,
+        is_regular: true,
+    },
+    Named {
+        name: "file",
+        bytes: STREAM,
+        is_regular: true,
+    },
+    Named {
+        name: "pipe",
+        bytes: STREAM,
+        is_regular: false,
+    },
+    Named {
+        name: "data",
+        bytes: b"xyz",
+        is_regular: true,
+    },
+    Named {
+        name: "bad",
+        bytes: CODELESS,
+        is_regular: true,
+    },
+];
+
+/// Arguments, and what a run returns, writes and says.
+type Row = (&'static [&'static str], u8, &'static [u8], &'static [u8]);
+
+const ADDED: &[u8] = b"\0asm\x01\0\0\0\0\x02\x01a\x01\x01\0\0\x03\x01bB\0\x05\x01cxyz";
+
+const REPLACED: &[u8] = b"\0asm\x01\0\0\0\0\x05\x01axyz\x01\x01\0\0\x03\x01bB\0\x05\x01cxyz";
+
+const FAULT: &[u8] =
+    b"function section has non-zero count but code section is absent (at offset 0xc)\n";
+
+const ROWS: [Row; 12] = [
+    (&["add", "c=data", "file"], 0, ADDED, b""),
+    (&["add", "c=data", "pipe"], 0, ADDED, b""),
+    (&["add", "c=data", "-"], 0, ADDED, b""),
+    (
+        &["add", "--replace", "c=data", "a=data", "file"],
+        0,
+        REPLACED,
+        b"",
+    ),
+    (
+        &["add", "c=data", "a=data", "pipe", "--replace"],
+        0,
+        REPLACED,
+        b"",
+    ),
+    (&["add", "c=data", "bad"], 1, b"", FAULT),
+    (&["add", "--replace", "c=data", "bad"], 1, b"", FAULT),
+    (
+        &["add", "c=none", "file"],
+        3,
+        b"",
+        b"pulleynavy: none: No such file or directory\n",
+    ),
+    (
+        &["add", "--replace", "c=data", "broken"],
+        3,
+        b"",
+        b"pulleynavy: broken: Is a directory\n",
+    ),
+    (&["extract", "b", "file"], 0, b"B", b""),
+    (&["extract", "a"], 0, b"", b""),
+    (
+        &["extract", "c", "pipe"],
+        1,
+        b"",
+        b"pulleynavy extract: pipe: no section 'c'\n",
+    ),
+];
+
+const PRODUCERS: [Row; 9] = [
+    (
+        &["producers", "--set", "language=Rust:1.90", "produced"],
+        0,
+        NEWER,
+        b"",
+    ),
+    (
+        &[
+            "producers",
+            "produced",
+            "--set=language=C",
+            "--set",
+            "sdk=x:1",
+        ],
+        0,
+        MORE,
+        b"",
+    ),
+    (
+        &["producers", "--set", "processed-by=cc", "file"],
+        0,
+        FIRST,
+        b"",
+    ),
+    (&["producers", "--set", "processed-by=cc"], 0, FIRST, b""),
+    (
+        &["producers", "pipe"],
+        1,
+        b"end 20\n",
+        b"pulleynavy producers: pipe: no section 'producers'\n",
+    ),
+    (&["producers", "--set", "sdk=x", "bad"], 1, b"", FAULT),
+    (
+        &["producers", "--set", "sdk=x", "strange"],
+        1,
+        b"",
+        b"invalid producers field name (at offset 0x15)\n",
+    ),
+    (
+        &["producers", "--set", "tool=x:1"],
+        2,
+        b"",
+        b"pulleynavy producers: wrong value 'tool=x:1' of option '--set'\n",
+    ),
+    (
+        &["producers", "-o", "new", "file"],
+        2,
+        b"",
+        b"pulleynavy producers: needs --set with --output\nTry 'pulleynavy producers --help'.\n",
+    ),
+];
+
+#[test]
+fn sets_producers(rt: HostRuntime) -> Result<(), Fail> {
+    let files = Files::new(STREAM, &NAMED);
+    for (words, status, written, said) in PRODUCERS {
+        answers(&rt, rt.alloc(), words, &files, (status, written, said))?;
+    }
+    Ok(())
+}
+
+#[test]
+fn shows_producers(rt: HostRuntime) -> Result<(), Fail> {
+    let files = Files::new(STREAM, &NAMED);
+    let words = ["dump", "--section", "producers", "produced"];
+    let shown = output_of(rt.alloc(), &words, &files)?;
+    answers(
+        &rt,
+        rt.alloc(),
+        &["producers", "produced"],
+        &files,
+        (0, &shown, b""),
+    )?;
+    let line = b"custom 10 41 20\n".as_slice();
+    assert_eq!(rt; &shown[..line.len().min(shown.len())], line);
+    Ok(())
+}
+
+#[test]
+fn adds_and_extracts(rt: HostRuntime) -> Result<(), Fail> {
+    let files = Files::new(STREAM, &NAMED);
+    for (words, status, written, said) in ROWS {
+        answers(&rt, rt.alloc(), words, &files, (status, written, said))?;
+    }
+    Ok(())
+}
+
+// What a run writes.
+fn output_of(alloc: Global, words: &[&str], files: &Files<'_>) -> Result<Vec<u8>, Fail> {
+    let words = words_of(alloc, words)?;
+    let mut written = Vec::new(alloc);
+    let mut errors = BoundedSink::new(alloc, 300)?;
+    run(
+        alloc,
+        &words,
+        files,
+        WriteSink::new(&mut written),
+        &mut errors,
+    );
+    Ok(written)
+}
+
+/// A device that takes all bytes, and fails at the end.
+#[derive(Drop)]
+struct Unflushed;
+
+impl Write for Unflushed {
+    fn write(&mut self, buf: &[u8]) -> io::Result<usize> {
+        Ok(buf.len())
+    }
+
+    fn flush(&mut self) -> io::Result<()> {
+        Err(io::Error::from(ErrorKind::StorageFull))
+    }
+}
+
+#[test]
+fn an_output_that_fails_at_the_end(rt: HostRuntime) -> Result<(), Fail> {
+    let alloc = rt.alloc();
+    let files = Files::new(STREAM, &NAMED);
+    for words in [
+        ["extract", "b"].as_slice(),
+        &["add", "c=data", "file"],
+        &["strip", "file"],
+        &["dump", "file"],
+        &["list"],
+        &["check", "file"],
+        &["--version"],
+    ] {
+        let words = words_of(alloc, words)?;
+        let mut errors = BoundedSink::new(alloc, 300)?;
+        let output = WriteSink::new(Unflushed);
+        let status = run(alloc, &words, &files, output, &mut errors);
+        assert_eq!(rt; status, 3);
+        let said = b"pulleynavy: standard output: No space left on device\n";
+        assert_eq!(rt; errors.written(), said.as_slice());
+    }
+    Ok(())
+}

@@ -1,0 +1,9 @@
+use Rattle.std.proofs.Common.{ap, subst, List, ℕ}
+use Rattle.wasm_commands.proofs.Refusing.{other_refused}
+use Rattle.wasm_commands.proofs.commands.run_other.Goals as goal
+
+pub returns-in_default : goal.returns-in_default
+returns-in_default g c =
+    let none = c.in_default in
+    rw (other_refused c.args.word.now _ none.not-help none.not-text none.not-text-2 none.not-text-3 none.not-text-4)
+    (c.complain.ensures.status, rw c.unknown.ensures at c.complain.ensures.says)

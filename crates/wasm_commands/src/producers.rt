@@ -1,0 +1,283 @@
+// The command `producers`: shows or changes what a module was produced with.
+ghost use Rattle.std.specs.Prelude.{◌≡◌, ◌<◌, ◌^◌, ◌++◌, OnOk};
+ghost use Rattle.wasm_feed.specs.Encoded.{encoded};
+
+use crate::arguments::Arguments;
+use crate::dump::show;
+use crate::extract::{Wanted, find};
+use crate::messages::{Complaint, complain};
+use crate::options::{Flag, Verb};
+use crate::rewriting::{Original, hold, write_edited};
+use crate::system::System;
+use std::alloc::{AllocError, Global};
+use std::io::Write;
+use wasm_console::report_fault;
+use wasm_feed::{Edit, NewSection, Sink, WriteSink, all_fit};
+use wasm_parser::{
+    CustomSectionReader, ProducersField, ProducersFieldValue, ProducersSectionReader,
+    Result as ParserResult,
+};
+
+/// The name of the section (tool conventions, Producers Section).
+pub(crate) const NAME: &str = "producers";
+
+// A language or tool with a version, and the field that it is in.
+#[derive(Clone, Copy)]
+struct Setting<'a> {
+    field: &'a str,
+    value: ProducersFieldValue<'a>,
+}
+
+// A field of the section with its values.
+#[derive(Drop)]
+struct Field<'a> {
+    name: &'a str,
+    values: Vec<ProducersFieldValue<'a>>,
+}
+
+// Parses `FIELD=NAME` or `FIELD=NAME:VERSION`.
+fn parse_setting(word: &str) -> Option<Setting<'_>> {
+    let (field, value) = word.split_once('=')?;
+    if !matches!(field, "language" | "processed-by" | "sdk") {
+        return None;
+    }
+    let (name, version) = value.split_once(':').unwrap_or((value, ""));
+    let value = ProducersFieldValue { name, version };
+    Some(Setting { field, value })
+}
+
+// Parses all of them. Returns the first word that is none.
+fn parse_settings<'a>(
+    alloc: Global,
+    words: &[&'a str],
+) -> Result<Result<Vec<Setting<'a>>, &'a str>, AllocError> {
+    let mut settings = Vec::new(alloc);
+    for word in words {
+        match parse_setting(word) {
+            Some(setting) => settings.push(setting)?,
+            None => return Ok(Err(word)),
+        }
+    }
+    Ok(Ok(settings))
+}
+
+// Reads the values of a field.
+fn read_field<'a>(
+    alloc: Global,
+    field: ProducersField<'a>,
+) -> Result<ParserResult<Field<'a>>, AllocError> {
+    let mut values = Vec::new(alloc);
+    for value in field.values {
+        match value {
+            Ok(value) => values.push(value)?,
+            Err(error) => return Ok(Err(error)),
+        }
+    }
+    let name = field.name;
+    Ok(Ok(Field { name, values }))
+}
+
+// Reads the fields of the section.
+fn read_fields<'a>(
+    alloc: Global,
+    section: &CustomSectionReader<'a>,
+) -> Result<ParserResult<Vec<Field<'a>>>, AllocError> {
+    let mut fields = Vec::new(alloc);
+    let reader = match ProducersSectionReader::new(section.data_reader()) {
+        Ok(reader) => reader,
+        Err(error) => return Ok(Err(error)),
+    };
+    for field in reader {
+        let field = match field {
+            Ok(field) => field,
+            Err(error) => return Ok(Err(error)),
+        };
+        match read_field(alloc, field)? {
+            Ok(field) => fields.push(field)?,
+            Err(error) => return Ok(Err(error)),
+        }
+    }
+    Ok(Ok(fields))
+}
+
+// Sets the version of a language or tool, after the others if it is new.
+fn set_value<'a>(
+    values: &mut Vec<ProducersFieldValue<'a>>,
+    new: ProducersFieldValue<'a>,
+) -> Result<(), AllocError> {
+    for value in values.iter_mut() {
+        if value.name == new.name {
+            *value = new;
+            return Ok(());
+        }
+    }
+    values.push(new)?;
+    Ok(())
+}
+
+// Sets a version in its field, after the others if the field is new.
+fn set<'a>(
+    alloc: Global,
+    fields: &mut Vec<Field<'a>>,
+    setting: Setting<'a>,
+) -> Result<(), AllocError> {
+    for field in fields.iter_mut() {
+        if field.name == setting.field {
+            return set_value(&mut field.values, setting.value);
+        }
+    }
+    let mut values = Vec::new(alloc);
+    values.push(setting.value)?;
+    let name = setting.field;
+    fields.push(Field { name, values })?;
+    Ok(())
+}
+
+// Appends a number in LEB128, in as few bytes as possible.
+fn push_number(bytes: &mut Vec<u8>, number: usize) -> Result<(), AllocError>
+    ensures { number < 2 ^ 32 → OnOk result (bytes.new.items ≡ bytes.old.items ++ encoded number) }
+{
+    let mut rest = number;
+    'septets: while rest >= 128 {
+        bytes.push((rest % 128) as u8 + 128)?;
+        rest /= 128;
+    }
+    bytes.push(rest as u8)?;
+    Ok(())
+}
+
+// Appends a text with its size.
+fn push_text(bytes: &mut Vec<u8>, text: &str) -> Result<(), AllocError> {
+    push_number(bytes, text.len())?;
+    bytes.extend_from_slice(text.as_bytes())
+}
+
+// Appends a field with its values.
+fn push_field(bytes: &mut Vec<u8>, field: &Field<'_>) -> Result<(), AllocError> {
+    push_text(bytes, field.name)?;
+    push_number(bytes, field.values.len())?;
+    for value in &field.values {
+        push_text(bytes, value.name)?;
+        push_text(bytes, value.version)?;
+    }
+    Ok(())
+}
+
+// Returns the data of a section with these fields.
+fn data_of(alloc: Global, fields: &[Field<'_>]) -> Result<Vec<u8>, AllocError> {
+    let mut bytes = Vec::new(alloc);
+    push_number(&mut bytes, fields.len())?;
+    for field in fields {
+        push_field(&mut bytes, field)?;
+    }
+    Ok(bytes)
+}
+
+// Returns the data of the section after these settings.
+fn changed_data<'a>(
+    alloc: Global,
+    section: &Option<CustomSectionReader<'a>>,
+    settings: &[Setting<'a>],
+) -> Result<ParserResult<Vec<u8>>, AllocError> {
+    let mut fields = match section {
+        Some(section) => match read_fields(alloc, section)? {
+            Ok(fields) => fields,
+            Err(error) => return Ok(Err(error)),
+        },
+        None => Vec::new(alloc),
+    };
+    for setting in settings {
+        set(alloc, &mut fields, *setting)?;
+    }
+    Ok(Ok(data_of(alloc, &fields)?))
+}
+
+// Writes a file with these settings. Returns the exit status.
+fn change<S: System, W: Write, E: Sink>(
+    alloc: Global,
+    settings: &[Setting<'_>],
+    name: &str,
+    arguments: &Arguments<'_>,
+    system: &S,
+    output: &mut WriteSink<W>,
+    errors: &mut E,
+) -> Result<u8, AllocError> {
+    let bytes = match hold(alloc, name, system, errors) {
+        Ok(bytes) => bytes,
+        Err(status) => return Ok(status),
+    };
+    let wanted = Wanted {
+        name: NAME,
+        before: 0,
+    };
+    let section = match find(&bytes, wanted) {
+        Ok(section) => section,
+        Err(error) => return Ok(report_fault(alloc, error, errors)),
+    };
+    let data = match changed_data(alloc, &section, settings)? {
+        Ok(data) => data,
+        Err(error) => return Ok(report_fault(alloc, error, errors)),
+    };
+    let new = NewSection {
+        name: NAME,
+        data: data.as_slice(),
+    };
+    let edits = [match section {
+        Some(_) => Edit::Replace(new),
+        None => Edit::Append(new),
+    }];
+    if !all_fit(&edits) {
+        return Ok(complain(Complaint::TooLarge(Verb::Producers, NAME), errors));
+    }
+    let original = Original {
+        name,
+        held: Some(bytes),
+        // All of it was read for the section, unless it was found before the end.
+        is_checked: false,
+    };
+    Ok(write_edited(alloc, &edits, &original, arguments, system, output, errors))
+}
+
+/// Runs `producers`. Returns the exit status.
+///
+/// # Errors
+///
+/// `AllocError` when an allocation fails before anything is written.
+pub(crate) fn producers<S: System, W: Write + Drop, E: Sink>(
+    alloc: Global,
+    arguments: &Arguments<'_>,
+    system: &S,
+    mut output: WriteSink<W>,
+    errors: &mut E,
+) -> Result<u8, AllocError> {
+    let words = arguments.values(alloc, Flag::Set)?;
+    if words.is_empty() {
+        if arguments.has(Flag::Output) {
+            let complaint = Complaint::Few(Verb::Producers, "--set with --output");
+            return Ok(complain(complaint, errors));
+        }
+        return show(alloc, Verb::Producers, arguments, system, output, errors);
+    }
+    let settings = match parse_settings(alloc, &words)? {
+        Ok(settings) => settings,
+        Err(word) => {
+            let complaint = Complaint::WrongValue(Verb::Producers, "--set", word);
+            return Ok(complain(complaint, errors));
+        }
+    };
+    let names = arguments.operands(alloc)?;
+    let name = match names.as_slice() {
+        [] => "-",
+        [name] => name,
+        [_, extra, ..] => return Ok(complain(Complaint::Extra(Verb::Producers, extra), errors)),
+    };
+    change(
+        alloc,
+        &settings,
+        name,
+        arguments,
+        system,
+        &mut output,
+        errors,
+    )
+}

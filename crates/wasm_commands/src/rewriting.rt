@@ -1,0 +1,219 @@
+// Writing a stream with other custom sections, which `strip` and `add` share.
+ghost use Rattle.std.specs.Prelude.{All};
+ghost use Rattle.wasm_feed.specs.Edits.{CanBeMade};
+
+mod twice;
+
+use crate::arguments::Arguments;
+use crate::messages::{refuse_file, refuse_run, refuse_target, report};
+use crate::options::Flag;
+use crate::reasons::Cause;
+use crate::system::System;
+use std::alloc::Global;
+use std::io::Write;
+use twice::edit_twice;
+use wasm_console::{PIECE, read_all, report_fault};
+use wasm_feed::{Edit, Ended, ListError, Sink, SliceSource, Source, WriteSink, edit_stream};
+
+/// A stream to change: a regular file, which is opened for each reading, or what was read of another one.
+#[derive(Drop)]
+pub(crate) struct Original<'a> {
+    pub(crate) name: &'a str,
+    pub(crate) held: Option<Vec<u8>>,
+    /// Whether a reading has shown that it has no fault.
+    pub(crate) is_checked: bool,
+}
+
+/// Reads a file into memory. Says why if that fails, and returns the exit status.
+pub(crate) fn hold<S: System, E: Sink>(
+    alloc: Global,
+    name: &str,
+    system: &S,
+    errors: &mut E,
+) -> Result<Vec<u8>, u8> {
+    let mut input = match system.open(name) {
+        Ok(input) => input,
+        Err(cause) => return Err(refuse_file(name, cause, errors)),
+    };
+    match read_all(alloc, &mut input) {
+        Ok(bytes) => Ok(bytes),
+        Err(why) => Err(refuse_run(name, why, system.causes(), errors)),
+    }
+}
+
+/// Returns the stream to change. One that can be read only once is read. Says why if that fails, and returns the exit
+/// status.
+pub(crate) fn original_of<'a, S: System, E: Sink>(
+    alloc: Global,
+    name: &'a str,
+    system: &S,
+    errors: &mut E,
+) -> Result<Original<'a>, u8> {
+    let held = if system.is_regular(name) {
+        None
+    } else {
+        Some(hold(alloc, name, system, errors)?)
+    };
+    Ok(Original {
+        name,
+        held,
+        is_checked: false,
+    })
+}
+
+// Writes a stream with edits. If it is not known to have no fault, it is read for one first.
+fn edit_sources<R: Source, W: Sink>(
+    alloc: Global,
+    edits: &[Edit<'_>],
+    is_checked: bool,
+    first: &mut R,
+    second: &mut R,
+    output: &mut W,
+) -> Result<Ended, ListError>
+    requires { All CanBeMade edits.now }
+{
+    if is_checked {
+        edit_stream(alloc, edits, second, output, PIECE)
+    } else {
+        edit_twice(alloc, edits, first, second, output)
+    }
+}
+
+// Writes a stream with edits.
+fn edit_original<S: System, W: Sink>(
+    alloc: Global,
+    edits: &[Edit<'_>],
+    original: &Original<'_>,
+    system: &S,
+    output: &mut W,
+) -> Result<Result<Ended, ListError>, Cause>
+    requires { All CanBeMade edits.now }
+{
+    if let Some(bytes) = &original.held {
+        let mut first = SliceSource::new(bytes);
+        let mut second = SliceSource::new(bytes);
+        return Ok(edit_sources(
+            alloc,
+            edits,
+            original.is_checked,
+            &mut first,
+            &mut second,
+            output,
+        ));
+    }
+    let mut first = system.open(original.name)?;
+    let mut second = system.open(original.name)?;
+    Ok(edit_sources(
+        alloc,
+        edits,
+        original.is_checked,
+        &mut first,
+        &mut second,
+        output,
+    ))
+}
+
+// Flushes the output if all was written.
+fn flushed<W: Write>(
+    how: Result<Ended, ListError>,
+    output: &mut WriteSink<W>,
+) -> Result<Ended, ListError> {
+    match how {
+        Ok(Ended::End) => match output.flush() {
+            Ok(()) => Ok(Ended::End),
+            Err(_) => Err(ListError::Output),
+        },
+        _ => how,
+    }
+}
+
+// Returns the exit status of a run. Prints the fault of the stream, or why the run failed.
+fn answer<E: Sink>(
+    alloc: Global,
+    name: &str,
+    how: Result<Ended, ListError>,
+    system: &impl System,
+    errors: &mut E,
+) -> u8 {
+    match how {
+        Ok(Ended::Fault(error)) => report_fault(alloc, error, errors),
+        _ => report(name, &how, system.causes(), errors),
+    }
+}
+
+// Writes a stream with edits to the output. Returns the exit status.
+fn write_to_output<S: System, W: Write, E: Sink>(
+    alloc: Global,
+    edits: &[Edit<'_>],
+    original: &Original<'_>,
+    system: &S,
+    output: &mut WriteSink<W>,
+    errors: &mut E,
+) -> u8
+    requires { All CanBeMade edits.now }
+{
+    match edit_original(alloc, edits, original, system, output) {
+        Ok(how) => {
+            let how = flushed(how, output);
+            answer(alloc, original.name, how, system, errors)
+        }
+        Err(cause) => refuse_file(original.name, cause, errors),
+    }
+}
+
+/// Replaces a file by what was written, if the status is 0, and discards it otherwise. Returns the exit status.
+pub(crate) fn end_target<S: System, E: Sink>(
+    status: u8,
+    target: &str,
+    written: S::Output,
+    system: &S,
+    errors: &mut E,
+) -> u8 {
+    match system.replace(written, status == 0) {
+        Ok(()) => status,
+        Err(cause) => refuse_file(target, cause, errors),
+    }
+}
+
+// Writes a stream with edits to a file, which is replaced once all of it is written. Returns the exit status.
+fn write_to_file<S: System, E: Sink>(
+    alloc: Global,
+    edits: &[Edit<'_>],
+    original: &Original<'_>,
+    system: &S,
+    target: &str,
+    errors: &mut E,
+) -> u8
+    requires { All CanBeMade edits.now }
+{
+    let mut output = match system.create(alloc, original.name, target) {
+        Ok(output) => output,
+        Err(cause) => return refuse_file(target, cause, errors),
+    };
+    let status = match edit_original(alloc, edits, original, system, &mut output) {
+        Ok(Err(ListError::Output)) => refuse_target(target, system.causes(), errors),
+        Ok(how) => answer(alloc, original.name, how, system, errors),
+        Err(cause) => refuse_file(original.name, cause, errors),
+    };
+    end_target(status, target, output, system, errors)
+}
+
+/// Writes a stream with edits to where `--output` says. Returns the exit status.
+pub(crate) fn write_edited<S: System, W: Write, E: Sink>(
+    alloc: Global,
+    edits: &[Edit<'_>],
+    original: &Original<'_>,
+    arguments: &Arguments<'_>,
+    system: &S,
+    output: &mut WriteSink<W>,
+    errors: &mut E,
+) -> u8
+    requires { All CanBeMade edits.now }
+{
+    match arguments.last(Flag::Output) {
+        Some(Some(target)) if target != "-" => {
+            write_to_file(alloc, edits, original, system, target, errors)
+        }
+        _ => write_to_output(alloc, edits, original, system, output, errors),
+    }
+}
