@@ -1,6 +1,6 @@
 # For pulleynavy and wasm_list at the top: runs the prebuilt program of a name, with the arguments after it.
 #
-# prebuilt/SOURCES.gz has the checksum of each source that the programs are made of. If one differs, tools/run proves and builds the program,
+# prebuilt/SOURCES.gz has the checksum of each file of the programs' code. If one differs, tools/run proves and builds the program,
 # or without `rt` the prebuilt one runs as it is.
 start() {
     local name=$1 prebuilt=$top/prebuilt/$1

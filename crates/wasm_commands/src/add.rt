@@ -1,17 +1,17 @@
 // The command `add`: appends custom sections, or replaces them.
 use crate::arguments::Arguments;
-use crate::messages::{Complaint, complain, refuse_file, refuse_run};
+use crate::extract::{Wanted, find};
+use crate::messages::{Complaint, complain, refuse_file};
 use crate::options::{Flag, Verb};
-use crate::rewriting::{Original, hold, original_of, write_edited};
+use crate::rewriting::{Original, answer, hold, original_of, write_edited};
 use crate::system::System;
 use std::alloc::{AllocError, Global};
 use std::cell::Cell;
-use std::io::{self, Write};
+use std::io::Write;
 use wasm_console::{PIECE, report_fault};
 use wasm_dumper::{Only, Shown, dump};
-use wasm_feed::{
-    Edit, Ended, ListError, NewSection, Sink, SliceSource, Source, WriteSink, all_fit,
-};
+use wasm_feed::{Edit, Ended, ListError, NewSection, Sink, Source, WriteSink, all_fit};
+use wasm_parser::Result as ParserResult;
 use wasm_tree::Faults;
 
 // A section to add: its name, and the file with its data.
@@ -61,46 +61,67 @@ fn data_of<S: System, E: Sink>(
     Ok(Ok(all))
 }
 
-// Reads a stream for these custom sections, and sets a flag for each one that it has. Returns how the stream ended.
-fn find<R: Source>(
+// Reads a stream for these custom sections, and sets a flag for each one that it has. Returns how the stream ended, and the
+// output, to which nothing is written.
+fn find_named<R: Source, W: Write>(
     alloc: Global,
     only: &[Only<'_>],
     found: &[Cell<bool>],
     input: &mut R,
-) -> Result<Ended, ListError> {
+    output: WriteSink<W>,
+) -> (Result<Ended, ListError>, WriteSink<W>) {
     let shown = Shown {
         only,
         has_bytes: false,
         found,
     };
-    let mut tree = Faults::new(alloc, io::sink(), String::new(alloc), true);
+    // A quiet tree, as `check --quiet` has it, so that no other one is compiled.
+    let mut tree = Faults::new(alloc, output, String::new(alloc), true);
     let how = dump(alloc, shown, input, &mut tree, PIECE);
-    tree.into_output();
-    how
+    (how, tree.into_output())
 }
 
-// Sets the flags of the sections that a stream has. Returns the exit status: 0, or that of a fault or a failure, which it
-// reports.
-fn find_in<S: System, E: Sink>(
+// Sets a flag for each section that a stream in memory has. Returns how the stream ended, as far as it was read.
+fn find_held(
+    bytes: &[u8],
+    additions: &[Addition<'_>],
+    found: &[Cell<bool>],
+) -> ParserResult<Ended> {
+    for (addition, is_there) in additions.iter().zip(found.iter()) {
+        let wanted = Wanted {
+            name: addition.name,
+            before: 0,
+        };
+        is_there.set(find(bytes, wanted)?.is_some());
+    }
+    Ok(Ended::End)
+}
+
+// Sets a flag for each section that is to be added: whether the stream has one with its name. Returns the exit status, 0 or
+// that of a fault or a failure, which it reports, and the output.
+fn find_all<S: System, W: Write + Drop, E: Sink>(
     alloc: Global,
-    only: &[Only<'_>],
+    additions: &[Addition<'_>],
     found: &[Cell<bool>],
     original: &Original<'_>,
     system: &S,
+    output: WriteSink<W>,
     errors: &mut E,
-) -> u8 {
-    let how = match &original.held {
-        Some(bytes) => find(alloc, only, found, &mut SliceSource::new(bytes)),
-        None => match system.open(original.name) {
-            Ok(mut input) => find(alloc, only, found, &mut input),
-            Err(cause) => return refuse_file(original.name, cause, errors),
-        },
-    };
-    match how {
-        Ok(Ended::End) => 0,
-        Ok(Ended::Fault(error)) => report_fault(alloc, error, errors),
-        Err(why) => refuse_run(original.name, why, system.causes(), errors),
+) -> Result<(u8, WriteSink<W>), AllocError> {
+    if let Some(bytes) = &original.held {
+        let status = match find_held(bytes, additions, found) {
+            Ok(_) => 0,
+            Err(error) => report_fault(alloc, error, errors),
+        };
+        return Ok((status, output));
     }
+    let only = choices_of(alloc, additions)?;
+    let mut input = match system.open(original.name) {
+        Ok(input) => input,
+        Err(cause) => return Ok((refuse_file(original.name, cause, errors), output)),
+    };
+    let (how, output) = find_named(alloc, &only, found, &mut input, output);
+    Ok((answer(alloc, original.name, how, system, errors), output))
 }
 
 // Returns the choices of the sections with these names.
@@ -163,12 +184,12 @@ fn operands_of<'a>(operands: &'a [&'a str]) -> Option<Operands<'a>> {
 }
 
 // Writes a file with these sections. Returns the exit status.
-fn add_all<S: System, W: Write, E: Sink>(
+fn add_all<S: System, W: Write + Drop, E: Sink>(
     alloc: Global,
     operands: Operands<'_>,
     arguments: &Arguments<'_>,
     system: &S,
-    output: &mut WriteSink<W>,
+    mut output: WriteSink<W>,
     errors: &mut E,
 ) -> Result<u8, AllocError> {
     let additions = match parse_additions(alloc, operands.words)? {
@@ -185,18 +206,28 @@ fn add_all<S: System, W: Write, E: Sink>(
     };
     let found = vec![in alloc; Cell::new(false); additions.len()]?;
     if arguments.has(Flag::Replace) {
-        let only = choices_of(alloc, &additions)?;
-        let status = find_in(alloc, &only, &found, &original, system, errors);
+        let (status, after) = find_all(
+            alloc, &additions, &found, &original, system, output, errors,
+        )?;
         if status != 0 {
             return Ok(status);
         }
+        output = after;
         original.is_checked = true;
     }
     let edits = edits_of(alloc, &additions, &data, &found)?;
     if !all_fit(&edits) {
         return Ok(complain(Complaint::TooLarge(Verb::Add, large_name(&edits)), errors));
     }
-    Ok(write_edited(alloc, &edits, &original, arguments, system, output, errors))
+    Ok(write_edited(
+        alloc,
+        &edits,
+        &original,
+        arguments,
+        system,
+        &mut output,
+        errors,
+    ))
 }
 
 /// Runs `add`. Returns the exit status.
@@ -204,11 +235,11 @@ fn add_all<S: System, W: Write, E: Sink>(
 /// # Errors
 ///
 /// `AllocError` when an allocation fails before anything is written.
-pub(crate) fn add<S: System, W: Write, E: Sink>(
+pub(crate) fn add<S: System, W: Write + Drop, E: Sink>(
     alloc: Global,
     arguments: &Arguments<'_>,
     system: &S,
-    output: &mut WriteSink<W>,
+    output: WriteSink<W>,
     errors: &mut E,
 ) -> Result<u8, AllocError> {
     let words = arguments.operands(alloc)?;

@@ -232,7 +232,6 @@ fn change<S: System, W: Write, E: Sink>(
     let original = Original {
         name,
         held: Some(bytes),
-        // All of it was read for the section, unless it was found before the end.
         is_checked: false,
     };
     Ok(write_edited(alloc, &edits, &original, arguments, system, output, errors))

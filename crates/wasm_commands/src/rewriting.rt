@@ -13,7 +13,8 @@ use std::alloc::Global;
 use std::io::Write;
 use twice::edit_twice;
 use wasm_console::{PIECE, read_all, report_fault};
-use wasm_feed::{Edit, Ended, ListError, Sink, SliceSource, Source, WriteSink, edit_stream};
+use wasm_feed::{Edit, Ended, ListError, Sink, WriteSink, edit, edit_stream, write_all};
+use wasm_parser::Fault;
 
 /// A stream to change: a regular file, which is opened for each reading, or what was read of another one.
 #[derive(Drop)]
@@ -61,21 +62,24 @@ pub(crate) fn original_of<'a, S: System, E: Sink>(
     })
 }
 
-// Writes a stream with edits. If it is not known to have no fault, it is read for one first.
-fn edit_sources<R: Source, W: Sink>(
+// Writes a stream in memory with edits, unless it has a fault.
+fn edit_held<W: Sink>(
     alloc: Global,
     edits: &[Edit<'_>],
-    is_checked: bool,
-    first: &mut R,
-    second: &mut R,
+    bytes: &[u8],
     output: &mut W,
 ) -> Result<Ended, ListError>
     requires { All CanBeMade edits.now }
 {
-    if is_checked {
-        edit_stream(alloc, edits, second, output, PIECE)
-    } else {
-        edit_twice(alloc, edits, first, second, output)
+    match edit(alloc, bytes, edits) {
+        Ok(edited) => match write_all(output, &edited) {
+            Ok(()) => Ok(Ended::End),
+            Err(_) => Err(ListError::Output),
+        },
+        Err(error) => match error.fault() {
+            Fault::OutOfMemory => Err(ListError::Memory),
+            _ => Ok(Ended::Fault(error)),
+        },
     }
 }
 
@@ -90,27 +94,14 @@ fn edit_original<S: System, W: Sink>(
     requires { All CanBeMade edits.now }
 {
     if let Some(bytes) = &original.held {
-        let mut first = SliceSource::new(bytes);
-        let mut second = SliceSource::new(bytes);
-        return Ok(edit_sources(
-            alloc,
-            edits,
-            original.is_checked,
-            &mut first,
-            &mut second,
-            output,
-        ));
+        return Ok(edit_held(alloc, edits, bytes, output));
+    }
+    let mut second = system.open(original.name)?;
+    if original.is_checked {
+        return Ok(edit_stream(alloc, edits, &mut second, output, PIECE));
     }
     let mut first = system.open(original.name)?;
-    let mut second = system.open(original.name)?;
-    Ok(edit_sources(
-        alloc,
-        edits,
-        original.is_checked,
-        &mut first,
-        &mut second,
-        output,
-    ))
+    Ok(edit_twice(alloc, edits, &mut first, &mut second, output))
 }
 
 // Flushes the output if all was written.
@@ -127,8 +118,8 @@ fn flushed<W: Write>(
     }
 }
 
-// Returns the exit status of a run. Prints the fault of the stream, or why the run failed.
-fn answer<E: Sink>(
+/// Returns the exit status of a run. Prints the fault of the stream, or why the run failed.
+pub(crate) fn answer<E: Sink>(
     alloc: Global,
     name: &str,
     how: Result<Ended, ListError>,
