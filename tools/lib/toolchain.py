@@ -96,8 +96,8 @@ def keeping(kept):
 
 
 def text_command(kept, text):
-    """The command that writes the kept module as text."""
-    return [clang(), "-S", "-emit-llvm", "-Xclang", "-disable-llvm-passes", "-O3", "-x", "ir", os.path.join(kept, "module"), "-o", text]
+    """The command that writes the kept module as text, with the order of uses, by which registers are chosen."""
+    return [clang(), "-S", "-emit-llvm", "-Xclang", "-emit-llvm-uselists", "-Xclang", "-disable-llvm-passes", "-O3", "-x", "ir", os.path.join(kept, "module"), "-o", text]
 
 
 def compile_command(kept, module, made):
