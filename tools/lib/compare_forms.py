@@ -5,7 +5,8 @@
 
 Each line of a dump as JSON must be an object as Python reads it, with no name twice, in UTF-8; there are as many as lines. The line that an
 object has by docs/DUMP.md is the line of the dump: each value is the same, and a field that the line leaves out is false or null. With --names
-the lines are the same but for the names that the model reads in the custom sections `name` or, if there is none, in `linking`, also as JSON. Of two files each object follows
+the lines are the same but for the names that the model reads in the custom sections `name` or, if there is none, in `linking`, also as JSON.
+Without, those of symbols that come in a section `linking` before are shown. Of two files each object follows
 that of its file. Of a dump with bytes the rows must go on where the one before ends, show sixteen bytes at most and together the stream, up
 to the fault that ends it, and the rest must be the dump in lines. With --hex the offsets of lines and rows must be the same in hexadecimal,
 and with --color the text must be the same. tools/compare dump compares the dump in lines with a model.
@@ -38,7 +39,9 @@ ROW = re.compile(r"(\d+) \|((?: [0-9a-f]{2}){1,16})\Z")
 # What sets a color. No dump has such bytes of its own: texts in quotes escape them.
 COLOR = re.compile(rb"\x1b\[[0-9;]*m")
 # The number of an item in its line.
-NUMBER = re.compile(r"((?:  \d+|   |body \d+ \d+) (type|func|table|memory|tag|global|elem|data)\[(\d+)\]|      \d+ (symbol)\[(\d+)\])(.*)\Z")
+NUMBER = re.compile(r"((?:  \d+|   |body \d+ \d+) (type|func|table|memory|tag|global|elem|data)\[(\d+)\])(.*)\Z")
+# A symbol, with its name after its number or not.
+SYMBOL = re.compile(r'(?P<start>      \d+ symbol\[(?P<index>\d+)\])(?P<name> "[^"]*")?(?P<rest> .*)(?P<function>)\Z')
 # The index spaces that subsections of names are for, and what a model writes of such a section: subsections in braces, and lists in them.
 SPACES = {1: "func", 4: "type", 5: "table", 6: "memory", 7: "global", 8: "elem", 9: "data", 11: "tag"}
 NAME = re.compile(r"(\d*)([{}])|name\((\d+) x([0-9a-f]*) |(fault)")
@@ -48,7 +51,8 @@ LIST = re.compile(r"(\d+) \d+\.\.\d+ #\d+\[|\[|\]")
 LINKED = re.compile(r"\d+:(?:(func|global|event|table|section) \d+ (\d+)(?: (x[0-9a-f]*))?|data \d+ (x[0-9a-f]*)|segment\((x[0-9a-f]*))|(fault)")
 IMPORTED = {"func": "func", "funcexact": "func", "global": "global", "tag": "tag", "event": "tag", "table": "table", "memory": "memory"}
 # The lines that name a symbol or a type at their end, by its index.
-REFERS = re.compile(r" +\d+ (?:type=(R_WASM_\w+) offset=\d+ index=(\d+) addend=-?\d+|priority=\d+ symbol_index=(\d+))\Z")
+REFERS = re.compile(r'(?P<start> +\d+ (?:type=R_WASM_\w+ offset=\d+ index=(?P<index>\d+) addend=-?\d+|priority=\d+ symbol_index=(?P<function>\d+)))'
+                    r'(?P<name> "[^"]*")?(?P<rest>)\Z')
 
 
 def once(pairs):
@@ -226,41 +230,93 @@ class Linked:
                 self.items.setdefault((space, item), name)
 
 
-def names_in(stream):
-    """The names of items and symbols, each by its index space and its number: the first of each."""
-    names, linked, has_names = {}, Linked(), False
-    for line in common.load(common.MODEL_OF_ITEMS).listing(stream):
+class Names:
+    """The names that the lines of a listing of items give, up to the first fault of a section `name`."""
+
+    def __init__(self):
+        self.items, self.linked, self.has_section, self.has_fault = {}, Linked(), False, False
+
+    def add(self, line):
         found = IMPORT.match(line)
         if found:
-            linked.add_import(found[1], found[2])
+            self.linked.add_import(found[1], found[2])
         elif line.split(" ")[0] in ("section", "code", "start", "datacount", "unknown", "custom"):
-            linked.sections.append("x")
+            self.linked.sections.append("x")
         elif line.startswith("  x"):
-            title = line.split(" ")[2]
-            linked.sections[-1] = title
-            if title == "x6c696e6b696e67":
-                for ident, text in lists_of(line):
-                    linked.add_list(ident, text)
-            elif title == "x6e616d65":
-                has_names = True
-                if not add_names(names, line):
-                    break
-    others = linked.symbols if has_names else {**linked.symbols, **linked.items}
-    return {**names, **{item: bytes.fromhex(name[1:]).decode() for item, name in others.items()}}
+            self.add_custom(line, line.split(" ")[2])
+
+    def add_custom(self, line, title):
+        self.linked.sections[-1] = title
+        if title == "x6c696e6b696e67":
+            for ident, text in lists_of(line):
+                self.linked.add_list(ident, text)
+        elif title == "x6e616d65" and not self.has_fault:
+            self.has_section = True
+            self.has_fault = not add_names(self.items, line)
+
+
+def decoded(names):
+    return {item: bytes.fromhex(name[1:]).decode() for item, name in names.items()}
+
+
+def names_in(stream):
+    """The names of items and symbols, each by its index space and its number: the first of each."""
+    names = Names()
+    for line in common.load(common.MODEL_OF_ITEMS).listing(stream):
+        names.add(line)
+        if names.has_fault:
+            break
+    others = names.linked.symbols if names.has_section else {**names.linked.symbols, **names.linked.items}
+    return {**names.items, **decoded(others)}
+
+
+def symbols_by_event(stream):
+    """For each event, the names of the symbols that come in it or before it: those that a dump shows without --names."""
+    names, known = Names(), []
+    for line in common.load(common.MODEL_OF_ITEMS).listing(stream):
+        names.add(line)
+        if not line.startswith(" "):
+            known.append({})
+        known[-1] = decoded(names.linked.symbols)
+    return known
+
+
+def without_symbol(line, symbols):
+    """A line without the name of its symbol, which must be this one. A symbol has none before its fields if it has a field `name`."""
+    found = SYMBOL.match(line) or REFERS.match(line)
+    if not found:
+        return line
+    start, index, name, rest = found["start"], found["index"] or found["function"], found["name"], found["rest"]
+    is_shown = not ("R_WASM_TYPE_INDEX_LEB" in start or ' name="' in rest)
+    wanted = symbols.get(("symbol", int(index))) if is_shown else None
+    assert name == (wanted if wanted is None else " " + quoted(wanted)), "%s, of which the symbol is called %s" % (line, wanted)
+    return start + rest
+
+
+def without_symbols(lines, known):
+    """The lines of a dump without names. Those of symbols must be the ones that are known where they are shown."""
+    event = -1
+    for line in lines:
+        event += not line.startswith(" ")
+        yield without_symbol(line, known[event])
 
 
 def with_names(lines, names):
     """The lines of a dump, with the name of each numbered item, and of what a relocation or a function for the start refers to."""
     for line in lines:
-        found, refers = NUMBER.match(line), REFERS.match(line)
+        found, symbol, refers = NUMBER.match(line), SYMBOL.match(line), REFERS.match(line)
         if found:
-            name = names.get((found[2] or found[4], int(found[3] or found[5])))
-            line = line if name is None else "%s %s%s" % (found[1], quoted(name), found[6])
+            line = with_name(found[1], names.get((found[2], int(found[3]))), found[4])
+        elif symbol and ' name="' not in line:
+            line = with_name(symbol["start"], names.get(("symbol", int(symbol["index"]))), symbol["rest"])
         elif refers:
-            space = "type" if refers[1] == "R_WASM_TYPE_INDEX_LEB" else "symbol"
-            name = names.get((space, int(refers[2] or refers[3])))
-            line = line if name is None else "%s %s" % (line, quoted(name))
+            space = "type" if "R_WASM_TYPE_INDEX_LEB" in line else "symbol"
+            line = with_name(line, names.get((space, int(refers["index"] or refers["function"]))), "")
         yield line
+
+
+def with_name(start, name, rest):
+    return start + ("" if name is None else " " + quoted(name)) + rest
 
 
 # ---- bytes, offsets and files
@@ -307,7 +363,8 @@ class Dumps:
         text, rows, hexadecimal = self.run(), self.run("--bytes"), self.run("--hex")
         lines, named = text.decode().splitlines(), self.run("--names").decode().splitlines()
         check_objects(lines, objects_in(self.run("--json")))
-        for line, wanted in zip_longest(named, with_names(lines, names_in(stream)), fillvalue=""):
+        plain = without_symbols(lines, symbols_by_event(stream))
+        for line, wanted in zip_longest(named, with_names(plain, names_in(stream)), fillvalue=""):
             assert line == wanted, "%s in place of %s" % (line, wanted)
         check_objects(named, objects_in(self.run("--names", "--json")))
         check_bytes(lines, rows, stream)

@@ -107,11 +107,11 @@ def symbol_of(said):
         place = [] if said.get("symbol") == "undefined" else [said["index"], said["offset"], said["size"]]
     else:
         place = [said["section" if kind == "section" else "index"]]
-    return said["item_name"], kind, said["flags"], sorted(words_of(said)), place
+    return said.get("item_name", said.get("name")), kind, said["flags"], sorted(words_of(said)), place
 
 
 def by_dump(words, path):
-    output, status, errors = programs.run([*words, "--names", "--json", path])
+    output, status, errors = programs.run([*words, "--json", path])
     assert status == 0 and not errors, errors
     symbols, relocations, segments, starts, features, section = [], [], [], [], [], None
     for said in map(json.loads, output.decode().splitlines()):

@@ -59,7 +59,7 @@ class Node:
                 self.fields[found[1]] = as_hex(value) if value.startswith('"') else value
             elif place == 0 and value.isdigit():
                 self.offset = value
-            else:
+            elif not value.startswith('"'):  # compare forms looks at the names of symbols
                 self.words.append(value)
             assert self.text[end : end + 1] in ("", " "), self.text
             place = end + 1

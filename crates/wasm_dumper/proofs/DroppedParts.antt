@@ -12,7 +12,7 @@ use Rattle.std.specs.Io.KnownBytes.{IsAtEnd}
 use Rattle.wasm_base.specs.FaultAt.{at_offset}
 use Rattle.wasm_base.specs.declared.fault.Fault.TheVariants.{UnexpectedEof}
 use Rattle.wasm_dumper.specs.Chosen.{is_chosen_by}
-use Rattle.wasm_dumper.specs.Hiding.{DropsPart, after_hidden, has_imports, is_body_head, is_hidden}
+use Rattle.wasm_dumper.specs.Hiding.{DropsPart, after_hidden, has_imports, has_symbols, is_body_head, is_hidden}
 use Rattle.wasm_dumper.specs.declared.hidden.Hidden.{Hidden}
 use Rattle.wasm_feeder.specs.Beside.{unseen}
 use Rattle.wasm_feeder.specs.Passing.{SkipsHere, held_by}
@@ -32,15 +32,16 @@ abbrev skip_or : Skip → Option Skip → Skip
 skip_or s (Some x) = x
 skip_or s None = s
 
-none_of : (a b : Bool) → not a && not b ≡ true → (a ≡ false) × (b ≡ false)
-none_of true b e = cc
-none_of false true e = cc
-none_of false false e = (refl, refl)
+none_of : (a b c : Bool) → not a && (not b && not c) ≡ true → (a ≡ false) × (c ≡ false)
+none_of true b c e = cc
+none_of false true c e = cc
+none_of false false true e = cc
+none_of false false false e = (refl, refl)
 
 hidden_by : (only : List Only) (s : Skip) (x : Option Skip) → x ≡ Some s → is_hidden only s.head ≡ true
     → (has_imports (skip_or s x).head ≡ false)
     × (list_any (λ choice. is_chosen_by choice (report_with (skip_or s x).head)) only ≡ false)
-hidden_by only s x e h = none_of (has_imports (skip_or s x).head)
+hidden_by only s x e h = none_of (has_imports (skip_or s x).head) (has_symbols (skip_or s x).head)
     (list_any (λ choice. is_chosen_by choice (report_with (skip_or s x).head)) only)
     (subst (λ (y : Option Skip). is_hidden only (skip_or s y).head ≡ true) (sym e) h)
 

@@ -1,11 +1,11 @@
 -- Parts of a stream of which a dump shows nothing. They are skipped by their first fields, and their bytes are dropped.
 use Rattle.std.specs.Prelude.{◌≡◌, ℕ, ◌+◌, ◌<◌, ◌&&◌, Bool, true, false, not, List, [], ◌++◌, length, nat_eq}
-use Rattle.std.specs.Prelude.{Option, Some, None}
+use Rattle.std.specs.Prelude.{bytes_eq, codes, Option, Some, None}
 use Rattle.std.specs.List.{list_any}
 use Rattle.std.specs.Io.KnownBytes.{Consumes}
 use Rattle.wasm_base.specs.declared.error.Error.{Error}
 use Rattle.wasm_grammar.specs.Ids.{import_id}
-use Rattle.wasm_frames.specs.SkipNext.{Head, items, body, report_with}
+use Rattle.wasm_frames.specs.SkipNext.{Head, custom, items, body, report_with}
 use Rattle.wasm_feeder.specs.Passing.{PartEnds, SkipsHere}
 use Rattle.wasm_feeder.specs.declared.feeder.Cursor.{Cursor}
 use Rattle.wasm_feeder.specs.declared.passing.Passing.{Passing}
@@ -22,6 +22,11 @@ abbrev pub has_imports : Head → Bool
 has_imports (items id count) = nat_eq id import_id
 has_imports other = false
 
+-- whether it is the custom section with the symbols of an object file, which relocations name. Tool conventions, Linking.
+abbrev pub has_symbols : Head → Bool
+has_symbols (custom text data_offset) = bytes_eq text (codes "linking")
+has_symbols other = false
+
 -- whether it is a function body
 abbrev pub is_body_head : Head → Bool
 is_body_head body = true
@@ -30,10 +35,10 @@ is_body_head other = false
 -- | a part that is skipped because a dump shows nothing of it: which ones, what is counted of it, what dropping its
 --   bytes reads, and how far that came when the source failed [`HidesIfAny`, `after_hidden`, `DropsPart`,
 --   `FailsWithin`]
--- whether a dump shows nothing of a part with these first fields, and counts none of its items
+-- whether a dump shows nothing of a part with these first fields, and neither counts its items nor needs its names
 abbrev pub is_hidden : List Only → Head → Bool
-is_hidden only head =
-    not (has_imports head) && not (list_any (λ choice. is_chosen_by choice (report_with head)) only)
+is_hidden only head = not (has_imports head)
+    && (not (has_symbols head) && not (list_any (λ choice. is_chosen_by choice (report_with head)) only))
 
 -- The cursor has skipped the next part, and a dump shows nothing of it.
 pub record Hides (only : List Only) (old : Cursor) (bytes : List ℕ) (hidden : Hidden) (new : Cursor) : Type 0 where

@@ -5,7 +5,7 @@ ghost use Rattle.wasm_tree.specs.ItemNames.{KeepsNames};
 
 use crate::linked::Linked;
 use std::alloc::Global;
-use wasm_custom::{CustomSectionReader, Name, NameMap, NameSectionReader};
+use wasm_custom::{Name, NameMap, NameSectionReader};
 use wasm_feeder::{Feeder, Step};
 use wasm_parser::{Parser, Payload, Result as ParserResult};
 use wasm_text::{ListError, Source};
@@ -122,39 +122,20 @@ impl Collected {
         Ok(after_names(add_subsections(alloc, &mut self.named, section)?))
     }
 
-    // Adds the names of a custom section. Returns what to do next.
-    fn add_custom(
-        &mut self,
-        alloc: Global,
-        section: &CustomSectionReader<'_>,
-    ) -> Result<Next, ListError>
-        ensures keeps { KeepsNames self.old.named self.new.named }
-        ensures linked { KeepsNames self.old.linked.names self.new.linked.names }
-        ensures memory { IfErr result (λ why. why ≡ Memory) }
-    {
-        self.linked.pass_custom(alloc, &mut self.named, section)?;
-        if section.name() != "name" {
-            return Ok(Next::Step);
-        }
-        self.add_names(alloc, NameSectionReader::new(alloc, section.data_reader()))
-    }
-
     // Adds the names of a payload. Returns what to do next.
     fn add_payload(&mut self, alloc: Global, payload: &Payload<'_>) -> Result<Next, ListError>
         ensures keeps { KeepsNames self.old.named self.new.named }
         ensures linked { KeepsNames self.old.linked.names self.new.linked.names }
         ensures memory { IfErr result (λ why. why ≡ Memory) }
     {
+        self.linked.pass(alloc, &mut self.named, payload, true)?;
         match payload {
-            Payload::CustomSection(section) => return self.add_custom(alloc, section),
-            Payload::ImportSection(section) => self.linked.pass_imports(alloc, section)?,
-            Payload::End(_) => return Ok(Next::End),
-            _ => {}
+            Payload::CustomSection(section) if section.name() == "name" => {
+                self.add_names(alloc, NameSectionReader::new(alloc, section.data_reader()))
+            }
+            Payload::End(_) => Ok(Next::End),
+            _ => Ok(Next::Step),
         }
-        if payload.as_section().is_some() {
-            self.linked.pass_section(alloc, "")?;
-        }
-        Ok(Next::Step)
     }
 
     // Adds the names of the payload that a step returned. Returns what to do next.
@@ -278,7 +259,7 @@ pub fn collect_names<R: Source>(alloc: Global, input: &mut R) -> Result<ItemName
     let mut names = Collected {
         named: ItemNames::new(alloc),
         has_section: false,
-        linked: Linked::new(alloc),
+        linked: Linked::new(alloc, true),
     };
     let mut buffer = vec![in alloc; 0u8; PIECE]?;
     collect_into(alloc, &mut names, input, buffer.as_mut_slice())?;

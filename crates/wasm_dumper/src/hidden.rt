@@ -1,13 +1,14 @@
 // Skips the parts of a stream of which a dump shows nothing.
 ghost use Rattle.std.specs.Prelude.{◌≡◌, ◌<◌, [], false, drop, length, option_map, Some, IfErr, IfOk};
 ghost use Rattle.wasm_dumper.specs.Chosen.{id_of as id_reported, name_of as name_reported};
-ghost use Rattle.wasm_dumper.specs.Hiding.{DropsPart, FailsWithin, HidesIfAny, is_body_head, is_hidden as hides};
+ghost use Rattle.wasm_dumper.specs.Hiding.{DropsPart, FailsWithin, HidesIfAny, has_imports as imports_are_in, has_symbols as symbols_are_in, is_body_head, is_hidden as hides};
 ghost use Rattle.wasm_feeder.specs.Beside.{seen};
 ghost use Rattle.wasm_feeder.specs.Passing.{held_by};
 ghost use Rattle.wasm_frames.specs.SkipNext.{head_is, report_with};
 ghost use Rattle.wasm_text.specs.Calls.{input_failed};
 
 use crate::events::{Only, is_chosen_by_any};
+use crate::linked::LINKING;
 use std::alloc::Global;
 use std::io;
 use wasm_feeder::{Ahead, Cursor, Passing, pass_part};
@@ -45,14 +46,35 @@ fn name_of<'a>(head: &PartHead<'a>) -> Option<&'a str>
     }
 }
 
-// Returns whether a dump shows nothing of a part with these first fields, and counts none of its items.
+// Returns whether a part with these first fields is an import section, whose items are counted.
+fn has_imports(head: &PartHead<'_>) -> bool
+    ensures { result ≡ imports_are_in (head_is head.now) }
+{
+    match head {
+        PartHead::Items { id, .. } => *id == IMPORT_SECTION,
+        _ => false,
+    }
+}
+
+// Returns whether it is the section with the symbols that relocations name.
+fn has_symbols(head: &PartHead<'_>) -> bool
+    ensures { result ≡ symbols_are_in (head_is head.now) }
+{
+    match head {
+        PartHead::Custom { name, .. } => *name == LINKING,
+        _ => false,
+    }
+}
+
+// Returns whether a dump shows nothing of a part with these first fields, and neither counts its items nor needs its names.
 fn is_hidden(only: &[Only<'_>], head: &PartHead<'_>) -> bool
     ensures { result ≡ hides only.now (head_is head.now) }
 {
-    if let PartHead::Items { id, .. } = head {
-        if *id == IMPORT_SECTION {
-            return false;
-        }
+    if has_imports(head) {
+        return false;
+    }
+    if has_symbols(head) {
+        return false;
     }
     !is_chosen_by_any(only, Some(id_of(head)), name_of(head))
 }
@@ -69,9 +91,9 @@ fn is_body(head: &PartHead<'_>) -> bool
 
 /// Skips the part at the cursor if a dump shows nothing of it and its first fields are in these bytes.
 pub(crate) fn skip_hidden(only: &[Only<'_>], cursor: &mut Cursor, bytes: &[u8]) -> Option<Hidden>
-    // Proved: a part is skipped exactly if nothing of it is chosen, it is no import section and `skip_next` skips it;
-    //   of such parts the bodies are counted [`hidden::skip_hidden` (`HidesIfAny`), `Counts::pass_hidden`
-    //   (`after_hidden`)]
+    // Proved: a part is skipped exactly if nothing of it is chosen, it is no import section and not called `linking`,
+    //   and `skip_next` skips it; of such parts the bodies are counted [`hidden::skip_hidden` (`HidesIfAny`),
+    //   `Counts::pass_hidden` (`after_hidden`)]
     ensures { HidesIfAny only.now cursor.old bytes.now result cursor.new }
 {
     let start = cursor.offset();

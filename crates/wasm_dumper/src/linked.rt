@@ -9,19 +9,33 @@ use wasm_custom::{
     CustomSectionReader, Linking, LinkingSectionReader, SegmentMap, SymbolInfo, SymbolInfoMap,
 };
 use wasm_items::{Import, ImportSection, ImportSectionReader};
+use wasm_parser::Payload;
 use wasm_text::ListError;
 use wasm_tree::{ItemNames, Space};
+
+/// The name of the section with the symbols of an object file (tool conventions, Linking).
+pub(crate) const LINKING: &str = "linking";
 
 /// The names that the symbols of an object file have and give to items (tool conventions, Linking).
 #[derive(Drop)]
 pub(crate) struct Linked {
-    /// The names of symbols, of the items that they are for, and of data segments.
+    /// The names of symbols, of the items that they are for, and of data segments, if these are wanted.
     pub(crate) names: ItemNames,
+    // Whether the names of items are wanted, and not only those of symbols.
+    has_items: bool,
     // The names of imports in their modules. The symbol of an import has no other, unless its flags say so.
     imports: ItemNames,
-    // The name of each section so far, in their order. It is empty for a section that is not custom.
-    sections: Vec<String>,
+    // How many sections there were so far, and those of them that are custom.
+    section_count: u32,
+    sections: Vec<NamedSection>,
     counts: Counts,
+}
+
+// A custom section: its index among all sections, and its name.
+#[derive(Drop)]
+struct NamedSection {
+    index: u32,
+    name: String,
 }
 
 // Returns the index space of the item that a symbol is for, and its index. The symbol of a section or of data has none.
@@ -48,11 +62,13 @@ fn own_name<'a>(symbol: &SymbolInfo<'a>) -> Option<&'a str> {
 }
 
 impl Linked {
-    /// Creates it without names. Allocates nothing yet.
-    pub(crate) fn new(alloc: Global) -> Linked {
+    /// Creates it without names. It is to hold those of items only if `has_items`. Allocates nothing yet.
+    pub(crate) fn new(alloc: Global, has_items: bool) -> Linked {
         Linked {
             names: ItemNames::new(alloc),
+            has_items,
             imports: ItemNames::new(alloc),
+            section_count: 0,
             sections: Vec::new(alloc),
             counts: Counts::new(),
         }
@@ -64,19 +80,40 @@ impl Linked {
     {
         let Linked {
             names,
+            has_items: _has_items,
             imports: _imports,
+            section_count: _,
             sections: _sections,
             counts: _counts,
         } = self;
         names
     }
 
-    /// Passes a section: one with this name, or one without a name.
-    pub(crate) fn pass_section(&mut self, alloc: Global, name: &str) -> Result<(), ListError>
-        ensures keeps { KeepsNames self.old.names self.new.names }
+    /// Passes a part that was skipped: a function body, or a section, whose name is not kept.
+    pub(crate) fn pass_hidden(&mut self, is_body: bool) {
+        if !is_body {
+            self.pass_section();
+        }
+    }
+
+    // Passes a section that has no name.
+    fn pass_section(&mut self)
+        ensures keeps { self.new.names ≡ self.old.names }
+    {
+        self.section_count = self.section_count.saturating_add(1);
+    }
+
+    // Passes a custom section, whose name is kept.
+    fn pass_named(&mut self, alloc: Global, name: &str) -> Result<(), ListError>
+        ensures keeps { self.new.names ≡ self.old.names }
         ensures memory { IfErr result (λ why. why ≡ Memory) }
     {
-        match self.sections.push(String::from_str(alloc, name)?) {
+        let section = NamedSection {
+            index: self.section_count,
+            name: String::from_str(alloc, name)?,
+        };
+        self.pass_section();
+        match self.sections.push(section) {
             Ok(()) => Ok(()),
             Err(_) => Err(ListError::Memory),
         }
@@ -96,8 +133,8 @@ impl Linked {
         }
     }
 
-    /// Passes the imports of a section, up to its first fault.
-    pub(crate) fn pass_imports(
+    // Passes the imports of a section, up to its first fault.
+    fn pass_imports(
         &mut self,
         alloc: Global,
         section: &ImportSectionReader<'_>,
@@ -115,9 +152,15 @@ impl Linked {
 
     // Returns the name of the section with this index, if it is a custom one.
     fn section_name(&self, section: u32) -> Option<&str> {
-        match self.sections.get(section as usize) {
-            Some(name) if name.len() > 0 => Some(name.as_str()),
-            _ => None,
+        match self
+            .sections
+            .binary_search_by_key(&section, |named| named.index)
+        {
+            Ok(place) => match self.sections.get(place) {
+                Some(named) => Some(named.name.as_str()),
+                None => None,
+            },
+            Err(_) => None,
         }
     }
 
@@ -168,6 +211,9 @@ impl Linked {
         ensures memory { IfErr result (λ why. why ≡ Memory) }
     {
         named.add(alloc, Space::Symbols, index, name)?;
+        if !self.has_items {
+            return Ok(());
+        }
         self.names.add(alloc, Space::Symbols, index, name)?;
         match item {
             Some((space, item)) => self.names.add(alloc, space, item, name),
@@ -229,7 +275,7 @@ impl Linked {
     {
         match subsection {
             Linking::SymbolTable(symbols) => self.add_symbols(alloc, named, symbols),
-            Linking::SegmentInfo(segments) => self.add_segments(alloc, segments),
+            Linking::SegmentInfo(segments) if self.has_items => self.add_segments(alloc, segments),
             _ => Ok(()),
         }
     }
@@ -257,25 +303,56 @@ impl Linked {
         Ok(())
     }
 
-    /// Passes a custom section, and adds the names that it has if it is called `linking`, up to a fault. The names of
-    /// symbols are added to `named` as well.
-    pub(crate) fn pass_custom(
+    // Passes a custom section, whose name is kept if `is_shown`, and adds the names that it has if it is called `linking`, up to a
+    // fault. The names of symbols are added to `named` as well.
+    fn pass_custom(
         &mut self,
         alloc: Global,
         named: &mut ItemNames,
         section: &CustomSectionReader<'_>,
+        is_shown: bool,
     ) -> Result<(), ListError>
         ensures keeps { KeepsNames self.old.names self.new.names }
         ensures others { KeepsNames named.old named.new }
         ensures memory { IfErr result (λ why. why ≡ Memory) }
     {
-        self.pass_section(alloc, section.name())?;
-        if section.name() != "linking" {
+        if is_shown {
+            self.pass_named(alloc, section.name())?;
+        } else {
+            self.pass_section();
+        }
+        if section.name() != LINKING {
             return Ok(());
         }
         match LinkingSectionReader::new(alloc, section.data_reader()) {
             Ok(section) => self.add_subsections(alloc, named, &section),
             Err(_) => Ok(()),
         }
+    }
+
+    /// Passes a payload, and adds the names that it has if it is the custom section `linking`, up to a fault. The names of
+    /// symbols are added to `named` as well. That of a custom section is kept if `is_shown`.
+    pub(crate) fn pass(
+        &mut self,
+        alloc: Global,
+        named: &mut ItemNames,
+        payload: &Payload<'_>,
+        is_shown: bool,
+    ) -> Result<(), ListError>
+        ensures keeps { KeepsNames self.old.names self.new.names }
+        ensures others { KeepsNames named.old named.new }
+        ensures memory { IfErr result (λ why. why ≡ Memory) }
+    {
+        match payload {
+            Payload::CustomSection(section) => {
+                return self.pass_custom(alloc, named, section, is_shown);
+            }
+            Payload::ImportSection(section) => self.pass_imports(alloc, section)?,
+            _ => {}
+        }
+        if payload.as_section().is_some() {
+            self.pass_section();
+        }
+        Ok(())
     }
 }

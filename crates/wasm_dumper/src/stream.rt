@@ -12,14 +12,15 @@ ghost use Rattle.wasm_tree.specs.Found.{Finds, FindsNone};
 ghost use Rattle.wasm_tree.specs.Tree.{Adds, AddsBytes, IsOut};
 
 use crate::counts::Counts;
-use crate::events::{Shown, chooses, note_found, show_event, show_last_fault, shows_items};
+use crate::events::{Only, Shown, chooses, note_found, show_event, show_last_fault, shows_items};
 use crate::hidden::{drop_hidden, skip_hidden};
+use crate::linked::Linked;
 use crate::payload::{offsets_of_items, show_payload_if};
 use std::alloc::Global;
 use wasm_feeder::{Ahead, Cursor, Ended, Step, Turn, parse_next, seen};
 use wasm_parser::{Parser, Payload, Result as ParserResult};
 use wasm_text::{ListError, Source};
-use wasm_tree::Tree;
+use wasm_tree::{ItemNames, Tree};
 
 // The bytes of one part of the stream, and their offset.
 #[derive(Clone, Copy)]
@@ -140,6 +141,64 @@ fn flush<O: Tree>(out: &mut O) -> Result<(), ListError>
     go_on(out)
 }
 
+// Adds the names of symbols that a step returned to those of the tree, if it shows items: relocations show them. The tree
+// stops if an allocation fails.
+fn learn<O: Tree>(
+    alloc: Global,
+    only: &[Only<'_>],
+    linked: &mut Linked,
+    answer: &ParserResult<Step<'_>>,
+    out: &mut O,
+) -> Result<(), ListError>
+    ensures keeps { OnOk result (O.writing out.new ≡ O.writing out.old) }
+    ensures found { OnOk result (O.found out.new ≡ O.found out.old) }
+    ensures adds { Adds (O.writing out.old) (O.writing out.new) }
+    ensures stops { IfErr result (λ why. (O.writing out.new).why ≡ Some why) }
+{
+    match answer {
+        Ok(Step::Parsed { payload, .. }) if !O::ONLY_FAULTS && shows_items(only) => {
+            learn_payload(alloc, only, linked, payload, out)
+        }
+        _ => Ok(()),
+    }
+}
+
+// Adds the names of symbols in a payload to those of the tree. The tree stops if an allocation fails. A section that is not
+// shown may be skipped before it has come as a whole, so its name is not kept in either case.
+fn learn_payload<O: Tree>(
+    alloc: Global,
+    only: &[Only<'_>],
+    linked: &mut Linked,
+    payload: &Payload<'_>,
+    out: &mut O,
+) -> Result<(), ListError>
+    ensures keeps { OnOk result (O.writing out.new ≡ O.writing out.old) }
+    ensures found { OnOk result (O.found out.new ≡ O.found out.old) }
+    ensures adds { Adds (O.writing out.old) (O.writing out.new) }
+    ensures stops { IfErr result (λ why. (O.writing out.new).why ≡ Some why) }
+{
+    if payload.as_section().is_none() {
+        return Ok(());
+    }
+    let mut names = out.take_names().unwrap_or(ItemNames::new(alloc));
+    let learned = linked.pass(alloc, &mut names, payload, chooses(only, payload));
+    out.set_names(names);
+    match learned {
+        Ok(()) => Ok(()),
+        Err(_) => stop(out),
+    }
+}
+
+// Stops the tree because an allocation failed.
+fn stop<O: Tree>(out: &mut O) -> Result<(), ListError>
+    ensures fails { OnOk result ⊥ }
+    ensures adds { Adds (O.writing out.old) (O.writing out.new) }
+    ensures stops { IfErr result (λ why. (O.writing out.new).why ≡ Some why) }
+{
+    out.out_of_memory();
+    go_on(out)
+}
+
 // Makes enough bytes available for the next step. The tree stops if an allocation fails.
 fn make_ready<O: Tree>(
     ahead: &mut Ahead<Global>,
@@ -158,10 +217,7 @@ fn make_ready<O: Tree>(
 {
     match ahead.make_ready(cursor, stored) {
         Ok(()) => Ok(()),
-        Err(_) => {
-            out.out_of_memory();
-            go_on(out)
-        }
+        Err(_) => stop(out),
     }
 }
 
@@ -183,6 +239,7 @@ fn dump_into<R: Source, O: Tree>(
         (O.found out.old) (O.writing out.new) (O.found out.new) }
 {
     let mut counts = Counts::new();
+    let mut linked = Linked::new(alloc, false);
     let mut offset = 0;
     let mut ahead = Ahead::new(buffer);
     let mut stored = Vec::new(alloc);
@@ -190,6 +247,7 @@ fn dump_into<R: Source, O: Tree>(
     'events: loop {
         make_ready(&mut ahead, &mut cursor, &mut stored, out)?;
         let answer = parse_next(&mut cursor, seen(&stored, ahead.bytes()));
+        learn(alloc, shown.only, &mut linked, &answer, out)?;
         let turn = show_answer(alloc, shown, &mut counts, &mut offset, &answer, out);
         drop(answer);
         go_on(out)?;
@@ -210,6 +268,7 @@ fn dump_into<R: Source, O: Tree>(
                     return Ok(Ended::Fault(error));
                 }
                 counts.pass_hidden(hidden.is_body);
+                linked.pass_hidden(hidden.is_body);
                 offset = cursor.offset();
             }
             Turn::End(ended) => {
@@ -231,7 +290,8 @@ fn dump_into<R: Source, O: Tree>(
 /// It reads at most `piece` bytes at once, which must be at least 1. The tree must not have written anything. It
 /// buffers the last chunk, the undecided bytes, which are less than a part, and the lines that are not written yet, at
 /// most 65,536 bytes; if bytes are shown, also a copy of the current part and the offsets of its items. Of a part that
-/// is not chosen it buffers only the first fields, except of import sections, whose items count.
+/// is not chosen it buffers only the first fields, except of import sections, whose items count, and of sections
+/// `linking`, whose symbols relocations name. It also holds the names of imports, symbols and shown custom sections.
 ///
 /// A fault of the stream is no error: its line is written, and `Ended::Fault` is returned. A fault of an item is a line
 /// in its place.

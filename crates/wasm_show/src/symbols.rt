@@ -126,10 +126,25 @@ fn show_number<O: Tree>(index: u64, out: &mut O)
     }
 }
 
+// Returns whether a symbol has its name in the table.
+fn has_own_name(symbol: &SymbolInfo<'_>) -> bool {
+    match symbol {
+        SymbolInfo::Func { name, .. } => name.is_some(),
+        SymbolInfo::Global { name, .. } => name.is_some(),
+        SymbolInfo::Event { name, .. } => name.is_some(),
+        SymbolInfo::Table { name, .. } => name.is_some(),
+        SymbolInfo::Data { .. } => true,
+        SymbolInfo::Section { .. } => false,
+    }
+}
+
+/// Writes the index of the symbol, the name that it has from what it is for, if the tree has it, and its fields.
 impl Show for NumberedSymbol<'_> {
     fn show<O: Tree>(&self, level: usize, out: &mut O) {
         show_number(self.index, out);
-        out.item_name(Space::Symbols, self.index);
+        if !has_own_name(&self.symbol) {
+            out.item_name(Space::Symbols, self.index);
+        }
         self.symbol.show(level, out);
     }
 }

@@ -4,6 +4,7 @@ ghost use Rattle.wasm_tree.specs.Found.{FindsNone, HasFound, knows_found};
 ghost use Rattle.wasm_tree.specs.Tree.{Adds, GoesOn, starts_objects};
 ghost use Rattle.wasm_tree.specs.Written.{faults, found_by};
 
+use crate::known_names::ItemNames;
 use crate::numbers::Space;
 use crate::output::Output;
 use crate::short::Offset;
@@ -174,6 +175,12 @@ impl<W: Sink> Tree for Faults<W> {
     fn item_number(&mut self, _space: Space, _index: u64) {}
 
     fn item_name(&mut self, _space: Space, _index: u64) {}
+
+    fn take_names(&mut self) -> Option<ItemNames> {
+        None
+    }
+
+    fn set_names(&mut self, _names: ItemNames) {}
 
     fn first_of_function<T: ShortText>(&mut self, _text: &T, _function: Option<u64>) {}
 

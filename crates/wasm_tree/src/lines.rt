@@ -470,6 +470,14 @@ impl<W: Sink> Tree for Lines<W> {
         self.names = names;
     }
 
+    fn take_names(&mut self) -> Option<ItemNames> {
+        self.names.take()
+    }
+
+    fn set_names(&mut self, names: ItemNames) {
+        self.names = Some(names);
+    }
+
     fn first_of_function<T: ShortText>(&mut self, text: &T, function: Option<u64>) {
         let names = self.names.take();
         self.first_with_name(text, function_name(&names, function));

@@ -448,6 +448,14 @@ impl<W: Sink> Tree for Objects<W> {
         self.names = names;
     }
 
+    fn take_names(&mut self) -> Option<ItemNames> {
+        self.names.take()
+    }
+
+    fn set_names(&mut self, names: ItemNames) {
+        self.names = Some(names);
+    }
+
     fn first_of_function<T: ShortText>(&mut self, _text: &T, _function: Option<u64>) {}
 
     fn first_named<T: ShortText>(&mut self, _text: &T, _name: &str) {}

@@ -4,6 +4,7 @@ ghost use Rattle.wasm_tree.specs.Found.{knows_none};
 ghost use Rattle.wasm_tree.specs.Tree.{Adds};
 ghost use Rattle.wasm_tree.specs.Written.{Notes, NotesStart, noted_by, offsets};
 
+use crate::known_names::ItemNames;
 use crate::numbers::Space;
 use crate::tree::{Start, Style, Tree, Value, Within};
 use std::alloc::Global;
@@ -113,6 +114,12 @@ impl Tree for Offsets {
     fn item_number(&mut self, _space: Space, _index: u64) {}
 
     fn item_name(&mut self, _space: Space, _index: u64) {}
+
+    fn take_names(&mut self) -> Option<ItemNames> {
+        None
+    }
+
+    fn set_names(&mut self, _names: ItemNames) {}
 
     fn first_of_function<T: ShortText>(&mut self, _text: &T, _function: Option<u64>) {}
 

@@ -14,6 +14,7 @@ ghost use Rattle.wasm_tree.specs.declared.tree.Style.TheVariants.{Objects};
 ghost use Rattle.wasm_tree.specs.Values.{breaks_line, start_breaks_line, value_of};
 
 use crate::escapes::{GROUP, digits_of};
+use crate::known_names::ItemNames;
 use crate::numbers::Space;
 use std::alloc::Global;
 use wasm_base::Error;
@@ -241,6 +242,16 @@ pub trait Tree {
     fn item_name(&mut self, space: Space, index: u64)
         ensures adds { Adds (writing self.old) (writing self.new) }
         ensures found { FindsNone (found self.old) (found self.new) };
+
+    /// Takes the names of items out of the tree, if it has some: until they are set again, it shows none.
+    fn take_names(&mut self) -> Option<ItemNames>
+        ensures same { writing self.new ≡ writing self.old }
+        ensures found { found self.new ≡ found self.old };
+
+    /// Sets the names of items that the tree shows from now on. A tree without fields drops them.
+    fn set_names(&mut self, names: ItemNames)
+        ensures same { writing self.new ≡ writing self.old }
+        ensures found { found self.new ≡ found self.old };
 
     /// Writes a line of the first level: this text, and the name of the function with this index, if the tree has one.
     ///

@@ -115,13 +115,13 @@ section 11 174 187 1 data
 custom 189 252 197
   section name=\"linking\" version=2 range=197..252 subsections=198
     198 symbol_table=200..252 count=11
-      201 symbol[0] func flags=UNDEFINED | EXPORTED index=0
-      204 symbol[1] func flags=UNDEFINED index=1
+      201 symbol[0] \"f\" func flags=UNDEFINED | EXPORTED index=0
+      204 symbol[1] \"\" func flags=UNDEFINED index=1
       207 symbol[2] func flags=0 index=2 name=\"start\"
       216 symbol[3] func flags=VISIBILITY_HIDDEN | EXPORTED | NO_STRIP index=3 name=\"two\"
-      224 symbol[4] table flags=UNDEFINED | EXPORTED index=0
-      227 symbol[5] global flags=UNDEFINED index=0
-      230 symbol[6] global flags=UNDEFINED index=1
+      224 symbol[4] \"t\" table flags=UNDEFINED | EXPORTED index=0
+      227 symbol[5] \"g\" global flags=UNDEFINED index=0
+      230 symbol[6] \"mg\" global flags=UNDEFINED index=1
       233 symbol[7] global flags=VISIBILITY_HIDDEN | EXPORTED | NO_STRIP index=2 name=\"c\"
       239 symbol[8] global flags=0 index=3 name=\"d\"
       244 symbol[9] global flags=BINDING_LOCAL | VISIBILITY_HIDDEN index=4 name=\"\"

@@ -1,7 +1,8 @@
 // Dumps of an object file with the names that its symbols give.
-use super::named::{Form, dumped};
+use super::named::{Form, dumped, dumped_of};
 use super::names::names_in;
 use std::test::Fail;
+use wasm_dumper::Only;
 use wasm_tree::Space;
 
 /// An imported function without a name of its own, a function of the module, data of another module, and a section.
@@ -23,8 +24,8 @@ custom 54 90 62
   section name=\"linking\" version=2 range=62..90 subsections=63
     63 symbol_table=65..83 count=4
       66 symbol[0] \"log\" func flags=UNDEFINED index=0
-      69 symbol[1] \"run\" func flags=0 index=1 name=\"run\"
-      76 symbol[2] \"s\" data flags=UNDEFINED name=\"s\" undefined
+      69 symbol[1] func flags=0 index=1 name=\"run\"
+      76 symbol[2] data flags=UNDEFINED name=\"s\" undefined
       80 symbol[3] \".debug\" section flags=BINDING_LOCAL section=4
     83 init_funcs=85..90 count=1
       86 priority=65535 symbol_index=1 \"run\"
@@ -41,6 +42,65 @@ end 119
 fn symbols_name_items_and_relocations(rt: HostRuntime) -> Result<(), Fail> {
     let text = dumped(rt.alloc(), OBJECT, Form::Named)?;
     assert_eq!(rt; text.as_slice(), OBJECT_NAMED);
+    Ok(())
+}
+
+const RELOCATIONS: &[u8] = b"custom 92 119 103
+  section name=\"reloc.CODE\" section=3 range=103..119 entries=104..119 count=4
+    105 type=R_WASM_FUNCTION_INDEX_LEB offset=4 index=0 addend=0 \"log\"
+    108 type=R_WASM_TYPE_INDEX_LEB offset=4 index=0 addend=0
+    111 type=R_WASM_MEMORY_ADDR_I32 offset=20 index=2 addend=8 \"s\"
+    115 type=R_WASM_SECTION_OFFSET_I32 offset=0 index=3 addend=0 \".debug\"
+end 119
+";
+
+// Items have no names in this form, but relocations do.
+#[test]
+fn relocations_always_have_the_names_of_symbols(rt: HostRuntime) -> Result<(), Fail> {
+    let text = dumped(rt.alloc(), OBJECT, Form::Lines)?;
+    assert!(rt; text.as_slice().ends_with(RELOCATIONS));
+    Ok(())
+}
+
+// The symbols are read though they are not shown. Of sections that are not shown no name is known.
+#[test]
+fn relocations_alone_have_names(rt: HostRuntime) -> Result<(), Fail> {
+    let alone = [Only::Name("reloc.CODE")];
+    let text = dumped_of(rt.alloc(), OBJECT, &alone, Form::Lines)?;
+    let wanted = b"custom 92 119 103
+  section name=\"reloc.CODE\" section=3 range=103..119 entries=104..119 count=4
+    105 type=R_WASM_FUNCTION_INDEX_LEB offset=4 index=0 addend=0 \"log\"
+    108 type=R_WASM_TYPE_INDEX_LEB offset=4 index=0 addend=0
+    111 type=R_WASM_MEMORY_ADDR_I32 offset=20 index=2 addend=8 \"s\"
+    115 type=R_WASM_SECTION_OFFSET_I32 offset=0 index=3 addend=0
+end 119
+"
+        .as_slice();
+    assert_eq!(rt; text.as_slice(), wanted);
+    let both = [Only::Name(".debug"), Only::Name("reloc.CODE")];
+    let text = dumped_of(rt.alloc(), OBJECT, &both, Form::Lines)?;
+    assert!(rt; text.as_slice().ends_with(RELOCATIONS));
+    Ok(())
+}
+
+// A relocation before its symbol has no name yet.
+#[test]
+fn a_relocation_before_its_symbol_has_no_name(rt: HostRuntime) -> Result<(), Fail> {
+    let stream =
+        b"\0asm\x01\0\0\0\0\x10\x0areloc.CODE\x03\x01\0\x04\0\0\x11\x07linking\x02\x08\x06\x01\0\0\x05\x01f";
+    let wanted = b"version 0 8 1 module
+custom 10 26 21
+  section name=\"reloc.CODE\" section=3 range=21..26 entries=22..26 count=1
+    23 type=R_WASM_FUNCTION_INDEX_LEB offset=4 index=0 addend=0
+custom 28 45 36
+  section name=\"linking\" version=2 range=36..45 subsections=37
+    37 symbol_table=39..45 count=1
+      40 symbol[0] func flags=0 index=5 name=\"f\"
+end 45
+"
+        .as_slice();
+    let text = dumped(rt.alloc(), stream, Form::Lines)?;
+    assert_eq!(rt; text.as_slice(), wanted);
     Ok(())
 }
 

@@ -2,6 +2,7 @@ use Rattle.wasm_dumper.proofs.Common.{◌≡◌, ℕ, true, List, ◌++◌, refl
 use Rattle.wasm_dumper.proofs.Common.{feed_of, Feed, pushed, weight, Cursor, Fault, Hides}
 use Rattle.wasm_feeder.specs.Feed.{empty_feed}
 use Rattle.std.proofs.Common.{Err}
+use Rattle.wasm_tree.specs.Tree.{Adds}
 use Rattle.wasm_dumper.proofs.CheckedParts.{finding_short, finds_dropped}
 use Rattle.wasm_dumper.proofs.Checking.{Finding, FindsStep, Seeking, finds_advanced, finds_asked, finds_beside, finds_ended, finds_filled}
 use Rattle.wasm_dumper.proofs.Checking.{finds_same, finds_step}
@@ -23,7 +24,7 @@ shows_so g c =
     let ready = c.in_ok-make_ready.ensures in
     let t = c.show_answer-turn.ensures in
     shows_step _ _ _ _ _ _ _ _ _ _ _ _ _ _ _ _ _ ready.same ready.enough c.seen.ensures c.deref.ensures.value c.bytes.ensures
-    a.parses a.shows a.finished a.wants t.turns ready.keeps (t.shows a.parses.items) (t.counts a.parses.items)
+    a.parses a.shows a.finished a.wants t.turns (c.in_ok-learn.ensures.keeps ∙ ready.keeps) (t.shows a.parses.items) (t.counts a.parses.items)
 
 -- and what it has was found
 finds_so : (g : Over) (c : After-show_answer-turn g) → FindsStep c.args.shown.only.now
@@ -35,7 +36,7 @@ finds_so g c =
     let ready = c.in_ok-make_ready.ensures in
     let t = c.show_answer-turn.ensures in
     finds_step _ _ _ _ _ _ _ _ _ _ _ _ _ _ ready.same ready.enough c.seen.ensures c.deref.ensures.value c.bytes.ensures
-    a.parses a.shows a.finished a.wants t.turns ready.found (t.found a.parses.items)
+    a.parses a.shows a.finished a.wants t.turns (c.in_ok-learn.ensures.found ∙ ready.found) (t.found a.parses.items)
 
 -- it asks for more
 wants_so : (g : Over) (c : In-Read g) → Wanting c.args.shown.only.now c.args.shown.has_bytes (g.R.Source.remaining c.args.input.now)
@@ -117,6 +118,14 @@ returns-in_err-make_ready-clause-dumps g c taken failed i =
     let e = err_from_is_err_and c.from_residual.result c.from_residual.ensures.1 in
     rw (e.1, e.2) (stopped_before _ _ _ _ _ _ _ _ c.events.invariant.dumping _ _ c.events.invariant.input _ _ c.make_ready.ensures.adds
     c.in_err-make_ready.ensures.stops taken failed i)
+
+pub returns-in_err-learn-clause-dumps : goal.returns-in_err-learn-clause-dumps
+returns-in_err-learn-clause-dumps g c taken failed i =
+    let e = err_from_is_err_and c.from_residual-in_err-learn.result c.from_residual-in_err-learn.ensures.1 in
+    let adds : Adds (g.O.Tree.writing c.events.out) (g.O.Tree.writing c.learn.new.out) =
+    rw c.in_ok-make_ready.ensures.keeps at c.learn.ensures.adds in
+    rw (e.1, e.2) (stopped_before _ _ _ _ _ _ _ _ c.events.invariant.dumping _ _ c.events.invariant.input _ _ adds
+    c.in_err-learn.ensures.stops taken failed i)
 
 pub returns-in_err-go_on-clause-dumps : goal.returns-in_err-go_on-clause-dumps
 returns-in_err-go_on-clause-dumps g c taken failed i =
