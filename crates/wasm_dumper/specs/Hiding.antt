@@ -22,7 +22,8 @@ abbrev pub has_imports : Head → Bool
 has_imports (items id count) = nat_eq id import_id
 has_imports other = false
 
--- whether it is the custom section with the symbols of an object file, which relocations name. Tool conventions, Linking.
+-- whether it is the custom section with the symbols of an object file, which relocations name. Tool conventions,
+-- Linking.
 abbrev pub has_symbols : Head → Bool
 has_symbols (custom text data_offset) = bytes_eq text (codes "linking")
 has_symbols other = false

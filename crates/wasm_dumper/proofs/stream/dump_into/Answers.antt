@@ -24,7 +24,8 @@ shows_so g c =
     let ready = c.in_ok-make_ready.ensures in
     let t = c.show_answer-turn.ensures in
     shows_step _ _ _ _ _ _ _ _ _ _ _ _ _ _ _ _ _ ready.same ready.enough c.seen.ensures c.deref.ensures.value c.bytes.ensures
-    a.parses a.shows a.finished a.wants t.turns (c.in_ok-learn.ensures.keeps ∙ ready.keeps) (t.shows a.parses.items) (t.counts a.parses.items)
+    a.parses a.shows a.finished a.wants t.turns (c.in_ok-learn.ensures.keeps ∙ ready.keeps) (t.shows a.parses.items)
+    (t.counts a.parses.items)
 
 -- and what it has was found
 finds_so : (g : Over) (c : After-show_answer-turn g) → FindsStep c.args.shown.only.now
