@@ -47,16 +47,6 @@ impl Form {
 
 // The dump of a stream in a form.
 pub(super) fn dumped(alloc: Global, stream: &[u8], form: Form) -> Result<Vec<u8>, Fail> {
-    dumped_of(alloc, stream, &[Only::All], form)
-}
-
-// The dump of what is chosen of a stream, in a form.
-pub(super) fn dumped_of(
-    alloc: Global,
-    stream: &[u8],
-    only: &[Only<'_>],
-    form: Form,
-) -> Result<Vec<u8>, Fail> {
     let format = form.format();
     let names = if format.is_named {
         Some(names_in(alloc, stream)?)
@@ -65,7 +55,7 @@ pub(super) fn dumped_of(
     };
     let mut written = Vec::<u8>::new(alloc);
     let shown = Shown {
-        only,
+        only: &[Only::All],
         has_bytes: matches!(form, Form::Bytes),
         found: &[],
     };

@@ -1,8 +1,10 @@
 // Dumps of an object file with the names that its symbols give.
-use super::named::{Form, dumped, dumped_of};
+use super::dumps::dumps;
+use super::named::{Form, dumped};
 use super::names::names_in;
 use std::test::Fail;
 use wasm_dumper::Only;
+use wasm_feed::Ended;
 use wasm_tree::Space;
 
 /// An imported function without a name of its own, a function of the module, data of another module, and a section.
@@ -62,11 +64,9 @@ fn relocations_always_have_the_names_of_symbols(rt: HostRuntime) -> Result<(), F
     Ok(())
 }
 
-// The symbols are read though they are not shown. Of sections that are not shown no name is known.
+// The symbols are read though they are not shown. Of sections that are not shown no name is known, however they come.
 #[test]
 fn relocations_alone_have_names(rt: HostRuntime) -> Result<(), Fail> {
-    let alone = [Only::Name("reloc.CODE")];
-    let text = dumped_of(rt.alloc(), OBJECT, &alone, Form::Lines)?;
     let wanted = b"custom 92 119 103
   section name=\"reloc.CODE\" section=3 range=103..119 entries=104..119 count=4
     105 type=R_WASM_FUNCTION_INDEX_LEB offset=4 index=0 addend=0 \"log\"
@@ -76,11 +76,24 @@ fn relocations_alone_have_names(rt: HostRuntime) -> Result<(), Fail> {
 end 119
 "
         .as_slice();
-    assert_eq!(rt; text.as_slice(), wanted);
+    let alone = [Only::Name("reloc.CODE")];
+    dumps(&rt, rt.alloc(), &alone, OBJECT, Ok(Ended::End), wanted)
+}
+
+// The section of a symbol is counted among others, of which some are skipped.
+#[test]
+fn shown_sections_name_their_symbols(rt: HostRuntime) -> Result<(), Fail> {
+    let debug = b"custom 45 52 52\n  section name=\".debug\" unknown\n".as_slice();
+    let wanted = [debug, RELOCATIONS].concat(rt.alloc())?;
     let both = [Only::Name(".debug"), Only::Name("reloc.CODE")];
-    let text = dumped_of(rt.alloc(), OBJECT, &both, Form::Lines)?;
-    assert!(rt; text.as_slice().ends_with(RELOCATIONS));
-    Ok(())
+    dumps(
+        &rt,
+        rt.alloc(),
+        &both,
+        OBJECT,
+        Ok(Ended::End),
+        wanted.as_slice(),
+    )
 }
 
 // A relocation before its symbol has no name yet.
