@@ -122,13 +122,19 @@ impl Collected {
         Ok(after_names(add_subsections(alloc, &mut self.named, section)?))
     }
 
-    // Adds the names of a payload. Returns what to do next.
-    fn add_payload(&mut self, alloc: Global, payload: &Payload<'_>) -> Result<Next, ListError>
+    // Adds the names of a payload that is read of these bytes. Returns what to do next.
+    fn add_payload(
+        &mut self,
+        alloc: Global,
+        bytes: &[u8],
+        payload: &Payload<'_>,
+    ) -> Result<Next, ListError>
         ensures keeps { KeepsNames self.old.named self.new.named }
         ensures linked { KeepsNames self.old.linked.names self.new.linked.names }
         ensures memory { IfErr result (λ why. why ≡ Memory) }
     {
-        self.linked.pass(alloc, &mut self.named, payload, true)?;
+        self.linked
+            .pass(alloc, &mut self.named, bytes, payload, true)?;
         match payload {
             Payload::CustomSection(section) if section.name() == "name" => {
                 self.add_names(alloc, NameSectionReader::new(alloc, section.data_reader()))
@@ -150,7 +156,7 @@ impl Collected {
     {
         match answer {
             Ok(Step::NeedMoreData(_)) => Ok(Next::Read),
-            Ok(Step::Parsed { payload, .. }) => self.add_payload(alloc, payload),
+            Ok(Step::Parsed { bytes, payload }) => self.add_payload(alloc, bytes, payload),
             Err(_) => Ok(Next::End),
         }
     }

@@ -5,6 +5,7 @@ ghost use Rattle.wasm_tree.specs.ItemNames.{KeepsNames};
 
 use crate::counts::{Counts, import_space};
 use std::alloc::Global;
+use wasm_base::BinaryReader;
 use wasm_custom::{
     CustomSectionReader, Linking, LinkingSectionReader, SegmentMap, SymbolInfo, SymbolInfoMap,
 };
@@ -23,6 +24,8 @@ pub(crate) struct Linked {
     pub(crate) names: ItemNames,
     // Whether the names of items are wanted, and not only those of symbols.
     has_items: bool,
+    // The content of the import section, until its names are read: most streams have no symbols, and don't need them.
+    held: Option<Vec<u8>>,
     // The names of imports in their modules. The symbol of an import has no other, unless its flags say so.
     imports: ItemNames,
     // How many sections there were so far, and those of them that are custom.
@@ -61,12 +64,21 @@ fn own_name<'a>(symbol: &SymbolInfo<'a>) -> Option<&'a str> {
     }
 }
 
+// Returns the last ones of these bytes, this many.
+fn last_bytes(bytes: &[u8], size: u64) -> &[u8] {
+    match usize::try_from(size) {
+        Ok(size) if size <= bytes.len() => &bytes[bytes.len() - size..],
+        _ => bytes,
+    }
+}
+
 impl Linked {
     /// Creates it without names. It is to hold those of items only if `has_items`. Allocates nothing yet.
     pub(crate) fn new(alloc: Global, has_items: bool) -> Linked {
         Linked {
             names: ItemNames::new(alloc),
             has_items,
+            held: None,
             imports: ItemNames::new(alloc),
             section_count: 0,
             sections: Vec::new(alloc),
@@ -81,6 +93,7 @@ impl Linked {
         let Linked {
             names,
             has_items: _has_items,
+            held: _held,
             imports: _imports,
             section_count: _,
             sections: _sections,
@@ -119,6 +132,37 @@ impl Linked {
         }
     }
 
+    // Holds the content of the import section, which ends with these bytes.
+    fn hold(
+        &mut self,
+        alloc: Global,
+        bytes: &[u8],
+        section: &ImportSectionReader<'_>,
+    ) -> Result<(), ListError>
+        ensures keeps { self.new.names ≡ self.old.names }
+        ensures memory { IfErr result (λ why. why ≡ Memory) }
+    {
+        let range = section.range();
+        let mut content = Vec::new(alloc);
+        content.extend_from_slice(last_bytes(bytes, range.end.saturating_sub(range.start)))?;
+        self.held = Some(content);
+        Ok(())
+    }
+
+    // Reads the names of imports that are held.
+    fn read_imports(&mut self, alloc: Global) -> Result<(), ListError>
+        ensures keeps { KeepsNames self.old.names self.new.names }
+        ensures memory { IfErr result (λ why. why ≡ Memory) }
+    {
+        let Some(content) = self.held.take() else {
+            return Ok(());
+        };
+        match ImportSectionReader::new(BinaryReader::new(content.as_slice(), 0)) {
+            Ok(section) => self.pass_imports(alloc, section),
+            Err(_) => Ok(()),
+        }
+    }
+
     // Adds the name of an import.
     fn pass_import(&mut self, alloc: Global, import: &Import<'_>) -> Result<(), ListError>
         ensures keeps { KeepsNames self.old.names self.new.names }
@@ -137,12 +181,12 @@ impl Linked {
     fn pass_imports(
         &mut self,
         alloc: Global,
-        section: &ImportSectionReader<'_>,
+        section: ImportSectionReader<'_>,
     ) -> Result<(), ListError>
         ensures keeps { KeepsNames self.old.names self.new.names }
         ensures memory { IfErr result (λ why. why ≡ Memory) }
     {
-        for import in section.clone().unwrap().into_imports_with_offsets() {
+        for import in section.into_imports_with_offsets() {
             if let Ok((_, import)) = import {
                 self.pass_import(alloc, &import)?;
             }
@@ -324,18 +368,20 @@ impl Linked {
         if section.name() != LINKING {
             return Ok(());
         }
+        self.read_imports(alloc)?;
         match LinkingSectionReader::new(alloc, section.data_reader()) {
             Ok(section) => self.add_subsections(alloc, named, &section),
             Err(_) => Ok(()),
         }
     }
 
-    /// Passes a payload, and adds the names that it has if it is the custom section `linking`, up to a fault. The names of
-    /// symbols are added to `named` as well. That of a custom section is kept if `is_shown`.
+    /// Passes a payload that is read of these bytes, and adds the names that it has if it is the custom section `linking`, up
+    /// to a fault. The names of symbols are added to `named` as well. That of a custom section is kept if `is_shown`.
     pub(crate) fn pass(
         &mut self,
         alloc: Global,
         named: &mut ItemNames,
+        bytes: &[u8],
         payload: &Payload<'_>,
         is_shown: bool,
     ) -> Result<(), ListError>
@@ -347,7 +393,7 @@ impl Linked {
             Payload::CustomSection(section) => {
                 return self.pass_custom(alloc, named, section, is_shown);
             }
-            Payload::ImportSection(section) => self.pass_imports(alloc, section)?,
+            Payload::ImportSection(section) => self.hold(alloc, bytes, section)?,
             _ => {}
         }
         if payload.as_section().is_some() {

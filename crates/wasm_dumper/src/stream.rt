@@ -156,8 +156,8 @@ fn learn<O: Tree>(
     ensures stops { IfErr result (λ why. (O.writing out.new).why ≡ Some why) }
 {
     match answer {
-        Ok(Step::Parsed { payload, .. }) if !O::ONLY_FAULTS && shows_items(only) => {
-            learn_payload(alloc, only, linked, payload, out)
+        Ok(Step::Parsed { bytes, payload }) if !O::ONLY_FAULTS && shows_items(only) => {
+            learn_payload(alloc, only, linked, bytes, payload, out)
         }
         _ => Ok(()),
     }
@@ -169,6 +169,7 @@ fn learn_payload<O: Tree>(
     alloc: Global,
     only: &[Only<'_>],
     linked: &mut Linked,
+    bytes: &[u8],
     payload: &Payload<'_>,
     out: &mut O,
 ) -> Result<(), ListError>
@@ -181,7 +182,7 @@ fn learn_payload<O: Tree>(
         return Ok(());
     }
     let mut names = out.take_names().unwrap_or(ItemNames::new(alloc));
-    let learned = linked.pass(alloc, &mut names, payload, chooses(only, payload));
+    let learned = linked.pass(alloc, &mut names, bytes, payload, chooses(only, payload));
     out.set_names(names);
     match learned {
         Ok(()) => Ok(()),
@@ -291,7 +292,8 @@ fn dump_into<R: Source, O: Tree>(
 /// buffers the last chunk, the undecided bytes, which are less than a part, and the lines that are not written yet, at
 /// most 65,536 bytes; if bytes are shown, also a copy of the current part and the offsets of its items. Of a part that
 /// is not chosen it buffers only the first fields, except of import sections, whose items count, and of sections
-/// `linking`, whose symbols relocations name. It also holds the names of imports, symbols and shown custom sections.
+/// `linking`, whose symbols relocations name. It also holds a copy of the import section, and the names of symbols and of
+/// custom sections that it shows, if it shows items.
 ///
 /// A fault of the stream is no error: its line is written, and `Ended::Fault` is returned. A fault of an item is a line
 /// in its place.

@@ -117,6 +117,25 @@ end 45
     Ok(())
 }
 
+// Only a section called `linking` has symbols, whatever is in another.
+#[test]
+fn other_sections_have_no_symbols(rt: HostRuntime) -> Result<(), Fail> {
+    let stream =
+        b"\0asm\x01\0\0\0\0\x11\x07lynking\x02\x08\x06\x01\0\0\x05\x01f\0\x10\x0areloc.CODE\x03\x01\0\x04\0";
+    let wanted = b"version 0 8 1 module
+custom 10 27 18
+  section name=\"lynking\" unknown
+custom 29 45 40
+  section name=\"reloc.CODE\" section=3 range=40..45 entries=41..45 count=1
+    42 type=R_WASM_FUNCTION_INDEX_LEB offset=4 index=0 addend=0
+end 45
+"
+        .as_slice();
+    let text = dumped(rt.alloc(), stream, Form::Lines)?;
+    assert_eq!(rt; text.as_slice(), wanted);
+    Ok(())
+}
+
 // A relocation has the name of its symbol as a member too.
 #[test]
 fn objects_have_the_names_of_symbols(rt: HostRuntime) -> Result<(), Fail> {
