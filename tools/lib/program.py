@@ -37,6 +37,7 @@ COMMANDS = {
         "call": "[--names] [--bytes] [--hex] [--color[=WHEN]] [--json] [--section ID|NAME]... [FILE...]",
         "about": (
             "Shows what each FILE contains: a line for each section and function body, and below it a line for each item, which begins with the offset of the item in the file. With several files, each dump follows the name of its file.",
+            "In an object file a relocation ends with the name of its symbol.",
             "A malformed item is a line that begins with fault, and the next section follows. A fault of the file itself is the last line. Function bodies are ranges of bytes.",
         ),
         "options": (
