@@ -1,7 +1,9 @@
 // Runs the program.
 ghost use Rattle.std.specs.Prelude.{◌≡◌, Some, map, string_bytes};
+ghost use Rattle.std.specs.Process.{exit_status};
+ghost use Rattle.std.specs.Vec.Iter.{into_iter_items};
 ghost use Rattle.wasm_commands.specs.ArgumentLists.{arguments_of};
-ghost use Rattle.wasm_commands.specs.Commands.{RunsCommand, RunsParsed, RunsRead, RunsVerb, RunsWords};
+ghost use Rattle.wasm_commands.specs.Commands.{RunsCommand, RunsGiven, RunsParsed, RunsProgram, RunsRead, RunsVerb, RunsWords};
 ghost use Rattle.wasm_commands.specs.Parsing.{reads_of};
 ghost use Rattle.wasm_commands.specs.Refusals.{Refuses, RefusesIfRead, RefusesOrStops, refused_by, refused_other, refused_topics, unknown_text, wrong_if_any};
 ghost use Rattle.wasm_commands.specs.Messages.{complaint_text};
@@ -247,6 +249,25 @@ pub fn run<S: System, W: Write, E: Sink>(
     }
 }
 
+// Runs the program with what was stored of its arguments. Returns the exit status, and the output.
+fn run_given<S: System, W: Write, E: Sink>(
+    alloc: Global,
+    given: Given,
+    system: &S,
+    output: WriteSink<W>,
+    errors: &mut E,
+) -> (u8, WriteSink<W>)
+    ensures { RunsGiven (platform S.System S.Input.Source S.Output.Sink system.now) given
+        (writer_device W.contents output result.1) result.1.forwarded
+        (device_of E.taken E.has_failed errors.old errors.new) result.0 }
+{
+    match given {
+        Given::Words(words) => run(alloc, &words, system, output, errors),
+        Given::NotUtf8 => (complain(Complaint::NotUtf8, errors), output),
+        Given::Nothing => (stop_for_memory(errors), output),
+    }
+}
+
 /// Runs the program with arguments as the system has them, and returns its exit status and the output.
 ///
 /// `arguments` begin with the name of the program, which is skipped. One that is not valid UTF-8 is a wrong argument.
@@ -261,12 +282,17 @@ pub fn run_program<S: System, W: Write, E: Sink>(
     system: &S,
     output: WriteSink<W>,
     errors: &mut E,
-) -> (ExitCode, WriteSink<W>) {
-    let (status, output) = match words_given(alloc, arguments) {
-        Given::Words(words) => run(alloc, &words, system, output, errors),
-        Given::NotUtf8 => (complain(Complaint::NotUtf8, errors), output),
-        Given::Nothing => (stop_for_memory(errors), output),
-    };
+) -> (ExitCode, WriteSink<W>)
+    // Proved: `run_program` is the whole program over any system and devices: it runs the words after the program's
+    //   name, refuses arguments that are not valid UTF-8, or says that memory ran out; `main` only passes it the
+    //   arguments, the files and the standard streams [its clause (`RunsProgram`)]
+    ensures { RunsProgram (platform S.System S.Input.Source S.Output.Sink system.now)
+        (λ args. map string_bytes (into_iter_items args)) arguments
+        (writer_device W.contents output result.1) result.1.forwarded
+        (device_of E.taken E.has_failed errors.old errors.new) (exit_status result.0) }
+{
+    let given = words_given(alloc, arguments);
+    let (status, output) = run_given(alloc, given, system, output, errors);
     (ExitCode::from(status), output)
 }
 
