@@ -1,5 +1,9 @@
 pub mod Choosing
 pub mod Coloring
+pub mod Headings
 pub mod Parsing
 pub mod Running
 pub mod Refusing
+pub mod Showing
+pub mod Stopping
+pub mod Turns

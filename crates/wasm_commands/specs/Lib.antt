@@ -2,6 +2,7 @@ pub mod ArgumentLists
 pub mod Checks
 pub mod Choices
 pub mod Colors
+pub mod Commands
 pub mod DumpRuns
 pub mod EditsTwice
 pub mod Formats
@@ -10,3 +11,5 @@ pub mod Options
 pub mod Parsing
 pub mod Reasons
 pub mod Refusals
+pub mod Shows
+pub mod Systems

@@ -99,7 +99,7 @@ fn find_held(
 
 // Sets a flag for each section that is to be added: whether the stream has one with its name. Returns the exit status, 0 or
 // that of a fault or a failure, which it reports, and the output.
-fn find_all<S: System, W: Write + Drop, E: Sink>(
+fn find_all<S: System, W: Write, E: Sink>(
     alloc: Global,
     additions: &[Addition<'_>],
     found: &[Cell<bool>],
@@ -107,21 +107,27 @@ fn find_all<S: System, W: Write + Drop, E: Sink>(
     system: &S,
     output: WriteSink<W>,
     errors: &mut E,
-) -> Result<(u8, WriteSink<W>), AllocError> {
+) -> (Result<u8, AllocError>, WriteSink<W>) {
     if let Some(bytes) = &original.held {
         let status = match find_held(bytes, additions, found) {
             Ok(_) => 0,
             Err(error) => report_fault(alloc, error, errors),
         };
-        return Ok((status, output));
+        return (Ok(status), output);
     }
-    let only = choices_of(alloc, additions)?;
+    let only = match choices_of(alloc, additions) {
+        Ok(only) => only,
+        Err(refused) => return (Err(refused), output),
+    };
     let mut input = match system.open(original.name) {
         Ok(input) => input,
-        Err(cause) => return Ok((refuse_file(original.name, cause, errors), output)),
+        Err(cause) => return (Ok(refuse_file(original.name, cause, errors)), output),
     };
     let (how, output) = find_named(alloc, &only, found, &mut input, output);
-    Ok((answer(alloc, original.name, how, system, errors), output))
+    (
+        Ok(answer(alloc, original.name, how, system, errors)),
+        output,
+    )
 }
 
 // Returns the choices of the sections with these names.
@@ -183,68 +189,113 @@ fn operands_of<'a>(operands: &'a [&'a str]) -> Option<Operands<'a>> {
     }
 }
 
-// Writes a file with these sections. Returns the exit status.
-fn add_all<S: System, W: Write + Drop, E: Sink>(
+// Writes a file with these sections and their data. Those of which the flag is set are replaced. Returns the exit status.
+fn write_all_of<S: System, W: Write, E: Sink>(
     alloc: Global,
-    operands: Operands<'_>,
+    additions: &[Addition<'_>],
+    data: &[Vec<u8>],
+    found: &[Cell<bool>],
+    original: &Original<'_>,
+    arguments: &Arguments<'_>,
+    system: &S,
+    output: &mut WriteSink<W>,
+    errors: &mut E,
+) -> Result<u8, AllocError> {
+    let edits = edits_of(alloc, additions, data, found)?;
+    if !all_fit(&edits) {
+        return Ok(complain(Complaint::TooLarge(Verb::Add, large_name(&edits)), errors));
+    }
+    Ok(write_edited(alloc, &edits, original, arguments, system, output, errors))
+}
+
+// Writes a file with these sections and their data. Returns the exit status, and the output.
+fn add_to<S: System, W: Write, E: Sink>(
+    alloc: Global,
+    additions: &[Addition<'_>],
+    data: &[Vec<u8>],
+    mut original: Original<'_>,
     arguments: &Arguments<'_>,
     system: &S,
     mut output: WriteSink<W>,
     errors: &mut E,
-) -> Result<u8, AllocError> {
-    let additions = match parse_additions(alloc, operands.words)? {
-        Ok(additions) => additions,
-        Err(word) => return Ok(complain(Complaint::NoData(word), errors)),
+) -> (Result<u8, AllocError>, WriteSink<W>) {
+    let found = match vec![in alloc; Cell::new(false); additions.len()] {
+        Ok(found) => found,
+        Err(refused) => return (Err(refused), output),
     };
-    let data = match data_of(alloc, &additions, system, errors)? {
-        Ok(data) => data,
-        Err(status) => return Ok(status),
-    };
-    let mut original = match original_of(alloc, operands.file, system, errors) {
-        Ok(original) => original,
-        Err(status) => return Ok(status),
-    };
-    let found = vec![in alloc; Cell::new(false); additions.len()]?;
     if arguments.has(Flag::Replace) {
-        let (status, after) = find_all(
-            alloc, &additions, &found, &original, system, output, errors,
-        )?;
-        if status != 0 {
-            return Ok(status);
+        let (searched, after) = find_all(
+            alloc, additions, &found, &original, system, output, errors,
+        );
+        if !matches!(searched, Ok(0)) {
+            return (searched, after);
         }
         output = after;
         original.is_checked = true;
     }
-    let edits = edits_of(alloc, &additions, &data, &found)?;
-    if !all_fit(&edits) {
-        return Ok(complain(Complaint::TooLarge(Verb::Add, large_name(&edits)), errors));
-    }
-    Ok(write_edited(
+    let status = write_all_of(
         alloc,
-        &edits,
+        additions,
+        data,
+        &found,
         &original,
         arguments,
         system,
         &mut output,
         errors,
-    ))
+    );
+    (status, output)
 }
 
-/// Runs `add`. Returns the exit status.
+// Reads the file that sections are added to if it can be read only once, and adds them. Returns the exit status, and the
+// output.
+fn add_all<S: System, W: Write, E: Sink>(
+    alloc: Global,
+    operands: Operands<'_>,
+    arguments: &Arguments<'_>,
+    system: &S,
+    output: WriteSink<W>,
+    errors: &mut E,
+) -> (Result<u8, AllocError>, WriteSink<W>) {
+    let additions = match parse_additions(alloc, operands.words) {
+        Ok(Ok(additions)) => additions,
+        Ok(Err(word)) => return (Ok(complain(Complaint::NoData(word), errors)), output),
+        Err(refused) => return (Err(refused), output),
+    };
+    let data = match data_of(alloc, &additions, system, errors) {
+        Ok(Ok(data)) => data,
+        Ok(Err(status)) => return (Ok(status), output),
+        Err(refused) => return (Err(refused), output),
+    };
+    match original_of(alloc, operands.file, system, errors) {
+        Ok(original) => add_to(
+            alloc, &additions, &data, original, arguments, system, output, errors,
+        ),
+        Err(status) => (Ok(status), output),
+    }
+}
+
+/// Runs `add`. Returns the exit status, and the output.
 ///
 /// # Errors
 ///
 /// `AllocError` when an allocation fails before anything is written.
-pub(crate) fn add<S: System, W: Write + Drop, E: Sink>(
+pub(crate) fn add<S: System, W: Write, E: Sink>(
     alloc: Global,
     arguments: &Arguments<'_>,
     system: &S,
     output: WriteSink<W>,
     errors: &mut E,
-) -> Result<u8, AllocError> {
-    let words = arguments.operands(alloc)?;
+) -> (Result<u8, AllocError>, WriteSink<W>) {
+    let words = match arguments.operands(alloc) {
+        Ok(words) => words,
+        Err(refused) => return (Err(refused), output),
+    };
     match operands_of(words.as_slice()) {
         Some(operands) => add_all(alloc, operands, arguments, system, output, errors),
-        None => Ok(complain(Complaint::Few(Verb::Add, "NAME=DATA and FILE"), errors)),
+        None => {
+            let complaint = Complaint::Few(Verb::Add, "NAME=DATA and FILE");
+            (Ok(complain(complaint, errors)), output)
+        }
     }
 }

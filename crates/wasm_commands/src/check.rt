@@ -1,11 +1,14 @@
 // The command `check`: reads every item of files, and reports the malformed ones.
 ghost use Rattle.std.specs.Prelude.{◌≡◌, false, IfOk, Ok, Some};
 ghost use Rattle.wasm_tree.specs.Written.{found_by};
-ghost use Rattle.wasm_commands.specs.Checks.{ChecksInput};
-ghost use Rattle.wasm_text.specs.Calls.{from_to};
+ghost use Rattle.wasm_commands.specs.Checks.{ChecksFile, ChecksFiles, ChecksInput, ChecksOpened, EndsCheck};
+ghost use Rattle.wasm_commands.specs.Parsing.{reads_of, texts};
+ghost use Rattle.wasm_commands.specs.Systems.{FilesOf, InTurn, UsesFile};
+ghost use Rattle.wasm_text.specs.Calls.{device_of, from_to, writer_device};
 
 use crate::arguments::Arguments;
-use crate::messages::{refuse_file, refuse_run, report, shown_name};
+use crate::files::or_input;
+use crate::messages::{Causes, refuse_file, refuse_run, shown_name, stop_for_memory};
 use crate::options::Flag;
 use crate::system::System;
 use std::alloc::{AllocError, Global};
@@ -91,7 +94,64 @@ pub fn check_as<R: Source, W: Write>(
     (flushed(found, &mut output), output)
 }
 
-// Checks a file or standard input. Returns the status.
+// Returns the status of a check. If it failed, says why.
+fn report_check<E: Sink>(
+    name: &str,
+    found: Result<bool, ListError>,
+    causes: Causes,
+    errors: &mut E,
+) -> u8
+    ensures { EndsCheck name.now found (device_of E.taken E.has_failed errors.old errors.new) result }
+{
+    match found {
+        Ok(false) => 0,
+        Ok(true) => 1,
+        Err(why) => refuse_run(name, why, causes, errors),
+    }
+}
+
+// Checks an input. Returns the status, and the output.
+fn check_opened<S: System, R: Source, W: Write, E: Sink>(
+    alloc: Global,
+    prefix: String,
+    is_quiet: bool,
+    system: &S,
+    name: &str,
+    input: &mut R,
+    output: WriteSink<W>,
+    errors: &mut E,
+) -> (u8, WriteSink<W>)
+    ensures { ChecksOpened name.now (device_of R.remaining R.has_failed input.old input.new)
+        (writer_device W.contents output result.1)
+        (device_of E.taken E.has_failed errors.old errors.new) result.0 }
+{
+    let (found, output) = check_as(alloc, prefix, is_quiet, input, output);
+    (report_check(name, found, system.causes(), errors), output)
+}
+
+// Opens a file and checks it. Returns the status, and the output.
+fn open_and_check<S: System, W: Write, E: Sink>(
+    alloc: Global,
+    prefix: String,
+    is_quiet: bool,
+    system: &S,
+    name: &str,
+    output: WriteSink<W>,
+    errors: &mut E,
+) -> (u8, WriteSink<W>)
+    ensures { UsesFile (FilesOf S.System S.Input.Source system.now) (ChecksOpened name.now)
+        name.now (writer_device W.contents output result.1)
+        (device_of E.taken E.has_failed errors.old errors.new) result.0 }
+{
+    match system.open(name) {
+        Ok(mut input) => check_opened(
+            alloc, prefix, is_quiet, system, name, &mut input, output, errors,
+        ),
+        Err(cause) => (refuse_file(name, cause, errors), output),
+    }
+}
+
+// Checks a file or standard input. Returns the status, and the output.
 fn check_file<S: System, W: Write, E: Sink>(
     alloc: Global,
     is_quiet: bool,
@@ -99,35 +159,30 @@ fn check_file<S: System, W: Write, E: Sink>(
     name: &str,
     output: WriteSink<W>,
     errors: &mut E,
-) -> (u8, WriteSink<W>) {
-    let Ok(prefix) = prefix_of(alloc, name) else {
-        return (
-            refuse_run(name, ListError::Memory, system.causes(), errors),
-            output,
-        );
-    };
-    match system.open(name) {
-        Ok(mut input) => {
-            let (checked, output) = check_as(alloc, prefix, is_quiet, &mut input, output);
-            let status = match checked {
-                Ok(found) => u8::from(found),
-                Err(why) => refuse_run(name, why, system.causes(), errors),
-            };
-            (status, output)
-        }
-        Err(cause) => (refuse_file(name, cause, errors), output),
+) -> (u8, WriteSink<W>)
+    ensures { ChecksFile (FilesOf S.System S.Input.Source system.now) name.now
+        (writer_device W.contents output result.1)
+        (device_of E.taken E.has_failed errors.old errors.new) result.0 }
+{
+    match prefix_of(alloc, name) {
+        Ok(prefix) => open_and_check(alloc, prefix, is_quiet, system, name, output, errors),
+        Err(_) => (stop_for_memory(errors), output),
     }
 }
 
-// Checks files. Returns the greatest status.
-fn check_files<S: System, W: Write + Drop, E: Sink>(
+// Checks files. Returns the greatest status, and the output.
+fn check_files<S: System, W: Write, E: Sink>(
     alloc: Global,
     is_quiet: bool,
     system: &S,
     names: &[&str],
     output: WriteSink<W>,
     errors: &mut E,
-) -> u8 {
+) -> (u8, WriteSink<W>)
+    ensures { InTurn (ChecksFile (FilesOf S.System S.Input.Source system.now)) (texts names.now)
+        (writer_device W.contents output result.1)
+        (device_of E.taken E.has_failed errors.old errors.new) result.0 }
+{
     let mut status = 0u8;
     let mut output = output;
     for name in names {
@@ -135,28 +190,32 @@ fn check_files<S: System, W: Write + Drop, E: Sink>(
         output = after;
         status = status.max(one);
     }
-    drop(output);
-    status
+    (status, output)
 }
 
-/// Runs `check`. Returns the exit status: 1 if there is a fault in any file.
+/// Runs `check`. Returns the exit status, 1 if there is a fault in any file, and the output.
 ///
 /// # Errors
 ///
 /// `AllocError` when an allocation fails before anything is read.
-pub(crate) fn check<S: System, W: Write + Drop, E: Sink>(
+pub(crate) fn check<S: System, W: Write, E: Sink>(
     alloc: Global,
     arguments: &Arguments<'_>,
     system: &S,
     output: WriteSink<W>,
     errors: &mut E,
-) -> Result<u8, AllocError> {
-    let names = arguments.operands(alloc)?;
+) -> (Result<u8, AllocError>, WriteSink<W>)
+    ensures { ChecksFiles (FilesOf S.System S.Input.Source system.now) (reads_of arguments.now)
+        (writer_device W.contents output result.1)
+        (device_of E.taken E.has_failed errors.old errors.new) result.0 }
+{
     let is_quiet = arguments.has(Flag::Quiet);
-    let names: &[&str] = if names.is_empty() {
-        &["-"]
-    } else {
-        names.as_slice()
-    };
-    Ok(check_files(alloc, is_quiet, system, names, output, errors))
+    match arguments.operands(alloc) {
+        Ok(operands) => {
+            let names = or_input(operands.as_slice());
+            let (status, output) = check_files(alloc, is_quiet, system, names, output, errors);
+            (Ok(status), output)
+        }
+        Err(refused) => (Err(refused), output),
+    }
 }

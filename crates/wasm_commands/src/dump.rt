@@ -1,4 +1,12 @@
 // The commands `dump` and `list`: show the items of files, or only their parts.
+ghost use Rattle.std.specs.Prelude.{◌≡◌, IfOk};
+ghost use Rattle.wasm_commands.specs.ArgumentLists.{operands_in};
+ghost use Rattle.wasm_commands.specs.EditsTwice.{dropped};
+ghost use Rattle.wasm_commands.specs.Parsing.{reads_of, texts};
+ghost use Rattle.wasm_commands.specs.Shows.{ChooseFor, Dumps, DumpsAgain, DumpsFile, DumpsInput, DumpsNamed, IsRequest, MayWarn, Shows, ShowsAfter, ShowsFile, ShowsFiles, ShowsIn, ShowsUnderName, Warns, WarnsAfter, words_asked};
+ghost use Rattle.wasm_commands.specs.Systems.{FilesOf, InTurn, RunsIfMemory, UsesFile};
+ghost use Rattle.wasm_text.specs.Calls.{device_of, writer_device};
+
 mod choices;
 mod colored;
 mod format;
@@ -9,7 +17,9 @@ mod run;
 
 use crate::arguments::Arguments;
 use crate::files::write_heading;
-use crate::messages::{Complaint, complain, refuse_file, refuse_run, report, warn_of_missing};
+use crate::messages::{
+    Complaint, complain, refuse_file, refuse_run, report, stop_for_memory, warn_of_missing,
+};
 use crate::options::{Flag, Verb};
 use crate::producers::NAME;
 use crate::system::System;
@@ -22,7 +32,7 @@ use std::alloc::{AllocError, Global};
 use std::cell::Cell;
 use std::io::Write;
 use wasm_dumper::{Only, Shown, collect_names};
-use wasm_feed::{ListError, Sink, WriteSink};
+use wasm_feed::{Sink, Source, WriteSink};
 use wasm_tree::ItemNames;
 
 // What a command shows of each file.
@@ -35,23 +45,80 @@ struct Plan<'w> {
     format: Format,
 }
 
-// Warns of the choices that chose nothing of a file that was read to its end. Returns the status, which is then at
+// Returns the first of these flags, which is set if there is none, and the others.
+fn first_flag(flags: &[Cell<bool>]) -> (bool, &[Cell<bool>]) {
+    match flags {
+        [flag, later @ ..] => (flag.get(), later),
+        [] => (true, flags),
+    }
+}
+
+// Warns of a choice that chose nothing. Returns the status, which is then 1.
+fn warn_unless_found<E: Sink>(
+    is_found: bool,
+    verb: Verb,
+    name: &str,
+    word: &str,
+    errors: &mut E,
+) -> u8
+    ensures { MayWarn verb name.now word.now dropped
+        (device_of E.taken E.has_failed errors.old errors.new) result }
+{
+    if is_found {
+        return 0;
+    }
+    warn_of_missing(verb, name, word, errors);
+    1
+}
+
+// Warns of the choices that chose nothing of a file. Returns the status, which is 1 if there is one.
+fn warn_of_unfound<E: Sink>(plan: Plan<'_>, name: &str, errors: &mut E) -> u8
+    ensures { Warns plan.entry.verb name.now (texts plan.entry.words.now)
+        (device_of E.taken E.has_failed errors.old errors.new) result }
+{
+    let mut status = 0u8;
+    let mut flags = plan.shown.found;
+    for word in plan.words {
+        let (is_found, later) = first_flag(flags);
+        status = status.max(warn_unless_found(is_found, plan.verb, name, word, errors));
+        flags = later;
+    }
+    status
+}
+
+// Warns of the choices that chose nothing of a file, if it was read to its end. Returns the status, which is then at
 // least 1.
-fn warn_of_unfound<E: Sink>(plan: Plan<'_>, name: &str, status: u8, errors: &mut E) -> u8 {
+fn warn_after<E: Sink>(plan: Plan<'_>, name: &str, status: u8, errors: &mut E) -> u8
+    ensures { WarnsAfter plan.entry name.now status
+        (device_of E.taken E.has_failed errors.old errors.new) result }
+{
     if status > 1 {
         return status;
     }
-    let mut all = status;
-    for (word, found) in plan.words.iter().zip(plan.shown.found.iter()) {
-        if !found.get() {
-            warn_of_missing(plan.verb, name, word, errors);
-            all = 1;
-        }
-    }
-    all
+    status.max(warn_of_unfound(plan, name, errors))
 }
 
-// Shows a file, with these names if there are any. Returns the status.
+// Shows an input, with these names if there are any. Returns the status, and the output.
+fn show_input<S: System, R: Source, W: Write, E: Sink>(
+    alloc: Global,
+    plan: Plan<'_>,
+    names: Option<ItemNames>,
+    system: &S,
+    name: &str,
+    input: &mut R,
+    output: WriteSink<W>,
+    errors: &mut E,
+) -> (u8, WriteSink<W>)
+    ensures { DumpsInput plan.entry name.now
+        (device_of R.remaining R.has_failed input.old input.new)
+        (writer_device W.contents output result.1)
+        (device_of E.taken E.has_failed errors.old errors.new) result.0 }
+{
+    let (how, output) = dump_as(alloc, plan.shown, plan.format, names, input, output);
+    (report(name, &how, system.causes(), errors), output)
+}
+
+// Shows a file, with these names if there are any. Returns the status, and the output.
 fn show_opened<S: System, W: Write, E: Sink>(
     alloc: Global,
     plan: Plan<'_>,
@@ -60,17 +127,59 @@ fn show_opened<S: System, W: Write, E: Sink>(
     name: &str,
     output: WriteSink<W>,
     errors: &mut E,
-) -> (u8, WriteSink<W>) {
+) -> (u8, WriteSink<W>)
+    ensures { DumpsFile (FilesOf S.System S.Input.Source system.now) plan.entry name.now
+        (writer_device W.contents output result.1)
+        (device_of E.taken E.has_failed errors.old errors.new) result.0 }
+{
     match system.open(name) {
-        Ok(mut input) => {
-            let (how, output) = dump_as(alloc, plan.shown, plan.format, names, &mut input, output);
-            (report(name, &how, system.causes(), errors), output)
-        }
+        Ok(mut input) => show_input(alloc, plan, names, system, name, &mut input, output, errors),
         Err(cause) => (refuse_file(name, cause, errors), output),
     }
 }
 
-// Reads a file for the names of its items, then again to show it. Standard input can't be read twice.
+// Reads an input for the names of its items, then opens its file again to show it. Returns the status, and the output.
+fn show_again<S: System, R: Source, W: Write, E: Sink>(
+    alloc: Global,
+    plan: Plan<'_>,
+    system: &S,
+    name: &str,
+    input: &mut R,
+    output: WriteSink<W>,
+    errors: &mut E,
+) -> (u8, WriteSink<W>)
+    ensures { DumpsAgain (FilesOf S.System S.Input.Source system.now) plan.entry name.now
+        (device_of R.remaining R.has_failed input.old input.new)
+        (writer_device W.contents output result.1)
+        (device_of E.taken E.has_failed errors.old errors.new) result.0 }
+{
+    match collect_names(alloc, input) {
+        Ok(names) => show_opened(alloc, plan, Some(names), system, name, output, errors),
+        Err(_) => (stop_for_memory(errors), output),
+    }
+}
+
+// Reads a file for the names of its items, then again to show it. Returns the status, and the output.
+fn show_file_with_names<S: System, W: Write, E: Sink>(
+    alloc: Global,
+    plan: Plan<'_>,
+    system: &S,
+    name: &str,
+    output: WriteSink<W>,
+    errors: &mut E,
+) -> (u8, WriteSink<W>)
+    ensures { UsesFile (FilesOf S.System S.Input.Source system.now)
+        (DumpsAgain (FilesOf S.System S.Input.Source system.now) plan.entry name.now) name.now
+        (writer_device W.contents output result.1)
+        (device_of E.taken E.has_failed errors.old errors.new) result.0 }
+{
+    match system.open(name) {
+        Ok(mut input) => show_again(alloc, plan, system, name, &mut input, output, errors),
+        Err(cause) => (refuse_file(name, cause, errors), output),
+    }
+}
+
+// Shows a file with the names of its items. Standard input can't be read twice.
 fn show_with_names<S: System, W: Write, E: Sink>(
     alloc: Global,
     plan: Plan<'_>,
@@ -78,20 +187,46 @@ fn show_with_names<S: System, W: Write, E: Sink>(
     name: &str,
     output: WriteSink<W>,
     errors: &mut E,
-) -> (u8, WriteSink<W>) {
+) -> (u8, WriteSink<W>)
+    ensures { DumpsNamed (FilesOf S.System S.Input.Source system.now) plan.entry name.now
+        (writer_device W.contents output result.1)
+        (device_of E.taken E.has_failed errors.old errors.new) result.0 }
+{
     if name == "-" {
-        return (complain(Complaint::NamesOfInput, errors), output);
-    }
-    match system.open(name) {
-        Ok(mut input) => match collect_names(alloc, &mut input) {
-            Ok(names) => show_opened(alloc, plan, Some(names), system, name, output, errors),
-            Err(why) => (refuse_run(name, why, system.causes(), errors), output),
-        },
-        Err(cause) => (refuse_file(name, cause, errors), output),
+        (complain(Complaint::NamesOfInput, errors), output)
+    } else {
+        show_file_with_names(alloc, plan, system, name, output, errors)
     }
 }
 
-// Shows a file. Returns the status, which is at least 1 if a choice chose nothing of it.
+// Shows a file. Returns the status, and the output.
+fn show_once<S: System, W: Write, E: Sink>(
+    alloc: Global,
+    plan: Plan<'_>,
+    system: &S,
+    name: &str,
+    output: WriteSink<W>,
+    errors: &mut E,
+) -> (u8, WriteSink<W>)
+    ensures { Dumps plan.entry.format.is_named (FilesOf S.System S.Input.Source system.now)
+        plan.entry name.now (writer_device W.contents output result.1)
+        (device_of E.taken E.has_failed errors.old errors.new) result.0 }
+{
+    if plan.format.is_named {
+        show_with_names(alloc, plan, system, name, output, errors)
+    } else {
+        show_opened(alloc, plan, None, system, name, output, errors)
+    }
+}
+
+// Unsets all flags.
+fn clear(flags: &[Cell<bool>]) {
+    for flag in flags {
+        flag.set(false);
+    }
+}
+
+// Shows a file. Returns the status, which is at least 1 if a choice chose nothing of it, and the output.
 fn show_file<S: System, W: Write, E: Sink>(
     alloc: Global,
     plan: Plan<'_>,
@@ -99,19 +234,17 @@ fn show_file<S: System, W: Write, E: Sink>(
     name: &str,
     output: WriteSink<W>,
     errors: &mut E,
-) -> (u8, WriteSink<W>) {
-    for found in plan.shown.found {
-        found.set(false);
-    }
-    let (status, output) = if plan.format.is_named {
-        show_with_names(alloc, plan, system, name, output, errors)
-    } else {
-        show_opened(alloc, plan, None, system, name, output, errors)
-    };
-    (warn_of_unfound(plan, name, status, errors), output)
+) -> (u8, WriteSink<W>)
+    ensures { ShowsFile (FilesOf S.System S.Input.Source system.now) plan.entry name.now
+        (writer_device W.contents output result.1)
+        (device_of E.taken E.has_failed errors.old errors.new) result.0 }
+{
+    clear(plan.shown.found);
+    let (status, output) = show_once(alloc, plan, system, name, output, errors);
+    (warn_after(plan, name, status, errors), output)
 }
 
-// Writes the name of a file, then shows it.
+// Writes the name of a file, then shows it. Returns the status, and the output.
 fn show_under_name<S: System, W: Write, E: Sink>(
     alloc: Global,
     plan: Plan<'_>,
@@ -119,7 +252,11 @@ fn show_under_name<S: System, W: Write, E: Sink>(
     name: &str,
     output: WriteSink<W>,
     errors: &mut E,
-) -> (u8, WriteSink<W>) {
+) -> (u8, WriteSink<W>)
+    ensures { ShowsUnderName (FilesOf S.System S.Input.Source system.now) plan.entry name.now
+        (writer_device W.contents output result.1)
+        (device_of E.taken E.has_failed errors.old errors.new) result.0 }
+{
     let (headed, output) = write_heading(alloc, plan.format.is_json, name, output);
     match headed {
         Ok(()) => show_file(alloc, plan, system, name, output, errors),
@@ -127,31 +264,40 @@ fn show_under_name<S: System, W: Write, E: Sink>(
     }
 }
 
-// Shows files, each under its name if there are several; standard input if there are none. Returns the greatest status.
-fn show_files<S: System, W: Write + Drop, E: Sink>(
+// Shows files, each under its name if there are several; standard input if there are none. Returns the greatest status,
+// and the output.
+fn show_files<S: System, W: Write, E: Sink>(
     alloc: Global,
     plan: Plan<'_>,
     system: &S,
     names: &[&str],
     output: WriteSink<W>,
     errors: &mut E,
-) -> u8 {
+) -> (u8, WriteSink<W>)
+    ensures { ShowsFiles (FilesOf S.System S.Input.Source system.now) plan.entry (texts names.now)
+        (writer_device W.contents output result.1)
+        (device_of E.taken E.has_failed errors.old errors.new) result.0 }
+{
     match names {
-        [] => show_file(alloc, plan, system, "-", output, errors).0,
-        [name] => show_file(alloc, plan, system, name, output, errors).0,
+        [] => show_file(alloc, plan, system, "-", output, errors),
+        [name] => show_file(alloc, plan, system, name, output, errors),
         _ => show_several(alloc, plan, system, names, output, errors),
     }
 }
 
-// Shows several files, each under its name. Returns the greatest status.
-fn show_several<S: System, W: Write + Drop, E: Sink>(
+// Shows several files, each under its name. Returns the greatest status, and the output.
+fn show_several<S: System, W: Write, E: Sink>(
     alloc: Global,
     plan: Plan<'_>,
     system: &S,
     names: &[&str],
     output: WriteSink<W>,
     errors: &mut E,
-) -> u8 {
+) -> (u8, WriteSink<W>)
+    ensures { InTurn (ShowsUnderName (FilesOf S.System S.Input.Source system.now) plan.entry)
+        (texts names.now) (writer_device W.contents output result.1)
+        (device_of E.taken E.has_failed errors.old errors.new) result.0 }
+{
     let mut status = 0u8;
     let mut output = output;
     for name in names {
@@ -159,48 +305,118 @@ fn show_several<S: System, W: Write + Drop, E: Sink>(
         output = after;
         status = status.max(one);
     }
-    drop(output);
-    status
+    (status, output)
 }
 
-/// Runs `list`, `dump` or `producers`. Returns the exit status.
+// Returns the words that choose sections: the values of `--section`, or the name of the section that `producers` shows.
+fn words_of<'a>(
+    alloc: Global,
+    verb: Verb,
+    arguments: &Arguments<'a>,
+) -> Result<Vec<&'a str>, AllocError>
+    ensures { IfOk result (λ words. texts words.items ≡ words_asked verb (reads_of arguments.now)) }
+{
+    let mut words = arguments.values(alloc, Flag::Section)?;
+    if let Verb::Producers = verb {
+        words.push(NAME)?;
+    }
+    Ok(words)
+}
+
+// Returns what these words choose: all if there are none, and only parts for `list`.
+fn only_of<'w>(alloc: Global, verb: Verb, words: &[&'w str]) -> Result<Vec<Only<'w>>, AllocError>
+    ensures { IfOk result (λ only. ChooseFor verb (texts words.now) only.items) }
+{
+    let mut only = chosen_by(alloc, words)?;
+    match verb {
+        Verb::List => only.push(Only::Parts)?,
+        _ if words.is_empty() => only.push(Only::All)?,
+        _ => {}
+    }
+    Ok(only)
+}
+
+// What a command was asked to show.
+#[derive(Drop)]
+struct Request<'a> {
+    names: Vec<&'a str>,
+    words: Vec<&'a str>,
+    only: Vec<Only<'a>>,
+    found: Vec<Cell<bool>>,
+}
+
+// Returns what the arguments ask for.
+fn request_of<'a>(
+    alloc: Global,
+    verb: Verb,
+    arguments: &Arguments<'a>,
+) -> Result<Request<'a>, AllocError>
+    ensures { IfOk result (λ request. IsRequest verb (reads_of arguments.now) request) }
+{
+    let names = arguments.operands(alloc)?;
+    let words = words_of(alloc, verb, arguments)?;
+    let only = only_of(alloc, verb, words.as_slice())?;
+    let found = vec![in alloc; Cell::new(false); words.len()]?;
+    Ok(Request {
+        names,
+        words,
+        only,
+        found,
+    })
+}
+
+// Shows what the arguments ask for, in this format. Returns the exit status, and the output.
+fn show_as<S: System, W: Write, E: Sink>(
+    alloc: Global,
+    verb: Verb,
+    format: Format,
+    arguments: &Arguments<'_>,
+    system: &S,
+    output: WriteSink<W>,
+    errors: &mut E,
+) -> (Result<u8, AllocError>, WriteSink<W>)
+    ensures { RunsIfMemory (ShowsIn (FilesOf S.System S.Input.Source system.now) verb
+        (reads_of arguments.now) format) (writer_device W.contents output result.1)
+        (device_of E.taken E.has_failed errors.old errors.new) result.0 }
+{
+    let request = match request_of(alloc, verb, arguments) {
+        Ok(request) => request,
+        Err(refused) => return (Err(refused), output),
+    };
+    let plan = Plan {
+        verb,
+        words: request.words.as_slice(),
+        shown: Shown {
+            only: request.only.as_slice(),
+            has_bytes: arguments.has(Flag::Bytes),
+            found: request.found.as_slice(),
+        },
+        format,
+    };
+    let names = request.names.as_slice();
+    let (status, output) = show_files(alloc, plan, system, names, output, errors);
+    (Ok(status), output)
+}
+
+/// Runs `list`, `dump` or `producers`. Returns the exit status, and the output.
 ///
 /// # Errors
 ///
 /// `AllocError` when an allocation fails before anything is read.
-pub(crate) fn show<S: System, W: Write + Drop, E: Sink>(
+pub(crate) fn show<S: System, W: Write, E: Sink>(
     alloc: Global,
     verb: Verb,
     arguments: &Arguments<'_>,
     system: &S,
     output: WriteSink<W>,
     errors: &mut E,
-) -> Result<u8, AllocError> {
-    let format = match format_of(verb, arguments, system.is_terminal()) {
-        Ok(format) => format,
-        Err(complaint) => return Ok(complain(complaint, errors)),
-    };
-    let names = arguments.operands(alloc)?;
-    let mut words = arguments.values(alloc, Flag::Section)?;
-    if let Verb::Producers = verb {
-        words.push(NAME)?;
+) -> (Result<u8, AllocError>, WriteSink<W>)
+    ensures { Shows (FilesOf S.System S.Input.Source system.now) (S.shows system.now) verb
+        (reads_of arguments.now) (writer_device W.contents output result.1)
+        (device_of E.taken E.has_failed errors.old errors.new) result.0 }
+{
+    match format_of(verb, arguments, system.is_terminal()) {
+        Ok(format) => show_as(alloc, verb, format, arguments, system, output, errors),
+        Err(complaint) => (Ok(complain(complaint, errors)), output),
     }
-    let mut only = chosen_by(alloc, words.as_slice())?;
-    match verb {
-        Verb::List => only.push(Only::Parts)?,
-        _ if words.is_empty() => only.push(Only::All)?,
-        _ => {}
-    }
-    let found = vec![in alloc; Cell::new(false); words.len()]?;
-    let plan = Plan {
-        verb,
-        words: words.as_slice(),
-        shown: Shown {
-            only: only.as_slice(),
-            has_bytes: arguments.has(Flag::Bytes),
-            found: found.as_slice(),
-        },
-        format,
-    };
-    Ok(show_files(alloc, plan, system, names.as_slice(), output, errors))
 }

@@ -1,5 +1,5 @@
 // What the program says on standard error.
-ghost use Rattle.std.specs.Prelude.{◌≡◌};
+ghost use Rattle.std.specs.Prelude.{◌≡◌, codes};
 ghost use Rattle.wasm_commands.specs.Messages.{Reports, command_text, complaint_text, failure_text, file_text, missing_text, name_shown, reason_if_any, refusal_text};
 ghost use Rattle.wasm_commands.specs.Messages.{about_word};
 ghost use Rattle.wasm_commands.specs.Reasons.{reason_of};
@@ -79,6 +79,16 @@ pub(crate) fn refuse_run<E: Sink>(name: &str, why: ListError, causes: Causes, er
         ListError::Output => say_cause("standard output", causes.output, errors),
         ListError::Memory => say(errors, &[b"pulleynavy: out of memory\n".as_slice()]),
     }
+    3
+}
+
+/// Says that memory ran out. Returns the exit status 3.
+pub(crate) fn stop_for_memory<E: Sink>(errors: &mut E) -> u8
+    ensures status { result ≡ 3 }
+    ensures says { Says (device_of E.taken E.has_failed errors.old errors.new)
+        (codes "pulleynavy: out of memory\n") }
+{
+    say(errors, &[b"pulleynavy: out of memory\n".as_slice()]);
     3
 }
 

@@ -237,27 +237,16 @@ fn change<S: System, W: Write, E: Sink>(
     Ok(write_edited(alloc, &edits, &original, arguments, system, output, errors))
 }
 
-/// Runs `producers`. Returns the exit status.
-///
-/// # Errors
-///
-/// `AllocError` when an allocation fails before anything is written.
-pub(crate) fn producers<S: System, W: Write + Drop, E: Sink>(
+// Sets the tools of a module. Returns the exit status.
+fn set_all<S: System, W: Write, E: Sink>(
     alloc: Global,
+    words: &[&str],
     arguments: &Arguments<'_>,
     system: &S,
-    mut output: WriteSink<W>,
+    output: &mut WriteSink<W>,
     errors: &mut E,
 ) -> Result<u8, AllocError> {
-    let words = arguments.values(alloc, Flag::Set)?;
-    if words.is_empty() {
-        if arguments.has(Flag::Output) {
-            let complaint = Complaint::Few(Verb::Producers, "--set with --output");
-            return Ok(complain(complaint, errors));
-        }
-        return show(alloc, Verb::Producers, arguments, system, output, errors);
-    }
-    let settings = match parse_settings(alloc, &words)? {
+    let settings = match parse_settings(alloc, words)? {
         Ok(settings) => settings,
         Err(word) => {
             let complaint = Complaint::WrongValue(Verb::Producers, "--set", word);
@@ -270,13 +259,32 @@ pub(crate) fn producers<S: System, W: Write + Drop, E: Sink>(
         [name] => name,
         [_, extra, ..] => return Ok(complain(Complaint::Extra(Verb::Producers, extra), errors)),
     };
-    change(
-        alloc,
-        &settings,
-        name,
-        arguments,
-        system,
-        &mut output,
-        errors,
-    )
+    change(alloc, &settings, name, arguments, system, output, errors)
+}
+
+/// Runs `producers`. Returns the exit status, and the output.
+///
+/// # Errors
+///
+/// `AllocError` when an allocation fails before anything is written.
+pub(crate) fn producers<S: System, W: Write, E: Sink>(
+    alloc: Global,
+    arguments: &Arguments<'_>,
+    system: &S,
+    mut output: WriteSink<W>,
+    errors: &mut E,
+) -> (Result<u8, AllocError>, WriteSink<W>) {
+    let words = match arguments.values(alloc, Flag::Set) {
+        Ok(words) => words,
+        Err(refused) => return (Err(refused), output),
+    };
+    if !words.is_empty() {
+        let status = set_all(alloc, &words, arguments, system, &mut output, errors);
+        return (status, output);
+    }
+    if arguments.has(Flag::Output) {
+        let complaint = Complaint::Few(Verb::Producers, "--set with --output");
+        return (Ok(complain(complaint, errors)), output);
+    }
+    show(alloc, Verb::Producers, arguments, system, output, errors)
 }

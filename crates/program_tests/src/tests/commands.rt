@@ -41,7 +41,8 @@ fn run_over<E: Sink>(
     written: &mut Vec<u8>,
     errors: &mut E,
 ) -> u8 {
-    run(alloc, words, files, WriteSink::new(written), errors)
+    let (status, _output) = run(alloc, words, files, WriteSink::new(written), errors);
+    status
 }
 
 // A run with these arguments over these files returns, writes and says this.

@@ -103,7 +103,8 @@ fn cannot_begin(
     let arguments: io::Result<Args> = Err(io::Error::from(kind));
     let output = WriteSink::new(&mut written);
     let files = Files::of_input(MODULE);
-    let status = run_program(alloc, arguments, &files, output, &mut errors);
+    let (status, output) = run_program(alloc, arguments, &files, output, &mut errors);
+    drop(output);
     assert!(rt; status == ExitCode::from(wanted.0));
     assert_eq!(rt; errors.written(), wanted.1);
     assert!(rt; written.is_empty());

@@ -264,13 +264,9 @@ impl Write for Stuck {
 
 // The status of a run whose output fails at its end.
 fn run_stuck(alloc: Global, words: &[String], errors: &mut BoundedSink) -> u8 {
-    run(
-        alloc,
-        words,
-        &Files::of_input(MODULE),
-        WriteSink::new(Stuck),
-        errors,
-    )
+    let output = WriteSink::new(Stuck);
+    let (status, _output) = run(alloc, words, &Files::of_input(MODULE), output, errors);
+    status
 }
 
 #[test]

@@ -204,13 +204,13 @@ fn output_of(alloc: Global, words: &[&str], files: &Files<'_>) -> Result<Vec<u8>
     let words = words_of(alloc, words)?;
     let mut written = Vec::new(alloc);
     let mut errors = BoundedSink::new(alloc, 300)?;
-    run(
+    drop(run(
         alloc,
         &words,
         files,
         WriteSink::new(&mut written),
         &mut errors,
-    );
+    ));
     Ok(written)
 }
 
@@ -244,7 +244,7 @@ fn an_output_that_fails_at_the_end(rt: HostRuntime) -> Result<(), Fail> {
         let words = words_of(alloc, words)?;
         let mut errors = BoundedSink::new(alloc, 300)?;
         let output = WriteSink::new(Unflushed);
-        let status = run(alloc, &words, &files, output, &mut errors);
+        let (status, _output) = run(alloc, &words, &files, output, &mut errors);
         assert_eq!(rt; status, 3);
         let said = b"pulleynavy: standard output: No space left on device\n";
         assert_eq!(rt; errors.written(), said.as_slice());

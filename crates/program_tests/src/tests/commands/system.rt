@@ -77,6 +77,16 @@ impl<'a> System for Files<'a> {
 
     type Output = BoundedSink;
 
+    ghost opens = { λ files name result. Unit {0} };
+
+    ghost rereads = { λ files name result. Unit {0} };
+
+    ghost shows = { λ files result. Unit {0} };
+
+    ghost creates = { λ files input name result. Unit {0} };
+
+    ghost replaces = { λ files output is_complete result. Unit {0} };
+
     fn open(&self, name: &str) -> Result<ReadSource<Reader<'a>>, Cause> {
         if name == "broken" {
             self.input_failure.set(Some(cause(ErrorKind::IsADirectory)));

@@ -3,10 +3,10 @@ use Rattle.wasm_commands.proofs.Refusing.{or_stops, words_refused}
 use Rattle.wasm_commands.specs.Options.{verb_named}
 use Rattle.wasm_commands.proofs.commands.run.Goals as goal
 
-pub returns-in_default-verb_of : goal.returns-in_default-verb_of
-returns-in_default-verb_of g c =
-    let text = c.as_str-in_default-verb_of.result.now in
-    let same = c.as_str-in_default-verb_of.ensures.value ∙ sym c.as_str.ensures.value in
+pub returns-in-None-clause-refuses : goal.returns-in-None-clause-refuses
+returns-in-None-clause-refuses g c =
+    let text = c.as_str-in-None.result.now in
+    let same = c.as_str-in-None.ensures.value ∙ sym c.as_str.ensures.value in
     let refused = words_refused c.args.words.now c.word-item.result text c.word-item.is c.in-len1-up.len_at_least
-    c.as_str-in_default-verb_of.ensures.value (ap verb_named same ∙ (sym c.verb_of.ensures ∙ c.in_default-verb_of.is)) in
-    rw refused (or_stops _ _ _ c.run_other.ensures)
+    c.as_str-in-None.ensures.value (ap verb_named same ∙ (sym c.verb_of.ensures ∙ c.in-None.is)) in
+    rw refused (or_stops _ _ _ c.run_other-status.ensures)

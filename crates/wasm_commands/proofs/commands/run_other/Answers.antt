@@ -1,4 +1,3 @@
-use Rattle.std.proofs.Common.{ap, subst, List, ℕ}
 use Rattle.wasm_commands.proofs.Refusing.{other_refused}
 use Rattle.wasm_commands.proofs.commands.run_other.Goals as goal
 

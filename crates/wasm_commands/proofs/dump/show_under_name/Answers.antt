@@ -1,0 +1,25 @@
+use Rattle.std.proofs.Common.{refl}
+use Rattle.wasm_commands.proofs.dump.show_under_name.Goals as goal
+
+pub returns-in-Ok : goal.returns-in-Ok
+returns-in-Ok g c =
+    let output = c.write_heading-headed.result.1 in
+    record {
+      written = record { bytes = g.W.Write.contents output.writer; failed = output.failed };
+      headed = c.write_heading-headed.result.0;
+      heads = c.write_heading-headed.ensures;
+      shows = rw c.in-Ok.is c.show_file.ensures;
+    }
+
+pub returns-in-Err : goal.returns-in-Err
+returns-in-Err g c =
+    let output = c.write_heading-headed.result.1 in
+    record {
+      written = record { bytes = g.W.Write.contents output.writer; failed = output.failed };
+      headed = c.write_heading-headed.result.0;
+      heads = c.write_heading-headed.ensures;
+      shows = rw c.in-Err.is (
+        record { causes = c.causes.result; answers = c.refuse_run.ensures.status; says = c.refuse_run.ensures.says },
+        record { bytes = refl; failed = refl },
+      );
+    }

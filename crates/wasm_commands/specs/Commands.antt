@@ -1,0 +1,94 @@
+-- What the commands of the program do with files and devices.
+use Rattle.std.specs.Prelude.{◌≡◌, ◌⊎◌, ℕ, Bool, false, List, [], ◌∷◌, codes, map, string_bytes}
+use Rattle.std.specs.Prelude.{Option, Some, None, Result, Ok, Err}
+use Rattle.std.specs.declared.alloc.AllocError.{AllocError}
+use Rattle.std.specs.declared.io.Error.{Error}
+use Rattle.wasm_commands.specs.ArgumentLists.{Read, Wrong, arguments_of, has_option}
+use Rattle.wasm_commands.specs.Checks.{ChecksFiles}
+use Rattle.wasm_commands.specs.Messages.{complaint_text}
+use Rattle.wasm_commands.specs.Options.{verb_named}
+use Rattle.wasm_commands.specs.Refusals.{RefusesOrStops, refused_by}
+use Rattle.wasm_commands.specs.Shows.{Shows}
+use Rattle.wasm_commands.specs.Systems.{Between, Platform, RefusesWith, StopsForMemory, files_on, since}
+use Rattle.wasm_commands.specs.Systems.{until}
+use Rattle.wasm_commands.specs.declared.messages.Complaint.TheVariants as complaint
+use Rattle.wasm_commands.specs.declared.options.Flag.TheVariants.{Help, Version}
+use Rattle.wasm_commands.specs.declared.options.Verb.{Verb}
+use Rattle.wasm_commands.specs.declared.options.Verb.TheVariants as verb
+use Rattle.wasm_console.specs.Arguments.{IsGiven}
+use Rattle.wasm_console.specs.declared.arguments.Given.{Given}
+use Rattle.wasm_console.specs.declared.arguments.Given.TheVariants.{Words, NotUtf8, Nothing}
+use Rattle.wasm_text.specs.Calls.{Device}
+use Rattle.wasm_text.specs.Messages.{Says}
+
+-- What a command does with the files that its arguments name, or that an allocation failed. Of commands that write a
+-- file nothing is said.
+abbrev pub RunsCommand : Platform → Verb → List Read → (output : Device) (forwarded : Bool) (errors : Device)
+    → Result ℕ AllocError → Type 0
+RunsCommand p verb.Check reads output forwarded errors result =
+    ChecksFiles (files_on p) reads output errors result
+RunsCommand p verb.List reads output forwarded errors result =
+    Shows (files_on p) (p.calls.shows p.system) verb.List reads output errors result
+RunsCommand p verb.Dump reads output forwarded errors result =
+    Shows (files_on p) (p.calls.shows p.system) verb.Dump reads output errors result
+RunsCommand p other reads output forwarded errors result = Unit {0}
+
+-- The same, unless a help text or the version was asked for.
+abbrev pub RunsParsed : Platform → Verb → List Read → (output : Device) (forwarded : Bool) (errors : Device)
+    → Result ℕ AllocError → Type 0
+RunsParsed p verb reads output forwarded errors result = has_option Help reads ≡ false
+    → has_option Version reads ≡ false → RunsCommand p verb reads output forwarded errors result
+
+-- The same, of arguments that were read.
+abbrev pub RunsRead : Platform → Verb → Result (List Read) Wrong → (output : Device) (forwarded : Bool)
+    (errors : Device) → Result ℕ AllocError → Type 0
+RunsRead p verb (Ok reads) output forwarded errors result = RunsParsed p verb reads output forwarded errors result
+RunsRead p verb (Err wrong) output forwarded errors result = Unit {0}
+
+-- The command stopped since an allocation failed, which was said.
+pub record StopsCommand (p : Platform) (verb : Verb) (reads : Result (List Read) Wrong) (output : Device)
+    (forwarded : Bool) (errors : Device) (status : ℕ) : Type 0 where
+  pub said : Between
+  pub refused : AllocError
+  pub runs : RunsRead p verb reads output forwarded (until errors said) (Err refused)
+  pub answers : status ≡ 3
+  pub says : Says (since errors said) (codes "pulleynavy: out of memory\n")
+
+-- The command with this name ran to its end, or stopped.
+abbrev pub RunsVerb : Platform → Option Verb → (more : List (List ℕ)) → (output : Device) (forwarded : Bool)
+    (errors : Device) (status : ℕ) → Type 0
+RunsVerb p None more output forwarded errors status = Unit {0}
+RunsVerb p (Some verb) more output forwarded errors status =
+    RunsRead p verb (arguments_of verb more) output forwarded errors (Ok status)
+    ⊎ StopsCommand p verb (arguments_of verb more) output forwarded errors status
+
+-- | what the program does with files: its first word is a command, which reads the other words
+--   [`RunsVerb`, `RunsCommand`]
+-- What the program does with these words.
+abbrev pub RunsWords : Platform → (words : List (List ℕ)) → (output : Device) (forwarded : Bool) (errors : Device)
+    (status : ℕ) → Type 0
+RunsWords p [] output forwarded errors status = Unit {0}
+RunsWords p (word ∷ more) output forwarded errors status =
+    RunsVerb p (verb_named word) more output forwarded errors status
+
+-- The program was run with these words: those that are wrong before anything is read were refused.
+pub record RunsWith (p : Platform) (words : List (List ℕ)) (output : Device) (forwarded : Bool) (errors : Device)
+    (status : ℕ) : Type 0 where
+  pub refuses : RefusesOrStops (refused_by words) errors status
+  pub runs : RunsWords p words output forwarded errors status
+
+-- what the program does, by what was stored of its arguments
+abbrev pub RunsGiven : Platform → Given → (output : Device) (forwarded : Bool) (errors : Device) (status : ℕ) → Type 0
+RunsGiven p (Words words) output forwarded errors status =
+    RunsWith p (map string_bytes words.items) output forwarded errors status
+RunsGiven p NotUtf8 output forwarded errors status = RefusesWith (complaint_text complaint.NotUtf8) output errors status
+RunsGiven p Nothing output forwarded errors status = StopsForMemory output errors status
+
+-- | the whole program, with its arguments as the system has them: after the program's name, unless one is not valid
+--   UTF-8, or memory runs out [`RunsWith`, `RunsGiven`; `wasm_console`: `Arguments.IsGiven`]
+-- The program was run with the arguments that the system has.
+pub record RunsProgram {A : Type 0} (p : Platform) (words : A → List (List ℕ)) (arguments : Result A Error)
+    (output : Device) (forwarded : Bool) (errors : Device) (status : ℕ) : Type 0 where
+  pub given : Given
+  pub stored : IsGiven words arguments given
+  pub runs : RunsGiven p given output forwarded errors status

@@ -1,0 +1,204 @@
+-- What `list` and `dump` do with files, and `producers` without `--set`.
+use Rattle.std.specs.Prelude.{◌≡◌, ◌⊎◌, ℕ, ◌<◌, ◌≤◌, Bool, true, false, List, [], ◌∷◌, ◌++◌, codes, max, take, Option}
+use Rattle.std.specs.Prelude.{Some, None, Result, Ok, Err}
+use Rattle.std.specs.Io.KnownBytes.{Appends}
+use Rattle.std.specs.declared.alloc.AllocError.{AllocError}
+use Rattle.wasm_commands.specs.ArgumentLists.{Read, has_option, operands_in, values_in}
+use Rattle.wasm_commands.specs.Choices.{ChooseInTurn}
+use Rattle.wasm_commands.specs.Colors.{seen_as}
+use Rattle.wasm_commands.specs.DumpRuns.{RunsDump}
+use Rattle.wasm_commands.specs.EditsTwice.{dropped}
+use Rattle.wasm_commands.specs.Formats.{format_asked, has_colors}
+use Rattle.wasm_commands.specs.Messages.{Reports, complaint_text, missing_text}
+use Rattle.wasm_commands.specs.Parsing.{texts}
+use Rattle.wasm_commands.specs.Systems.{Between, Files, FailsOn, InTurn, RefusesWith, RunsIfMemory, StopsForMemory}
+use Rattle.wasm_commands.specs.Systems.{UsesFile, since, until}
+use Rattle.wasm_commands.specs.declared.dump.Plan.{Plan}
+use Rattle.wasm_commands.specs.declared.dump.Request.{Request}
+use Rattle.wasm_commands.specs.declared.dump.format.Format.{Format}
+use Rattle.wasm_commands.specs.declared.messages.Causes.{Causes}
+use Rattle.wasm_commands.specs.declared.messages.Complaint.TheVariants.{NamesOfInput}
+use Rattle.wasm_commands.specs.declared.options.Flag.TheVariants.{Bytes, Section}
+use Rattle.wasm_commands.specs.declared.options.Verb.{Verb}
+use Rattle.wasm_commands.specs.declared.options.Verb.TheVariants as verb
+use Rattle.wasm_console.specs.Devices.{IsUntouched}
+use Rattle.wasm_console.specs.Endings.{status_for}
+use Rattle.wasm_dumper.specs.declared.events.Only.{Only}
+use Rattle.wasm_dumper.specs.declared.events.Only.TheVariants.{All, Parts}
+use Rattle.wasm_feeder.specs.declared.turns.Ended.{Ended}
+use Rattle.wasm_text.specs.Calls.{Device, output_failed}
+use Rattle.wasm_text.specs.Messages.{Says}
+use Rattle.wasm_text.specs.declared.devices.ListError.{ListError}
+use Rattle.wasm_text.specs.declared.devices.ListError.TheVariants.{Output}
+use Rattle.wasm_tree.specs.Json.{AreObjects}
+
+-- ---- one file
+
+-- An input was dumped to the output and flushed, and the status and the message say how that ended.
+pub record DumpsInput (plan : Plan) (name : List ℕ) (input output errors : Device) (status : ℕ) : Type 0 where
+  pub forwarded : Bool
+  pub how : Result Ended ListError
+  pub causes : Causes
+  pub dumps : RunsDump plan.format plan.shown input (seen_as (has_colors plan.format) output) forwarded how
+  pub answers : status ≡ status_for how
+  pub reports : Reports name how causes errors
+
+-- The file was opened and dumped, or could not be opened.
+abbrev pub DumpsFile : Files → Plan → (name : List ℕ) → (output errors : Device) (status : ℕ) → Type 0
+DumpsFile files plan name output errors status = UsesFile files (DumpsInput plan name) name output errors status
+
+-- An input was read for names, after which the file was opened again and dumped; or memory ran out while it was read.
+abbrev pub DumpsAgain : Files → Plan → (name : List ℕ) → (input output errors : Device) (status : ℕ) → Type 0
+DumpsAgain files plan name input output errors status =
+    DumpsFile files plan name output errors status ⊎ StopsForMemory output errors status
+
+-- The file was dumped with the names of its items. Standard input can't be read twice, and is refused.
+pub record DumpsNamed (files : Files) (plan : Plan) (name : List ℕ) (output errors : Device) (status : ℕ) : Type 0
+  where
+    pub of_input : name ≡ codes "-" → RefusesWith (complaint_text NamesOfInput) output errors status
+    pub of_file : ¬ (name ≡ codes "-") → UsesFile files (DumpsAgain files plan name) name output errors status
+
+-- by whether names are shown
+abbrev pub Dumps : (is_named : Bool) → Files → Plan → (name : List ℕ) → (output errors : Device) (status : ℕ)
+    → Type 0
+Dumps true files plan name output errors status = DumpsNamed files plan name output errors status
+Dumps false files plan name output errors status = DumpsFile files plan name output errors status
+
+-- ---- what was not found
+
+-- It was said that this word chose nothing of the file, or nothing was said.
+abbrev pub MayWarn : Verb → (name word : List ℕ) → (output errors : Device) (status : ℕ) → Type 0
+MayWarn verb name word output errors status =
+    ((status ≡ 1) × Says errors (missing_text verb name word)) ⊎ ((status ≡ 0) × IsUntouched errors)
+
+-- This was said of some of these words, in order. The status is 1 if there are any.
+abbrev pub Warns : Verb → (name : List ℕ) (words : List (List ℕ)) → (errors : Device) (status : ℕ) → Type 0
+Warns verb name words errors status = InTurn (MayWarn verb name) words dropped errors status
+
+-- After a stream that was read to its end or fault, words that chose nothing were named; nothing was said after a run
+-- that failed.
+pub record WarnsAfter (plan : Plan) (name : List ℕ) (first : ℕ) (errors : Device) (status : ℕ) : Type 0 where
+  pub read : first ≤ 1
+      → (warned : ℕ) × Warns plan.verb name (texts plan.words.now) errors warned × (status ≡ max first warned)
+  pub failed : 1 < first → IsUntouched errors × (status ≡ first)
+
+-- The file was dumped, and it was said which words chose nothing of it.
+pub record ShowsFile (files : Files) (plan : Plan) (name : List ℕ) (output errors : Device) (status : ℕ) : Type 0
+  where
+    pub said : Between
+    pub first : ℕ
+    pub dumps : Dumps plan.format.is_named files plan name output (until errors said) first
+    pub warns : WarnsAfter plan name first (since errors said) status
+
+-- ---- several files
+
+-- All of a text was written, or a prefix of it if the output failed.
+abbrev pub WritesLine : (text : List ℕ) → (output : Device) → Result (Unit {0}) ListError → Type 0
+WritesLine text output (Ok done) =
+    Appends output.before output.after text × (output.has_failed ≡ output.had_failed)
+WritesLine text output (Err why) =
+    (why ≡ Output) × ((n : ℕ) × Appends output.before output.after (take n text)) × (output.has_failed ≡ true)
+
+-- Lines of JSON were written, each of them an object, or a prefix of them if the output or an allocation failed.
+abbrev pub WritesObject : (output : Device) → Result (Unit {0}) ListError → Type 0
+WritesObject output (Ok done) = (text : List ℕ) × AreObjects text × Appends output.before output.after text
+    × (output.has_failed ≡ output.had_failed)
+WritesObject output (Err why) = (text : List ℕ) × (unwritten : List ℕ) × AreObjects (text ++ unwritten)
+    × Appends output.before output.after text
+    × (output.has_failed ≡ output_failed {A = Unit {0}} (Err why) output.had_failed)
+
+-- what is returned of a writer of objects, by why it has stopped
+abbrev pub ended_by : Option ListError → Result (Unit {0}) ListError
+ended_by None = Ok tt
+ended_by (Some why) = Err why
+
+-- the line before what is shown of a file
+abbrev pub heading : (name : List ℕ) → List ℕ
+heading name = name ++ codes ":\n"
+
+-- The name of a file was written before what is shown of it.
+abbrev pub WritesHeading : (is_json : Bool) (name : List ℕ) → (output : Device) → Result (Unit {0}) ListError
+    → Type 0
+WritesHeading true name output result = WritesObject output result
+WritesHeading false name output result = WritesLine (heading name) output result
+
+-- After its name the file was shown; or the name could not be written.
+abbrev pub ShowsAfter : Files → Plan → (name : List ℕ) → Result (Unit {0}) ListError → (output errors : Device)
+    (status : ℕ) → Type 0
+ShowsAfter files plan name (Ok done) output errors status = ShowsFile files plan name output errors status
+ShowsAfter files plan name (Err why) output errors status = FailsOn name why errors status × IsUntouched output
+
+-- The name of the file was written, and then the file was shown.
+pub record ShowsUnderName (files : Files) (plan : Plan) (name : List ℕ) (output errors : Device) (status : ℕ)
+    : Type 0 where
+  pub written : Between
+  pub headed : Result (Unit {0}) ListError
+  pub heads : WritesHeading plan.format.is_json name (until output written) headed
+  pub shows : ShowsAfter files plan name headed (since output written) errors status
+
+-- One file was shown, or standard input if none is named; of several files each under its name.
+abbrev pub ShowsFiles : Files → Plan → (names : List (List ℕ)) → (output errors : Device) (status : ℕ) → Type 0
+ShowsFiles files plan [] output errors status = ShowsFile files plan (codes "-") output errors status
+ShowsFiles files plan (name ∷ []) output errors status = ShowsFile files plan name output errors status
+ShowsFiles files plan (name ∷ (second ∷ more)) output errors status =
+    InTurn (ShowsUnderName files plan) (name ∷ (second ∷ more)) output errors status
+
+-- ---- commands
+
+-- the words that choose sections: the values of `--section`, and the name of the section that `producers` shows
+abbrev pub words_asked : Verb → List Read → List (List ℕ)
+words_asked verb.Producers reads = values_in Section reads ++ (codes "producers" ∷ [])
+words_asked other reads = values_in Section reads
+
+-- the choices after those of words: for `list` only parts, and all if there are no words
+abbrev pub also_chosen : Verb → (words : List (List ℕ)) → List Only
+also_chosen verb.List words = Parts ∷ []
+also_chosen other [] = All ∷ []
+also_chosen other (word ∷ words) = []
+
+-- These are the choices of a command.
+abbrev pub ChooseFor : Verb → (words : List (List ℕ)) → List Only → Type 0
+ChooseFor verb words only =
+    (chosen : List Only) × ChooseInTurn words chosen × (only ≡ chosen ++ also_chosen verb words)
+
+-- The plan is what the arguments ask for.
+pub record IsAsked (verb : Verb) (reads : List Read) (format : Format) (plan : Plan) : Type 0 where
+  pub of_verb : plan.verb ≡ verb
+  pub words : texts plan.words.now ≡ words_asked verb reads
+  pub chooses : ChooseFor verb (words_asked verb reads) plan.shown.only.now
+  pub bytes : plan.shown.has_bytes ≡ has_option Bytes reads
+  pub formatted : plan.format ≡ format
+
+-- The request has the files that the arguments name, and the words and choices that they ask for.
+pub record IsRequest (verb : Verb) (reads : List Read) (request : Request) : Type 0 where
+  pub names : texts request.names.items ≡ operands_in reads
+  pub words : texts request.words.items ≡ words_asked verb reads
+  pub chooses : ChooseFor verb (words_asked verb reads) request.only.items
+
+-- The files that the arguments name were shown in this format.
+pub record ShowsIn (files : Files) (verb : Verb) (reads : List Read) (format : Format) (output errors : Device)
+    (status : ℕ) : Type 0 where
+  pub plan : Plan
+  pub asked : IsAsked verb reads format plan
+  pub shows : ShowsFiles files plan (operands_in reads) output errors status
+
+-- The same, unless the options exclude each other.
+abbrev pub ShowsAsked : Files → Verb → List Read → Result Format (List ℕ) → (output errors : Device) (status : ℕ)
+    → Type 0
+ShowsAsked files verb reads (Ok format) output errors status = ShowsIn files verb reads format output errors status
+ShowsAsked files verb reads (Err text) output errors status = RefusesWith text output errors status
+
+-- The system said whether the output is a terminal, and the files were shown in the format that is asked for.
+abbrev pub ShowsWhere : Files → (shows : Bool → Type 0) → Verb → List Read → (output errors : Device) (status : ℕ)
+    → Type 0
+ShowsWhere files shows verb reads output errors status = (is_terminal : Bool) × shows is_terminal
+    × ShowsAsked files verb reads (format_asked verb reads is_terminal) output errors status
+
+-- | what `list` and `dump` do with the files that their arguments name, and `producers` that sets nothing
+--   [`ShowsFile`, `ShowsUnderName`, `IsAsked`]
+-- The files that the arguments name were shown, or what is wrong with the options was said; or an allocation failed
+-- before.
+abbrev pub Shows : Files → (shows : Bool → Type 0) → Verb → List Read → (output errors : Device)
+    → Result ℕ AllocError → Type 0
+Shows files shows verb reads output errors result =
+    RunsIfMemory (ShowsWhere files shows verb reads) output errors result
