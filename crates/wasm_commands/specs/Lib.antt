@@ -4,9 +4,12 @@ pub mod Choices
 pub mod Colors
 pub mod DumpRuns
 pub mod EditsTwice
+pub mod Finding
 pub mod Formats
 pub mod Messages
 pub mod Options
 pub mod Parsing
 pub mod Reasons
 pub mod Refusals
+pub mod RewriteCommands
+pub mod Rewrites

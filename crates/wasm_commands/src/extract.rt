@@ -1,4 +1,6 @@
 // The command `extract`: writes the data of a custom section.
+ghost use Rattle.wasm_commands.specs.Finding.{FindsSection, IsNamedIn};
+
 use crate::arguments::Arguments;
 use crate::messages::{
     Complaint, complain, refuse_file, refuse_run, refuse_target, warn_of_missing,
@@ -19,20 +21,39 @@ pub(crate) struct Wanted<'a> {
     pub(crate) before: u64,
 }
 
+// Returns the custom section of a payload, if it is one with this name.
+fn named_in<'a>(payload: Payload<'a>, name: &str) -> Option<CustomSectionReader<'a>>
+    ensures { IsNamedIn name.now payload.entry result }
+{
+    match payload {
+        Payload::CustomSection(section) => {
+            if section.name() == name {
+                Some(section)
+            } else {
+                None
+            }
+        }
+        _other => None,
+    }
+}
+
 /// Returns the section, if the stream has it before its first fault.
 pub(crate) fn find<'a>(
     bytes: &'a [u8],
     wanted: Wanted<'_>,
-) -> ParserResult<Option<CustomSectionReader<'a>>> {
+) -> ParserResult<Option<CustomSectionReader<'a>>>
+    // Proved: the section that `extract` writes is the custom section with the name after as many
+    //   others as `--index` says, if it comes before the end and the first fault of the stream
+    //   [`find` (`FindsSection`)]
+    ensures { FindsSection wanted.entry.name.now wanted.entry.before bytes.now result }
+{
     let mut before = wanted.before;
     for payload in Parser::new(0).parse_all(bytes) {
-        if let Payload::CustomSection(section) = payload? {
-            if section.name() == wanted.name {
-                if before == 0 {
-                    return Ok(Some(section));
-                }
-                before -= 1;
+        if let Some(section) = named_in(payload?, wanted.name) {
+            if before == 0 {
+                return Ok(Some(section));
             }
+            before -= 1;
         }
     }
     Ok(None)
