@@ -1,12 +1,16 @@
 -- Streams that are written with edits, devices that are left alone, and what a status says.
-use Rattle.std.proofs.Common.{◌≡◌, ◌==◌, inl, inr, Vec, Global, ℕ, Bool, true, false, List, ◌++◌, Option, Some, None, Result, Ok, Err, ap, refl, subst}
-use Rattle.std.specs.Io.KnownBytes.{Appends, Consumes}
-use Rattle.std.proofs.KnownBytes.{Appends-trans}
+use Rattle.std.proofs.Common.{◌≡◌, ◌==◌, inl, inr, Vec, Global, ℕ, Bool, true, false, List, ◌++◌, Option, Some, None, Result, Ok, Err, ap, refl, subst, sym}
+use Rattle.std.proofs.Common.{length, take, take_all, le_refl, All, IsTrue, ◌↔◌, [], ◌∷◌}
+use Rattle.std.proofs.lemmas.List.Elements.{All-cons, All-nil}
+use Rattle.std.specs.Io.KnownBytes.{Appends, Consumes, Keeps}
+use Rattle.std.proofs.KnownBytes.{Appends-kept, Appends-trans}
 use Rattle.wasm_base.specs.FaultAt.{fault_at}
 use Rattle.wasm_base.specs.declared.error.Error.{Error}
 use Rattle.wasm_base.specs.declared.fault.Fault.TheVariants.{OutOfMemory}
 use Rattle.wasm_feed.specs.EditStream.{EditsParts, EditsSource, EndsEdit, WritesNew, ended_by}
-use Rattle.wasm_feed.specs.Edits.{edited_bytes, new_bytes}
+use Rattle.wasm_feed.specs.Edits.{CanBeMade, edited_bytes, new_bytes}
+use Rattle.wasm_feed.specs.Encoded.{Fits}
+use Rattle.wasm_feed.specs.declared.encoding.NewSection.{NewSection}
 use Rattle.wasm_feed.specs.declared.edits.Edit.{Edit}
 use Rattle.wasm_feed.specs.Stripped.{EndsWithFault, RefusesToStrip}
 use Rattle.wasm_grammar.specs.Accepted.{IsAccepted}
@@ -19,7 +23,8 @@ use Rattle.wasm_feeder.specs.declared.turns.Ended.{Ended}
 use Rattle.wasm_feeder.specs.declared.turns.Ended.TheVariants.{End, Fault}
 use Rattle.wasm_console.specs.Devices.{IsUntouched}
 use Rattle.wasm_commands.specs.EditsTwice.{EditsTwice, GoesOnAs}
-use Rattle.wasm_commands.specs.Rewrites.{EditsBy, EditsFile, EditsOriginal, EndsFile, IsWritten, WritesAll, input_device, is_whole}
+use Rattle.wasm_commands.specs.Rewrites.{EndsBytes, EditsBy, EditsFile, EditsOriginal, EndsFile, IsWritten, WritesAll, input_device, is_whole}
+use Rattle.wasm_commands.specs.RewriteCommands.{edit_that_sets}
 use Rattle.wasm_commands.specs.declared.reasons.Cause.{Cause}
 use Rattle.wasm_commands.specs.declared.rewriting.Original.{Original}
 use Rattle.wasm_commands.specs.declared.system.System.{Ghosts as SystemOf}
@@ -134,3 +139,31 @@ zero_if_whole name target (Ok (Err Input)) errors status e = rw e.gives_up.answe
 zero_if_whole name target (Ok (Err Output)) errors status e = rw e.gives_up.answers refl
 zero_if_whole name target (Ok (Err Memory)) errors status e = rw e.gives_up.answers refl
 zero_if_whole name target (Err cause) errors status e = rw e.answers refl
+
+-- ---- bytes that were written as they are
+
+pub zero_if_complete : (target : List ℕ) (is_complete : Bool) (errors : Device) (status : ℕ)
+    → EndsBytes target is_complete errors status → (status == 0) ≡ is_complete
+zero_if_complete target true errors status e = rw e.0 refl
+zero_if_complete target false errors status e = rw e.gives_up.answers refl
+
+-- all bytes were written, and then the output failed
+pub all_but_flushed : (a b c : Option (List ℕ)) (bytes : List ℕ) → Appends a b bytes → Keeps b c → (n : ℕ) × Appends a c (take n bytes)
+all_but_flushed a b c bytes w k = (
+  length bytes,
+  subst (Appends a c) (sym (take_all (length bytes) bytes (le_refl (length bytes)))) (Appends-kept a b c bytes w k),
+)
+
+-- ---- a section that is set
+
+can_be_set : (is_there : Bool) (new : NewSection) → Fits new → CanBeMade (edit_that_sets is_there new)
+can_be_set true new f = f
+can_be_set false new f = f
+
+-- An edit that cannot be made has a section that does not fit.
+pub not_fitting : (is_there : Bool) (new : NewSection) (e : Edit) → e ≡ edit_that_sets is_there new → (fits : Bool)
+    → IsTrue fits ↔ All CanBeMade (e ∷ []) → fits ≡ false → ¬ Fits new
+not_fitting is_there new e same true i is = absurd cc
+not_fitting is_there new e same false i is = λ f.
+    let t : false ≡ true =
+    i.1 (All-cons CanBeMade e [] (subst CanBeMade (sym same) (can_be_set is_there new f)) (All-nil CanBeMade)) in cc

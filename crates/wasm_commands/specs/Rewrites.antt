@@ -96,23 +96,22 @@ abbrev pub EndsBytes : (target : List ℕ) → (is_complete : Bool) → (errors 
 EndsBytes target true errors status = (status ≡ 0) × IsUntouched errors
 EndsBytes target false errors status = FailsTarget target errors status
 
--- The bytes were written to the output and flushed.
-pub record ForwardsBytes (bytes : List ℕ) (output : Device) (forwarded : Bool) (errors : Device) (status : ℕ) : Type 0
+-- The bytes were written to the output and flushed, or the output failed.
+pub record ForwardsBytes (bytes : List ℕ) (output : Device) (forwarded : Bool) (is_complete : Bool) : Type 0 where
+  pub writes : WritesBytes bytes output is_complete
+  pub all : is_complete ≡ true → forwarded ≡ true
+
+-- what is said of bytes that were written to the output
+abbrev pub EndsBytesOut : (is_complete : Bool) → (errors : Device) (status : ℕ) → Type 0
+EndsBytesOut true errors status = (status ≡ 0) × IsUntouched errors
+EndsBytesOut false errors status = FailsRun (codes "-") Output errors status
+
+-- The bytes were written to the output and flushed, or the output failed, and this was said.
+pub record WritesBytesOut (bytes : List ℕ) (output : Device) (forwarded : Bool) (errors : Device) (status : ℕ) : Type 0
   where
-    pub writes : WritesBytes bytes output true
-    pub all : forwarded ≡ true
-    pub answers : status ≡ 0
-    pub silent : IsUntouched errors
-
--- The output failed: a prefix of the bytes was written.
-pub record FailsBytes (bytes : List ℕ) (output errors : Device) (status : ℕ) : Type 0 where
-  pub writes : WritesBytes bytes output false
-  pub fails : FailsRun (codes "-") Output errors status
-
-abbrev pub WritesBytesOut : (bytes : List ℕ) (output : Device) (forwarded : Bool) (errors : Device) (status : ℕ)
-    → Type 0
-WritesBytesOut bytes output forwarded errors status =
-    ForwardsBytes bytes output forwarded errors status ⊎ FailsBytes bytes output errors status
+    pub is_complete : Bool
+    pub forwards : ForwardsBytes bytes output forwarded is_complete
+    pub says : EndsBytesOut is_complete errors status
 
 -- | all of a stream that was written with edits: below 2^64 bytes it is accepted, and these are the bytes of the edited
 --   one
