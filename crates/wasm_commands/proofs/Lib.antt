@@ -1,5 +1,7 @@
 pub mod Choosing
 pub mod Coloring
+pub mod Editing
+pub mod Finding
 pub mod Headings
 pub mod Parsing
 pub mod Running
@@ -7,3 +9,4 @@ pub mod Refusing
 pub mod Showing
 pub mod Stopping
 pub mod Turns
+pub mod Walks

@@ -5,11 +5,14 @@ pub mod Colors
 pub mod Commands
 pub mod DumpRuns
 pub mod EditsTwice
+pub mod Finding
 pub mod Formats
 pub mod Messages
 pub mod Options
 pub mod Parsing
 pub mod Reasons
 pub mod Refusals
+pub mod RewriteCommands
+pub mod Rewrites
 pub mod Shows
 pub mod Systems

@@ -1,6 +1,11 @@
 // The command `producers`: shows or changes what a module was produced with.
-ghost use Rattle.std.specs.Prelude.{◌≡◌, ◌<◌, ◌^◌, ◌++◌, OnOk};
+ghost use Rattle.std.specs.Prelude.{◌≡◌, ◌<◌, ◌^◌, ◌++◌, IfOk, OnOk, is_some};
+ghost use Rattle.wasm_commands.specs.ArgumentLists.{values_in};
+ghost use Rattle.wasm_commands.specs.Parsing.{reads_of, texts};
+ghost use Rattle.wasm_commands.specs.RewriteCommands.{FindsChange, IfAllocated, SetsData, SetsFile, SetsNew, SetsProducers, edit_that_sets, is_setting, no_setting, wrong_setting};
+ghost use Rattle.wasm_commands.specs.declared.options.Flag.TheVariants as option;
 ghost use Rattle.wasm_feed.specs.Encoded.{encoded};
+ghost use Rattle.wasm_text.specs.Calls.{device_of, writer_device};
 
 use crate::arguments::Arguments;
 use crate::dump::show;
@@ -36,7 +41,9 @@ struct Field<'a> {
 }
 
 // Parses `FIELD=NAME` or `FIELD=NAME:VERSION`.
-fn parse_setting(word: &str) -> Option<Setting<'_>> {
+fn parse_setting(word: &str) -> Option<Setting<'_>>
+    ensures { is_some result ≡ is_setting word.now }
+{
     let (field, value) = word.split_once('=')?;
     if !matches!(field, "language" | "processed-by" | "sdk") {
         return None;
@@ -50,13 +57,17 @@ fn parse_setting(word: &str) -> Option<Setting<'_>> {
 fn parse_settings<'a>(
     alloc: Global,
     words: &[&'a str],
-) -> Result<Result<Vec<Setting<'a>>, &'a str>, AllocError> {
+) -> Result<Result<Vec<Setting<'a>>, &'a str>, AllocError>
+    ensures { IfOk result (λ parsed. wrong_setting parsed ≡ no_setting (texts words.now)) }
+{
     let mut settings = Vec::new(alloc);
-    for word in words {
+    let mut rest = words;
+    'words: while let [word, more @ ..] = rest {
         match parse_setting(word) {
             Some(setting) => settings.push(setting)?,
             None => return Ok(Err(word)),
         }
+        rest = more;
     }
     Ok(Ok(settings))
 }
@@ -192,6 +203,104 @@ fn changed_data<'a>(
     Ok(Ok(data_of(alloc, &fields)?))
 }
 
+// Returns the edit that sets a section.
+fn setting_edit<'a>(is_there: bool, new: NewSection<'a>) -> Edit<'a>
+    ensures { result ≡ edit_that_sets is_there new.entry }
+{
+    if is_there {
+        Edit::Replace(new)
+    } else {
+        Edit::Append(new)
+    }
+}
+
+// Writes a stream with a new section, in place of those with its name if there are any. Returns the exit status.
+fn write_new<S: System, W: Write, E: Sink>(
+    alloc: Global,
+    is_there: bool,
+    new: NewSection<'_>,
+    original: &Original<'_>,
+    arguments: &Arguments<'_>,
+    system: &S,
+    output: &mut WriteSink<W>,
+    errors: &mut E,
+) -> u8
+    ensures { SetsNew S.System S.Input.Source S.Output.Sink system.now (reads_of arguments.now)
+        (writer_device W.contents output.old output.new) output.new.forwarded
+        (device_of E.taken E.has_failed errors.old errors.new) is_there new.entry original.now
+        result }
+{
+    let edits = [setting_edit(is_there, new)];
+    if all_fit(&edits) {
+        write_edited(alloc, &edits, original, arguments, system, output, errors)
+    } else {
+        complain(Complaint::TooLarge(Verb::Producers, new.name), errors)
+    }
+}
+
+// Writes a stream with new data of the section. Returns the exit status.
+fn write_set<S: System, W: Write, E: Sink>(
+    alloc: Global,
+    is_there: bool,
+    bytes: &[u8],
+    original: &Original<'_>,
+    arguments: &Arguments<'_>,
+    system: &S,
+    output: &mut WriteSink<W>,
+    errors: &mut E,
+) -> u8
+    ensures { SetsData S.System S.Input.Source S.Output.Sink system.now (reads_of arguments.now)
+        (writer_device W.contents output.old output.new) output.new.forwarded
+        (device_of E.taken E.has_failed errors.old errors.new) is_there original.now result }
+{
+    let new = NewSection {
+        name: NAME,
+        data: bytes,
+    };
+    write_new(
+        alloc, is_there, new, original, arguments, system, output, errors,
+    )
+}
+
+// New data of the section, and whether the stream has one that they replace.
+#[derive(Drop)]
+struct NewData {
+    is_there: bool,
+    bytes: Vec<u8>,
+}
+
+// Returns the new data of the section of a stream.
+fn change_of(
+    alloc: Global,
+    bytes: &[u8],
+    settings: &[Setting<'_>],
+) -> Result<ParserResult<NewData>, AllocError>
+    ensures { IfOk result (λ change. FindsChange bytes.now change) }
+{
+    let wanted = Wanted {
+        name: NAME,
+        before: 0,
+    };
+    let section = match find(bytes, wanted) {
+        Ok(section) => section,
+        Err(error) => return Ok(Err(error)),
+    };
+    let bytes = match changed_data(alloc, &section, settings)? {
+        Ok(bytes) => bytes,
+        Err(error) => return Ok(Err(error)),
+    };
+    match section {
+        Some(_) => Ok(Ok(NewData {
+            is_there: true,
+            bytes,
+        })),
+        None => Ok(Ok(NewData {
+            is_there: false,
+            bytes,
+        })),
+    }
+}
+
 // Writes a file with these settings. Returns the exit status.
 fn change<S: System, W: Write, E: Sink>(
     alloc: Global,
@@ -201,43 +310,40 @@ fn change<S: System, W: Write, E: Sink>(
     system: &S,
     output: &mut WriteSink<W>,
     errors: &mut E,
-) -> Result<u8, AllocError> {
+) -> Result<u8, AllocError>
+    ensures { IfAllocated (SetsFile S.System S.Input.Source S.Output.Sink system.now
+        (reads_of arguments.now) (writer_device W.contents output.old output.new)
+        output.new.forwarded (device_of E.taken E.has_failed errors.old errors.new) name.now)
+        (writer_device W.contents output.old output.new)
+        (device_of E.taken E.has_failed errors.old errors.new) result }
+{
     let bytes = match hold(alloc, name, system, errors) {
         Ok(bytes) => bytes,
         Err(status) => return Ok(status),
     };
-    let wanted = Wanted {
-        name: NAME,
-        before: 0,
-    };
-    let section = match find(&bytes, wanted) {
-        Ok(section) => section,
+    let change = match change_of(alloc, &bytes, settings)? {
+        Ok(change) => change,
         Err(error) => return Ok(report_fault(alloc, error, errors)),
     };
-    let data = match changed_data(alloc, &section, settings)? {
-        Ok(data) => data,
-        Err(error) => return Ok(report_fault(alloc, error, errors)),
-    };
-    let new = NewSection {
-        name: NAME,
-        data: data.as_slice(),
-    };
-    let edits = [match section {
-        Some(_) => Edit::Replace(new),
-        None => Edit::Append(new),
-    }];
-    if !all_fit(&edits) {
-        return Ok(complain(Complaint::TooLarge(Verb::Producers, NAME), errors));
-    }
     let original = Original {
         name,
         held: Some(bytes),
         is_checked: false,
     };
-    Ok(write_edited(alloc, &edits, &original, arguments, system, output, errors))
+    let new = change.bytes.as_slice();
+    Ok(write_set(
+        alloc,
+        change.is_there,
+        new,
+        &original,
+        arguments,
+        system,
+        output,
+        errors,
+    ))
 }
 
-// Sets the tools of a module. Returns the exit status.
+// Runs `producers` with these values of `--set`. Returns the exit status.
 fn set_all<S: System, W: Write, E: Sink>(
     alloc: Global,
     words: &[&str],
@@ -245,7 +351,16 @@ fn set_all<S: System, W: Write, E: Sink>(
     system: &S,
     output: &mut WriteSink<W>,
     errors: &mut E,
-) -> Result<u8, AllocError> {
+) -> Result<u8, AllocError>
+    requires { texts words.now ≡ values_in option.Set (reads_of arguments.now) }
+    // Proved: `producers --set` reads the file that is named, or standard input, and writes it with
+    //   a `producers` section in place of the first one, or at the end, to the output or to the file
+    //   of `--output`, which is replaced only if all was written; or it says why not. What the new
+    //   section holds is not stated [`set_all` (`SetsProducers`)]
+    ensures { SetsProducers S.System S.Input.Source S.Output.Sink system.now (reads_of arguments.now)
+        (writer_device W.contents output.old output.new) output.new.forwarded
+        (device_of E.taken E.has_failed errors.old errors.new) result }
+{
     let settings = match parse_settings(alloc, words)? {
         Ok(settings) => settings,
         Err(word) => {

@@ -1,0 +1,169 @@
+-- Streams that are written with edits, devices that are left alone, and what a status says.
+use Rattle.std.proofs.Common.{◌≡◌, ◌==◌, inl, inr, Vec, Global, ℕ, Bool, true, false, List, ◌++◌, Option, Some, None, Result, Ok, Err, ap, refl, subst, sym}
+use Rattle.std.proofs.Common.{length, take, take_all, le_refl, All, IsTrue, ◌↔◌, [], ◌∷◌}
+use Rattle.std.proofs.lemmas.List.Elements.{All-cons, All-nil}
+use Rattle.std.specs.Io.KnownBytes.{Appends, Consumes, Keeps}
+use Rattle.std.proofs.KnownBytes.{Appends-kept, Appends-trans}
+use Rattle.wasm_base.specs.FaultAt.{fault_at}
+use Rattle.wasm_base.specs.declared.error.Error.{Error}
+use Rattle.wasm_base.specs.declared.fault.Fault.TheVariants.{OutOfMemory}
+use Rattle.wasm_feed.specs.EditStream.{EditsParts, EditsSource, EndsEdit, WritesNew, ended_by}
+use Rattle.wasm_feed.specs.Edits.{CanBeMade, edited_bytes, new_bytes}
+use Rattle.wasm_feed.specs.Encoded.{Fits}
+use Rattle.wasm_feed.specs.declared.encoding.NewSection.{NewSection}
+use Rattle.wasm_feed.specs.declared.edits.Edit.{Edit}
+use Rattle.wasm_feed.specs.Stripped.{EndsWithFault, RefusesToStrip}
+use Rattle.wasm_grammar.specs.Accepted.{IsAccepted}
+use Rattle.wasm_text.specs.Calls.{Device}
+use Rattle.wasm_text.specs.declared.devices.ListError.{ListError}
+use Rattle.wasm_text.specs.declared.devices.ListError.TheVariants.{Input, Output, Memory}
+use Rattle.wasm_text.specs.declared.devices.sink.Sink.{Ghosts as SinkOf}
+use Rattle.wasm_text.specs.declared.devices.source.Source.{Ghosts as SourceOf}
+use Rattle.wasm_feeder.specs.declared.turns.Ended.{Ended}
+use Rattle.wasm_feeder.specs.declared.turns.Ended.TheVariants.{End, Fault}
+use Rattle.wasm_console.specs.Devices.{IsUntouched}
+use Rattle.wasm_commands.specs.EditsTwice.{EditsTwice, GoesOnAs}
+use Rattle.wasm_commands.specs.Rewrites.{EndsBytes, EditsBy, EditsFile, EditsOriginal, EndsFile, IsWritten, WritesAll, input_device, is_whole}
+use Rattle.wasm_commands.specs.RewriteCommands.{edit_that_sets}
+use Rattle.wasm_commands.specs.declared.reasons.Cause.{Cause}
+use Rattle.wasm_commands.specs.declared.rewriting.Original.{Original}
+use Rattle.wasm_commands.specs.declared.system.System.{Ghosts as SystemOf}
+
+-- a stream that is refused, but not since memory ran out
+pub not_accepted : (stream : List ℕ) (e : Error) → RefusesToStrip stream e → ((fault_at e).fault ≡ OutOfMemory → ⊥)
+    → (¬ IsAccepted stream) × EndsWithFault stream e
+not_accepted stream e r n =
+    let refused : ¬ IsAccepted stream = λ a. n (ap (λ f. f.fault) (r.memory a)) in (refused, r.fault refused)
+
+-- what happens to a device that was left alone before
+pub untouched_before : (P : Device → Type 0) (a b c : Option (List ℕ)) (f g h : Bool)
+    → IsUntouched (record { before = a; after = b; had_failed = f; has_failed = g })
+    → P (record { before = b; after = c; had_failed = g; has_failed = h })
+    → P (record { before = a; after = c; had_failed = f; has_failed = h })
+untouched_before P a b c f g h u p =
+    subst (λ x. P (record { before = x; after = c; had_failed = f; has_failed = h })) u.bytes
+    (subst (λ x. P (record { before = b; after = c; had_failed = x; has_failed = h })) u.failed p)
+
+-- ---- a stream that was written to its end
+
+-- what was written of the sections that are appended
+new_written : (edits : List Edit) (output : Device) (r : Result (Unit {0}) ListError) → WritesNew edits output r → Ok End ≡ ended_by r
+    → Appends output.before output.after (new_bytes edits)
+new_written edits output (Ok done) w is = w.writes
+new_written edits output (Err e) w is = absurd cc
+
+-- a source that was edited to its end
+module _ (edits : List Edit) (input output : Device) (middle : Option (List ℕ)) (failed : Bool) where
+  all_parts : (parts : Result Ended ListError) → EditsParts edits input (record output { after = middle; has_failed = failed }) parts
+      → EndsEdit edits parts (record output { before = middle; had_failed = failed }) (Ok End)
+      → (stream : List ℕ) × Consumes input.before input.after stream × WritesAll edits stream output
+  all_parts (Ok End) e ends =
+      let s = e.parts in (
+        s.given,
+        s.gave,
+        record {
+          bytes = (edited_bytes edits s.first ++ s.partial) ++ new_bytes edits;
+          is_edited = s.is_edited refl;
+          wrote = Appends-trans output.before middle output.after (edited_bytes edits s.first ++ s.partial) (new_bytes edits) s.wrote
+              (new_written edits (record output { before = middle; had_failed = failed }) ends.0 ends.1 ends.2);
+        },
+      )
+  all_parts (Ok (Fault f)) e ends = absurd (let is = ends.2 in cc)
+  all_parts (Err why) e ends = absurd (let is = ends.2 in cc)
+
+pub all_edited : (edits : List Edit) (input output : Device) → EditsSource edits input output (Ok End)
+    → (stream : List ℕ) × Consumes input.before input.after stream × WritesAll edits stream output
+all_edited edits input output s = all_parts edits input output s.middle s.failed s.parts s.edited s.ends
+
+-- the second reading of a file that was edited to its end
+pub all_twice : (edits : List Edit) (first second output : Device) → EditsTwice edits first second output (Ok End)
+    → EditsSource edits second output (Ok End)
+all_twice edits first second output t = by_first t.checked t.goes_on
+  where
+    by_first : (checked : Result Ended ListError) → GoesOnAs edits checked second output (Ok End)
+        → EditsSource edits second output (Ok End)
+    by_first (Ok End) g = g
+    by_first (Ok (Fault f)) g = absurd (let is = g.2 in cc)
+    by_first (Err why) g = absurd (let is = g.2 in cc)
+
+-- a stream that was written to its end, by what is held of it
+module _ {S I O : Type 0} (calls : SystemOf S I O) (sources : SourceOf I) (sinks : SinkOf O) (system : S) (edits : List Edit)
+    (original : Original) (output : Device) where
+  by_checked : (is_checked : Bool) → original.held ≡ None
+      → EditsFile calls sources sinks system edits original.name.now is_checked output (Ok End)
+      → IsWritten calls sources sinks system edits original output
+  by_checked true is e =
+      let all = all_edited edits (input_device calls sources sinks system e.opened e.rest) output e.writes in
+      record {
+        stream = all.0;
+        given = rw is (record { opened = e.opened; rest = e.rest; opens = e.opens; gave = all.1 });
+        written = all.2;
+      }
+  by_checked false is e =
+      let again = all_twice edits (input_device calls sources sinks system e.first e.first_rest)
+      (input_device calls sources sinks system e.second e.second_rest) output e.writes in
+      let all = all_edited edits (input_device calls sources sinks system e.second e.second_rest) output again in
+      record {
+        stream = all.0;
+        given = rw is (record { opened = e.second; rest = e.second_rest; opens = e.reopens; gave = all.1 });
+        written = all.2;
+      }
+
+  by_held : (held : Option (Vec ℕ Global)) → original.held ≡ held
+      → EditsBy calls sources sinks system edits original held output (Ok End)
+      → IsWritten calls sources sinks system edits original output
+  by_held None is e = by_checked original.is_checked is e
+  by_held (Some held) is e =
+      let w = e.writes in
+      record {
+        stream = held.items;
+        given = rw is refl;
+        written = record { bytes = w.0; is_edited = λ s. w.1; wrote = w.2 };
+      }
+
+  pub whole_written : (edited : Result (Result Ended ListError) Cause)
+      → EditsOriginal calls sources sinks system edits original output edited → is_whole edited ≡ true
+      → IsWritten calls sources sinks system edits original output
+  whole_written (Ok (Ok End)) e is = by_held original.held refl e
+  whole_written (Ok (Ok (Fault f))) e is = absurd cc
+  whole_written (Ok (Err why)) e is = absurd cc
+  whole_written (Err cause) e is = absurd cc
+
+-- the status of a run that wrote a file is 0 exactly if the stream was written to its end
+pub zero_if_whole : (name target : List ℕ) (edited : Result (Result Ended ListError) Cause) (errors : Device) (status : ℕ)
+    → EndsFile name target edited errors status → (status == 0) ≡ is_whole edited
+zero_if_whole name target (Ok (Ok End)) errors status e = rw e.0 refl
+zero_if_whole name target (Ok (Ok (Fault f))) errors status (inl told) = rw told.answers refl
+zero_if_whole name target (Ok (Ok (Fault f))) errors status (inr up) = rw up.answers refl
+zero_if_whole name target (Ok (Err Input)) errors status e = rw e.gives_up.answers refl
+zero_if_whole name target (Ok (Err Output)) errors status e = rw e.gives_up.answers refl
+zero_if_whole name target (Ok (Err Memory)) errors status e = rw e.gives_up.answers refl
+zero_if_whole name target (Err cause) errors status e = rw e.answers refl
+
+-- ---- bytes that were written as they are
+
+pub zero_if_complete : (target : List ℕ) (is_complete : Bool) (errors : Device) (status : ℕ)
+    → EndsBytes target is_complete errors status → (status == 0) ≡ is_complete
+zero_if_complete target true errors status e = rw e.0 refl
+zero_if_complete target false errors status e = rw e.gives_up.answers refl
+
+-- all bytes were written, and then the output failed
+pub all_but_flushed : (a b c : Option (List ℕ)) (bytes : List ℕ) → Appends a b bytes → Keeps b c → (n : ℕ) × Appends a c (take n bytes)
+all_but_flushed a b c bytes w k = (
+  length bytes,
+  subst (Appends a c) (sym (take_all (length bytes) bytes (le_refl (length bytes)))) (Appends-kept a b c bytes w k),
+)
+
+-- ---- a section that is set
+
+can_be_set : (is_there : Bool) (new : NewSection) → Fits new → CanBeMade (edit_that_sets is_there new)
+can_be_set true new f = f
+can_be_set false new f = f
+
+-- An edit that cannot be made has a section that does not fit.
+pub not_fitting : (is_there : Bool) (new : NewSection) (e : Edit) → e ≡ edit_that_sets is_there new → (fits : Bool)
+    → IsTrue fits ↔ All CanBeMade (e ∷ []) → fits ≡ false → ¬ Fits new
+not_fitting is_there new e same true i is = absurd cc
+not_fitting is_there new e same false i is = λ f.
+    let t : false ≡ true =
+    i.1 (All-cons CanBeMade e [] (subst CanBeMade (sym same) (can_be_set is_there new f)) (All-nil CanBeMade)) in cc

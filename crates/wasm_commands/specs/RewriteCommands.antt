@@ -1,0 +1,250 @@
+-- What the commands that write a stream do, by their arguments.
+use Rattle.std.specs.Prelude.{◌≡◌, ◌⊎◌, ℕ, ◌+◌, ◌<◌, ◌^◌, Bool, true, false, ◌||◌, List, [], ◌∷◌, ◌++◌, codes, bytes_eq}
+use Rattle.std.specs.Prelude.{length, nat_lt, Option, Some, None, is_some, Vec, Result, Ok, Err, if◌then◌else◌}
+use Rattle.std.specs.Borrow.{Bor}
+use Rattle.std.specs.List.{before_first, position_or_len}
+use Rattle.std.specs.declared.alloc.Global.{Global}
+use Rattle.std.specs.Str.Parse.{IsNumeral, digits_value, without_leading_plus}
+use Rattle.std.specs.declared.alloc.AllocError.{AllocError}
+use Rattle.wasm_base.specs.Window.{place}
+use Rattle.wasm_base.specs.declared.error.Error.{Error}
+use Rattle.wasm_custom.specs.Custom.{Custom}
+use Rattle.wasm_text.specs.Calls.{Device}
+use Rattle.wasm_text.specs.Messages.{Says}
+use Rattle.wasm_text.specs.declared.devices.sink.Sink.{Ghosts as SinkOf}
+use Rattle.wasm_text.specs.declared.devices.source.Source.{Ghosts as SourceOf}
+use Rattle.wasm_feed.specs.Encoded.{Fits}
+use Rattle.wasm_feed.specs.declared.edits.Edit.{Edit}
+use Rattle.wasm_feed.specs.declared.edits.Edit.TheVariants as edit
+use Rattle.wasm_feed.specs.declared.encoding.NewSection.{NewSection}
+use Rattle.wasm_feeder.specs.declared.fates.Keep.{Keep}
+use Rattle.wasm_console.specs.Devices.{IsUntouched}
+use Rattle.wasm_console.specs.Strips.{Refuses}
+use Rattle.wasm_commands.specs.ArgumentLists.{Read, has_option, is_equals, last_value, operands_in, values_in}
+use Rattle.wasm_commands.specs.Finding.{FindsSection}
+use Rattle.wasm_commands.specs.Messages.{about_word, command_text, missing_text}
+use Rattle.wasm_commands.specs.Parsing.{texts}
+use Rattle.wasm_commands.specs.Rewrites.{CannotHold, ChangesFile, Gave, WritesBytesTo, WritesTo, target_in}
+use Rattle.wasm_commands.specs.declared.options.Flag.TheVariants as option
+use Rattle.wasm_commands.specs.declared.options.Verb.{Verb}
+use Rattle.wasm_commands.specs.declared.options.Verb.TheVariants as verb
+use Rattle.wasm_commands.specs.declared.producers.NewData.{NewData}
+use Rattle.wasm_commands.specs.declared.rewriting.Original.{Original}
+use Rattle.wasm_commands.specs.declared.system.System.{Ghosts as SystemOf}
+
+-- The arguments were refused with this message: the status is 2, and the output was left alone.
+pub record RefusesWords (text : List ℕ) (output errors : Device) (status : ℕ) : Type 0 where
+  pub answers : status ≡ 2
+  pub says : Says errors text
+  pub sink : IsUntouched output
+
+-- an argument after those that a command takes
+abbrev pub extra_text : Verb → (word : List ℕ) → List ℕ
+extra_text verb word = about_word verb (codes "unexpected argument '") word (codes "'")
+
+-- what is said of a wrong value of an option
+abbrev pub wrong_value_text : Verb → (option value : List ℕ) → List ℕ
+wrong_value_text verb option value = command_text verb ++ (codes ": wrong value '" ++ (value
+    ++ (codes "' of option '" ++ (option ++ codes "'\n"))))
+
+abbrev pub too_large_text : Verb → (name : List ℕ) → List ℕ
+too_large_text verb name = command_text verb ++ (codes ": section '" ++ (name ++ codes "' is too large\n"))
+
+-- An allocation failed before anything was read or written.
+abbrev pub LeavesAll : (output errors : Device) → Type 0
+LeavesAll output errors = IsUntouched output × IsUntouched errors
+
+-- what a command does, unless an allocation failed before anything was written
+abbrev pub IfAllocated : (does : ℕ → Type 0) → (output errors : Device) → Result ℕ AllocError → Type 0
+IfAllocated does output errors (Ok status) = does status
+IfAllocated does output errors (Err e) = LeavesAll output errors
+
+-- These sections stay by the options of `strip`.
+pub record IsKept (reads : List Read) (keep : Keep) : Type 0 where
+  pub names : keep.names ≡ has_option option.KeepNames reads
+  pub kept : texts keep.kept.now ≡ values_in option.Keep reads
+  pub removed : texts keep.removed.now ≡ values_in option.Only reads
+
+-- the number that a word is: decimal digits, with an optional plus before them
+abbrev pub number_in : (word : List ℕ) → ℕ
+number_in word = digits_value 10 (without_leading_plus word)
+
+-- a value that `--index` takes: a number from 1 on that fits 64 bits
+abbrev pub IsIndex : (word : List ℕ) → Type 0
+IsIndex word = IsNumeral 10 (without_leading_plus word) × (0 < number_in word) × (number_in word < 2 ^ 64)
+
+-- The wanted section comes after this many others with its name, by `--index`; or the value of that is wrong.
+abbrev pub Skips : (index : Option (Option (List ℕ))) → Option ℕ → Type 0
+Skips None skips = skips ≡ Some 0
+Skips (Some None) skips = skips ≡ Some 0
+Skips (Some (Some word)) (Some skips) = IsIndex word × (number_in word ≡ skips + 1)
+Skips (Some (Some word)) None = ¬ IsIndex word
+
+-- the value of an option that has one
+abbrev pub value_text : Option (Option (List ℕ)) → List ℕ
+value_text (Some (Some word)) = word
+value_text (Some None) = []
+value_text None = []
+
+-- ---- `producers --set`
+
+-- the field that a value of `--set` names, and what it sets in it: `FIELD=NAME` or `FIELD=NAME:VERSION`
+abbrev pub is_field : (field : List ℕ) → Bool
+is_field field = bytes_eq field (codes "language") || (bytes_eq field (codes "processed-by") || bytes_eq field (codes "sdk"))
+
+-- whether a word is a value of `--set`: it has an `=`, and before that the name of a field
+abbrev pub is_setting : (word : List ℕ) → Bool
+is_setting word =
+    if nat_lt (position_or_len is_equals word) (length word) then is_field (before_first is_equals word) else false
+
+-- the first word that is none
+abbrev pub no_setting : (words : List (List ℕ)) → Option (List ℕ)
+no_setting [] = None
+no_setting (word ∷ words) = if is_setting word then no_setting words else Some word
+
+-- the first word that was refused
+abbrev pub wrong_setting : {A : Type 0} → Result A (Bor (List ℕ)) → Option (List ℕ)
+wrong_setting (Ok settings) = None
+wrong_setting (Err word) = Some word.now
+
+-- the edit that sets a section: it is replaced where there is one with its name, and else appended
+abbrev pub edit_that_sets : (is_there : Bool) → NewSection → Edit
+edit_that_sets true new = edit.Replace new
+edit_that_sets false new = edit.Append new
+
+-- These bytes are held of the file.
+abbrev pub AreHeld : Option (Vec ℕ Global) → (stream : List ℕ) → Type 0
+AreHeld None stream = ⊥
+AreHeld (Some held) stream = held.items ≡ stream
+
+-- a stream that was read into memory
+pub record IsHeldOriginal (name stream : List ℕ) (original : Original) : Type 0 where
+  pub named : original.name.now ≡ name
+  pub held : AreHeld original.held stream
+
+-- The first section with producers was found, and new data of it made from the one that is there; or the stream has a
+-- fault before it, or the section itself.
+abbrev pub FindsChange : (stream : List ℕ) → Result NewData Error → Type 0
+FindsChange stream (Ok change) =
+    (found : Option Custom) × FindsSection (codes "producers") 0 stream (Ok found) × (change.is_there ≡ is_some found)
+FindsChange stream (Err e) = FindsSection (codes "producers") 0 stream (Err e)
+    ⊎ ((found : Option Custom) × FindsSection (codes "producers") 0 stream (Ok found))
+
+module _ {S I O : Type 0} (calls : SystemOf S I O) (sources : SourceOf I) (sinks : SinkOf O) (system : S)
+    (reads : List Read) (output : Device) (forwarded : Bool) (errors : Device) where
+  -- The sections of a file stay that are to be kept, and other custom sections are removed.
+  pub record StripsFile (name : List ℕ) (status : ℕ) : Type 0 where
+    pub keep : Keep
+    pub kept : IsKept reads keep
+    pub changes : ChangesFile calls sources sinks system (edit.Keep keep ∷ []) name reads output forwarded errors status
+
+  -- `strip` takes at most one file, and without one reads standard input.
+  abbrev pub StripsOperands : (operands : List (List ℕ)) (status : ℕ) → Type 0
+  StripsOperands [] status = StripsFile (codes "-") status
+  StripsOperands (name ∷ []) status = StripsFile name status
+  StripsOperands (name ∷ (extra ∷ more)) status = RefusesWords (extra_text verb.Strip extra) output errors status
+
+  -- | the command `strip`: the file or standard input, the sections that stay by `--keep`, `--only` and `--keep-names`,
+  --   and where the stream is written
+  abbrev pub Strips : Result ℕ AllocError → Type 0
+  Strips (Ok status) = StripsOperands (operands_in reads) status
+  Strips (Err e) = LeavesAll output errors
+
+  -- what was written of a section that was found, or said of one that was not
+  abbrev pub EndsExtract : (wanted name : List ℕ) → Result (Option Custom) Error → (status : ℕ) → Type 0
+  EndsExtract wanted name (Ok (Some section)) status = WritesBytesTo calls sources sinks system
+      (place section.reader).rest name (target_in reads) output forwarded errors status
+  EndsExtract wanted name (Ok None) status =
+      (status ≡ 1) × Says errors (missing_text verb.Extract name wanted) × IsUntouched output
+  EndsExtract wanted name (Err e) status = Refuses e errors status × IsUntouched output
+
+  -- The file was read, and the data of the section written, if it has it before its first fault.
+  pub record ExtractsHeld (wanted : List ℕ) (skips : ℕ) (name : List ℕ) (status : ℕ) : Type 0 where
+    pub stream : List ℕ
+    pub gave : Gave calls sources sinks system name stream
+    pub found : Result (Option Custom) Error
+    pub finds : FindsSection wanted skips stream found
+    pub ends : EndsExtract wanted name found status
+
+  abbrev pub ExtractsFrom : (wanted : List ℕ) (skips : ℕ) (name : List ℕ) (status : ℕ) → Type 0
+  ExtractsFrom wanted skips name status =
+      (CannotHold calls sources sinks system name errors status × IsUntouched output)
+      ⊎ ExtractsHeld wanted skips name status
+
+  abbrev pub ExtractsIf : (wanted : List ℕ) → (skips : Option ℕ) → (name : List ℕ) (status : ℕ) → Type 0
+  ExtractsIf wanted (Some skips) name status = ExtractsFrom wanted skips name status
+  ExtractsIf wanted None name status =
+      RefusesWords (wrong_value_text verb.Extract (codes "--index") (value_text (last_value option.Index None reads)))
+      output errors status
+
+  -- The section of this name was extracted from a file, or the value of `--index` refused.
+  pub record ExtractsFile (wanted name : List ℕ) (status : ℕ) : Type 0 where
+    pub skips : Option ℕ
+    pub index : Skips (last_value option.Index None reads) skips
+    pub extracts : ExtractsIf wanted skips name status
+
+  -- `extract` takes a name and at most one file, and without one reads standard input.
+  abbrev pub ExtractsOperands : (operands : List (List ℕ)) (status : ℕ) → Type 0
+  ExtractsOperands [] status =
+      RefusesWords (about_word verb.Extract (codes "needs ") (codes "NAME") []) output errors status
+  ExtractsOperands (wanted ∷ []) status = ExtractsFile wanted (codes "-") status
+  ExtractsOperands (wanted ∷ (name ∷ [])) status = ExtractsFile wanted name status
+  ExtractsOperands (wanted ∷ (name ∷ (extra ∷ more))) status =
+      RefusesWords (extra_text verb.Extract extra) output errors status
+
+  -- | the command `extract`: the file or standard input, the section that is found by its name and `--index`, and where
+  --   its data are written
+  abbrev pub Extracts : Result ℕ AllocError → Type 0
+  Extracts (Ok status) = ExtractsOperands (operands_in reads) status
+  Extracts (Err e) = LeavesAll output errors
+
+  -- The new section was written, or refused since it is too large.
+  abbrev pub SetsNew : (is_there : Bool) (new : NewSection) (original : Original) (status : ℕ) → Type 0
+  SetsNew is_there new original status =
+      (¬ Fits new × RefusesWords (too_large_text verb.Producers new.name.now) output errors status)
+      ⊎ WritesTo calls sources sinks system (edit_that_sets is_there new ∷ []) original (target_in reads) output forwarded
+      errors status
+
+  -- The section was set to new data.
+  pub record SetsData (is_there : Bool) (original : Original) (status : ℕ) : Type 0 where
+    pub new : NewSection
+    pub named : new.name.now ≡ codes "producers"
+    pub sets : SetsNew is_there new original status
+
+  -- The stream was written with the section set.
+  pub record SetsSection (name stream : List ℕ) (is_there : Bool) (status : ℕ) : Type 0 where
+    pub original : Original
+    pub held : IsHeldOriginal name stream original
+    pub sets : SetsData is_there original status
+
+  abbrev pub EndsSetting : (name stream : List ℕ) → Result NewData Error → (status : ℕ) → Type 0
+  EndsSetting name stream (Ok change) status = SetsSection name stream change.is_there status
+  EndsSetting name stream (Err e) status = Refuses e errors status × IsUntouched output
+
+  -- The file was read, its first section with producers found, and set.
+  pub record SetsHeld (name : List ℕ) (status : ℕ) : Type 0 where
+    pub stream : List ℕ
+    pub gave : Gave calls sources sinks system name stream
+    pub change : Result NewData Error
+    pub finds : FindsChange stream change
+    pub ends : EndsSetting name stream change status
+
+  abbrev pub SetsFile : (name : List ℕ) (status : ℕ) → Type 0
+  SetsFile name status =
+      (CannotHold calls sources sinks system name errors status × IsUntouched output) ⊎ SetsHeld name status
+
+  -- `producers --set` takes at most one file, and without one reads standard input.
+  abbrev pub SetsOperands : (operands : List (List ℕ)) (status : ℕ) → Type 0
+  SetsOperands [] status = SetsFile (codes "-") status
+  SetsOperands (name ∷ []) status = SetsFile name status
+  SetsOperands (name ∷ (extra ∷ more)) status = RefusesWords (extra_text verb.Producers extra) output errors status
+
+  abbrev pub SetsIf : Option (List ℕ) → (status : ℕ) → Type 0
+  SetsIf (Some word) status =
+      RefusesWords (wrong_value_text verb.Producers (codes "--set") word) output errors status
+  SetsIf None status = SetsOperands (operands_in reads) status
+
+  -- | the command `producers --set`: the file or standard input, the section that is set, and where the stream is
+  --   written. The new data of the section are not stated
+  abbrev pub SetsProducers : Result ℕ AllocError → Type 0
+  SetsProducers result = IfAllocated (SetsIf (no_setting (values_in option.Set reads))) output errors result
