@@ -1,18 +1,19 @@
 -- What the commands of the program do with files and devices.
-use Rattle.std.specs.Prelude.{◌≡◌, ◌⊎◌, ℕ, Bool, false, List, [], ◌∷◌, codes, map, string_bytes}
+use Rattle.std.specs.Prelude.{◌≡◌, ◌⊎◌, ℕ, Bool, true, false, List, [], ◌∷◌, codes, map, string_bytes}
 use Rattle.std.specs.Prelude.{Option, Some, None, Result, Ok, Err}
 use Rattle.std.specs.declared.alloc.AllocError.{AllocError}
 use Rattle.std.specs.declared.io.Error.{Error}
-use Rattle.wasm_commands.specs.ArgumentLists.{Read, Wrong, arguments_of, has_option}
+use Rattle.wasm_commands.specs.ArgumentLists.{Read, Wrong, arguments_of, has_option, values_in}
 use Rattle.wasm_commands.specs.Checks.{ChecksFiles}
-use Rattle.wasm_commands.specs.Messages.{complaint_text}
+use Rattle.wasm_commands.specs.Messages.{about_word, complaint_text}
 use Rattle.wasm_commands.specs.Options.{verb_named}
 use Rattle.wasm_commands.specs.Refusals.{RefusesOrStops, refused_by}
+use Rattle.wasm_commands.specs.RewriteCommands.{Extracts, SetsProducers, Strips}
 use Rattle.wasm_commands.specs.Shows.{Shows}
-use Rattle.wasm_commands.specs.Systems.{Between, Platform, RefusesWith, StopsForMemory, files_on, since}
-use Rattle.wasm_commands.specs.Systems.{until}
+use Rattle.wasm_commands.specs.Systems.{Between, Platform, RefusesWith, RunsIfMemory, StopsForMemory, files_on}
+use Rattle.wasm_commands.specs.Systems.{since, until}
 use Rattle.wasm_commands.specs.declared.messages.Complaint.TheVariants as complaint
-use Rattle.wasm_commands.specs.declared.options.Flag.TheVariants.{Help, Version}
+use Rattle.wasm_commands.specs.declared.options.Flag.TheVariants.{Help, Output, Set, Version}
 use Rattle.wasm_commands.specs.declared.options.Verb.{Verb}
 use Rattle.wasm_commands.specs.declared.options.Verb.TheVariants as verb
 use Rattle.wasm_console.specs.Arguments.{IsGiven}
@@ -21,8 +22,33 @@ use Rattle.wasm_console.specs.declared.arguments.Given.TheVariants.{Words, NotUt
 use Rattle.wasm_text.specs.Calls.{Device}
 use Rattle.wasm_text.specs.Messages.{Says}
 
--- What a command does with the files that its arguments name, or that an allocation failed. Of commands that write a
--- file nothing is said.
+-- what is said of `--output` without `--set`
+abbrev pub set_is_missing : List ℕ
+set_is_missing = about_word verb.Producers (codes "needs ") (codes "--set with --output") []
+
+-- what `producers` without `--set` does: it shows a section, and refuses `--output`
+abbrev pub ShowsProducers : Platform → (has_output : Bool) → List Read → (output errors : Device)
+    → Result ℕ AllocError → Type 0
+ShowsProducers p true reads output errors result = RunsIfMemory (RefusesWith set_is_missing) output errors result
+ShowsProducers p false reads output errors result =
+    Shows (files_on p) (p.calls.shows p.system) verb.Producers reads output errors result
+
+-- what `producers` does, by the values of `--set`
+abbrev pub ProducersBy : Platform → (settings : List (List ℕ)) → List Read → (output : Device) (forwarded : Bool)
+    (errors : Device) → Result ℕ AllocError → Type 0
+ProducersBy p [] reads output forwarded errors result =
+    ShowsProducers p (has_option Output reads) reads output errors result
+ProducersBy p (word ∷ words) reads output forwarded errors result =
+    SetsProducers p.calls p.sources p.sinks p.system reads output forwarded errors result
+
+-- | the command `producers`: it shows the section, or sets it [`ProducersBy`]
+-- what `producers` does
+abbrev pub Produces : Platform → List Read → (output : Device) (forwarded : Bool) (errors : Device)
+    → Result ℕ AllocError → Type 0
+Produces p reads output forwarded errors result =
+    ProducersBy p (values_in Set reads) reads output forwarded errors result
+
+-- What a command does with the files that its arguments name, or that an allocation failed. Of `add` nothing is said.
 abbrev pub RunsCommand : Platform → Verb → List Read → (output : Device) (forwarded : Bool) (errors : Device)
     → Result ℕ AllocError → Type 0
 RunsCommand p verb.Check reads output forwarded errors result =
@@ -31,6 +57,11 @@ RunsCommand p verb.List reads output forwarded errors result =
     Shows (files_on p) (p.calls.shows p.system) verb.List reads output errors result
 RunsCommand p verb.Dump reads output forwarded errors result =
     Shows (files_on p) (p.calls.shows p.system) verb.Dump reads output errors result
+RunsCommand p verb.Strip reads output forwarded errors result =
+    Strips p.calls p.sources p.sinks p.system reads output forwarded errors result
+RunsCommand p verb.Extract reads output forwarded errors result =
+    Extracts p.calls p.sources p.sinks p.system reads output forwarded errors result
+RunsCommand p verb.Producers reads output forwarded errors result = Produces p reads output forwarded errors result
 RunsCommand p other reads output forwarded errors result = Unit {0}
 
 -- The same, unless a help text or the version was asked for.

@@ -1,8 +1,10 @@
 // The command `producers`: shows or changes what a module was produced with.
 ghost use Rattle.std.specs.Prelude.{◌≡◌, ◌<◌, ◌^◌, ◌++◌, IfOk, OnOk, is_some};
-ghost use Rattle.wasm_commands.specs.ArgumentLists.{values_in};
+ghost use Rattle.wasm_commands.specs.ArgumentLists.{has_option, values_in};
+ghost use Rattle.wasm_commands.specs.Commands.{Produces, ProducersBy, ShowsProducers};
 ghost use Rattle.wasm_commands.specs.Parsing.{reads_of, texts};
 ghost use Rattle.wasm_commands.specs.RewriteCommands.{FindsChange, IfAllocated, SetsData, SetsFile, SetsNew, SetsProducers, edit_that_sets, is_setting, no_setting, wrong_setting};
+ghost use Rattle.wasm_commands.specs.Systems.{platform};
 ghost use Rattle.wasm_commands.specs.declared.options.Flag.TheVariants as option;
 ghost use Rattle.wasm_feed.specs.Encoded.{encoded};
 ghost use Rattle.wasm_text.specs.Calls.{device_of, writer_device};
@@ -377,6 +379,49 @@ fn set_all<S: System, W: Write, E: Sink>(
     change(alloc, &settings, name, arguments, system, output, errors)
 }
 
+// Shows the section, unless `--output` is given. Returns the exit status, and the output.
+fn show_section<S: System, W: Write, E: Sink>(
+    alloc: Global,
+    arguments: &Arguments<'_>,
+    system: &S,
+    output: WriteSink<W>,
+    errors: &mut E,
+) -> (Result<u8, AllocError>, WriteSink<W>)
+    ensures { ShowsProducers (platform S.System S.Input.Source S.Output.Sink system.now)
+        (has_option option.Output (reads_of arguments.now)) (reads_of arguments.now)
+        (writer_device W.contents output result.1)
+        (device_of E.taken E.has_failed errors.old errors.new) result.0 }
+{
+    if arguments.has(Flag::Output) {
+        let complaint = Complaint::Few(Verb::Producers, "--set with --output");
+        return (Ok(complain(complaint, errors)), output);
+    }
+    show(alloc, Verb::Producers, arguments, system, output, errors)
+}
+
+// Runs `producers` with these values of `--set`, if there are any. Returns the exit status, and the output.
+fn set_or_show<S: System, W: Write, E: Sink>(
+    alloc: Global,
+    words: &[&str],
+    arguments: &Arguments<'_>,
+    system: &S,
+    mut output: WriteSink<W>,
+    errors: &mut E,
+) -> (Result<u8, AllocError>, WriteSink<W>)
+    requires { texts words.now ≡ values_in option.Set (reads_of arguments.now) }
+    ensures { ProducersBy (platform S.System S.Input.Source S.Output.Sink system.now) (texts words.now)
+        (reads_of arguments.now) (writer_device W.contents output result.1)
+        result.1.forwarded (device_of E.taken E.has_failed errors.old errors.new) result.0 }
+{
+    match words {
+        [] => show_section(alloc, arguments, system, output, errors),
+        _ => {
+            let status = set_all(alloc, words, arguments, system, &mut output, errors);
+            (status, output)
+        }
+    }
+}
+
 /// Runs `producers`. Returns the exit status, and the output.
 ///
 /// # Errors
@@ -386,20 +431,15 @@ pub(crate) fn producers<S: System, W: Write, E: Sink>(
     alloc: Global,
     arguments: &Arguments<'_>,
     system: &S,
-    mut output: WriteSink<W>,
+    output: WriteSink<W>,
     errors: &mut E,
-) -> (Result<u8, AllocError>, WriteSink<W>) {
-    let words = match arguments.values(alloc, Flag::Set) {
-        Ok(words) => words,
-        Err(refused) => return (Err(refused), output),
-    };
-    if !words.is_empty() {
-        let status = set_all(alloc, &words, arguments, system, &mut output, errors);
-        return (status, output);
+) -> (Result<u8, AllocError>, WriteSink<W>)
+    ensures { Produces (platform S.System S.Input.Source S.Output.Sink system.now)
+        (reads_of arguments.now) (writer_device W.contents output result.1)
+        result.1.forwarded (device_of E.taken E.has_failed errors.old errors.new) result.0 }
+{
+    match arguments.values(alloc, Flag::Set) {
+        Ok(words) => set_or_show(alloc, &words, arguments, system, output, errors),
+        Err(refused) => (Err(refused), output),
     }
-    if arguments.has(Flag::Output) {
-        let complaint = Complaint::Few(Verb::Producers, "--set with --output");
-        return (Ok(complain(complaint, errors)), output);
-    }
-    show(alloc, Verb::Producers, arguments, system, output, errors)
 }
