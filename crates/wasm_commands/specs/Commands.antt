@@ -9,8 +9,8 @@ use Rattle.wasm_commands.specs.Messages.{complaint_text}
 use Rattle.wasm_commands.specs.Options.{verb_named}
 use Rattle.wasm_commands.specs.Refusals.{RefusesOrStops, refused_by}
 use Rattle.wasm_commands.specs.Shows.{Shows}
-use Rattle.wasm_commands.specs.Systems.{Between, Platform, RefusesWith, StopsForMemory, files_on, since}
-use Rattle.wasm_commands.specs.Systems.{until}
+use Rattle.wasm_commands.specs.Systems.{Between, ForwardsIfMemory, Platform, RefusesWith, StopsForMemory}
+use Rattle.wasm_commands.specs.Systems.{files_on, since, until}
 use Rattle.wasm_commands.specs.declared.messages.Complaint.TheVariants as complaint
 use Rattle.wasm_commands.specs.declared.options.Flag.TheVariants.{Help, Version}
 use Rattle.wasm_commands.specs.declared.options.Verb.{Verb}
@@ -26,11 +26,13 @@ use Rattle.wasm_text.specs.Messages.{Says}
 abbrev pub RunsCommand : Platform → Verb → List Read → (output : Device) (forwarded : Bool) (errors : Device)
     → Result ℕ AllocError → Type 0
 RunsCommand p verb.Check reads output forwarded errors result =
-    ChecksFiles (files_on p) reads output errors result
+    ChecksFiles (files_on p) reads output errors result × ForwardsIfMemory result forwarded
 RunsCommand p verb.List reads output forwarded errors result =
     Shows (files_on p) (p.calls.shows p.system) verb.List reads output errors result
+    × ForwardsIfMemory result forwarded
 RunsCommand p verb.Dump reads output forwarded errors result =
     Shows (files_on p) (p.calls.shows p.system) verb.Dump reads output errors result
+    × ForwardsIfMemory result forwarded
 RunsCommand p other reads output forwarded errors result = Unit {0}
 
 -- The same, unless a help text or the version was asked for.
