@@ -14,9 +14,9 @@ module _ (p : Platform) (output : Device) (forwarded : Bool) (errors : Device) (
     (silent : IsUntouched errors) where
   command_stops : (verb : Verb) (reads : List Read)
       → RunsCommand p verb reads output forwarded errors (Err refused)
-  command_stops verb.List reads = (left, silent)
-  command_stops verb.Dump reads = (left, silent)
-  command_stops verb.Check reads = (left, silent)
+  command_stops verb.List reads = ((left, silent), tt)
+  command_stops verb.Dump reads = ((left, silent), tt)
+  command_stops verb.Check reads = ((left, silent), tt)
   command_stops verb.Strip reads = tt
   command_stops verb.Extract reads = tt
   command_stops verb.Add reads = tt

@@ -10,8 +10,8 @@ use Rattle.wasm_commands.specs.Options.{verb_named}
 use Rattle.wasm_commands.specs.Refusals.{RefusesOrStops, refused_by}
 use Rattle.wasm_commands.specs.RewriteCommands.{Extracts, SetsProducers, Strips}
 use Rattle.wasm_commands.specs.Shows.{Shows}
-use Rattle.wasm_commands.specs.Systems.{Between, Platform, RefusesWith, RunsIfMemory, StopsForMemory, files_on}
-use Rattle.wasm_commands.specs.Systems.{since, until}
+use Rattle.wasm_commands.specs.Systems.{Between, ForwardsIfMemory, Platform, RefusesWith, RunsIfMemory}
+use Rattle.wasm_commands.specs.Systems.{StopsForMemory, files_on, since, until}
 use Rattle.wasm_commands.specs.declared.messages.Complaint.TheVariants as complaint
 use Rattle.wasm_commands.specs.declared.options.Flag.TheVariants.{Help, Output, Set, Version}
 use Rattle.wasm_commands.specs.declared.options.Verb.{Verb}
@@ -27,17 +27,19 @@ abbrev pub set_is_missing : List ℕ
 set_is_missing = about_word verb.Producers (codes "needs ") (codes "--set with --output") []
 
 -- what `producers` without `--set` does: it shows a section, and refuses `--output`
-abbrev pub ShowsProducers : Platform → (has_output : Bool) → List Read → (output errors : Device)
-    → Result ℕ AllocError → Type 0
-ShowsProducers p true reads output errors result = RunsIfMemory (RefusesWith set_is_missing) output errors result
-ShowsProducers p false reads output errors result =
+abbrev pub ShowsProducers : Platform → (has_output : Bool) → List Read → (output : Device) (forwarded : Bool)
+    (errors : Device) → Result ℕ AllocError → Type 0
+ShowsProducers p true reads output forwarded errors result =
+    RunsIfMemory (RefusesWith set_is_missing) output errors result
+ShowsProducers p false reads output forwarded errors result =
     Shows (files_on p) (p.calls.shows p.system) verb.Producers reads output errors result
+    × ForwardsIfMemory result forwarded
 
 -- what `producers` does, by the values of `--set`
 abbrev pub ProducersBy : Platform → (settings : List (List ℕ)) → List Read → (output : Device) (forwarded : Bool)
     (errors : Device) → Result ℕ AllocError → Type 0
 ProducersBy p [] reads output forwarded errors result =
-    ShowsProducers p (has_option Output reads) reads output errors result
+    ShowsProducers p (has_option Output reads) reads output forwarded errors result
 ProducersBy p (word ∷ words) reads output forwarded errors result =
     SetsProducers p.calls p.sources p.sinks p.system reads output forwarded errors result
 
@@ -52,11 +54,13 @@ Produces p reads output forwarded errors result =
 abbrev pub RunsCommand : Platform → Verb → List Read → (output : Device) (forwarded : Bool) (errors : Device)
     → Result ℕ AllocError → Type 0
 RunsCommand p verb.Check reads output forwarded errors result =
-    ChecksFiles (files_on p) reads output errors result
+    ChecksFiles (files_on p) reads output errors result × ForwardsIfMemory result forwarded
 RunsCommand p verb.List reads output forwarded errors result =
     Shows (files_on p) (p.calls.shows p.system) verb.List reads output errors result
+    × ForwardsIfMemory result forwarded
 RunsCommand p verb.Dump reads output forwarded errors result =
     Shows (files_on p) (p.calls.shows p.system) verb.Dump reads output errors result
+    × ForwardsIfMemory result forwarded
 RunsCommand p verb.Strip reads output forwarded errors result =
     Strips p.calls p.sources p.sinks p.system reads output forwarded errors result
 RunsCommand p verb.Extract reads output forwarded errors result =

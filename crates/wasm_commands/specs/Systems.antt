@@ -1,5 +1,5 @@
 -- What commands do with files, by what the system may return (the ghost members of `System`).
-use Rattle.std.specs.Prelude.{◌≡◌, ◌⊎◌, ℕ, max, Bool, List, [], ◌∷◌, codes, Option, Result, Ok, Err}
+use Rattle.std.specs.Prelude.{◌≡◌, ◌⊎◌, ℕ, ◌<◌, max, Bool, true, List, [], ◌∷◌, codes, Option, Result, Ok, Err}
 use Rattle.std.specs.declared.alloc.AllocError.{AllocError}
 use Rattle.wasm_commands.specs.Messages.{failure_text, file_text}
 use Rattle.wasm_commands.specs.Reasons.{reason_of}
@@ -75,6 +75,11 @@ pub record StopsForMemory (output errors : Device) (status : ℕ) : Type 0 where
   pub says : Says errors (codes "pulleynavy: out of memory\n")
   pub sink : IsUntouched output
 
+-- | that what was written to the output was forwarded [`ForwardsIfMemory`]
+-- After the status 0 or 1 what was written was forwarded.
+abbrev pub IsForwarded : (status : ℕ) (forwarded : Bool) → Type 0
+IsForwarded status forwarded = status < 2 → forwarded ≡ true
+
 -- | a file that a command opens and uses, or that can't be opened [`RefusesFile`, `FilesOf`]
 -- The file was opened and used like this, or could not be opened.
 abbrev pub UsesFile : Files → (uses : (input output errors : Device) (status : ℕ) → Type 0) → (name : List ℕ)
@@ -133,6 +138,11 @@ named_files [] = codes "-" ∷ []
 named_files (name ∷ names) = name ∷ names
 
 -- ---- commands
+
+-- After a command that ended with the status 0 or 1 what was written was forwarded.
+abbrev pub ForwardsIfMemory : Result ℕ AllocError → (forwarded : Bool) → Type 0
+ForwardsIfMemory (Ok status) forwarded = IsForwarded status forwarded
+ForwardsIfMemory (Err refused) forwarded = Unit {0}
 
 -- The command ran like this, or an allocation failed before it did anything.
 abbrev pub RunsIfMemory : (runs : (output errors : Device) (status : ℕ) → Type 0) → (output errors : Device)

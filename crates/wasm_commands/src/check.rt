@@ -1,9 +1,9 @@
 // The command `check`: reads every item of files, and reports the malformed ones.
-ghost use Rattle.std.specs.Prelude.{◌≡◌, false, IfOk, Ok, Some};
+ghost use Rattle.std.specs.Prelude.{◌≡◌, ◌<◌, false, true, length, IfOk, Ok, Some};
 ghost use Rattle.wasm_tree.specs.Written.{found_by};
 ghost use Rattle.wasm_commands.specs.Checks.{ChecksFile, ChecksFiles, ChecksInput, ChecksOpened, EndsCheck};
 ghost use Rattle.wasm_commands.specs.Parsing.{reads_of, texts};
-ghost use Rattle.wasm_commands.specs.Systems.{FilesOf, InTurn, UsesFile};
+ghost use Rattle.wasm_commands.specs.Systems.{FilesOf, ForwardsIfMemory, InTurn, IsForwarded, UsesFile};
 ghost use Rattle.wasm_text.specs.Calls.{device_of, from_to, writer_device};
 
 use crate::arguments::Arguments;
@@ -28,7 +28,8 @@ fn flushed<W: Write>(
     checked: Result<bool, ListError>,
     output: &mut WriteSink<W>,
 ) -> Result<bool, ListError>
-    ensures { IfOk result (λ found. checked ≡ Ok found) }
+    ensures found { IfOk result (λ found. checked ≡ Ok found) }
+    ensures forwards { IfOk result (λ found. output.new.forwarded ≡ true) }
 {
     match checked {
         Ok(found) => match output.flush() {
@@ -86,7 +87,8 @@ pub fn check_as<R: Source, W: Write>(
     //   and each section of a known kind, and each custom section that is known, is read to its end
     //   without a fault by the meaning of its items, their lists and subsections
     //   [its clause (`ChecksInput`: `IsFaulty`, `any_faulty`)]
-    ensures { ChecksInput (from_to (R.remaining input.old) (R.remaining input.new)) result.0 }
+    ensures checks { ChecksInput (from_to (R.remaining input.old) (R.remaining input.new)) result.0 }
+    ensures forwards { IfOk result.0 (λ found. result.1.forwarded ≡ true) }
 {
     let mut tree = Faults::new(alloc, output, prefix, is_quiet);
     let found = find_faults(alloc, input, &mut tree);
@@ -121,9 +123,10 @@ fn check_opened<S: System, R: Source, W: Write, E: Sink>(
     output: WriteSink<W>,
     errors: &mut E,
 ) -> (u8, WriteSink<W>)
-    ensures { ChecksOpened name.now (device_of R.remaining R.has_failed input.old input.new)
+    ensures checks { ChecksOpened name.now (device_of R.remaining R.has_failed input.old input.new)
         (writer_device W.contents output result.1)
         (device_of E.taken E.has_failed errors.old errors.new) result.0 }
+    ensures forwards { IsForwarded result.0 result.1.forwarded }
 {
     let (found, output) = check_as(alloc, prefix, is_quiet, input, output);
     (report_check(name, found, system.causes(), errors), output)
@@ -139,9 +142,10 @@ fn open_and_check<S: System, W: Write, E: Sink>(
     output: WriteSink<W>,
     errors: &mut E,
 ) -> (u8, WriteSink<W>)
-    ensures { UsesFile (FilesOf S.System S.Input.Source system.now) (ChecksOpened name.now)
+    ensures checks { UsesFile (FilesOf S.System S.Input.Source system.now) (ChecksOpened name.now)
         name.now (writer_device W.contents output result.1)
         (device_of E.taken E.has_failed errors.old errors.new) result.0 }
+    ensures forwards { IsForwarded result.0 result.1.forwarded }
 {
     match system.open(name) {
         Ok(mut input) => check_opened(
@@ -160,9 +164,10 @@ fn check_file<S: System, W: Write, E: Sink>(
     output: WriteSink<W>,
     errors: &mut E,
 ) -> (u8, WriteSink<W>)
-    ensures { ChecksFile (FilesOf S.System S.Input.Source system.now) name.now
+    ensures checks { ChecksFile (FilesOf S.System S.Input.Source system.now) name.now
         (writer_device W.contents output result.1)
         (device_of E.taken E.has_failed errors.old errors.new) result.0 }
+    ensures forwards { IsForwarded result.0 result.1.forwarded }
 {
     match prefix_of(alloc, name) {
         Ok(prefix) => open_and_check(alloc, prefix, is_quiet, system, name, output, errors),
@@ -179,9 +184,10 @@ fn check_files<S: System, W: Write, E: Sink>(
     output: WriteSink<W>,
     errors: &mut E,
 ) -> (u8, WriteSink<W>)
-    ensures { InTurn (ChecksFile (FilesOf S.System S.Input.Source system.now)) (texts names.now)
+    ensures checks { InTurn (ChecksFile (FilesOf S.System S.Input.Source system.now)) (texts names.now)
         (writer_device W.contents output result.1)
         (device_of E.taken E.has_failed errors.old errors.new) result.0 }
+    ensures forwards { 0 < length names.now → IsForwarded result.0 result.1.forwarded }
 {
     let mut status = 0u8;
     let mut output = output;
@@ -205,9 +211,10 @@ pub(crate) fn check<S: System, W: Write, E: Sink>(
     output: WriteSink<W>,
     errors: &mut E,
 ) -> (Result<u8, AllocError>, WriteSink<W>)
-    ensures { ChecksFiles (FilesOf S.System S.Input.Source system.now) (reads_of arguments.now)
+    ensures checks { ChecksFiles (FilesOf S.System S.Input.Source system.now) (reads_of arguments.now)
         (writer_device W.contents output result.1)
         (device_of E.taken E.has_failed errors.old errors.new) result.0 }
+    ensures forwards { ForwardsIfMemory result.0 result.1.forwarded }
 {
     let is_quiet = arguments.has(Flag::Quiet);
     match arguments.operands(alloc) {

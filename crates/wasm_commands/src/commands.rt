@@ -229,6 +229,8 @@ pub fn run<S: System, W: Write, E: Sink>(
     // Proved: `check` opens each file that it is asked for in turn, as the system allows, and its status is the greatest:
     //   0 for a file without a fault, 1 for one with a fault, and 3 with a message for one that could not be opened or
     //   read [the clause of `run` (`RunsWords`, `ChecksFiles`)]
+    // Proved: what `check`, `list` and `dump` wrote was forwarded if the status is 0 or 1 [the clause of `run`
+    //   (`RunsWords`, `IsForwarded`)]
     // Proved: `list` and `dump` open each file in turn, twice for names, and write what is asked for in the format that is
     //   asked for, each under its name if there are several. The status is the greatest: 0 for a file that was read to its
     //   end, 1 at its fault or with a message for each word that chose nothing, and 3 with the system's reason if something

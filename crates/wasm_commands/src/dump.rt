@@ -1,10 +1,10 @@
 // The commands `dump` and `list`: show the items of files, or only their parts.
-ghost use Rattle.std.specs.Prelude.{◌≡◌, IfOk};
+ghost use Rattle.std.specs.Prelude.{◌≡◌, ◌<◌, ◌≤◌, length, IfOk};
 ghost use Rattle.wasm_commands.specs.ArgumentLists.{operands_in};
 ghost use Rattle.wasm_commands.specs.EditsTwice.{dropped};
 ghost use Rattle.wasm_commands.specs.Parsing.{reads_of, texts};
 ghost use Rattle.wasm_commands.specs.Shows.{ChooseFor, Dumps, DumpsAgain, DumpsFile, DumpsInput, DumpsNamed, IsRequest, MayWarn, Shows, ShowsAfter, ShowsFile, ShowsFiles, ShowsIn, ShowsUnderName, Warns, WarnsAfter, words_asked};
-ghost use Rattle.wasm_commands.specs.Systems.{FilesOf, InTurn, RunsIfMemory, UsesFile};
+ghost use Rattle.wasm_commands.specs.Systems.{FilesOf, ForwardsIfMemory, InTurn, IsForwarded, RunsIfMemory, UsesFile};
 ghost use Rattle.wasm_text.specs.Calls.{device_of, writer_device};
 
 mod choices;
@@ -89,8 +89,9 @@ fn warn_of_unfound<E: Sink>(plan: Plan<'_>, name: &str, errors: &mut E) -> u8
 // Warns of the choices that chose nothing of a file, if it was read to its end. Returns the status, which is then at
 // least 1.
 fn warn_after<E: Sink>(plan: Plan<'_>, name: &str, status: u8, errors: &mut E) -> u8
-    ensures { WarnsAfter plan.entry name.now status
+    ensures warns { WarnsAfter plan.entry name.now status
         (device_of E.taken E.has_failed errors.old errors.new) result }
+    ensures least { status ≤ result }
 {
     if status > 1 {
         return status;
@@ -109,10 +110,11 @@ fn show_input<S: System, R: Source, W: Write, E: Sink>(
     output: WriteSink<W>,
     errors: &mut E,
 ) -> (u8, WriteSink<W>)
-    ensures { DumpsInput plan.entry name.now
+    ensures shows { DumpsInput plan.entry name.now
         (device_of R.remaining R.has_failed input.old input.new)
         (writer_device W.contents output result.1)
         (device_of E.taken E.has_failed errors.old errors.new) result.0 }
+    ensures forwards { IsForwarded result.0 result.1.forwarded }
 {
     let (how, output) = dump_as(alloc, plan.shown, plan.format, names, input, output);
     (report(name, &how, system.causes(), errors), output)
@@ -128,9 +130,10 @@ fn show_opened<S: System, W: Write, E: Sink>(
     output: WriteSink<W>,
     errors: &mut E,
 ) -> (u8, WriteSink<W>)
-    ensures { DumpsFile (FilesOf S.System S.Input.Source system.now) plan.entry name.now
+    ensures shows { DumpsFile (FilesOf S.System S.Input.Source system.now) plan.entry name.now
         (writer_device W.contents output result.1)
         (device_of E.taken E.has_failed errors.old errors.new) result.0 }
+    ensures forwards { IsForwarded result.0 result.1.forwarded }
 {
     match system.open(name) {
         Ok(mut input) => show_input(alloc, plan, names, system, name, &mut input, output, errors),
@@ -148,10 +151,11 @@ fn show_again<S: System, R: Source, W: Write, E: Sink>(
     output: WriteSink<W>,
     errors: &mut E,
 ) -> (u8, WriteSink<W>)
-    ensures { DumpsAgain (FilesOf S.System S.Input.Source system.now) plan.entry name.now
+    ensures shows { DumpsAgain (FilesOf S.System S.Input.Source system.now) plan.entry name.now
         (device_of R.remaining R.has_failed input.old input.new)
         (writer_device W.contents output result.1)
         (device_of E.taken E.has_failed errors.old errors.new) result.0 }
+    ensures forwards { IsForwarded result.0 result.1.forwarded }
 {
     match collect_names(alloc, input) {
         Ok(names) => show_opened(alloc, plan, Some(names), system, name, output, errors),
@@ -168,10 +172,11 @@ fn show_file_with_names<S: System, W: Write, E: Sink>(
     output: WriteSink<W>,
     errors: &mut E,
 ) -> (u8, WriteSink<W>)
-    ensures { UsesFile (FilesOf S.System S.Input.Source system.now)
+    ensures shows { UsesFile (FilesOf S.System S.Input.Source system.now)
         (DumpsAgain (FilesOf S.System S.Input.Source system.now) plan.entry name.now) name.now
         (writer_device W.contents output result.1)
         (device_of E.taken E.has_failed errors.old errors.new) result.0 }
+    ensures forwards { IsForwarded result.0 result.1.forwarded }
 {
     match system.open(name) {
         Ok(mut input) => show_again(alloc, plan, system, name, &mut input, output, errors),
@@ -188,9 +193,10 @@ fn show_with_names<S: System, W: Write, E: Sink>(
     output: WriteSink<W>,
     errors: &mut E,
 ) -> (u8, WriteSink<W>)
-    ensures { DumpsNamed (FilesOf S.System S.Input.Source system.now) plan.entry name.now
+    ensures shows { DumpsNamed (FilesOf S.System S.Input.Source system.now) plan.entry name.now
         (writer_device W.contents output result.1)
         (device_of E.taken E.has_failed errors.old errors.new) result.0 }
+    ensures forwards { IsForwarded result.0 result.1.forwarded }
 {
     if name == "-" {
         (complain(Complaint::NamesOfInput, errors), output)
@@ -208,9 +214,10 @@ fn show_once<S: System, W: Write, E: Sink>(
     output: WriteSink<W>,
     errors: &mut E,
 ) -> (u8, WriteSink<W>)
-    ensures { Dumps plan.entry.format.is_named (FilesOf S.System S.Input.Source system.now)
+    ensures shows { Dumps plan.entry.format.is_named (FilesOf S.System S.Input.Source system.now)
         plan.entry name.now (writer_device W.contents output result.1)
         (device_of E.taken E.has_failed errors.old errors.new) result.0 }
+    ensures forwards { IsForwarded result.0 result.1.forwarded }
 {
     if plan.format.is_named {
         show_with_names(alloc, plan, system, name, output, errors)
@@ -235,9 +242,10 @@ fn show_file<S: System, W: Write, E: Sink>(
     output: WriteSink<W>,
     errors: &mut E,
 ) -> (u8, WriteSink<W>)
-    ensures { ShowsFile (FilesOf S.System S.Input.Source system.now) plan.entry name.now
+    ensures shows { ShowsFile (FilesOf S.System S.Input.Source system.now) plan.entry name.now
         (writer_device W.contents output result.1)
         (device_of E.taken E.has_failed errors.old errors.new) result.0 }
+    ensures forwards { IsForwarded result.0 result.1.forwarded }
 {
     clear(plan.shown.found);
     let (status, output) = show_once(alloc, plan, system, name, output, errors);
@@ -253,9 +261,10 @@ fn show_under_name<S: System, W: Write, E: Sink>(
     output: WriteSink<W>,
     errors: &mut E,
 ) -> (u8, WriteSink<W>)
-    ensures { ShowsUnderName (FilesOf S.System S.Input.Source system.now) plan.entry name.now
+    ensures shows { ShowsUnderName (FilesOf S.System S.Input.Source system.now) plan.entry name.now
         (writer_device W.contents output result.1)
         (device_of E.taken E.has_failed errors.old errors.new) result.0 }
+    ensures forwards { IsForwarded result.0 result.1.forwarded }
 {
     let (headed, output) = write_heading(alloc, plan.format.is_json, name, output);
     match headed {
@@ -274,9 +283,10 @@ fn show_files<S: System, W: Write, E: Sink>(
     output: WriteSink<W>,
     errors: &mut E,
 ) -> (u8, WriteSink<W>)
-    ensures { ShowsFiles (FilesOf S.System S.Input.Source system.now) plan.entry (texts names.now)
+    ensures shows { ShowsFiles (FilesOf S.System S.Input.Source system.now) plan.entry (texts names.now)
         (writer_device W.contents output result.1)
         (device_of E.taken E.has_failed errors.old errors.new) result.0 }
+    ensures forwards { IsForwarded result.0 result.1.forwarded }
 {
     match names {
         [] => show_file(alloc, plan, system, "-", output, errors),
@@ -294,9 +304,10 @@ fn show_several<S: System, W: Write, E: Sink>(
     output: WriteSink<W>,
     errors: &mut E,
 ) -> (u8, WriteSink<W>)
-    ensures { InTurn (ShowsUnderName (FilesOf S.System S.Input.Source system.now) plan.entry)
+    ensures shows { InTurn (ShowsUnderName (FilesOf S.System S.Input.Source system.now) plan.entry)
         (texts names.now) (writer_device W.contents output result.1)
         (device_of E.taken E.has_failed errors.old errors.new) result.0 }
+    ensures forwards { 0 < length names.now → IsForwarded result.0 result.1.forwarded }
 {
     let mut status = 0u8;
     let mut output = output;
@@ -375,9 +386,10 @@ fn show_as<S: System, W: Write, E: Sink>(
     output: WriteSink<W>,
     errors: &mut E,
 ) -> (Result<u8, AllocError>, WriteSink<W>)
-    ensures { RunsIfMemory (ShowsIn (FilesOf S.System S.Input.Source system.now) verb
+    ensures shows { RunsIfMemory (ShowsIn (FilesOf S.System S.Input.Source system.now) verb
         (reads_of arguments.now) format) (writer_device W.contents output result.1)
         (device_of E.taken E.has_failed errors.old errors.new) result.0 }
+    ensures forwards { ForwardsIfMemory result.0 result.1.forwarded }
 {
     let request = match request_of(alloc, verb, arguments) {
         Ok(request) => request,
@@ -411,9 +423,10 @@ pub(crate) fn show<S: System, W: Write, E: Sink>(
     output: WriteSink<W>,
     errors: &mut E,
 ) -> (Result<u8, AllocError>, WriteSink<W>)
-    ensures { Shows (FilesOf S.System S.Input.Source system.now) (S.shows system.now) verb
+    ensures shows { Shows (FilesOf S.System S.Input.Source system.now) (S.shows system.now) verb
         (reads_of arguments.now) (writer_device W.contents output result.1)
         (device_of E.taken E.has_failed errors.old errors.new) result.0 }
+    ensures forwards { ForwardsIfMemory result.0 result.1.forwarded }
 {
     match format_of(verb, arguments, system.is_terminal()) {
         Ok(format) => show_as(alloc, verb, format, arguments, system, output, errors),

@@ -1,5 +1,5 @@
 // What commands do with each of several files.
-ghost use Rattle.std.specs.Prelude.{◌≡◌};
+ghost use Rattle.std.specs.Prelude.{◌≡◌, ◌<◌, length};
 ghost use Rattle.wasm_commands.specs.Parsing.{texts};
 ghost use Rattle.wasm_commands.specs.Shows.{WritesHeading, WritesLine, WritesObject, ended_by, heading};
 ghost use Rattle.wasm_commands.specs.Systems.{named_files};
@@ -13,7 +13,8 @@ use wasm_tree::{Objects, Tree};
 
 /// Returns the files that operands name: standard input if there are none.
 pub(crate) fn or_input<'a>(operands: &'a [&'a str]) -> &'a [&'a str]
-    ensures { texts result.now ≡ named_files (texts operands.now) }
+    ensures names { texts result.now ≡ named_files (texts operands.now) }
+    ensures some { 0 < length result.now }
 {
     if operands.is_empty() {
         &["-"]

@@ -389,7 +389,7 @@ fn show_section<S: System, W: Write, E: Sink>(
 ) -> (Result<u8, AllocError>, WriteSink<W>)
     ensures { ShowsProducers (platform S.System S.Input.Source S.Output.Sink system.now)
         (has_option option.Output (reads_of arguments.now)) (reads_of arguments.now)
-        (writer_device W.contents output result.1)
+        (writer_device W.contents output result.1) result.1.forwarded
         (device_of E.taken E.has_failed errors.old errors.new) result.0 }
 {
     if arguments.has(Flag::Output) {

@@ -1,4 +1,6 @@
 // Files in memory.
+ghost use Rattle.std.specs.Prelude.{◌≡◌, false};
+
 use std::alloc::Global;
 use std::cell::Cell;
 use std::io::{self, ErrorKind, Read};
@@ -50,6 +52,10 @@ pub(super) struct Reader<'a> {
 }
 
 impl Read for Reader<'_> {
+    ghost use Rattle.std.specs.Prelude.{Some};
+
+    ghost remaining = { λ r. Some r.bytes.now };
+
     fn read(&mut self, buf: &mut [u8]) -> io::Result<usize> {
         if self.is_broken {
             return Err(io::Error::from(ErrorKind::IsADirectory));
@@ -72,37 +78,45 @@ fn found<'a>(named: &'a [Named<'a>], name: &str) -> Option<Named<'a>> {
     None
 }
 
+// A source of these bytes, or one that fails.
+fn source_of<'a>(bytes: &'a [u8], is_broken: bool) -> ReadSource<Reader<'a>>
+    ensures bytes { result.reader.bytes.now ≡ bytes.now }
+    ensures failed { result.failed ≡ false }
+{
+    ReadSource::new(Reader { bytes, is_broken })
+}
+
 impl<'a> System for Files<'a> {
+    ghost use Rattle.std.specs.Prelude.{◌≡◌, IfOk, Ok, codes, false};
+
     type Input = ReadSource<Reader<'a>>;
 
     type Output = BoundedSink;
 
-    ghost opens = { λ files name result. Unit {0} };
+    // Standard input has the bytes that were given for it.
+    ghost opens = { λ files name result. name ≡ codes "-"
+        → IfOk result (λ input. (input.failed ≡ false) × (input.reader.bytes.now ≡ files.input.now)) };
 
     ghost rereads = { λ files name result. Unit {0} };
 
-    ghost shows = { λ files result. Unit {0} };
+    ghost shows = { λ files result. result ≡ false };
 
     ghost creates = { λ files input name result. Unit {0} };
 
-    ghost replaces = { λ files output is_complete result. Unit {0} };
+    ghost replaces = { λ files output is_complete result. result ≡ Ok tt };
 
     fn open(&self, name: &str) -> Result<ReadSource<Reader<'a>>, Cause> {
+        if name == "-" {
+            return Ok(source_of(self.input, false));
+        }
         if name == "broken" {
             self.input_failure.set(Some(cause(ErrorKind::IsADirectory)));
-            let (bytes, is_broken) = (b"".as_slice(), true);
-            return Ok(ReadSource::new(Reader { bytes, is_broken }));
+            return Ok(source_of(b"", true));
         }
-        let bytes = if name == "-" {
-            self.input
-        } else {
-            match found(self.named, name) {
-                Some(file) => file.bytes,
-                None => return Err(cause(ErrorKind::NotFound)),
-            }
-        };
-        let is_broken = false;
-        Ok(ReadSource::new(Reader { bytes, is_broken }))
+        match found(self.named, name) {
+            Some(file) => Ok(source_of(file.bytes, false)),
+            None => Err(cause(ErrorKind::NotFound)),
+        }
     }
 
     fn is_regular(&self, name: &str) -> bool {

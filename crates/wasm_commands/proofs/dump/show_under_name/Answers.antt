@@ -1,18 +1,18 @@
 use Rattle.std.proofs.Common.{refl}
 use Rattle.wasm_commands.proofs.dump.show_under_name.Goals as goal
 
-pub returns-in-Ok : goal.returns-in-Ok
-returns-in-Ok g c =
+pub returns-in-Ok-clause-shows : goal.returns-in-Ok-clause-shows
+returns-in-Ok-clause-shows g c =
     let output = c.write_heading-headed.result.1 in
     record {
       written = record { bytes = g.W.Write.contents output.writer; failed = output.failed };
       headed = c.write_heading-headed.result.0;
       heads = c.write_heading-headed.ensures;
-      shows = rw c.in-Ok.is c.show_file.ensures;
+      shows = rw c.in-Ok.is c.show_file.ensures.shows;
     }
 
-pub returns-in-Err : goal.returns-in-Err
-returns-in-Err g c =
+pub returns-in-Err-clause-shows : goal.returns-in-Err-clause-shows
+returns-in-Err-clause-shows g c =
     let output = c.write_heading-headed.result.1 in
     record {
       written = record { bytes = g.W.Write.contents output.writer; failed = output.failed };
