@@ -98,7 +98,7 @@ def defined(crate, module):
     lines = lines_of(os.path.join(common.TOP, "crates", crate, "specs", module + ".antt"))
     for text, at in comments(lines, "-- | "):
         words, others, source = parts_of_row(text)
-        name = DEFINITION.match(lines[at])
+        name = DEFINITION.match(lines[at].lstrip(" "))
         if not name and not all(line.startswith("--") for line in lines[:at]):
             common.stop(common.DIFFERS, "crates/%s/specs/%s.antt:%d: a comment says what a definition is, and none is below it" % (crate, module, at + 1))
         cited = "`%s`" % (module.split("/")[-1] + (".%s" % name[1] if name else ""))
