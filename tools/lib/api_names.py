@@ -60,12 +60,21 @@ def definition_in(crate, module, block):
     return Definition(crate, module, head[1], comment_of(block), "\n".join(code), tuple(parts))
 
 
+def blocks_of(text):
+    """The blocks of a file without blank lines, each as its lines. Those of a module without a name are as if they stood outside."""
+    for block in re.split(r"\n\n+", text.rstrip("\n")):
+        lines = block.split("\n")
+        if lines[0].startswith("module "):
+            lines = lines[next(at for at, line in enumerate(lines) if line.endswith(" where")) + 1 :]
+        yield [line[2:] for line in lines] if lines and lines[0].startswith("  ") else lines
+
+
 class Specs:
     """A file of definitions: its comment, what it defines, and what its names stand for."""
 
     def __init__(self, crate, module, text):
         self.crate, self.module = crate, module
-        blocks = [block.split("\n") for block in re.split(r"\n\n+", text.rstrip("\n"))]
+        blocks = list(blocks_of(text))
         self.comment = comment_of(blocks[0]) if any(line.startswith("use ") for line in blocks[0]) else ()
         found = [definition_in(crate, module, block) for block in blocks]
         self.definitions = [one for one in found if one]
