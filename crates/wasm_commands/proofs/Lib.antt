@@ -7,3 +7,4 @@ pub mod Refusing
 pub mod Showing
 pub mod Stopping
 pub mod Turns
+pub mod Words
