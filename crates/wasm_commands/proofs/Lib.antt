@@ -10,3 +10,4 @@ pub mod Showing
 pub mod Stopping
 pub mod Turns
 pub mod Walks
+pub mod Words

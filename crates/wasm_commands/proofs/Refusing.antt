@@ -2,6 +2,7 @@
 use Rattle.std.proofs.Common.{◌≡◌, ℕ, ◌-◌, ◌≤◌, inl, List, length, take, drop, get_or, map, Option, Some, None, string_bytes, String}
 use Rattle.std.proofs.Common.{Global, ap, sym, ◌∙◌, refl, false, codes, bytes_eq}
 use Rattle.std.proofs.lemmas.Bool.{false_from_ne_true}
+use Rattle.std.proofs.lemmas.Option.{none-some}
 use Rattle.std.proofs.lemmas.Slice.Eq.{bytes_eq-Decides}
 use Rattle.wasm_commands.proofs.Parsing.{front_of}
 use Rattle.wasm_commands.specs.Messages.{unknown_command_text}
@@ -42,6 +43,10 @@ other_refused word more a b c d e =
       bytes_differ word (codes "--version") d,
       bytes_differ word (codes "-V") e,
     ) refl
+
+pub asks_nothing : (word : List ℕ) (more : List (List ℕ)) → (word ≡ codes "help" → ⊥) → (word ≡ codes "--help" → ⊥)
+    → (word ≡ codes "-h" → ⊥) → (word ≡ codes "--version" → ⊥) → (word ≡ codes "-V" → ⊥) → refused_other word more ≡ None → ⊥
+asks_nothing word more a b c d e none = none-some (unknown_text word) (sym none ∙ other_refused word more a b c d e)
 
 -- what is refused stays refused where memory may run out
 pub or_stops : (text : Option (List ℕ)) (errors : Device) (status : ℕ) → Refuses text errors status → RefusesOrStops text errors status

@@ -24,5 +24,6 @@ module _ (p : Platform) (output : Device) (forwarded : Bool) (errors : Device) (
 
   pub stops : (verb : Verb) (reads : Result (List Read) Wrong)
       → RunsRead p verb reads output forwarded errors (Err refused)
-  stops verb (Ok reads) = λ help version. command_stops verb reads
+  stops verb (Ok reads) =
+      record { helps = λ help. tt; tells = λ help version. tt; runs = λ help version. command_stops verb reads }
   stops verb (Err wrong) = tt

@@ -1,13 +1,14 @@
 // Runs the program.
-ghost use Rattle.std.specs.Prelude.{◌≡◌, Some, map, string_bytes};
+ghost use Rattle.std.specs.Prelude.{◌≡◌, ℕ, OnErr, OnOk, map, string_bytes, take};
+ghost use Rattle.std.specs.Io.KnownBytes.{Appends};
 ghost use Rattle.std.specs.Process.{exit_status};
 ghost use Rattle.std.specs.Vec.Iter.{into_iter_items};
 ghost use Rattle.wasm_commands.specs.ArgumentLists.{arguments_of};
-ghost use Rattle.wasm_commands.specs.Commands.{RunsCommand, RunsGiven, RunsParsed, RunsProgram, RunsRead, RunsVerb, RunsWords};
+ghost use Rattle.wasm_commands.specs.Commands.{Prints, PrintsUnlessRefused, RunsCommand, RunsGiven, RunsNamed, RunsParsed, RunsProgram, RunsRead, RunsWords};
 ghost use Rattle.wasm_commands.specs.Parsing.{reads_of};
 ghost use Rattle.wasm_commands.specs.Refusals.{Refuses, RefusesIfRead, RefusesOrStops, refused_by, refused_other, refused_topics, unknown_text, wrong_if_any};
 ghost use Rattle.wasm_commands.specs.Messages.{complaint_text};
-ghost use Rattle.wasm_commands.specs.Systems.{platform};
+ghost use Rattle.wasm_commands.specs.Systems.{IsForwarded, platform};
 ghost use Rattle.wasm_text.specs.Calls.{device_of, writer_device};
 
 use crate::add::add;
@@ -29,7 +30,20 @@ use std::env::{self, Args};
 use std::io::{self, Write};
 use std::process::ExitCode;
 use wasm_console::{Given, words_given};
-use wasm_feed::{ListError, Sink, WriteSink, write_all};
+use wasm_feed::{Failed, ListError, Sink, WriteSink, write_all};
+
+// Writes a text and flushes the output.
+fn write_out<W: Write>(text: &[u8], output: &mut WriteSink<W>) -> Result<(), Failed>
+    ensures ok { OnOk result (Appends (W.contents output.old.writer) (W.contents output.new.writer) text.now) }
+    ensures err { OnErr result ((n : ℕ)
+        × Appends (W.contents output.old.writer) (W.contents output.new.writer) (take n text.now)) }
+    ensures forwards { OnOk result (IsForwarded 0 output.new.forwarded) }
+{
+    match write_all(output, text) {
+        Ok(()) => output.flush(),
+        Err(failed) => Err(failed),
+    }
+}
 
 // Writes a text and flushes the output. Returns the status.
 fn print<S: System, W: Write, E: Sink>(
@@ -37,12 +51,11 @@ fn print<S: System, W: Write, E: Sink>(
     system: &S,
     output: &mut WriteSink<W>,
     errors: &mut E,
-) -> u8 {
-    let written = match write_all(output, text) {
-        Ok(()) => output.flush(),
-        Err(failed) => Err(failed),
-    };
-    match written {
+) -> u8
+    ensures { Prints text.now (writer_device W.contents output.old output.new)
+        output.new.forwarded (device_of E.taken E.has_failed errors.old errors.new) result }
+{
+    match write_out(text, output) {
         Ok(()) => 0,
         Err(_) => refuse_run("-", ListError::Output, system.causes(), errors),
     }
@@ -140,7 +153,10 @@ fn run_help<S: System, W: Write, E: Sink>(
     output: &mut WriteSink<W>,
     errors: &mut E,
 ) -> u8
-    ensures { Refuses (refused_topics (map string_bytes words.now))
+    ensures refuses { Refuses (refused_topics (map string_bytes words.now))
+        (device_of E.taken E.has_failed errors.old errors.new) result }
+    ensures prints { PrintsUnlessRefused (refused_topics (map string_bytes words.now))
+        (writer_device W.contents output.old output.new) output.new.forwarded
         (device_of E.taken E.has_failed errors.old errors.new) result }
 {
     let [word, ..] = words else {
@@ -171,7 +187,10 @@ fn run_other<S: System, W: Write, E: Sink>(
     output: &mut WriteSink<W>,
     errors: &mut E,
 ) -> u8
-    ensures { Refuses (refused_other word.now (map string_bytes more.now))
+    ensures refuses { Refuses (refused_other word.now (map string_bytes more.now))
+        (device_of E.taken E.has_failed errors.old errors.new) result }
+    ensures prints { PrintsUnlessRefused (refused_other word.now (map string_bytes more.now))
+        (writer_device W.contents output.old output.new) output.new.forwarded
         (device_of E.taken E.has_failed errors.old errors.new) result }
 {
     match word {
@@ -193,8 +212,8 @@ fn run_named<S: System, W: Write, E: Sink>(
     ensures refuses { RefusesOrStops
         (wrong_if_any verb (arguments_of verb (map string_bytes more.now)))
         (device_of E.taken E.has_failed errors.old errors.new) result.0 }
-    ensures runs { RunsVerb (platform S.System S.Input.Source S.Output.Sink system.now)
-        (Some verb) (map string_bytes more.now) (writer_device W.contents output result.1)
+    ensures runs { RunsNamed (platform S.System S.Input.Source S.Output.Sink system.now)
+        verb (map string_bytes more.now) (writer_device W.contents output result.1)
         result.1.forwarded (device_of E.taken E.has_failed errors.old errors.new) result.0 }
 {
     let (result, output) = run_verb(alloc, verb, more, system, output, errors);
@@ -229,6 +248,8 @@ pub fn run<S: System, W: Write, E: Sink>(
     // Proved: `check` opens each file that it is asked for in turn, as the system allows, and its status is the greatest:
     //   0 for a file without a fault, 1 for one with a fault, and 3 with a message for one that could not be opened or
     //   read [the clause of `run` (`RunsWords`, `ChecksFiles`)]
+    // Proved: where `help`, `--help` or `--version` asks for a text, a text is written and forwarded, and the status is 0,
+    //   or the output fails, and the status is 3 with its reason [the clause of `run` (`RunsWords`, `Prints`)]
     // Proved: what `check`, `list` and `dump` wrote was forwarded if the status is 0 or 1 [the clause of `run`
     //   (`RunsWords`, `IsForwarded`)]
     // Proved: `list` and `dump` open each file in turn, twice for names, and write what is asked for in the format that is

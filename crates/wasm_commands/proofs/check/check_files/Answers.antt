@@ -4,9 +4,12 @@ use Rattle.wasm_commands.proofs.Turns.{next_in_turn}
 use Rattle.wasm_commands.proofs.check.check_files.Goals as goal
 
 pub loop-name-preserved : goal.loop-name-preserved
-loop-name-preserved g c = record {
-  turns = rw c.max-status.ensures
-      (next_in_turn _ _ _ _ _ _ _ _ _ _ (λ name. name.now) c.args.names.now c.loop-name.name-index _ _ _ _ _ _ (omega arith)
-      (get_or_default c.args.names.now c.loop-name.name-index _ _ (omega arith)) c.check_file-one.ensures.checks c.loop-name.invariant.turns);
-  forwards = λ some less. c.check_file-one.ensures.forwards (omega (arith, less, c.max-status.ensures));
-}
+loop-name-preserved g c =
+    let at = c.loop-name.name-index in
+    let one = c.check_file-one.ensures in
+    record {
+      turns = rw c.max-status.ensures
+          (next_in_turn _ _ _ _ _ _ _ _ _ _ (λ name. name.now) c.args.names.now at _ _ _ _ _ _ (omega arith)
+          (get_or_default c.args.names.now at _ _ (omega arith)) one.checks c.loop-name.invariant.turns);
+      forwards = λ some less. one.forwards (omega (arith, less, c.max-status.ensures));
+    }

@@ -3,8 +3,8 @@ use Rattle.wasm_commands.proofs.Refusing.{topics_refused}
 use Rattle.wasm_commands.specs.Options.{verb_named}
 use Rattle.wasm_commands.proofs.commands.run_help.Goals as goal
 
-pub returns-in-None : goal.returns-in-None
-returns-in-None g c =
+pub returns-in-None-clause-refuses : goal.returns-in-None-clause-refuses
+returns-in-None-clause-refuses g c =
     let text = c.as_str-in-None.result.now in
     let same = c.as_str-in-None.ensures.value ∙ sym c.as_str.ensures.value in
     let refused = topics_refused c.args.words.now c.word-item.result text c.word-item.is c.in-len1-up.len_at_least
