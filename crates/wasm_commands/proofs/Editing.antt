@@ -167,3 +167,7 @@ not_fitting is_there new e same true i is = absurd cc
 not_fitting is_there new e same false i is = λ f.
     let t : false ≡ true =
     i.1 (All-cons CanBeMade e [] (subst CanBeMade (sym same) (can_be_set is_there new f)) (All-nil CanBeMade)) in cc
+
+pub not_all_fit : (edits : List Edit) (fits : Bool) → IsTrue fits ↔ All CanBeMade edits → fits ≡ false → ¬ All CanBeMade edits
+not_all_fit edits true i is = absurd cc
+not_all_fit edits false i is = λ all. let t : false ≡ true = i.1 all in cc

@@ -66,7 +66,7 @@ fn run_parsed<S: System, W: Write + Drop, E: Sink>(
         Verb::Check => check(alloc, arguments, system, output, errors),
         Verb::Strip => strip(alloc, arguments, system, &mut output, errors),
         Verb::Extract => extract(alloc, arguments, system, &mut output, errors),
-        Verb::Add => add(alloc, arguments, system, output, errors),
+        Verb::Add => add(alloc, arguments, system, output, errors).0,
         Verb::Producers => producers(alloc, arguments, system, output, errors),
     }
 }
