@@ -1,5 +1,6 @@
 -- Streams that are written with edits, devices that are left alone, and what a status says.
-use Rattle.std.proofs.Common.{◌≡◌, ◌==◌, inl, inr, Vec, Global, ℕ, Bool, true, false, List, ◌++◌, Option, Some, None, Result, Ok, Err, ap, refl, subst, sym}
+use Rattle.std.proofs.Common.{◌≡◌, ◌==◌, inl, inr, Vec, Global, ℕ, Bool, true, false, List, ◌++◌, Option, Some, None, Result, Ok, Err, ap}
+use Rattle.std.proofs.Common.{refl, subst, sym}
 use Rattle.std.proofs.Common.{length, take, take_all, le_refl, All, IsTrue, ◌↔◌, [], ◌∷◌}
 use Rattle.std.proofs.lemmas.List.Elements.{All-cons, All-nil}
 use Rattle.std.specs.Io.KnownBytes.{Appends, Consumes, Keeps}
@@ -23,7 +24,8 @@ use Rattle.wasm_feeder.specs.declared.turns.Ended.{Ended}
 use Rattle.wasm_feeder.specs.declared.turns.Ended.TheVariants.{End, Fault}
 use Rattle.wasm_console.specs.Devices.{IsUntouched}
 use Rattle.wasm_commands.specs.EditsTwice.{EditsTwice, GoesOnAs}
-use Rattle.wasm_commands.specs.Rewrites.{EndsBytes, EditsBy, EditsFile, EditsOriginal, EndsFile, IsWritten, WritesAll, input_device, is_whole}
+use Rattle.wasm_commands.specs.Rewrites.{EndsBytes, EditsBy, EditsFile, EditsOriginal, EndsFile, IsWritten, WritesAll, input_device}
+use Rattle.wasm_commands.specs.Rewrites.{is_whole}
 use Rattle.wasm_commands.specs.RewriteCommands.{edit_that_sets}
 use Rattle.wasm_commands.specs.declared.reasons.Cause.{Cause}
 use Rattle.wasm_commands.specs.declared.rewriting.Original.{Original}
@@ -167,3 +169,7 @@ not_fitting is_there new e same true i is = absurd cc
 not_fitting is_there new e same false i is = λ f.
     let t : false ≡ true =
     i.1 (All-cons CanBeMade e [] (subst CanBeMade (sym same) (can_be_set is_there new f)) (All-nil CanBeMade)) in cc
+
+pub not_all_fit : (edits : List Edit) (fits : Bool) → IsTrue fits ↔ All CanBeMade edits → fits ≡ false → ¬ All CanBeMade edits
+not_all_fit edits true i is = absurd cc
+not_all_fit edits false i is = λ all. let t : false ≡ true = i.1 all in cc

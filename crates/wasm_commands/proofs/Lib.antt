@@ -1,3 +1,4 @@
+pub mod Adding
 pub mod Choosing
 pub mod Coloring
 pub mod Editing

@@ -9,7 +9,7 @@ use Rattle.wasm_commands.specs.Checks.{ChecksFiles}
 use Rattle.wasm_commands.specs.Messages.{about_word, complaint_text}
 use Rattle.wasm_commands.specs.Options.{verb_named}
 use Rattle.wasm_commands.specs.Refusals.{RefusesOrStops, refused_by, refused_other}
-use Rattle.wasm_commands.specs.RewriteCommands.{Extracts, SetsProducers, Strips}
+use Rattle.wasm_commands.specs.RewriteCommands.{Adds, Extracts, SetsProducers, Strips}
 use Rattle.wasm_commands.specs.Shows.{Shows}
 use Rattle.wasm_commands.specs.Systems.{Between, FailsOn, ForwardsIfMemory, Platform, RefusesWith, RunsIfMemory}
 use Rattle.wasm_commands.specs.Systems.{StopsForMemory, files_on, since, until}
@@ -54,7 +54,7 @@ abbrev pub Produces : Platform → List Read → (output : Device) (forwarded : 
 Produces p reads output forwarded errors result =
     ProducersBy p (values_in option.Set reads) reads output forwarded errors result
 
--- What a command does with the files that its arguments name, or that an allocation failed. Of `add` nothing is said.
+-- What a command does with the files that its arguments name, or that an allocation failed.
 abbrev pub RunsCommand : Platform → Verb → List Read → (output : Device) (forwarded : Bool) (errors : Device)
     → Result ℕ AllocError → Type 0
 RunsCommand p verb.Check reads output forwarded errors result =
@@ -70,7 +70,8 @@ RunsCommand p verb.Strip reads output forwarded errors result =
 RunsCommand p verb.Extract reads output forwarded errors result =
     Extracts p.calls p.sources p.sinks p.system reads output forwarded errors result
 RunsCommand p verb.Producers reads output forwarded errors result = Produces p reads output forwarded errors result
-RunsCommand p other reads output forwarded errors result = Unit {0}
+RunsCommand p verb.Add reads output forwarded errors result =
+    Adds p.calls p.sources p.sinks p.system reads output forwarded errors result
 
 -- | a text that is printed, such as that of `--help`: it is written and forwarded, or the output fails [`PrintsText`]
 -- A text was printed and forwarded; or the output failed, and this was said.

@@ -1,5 +1,6 @@
 -- What the commands that write a stream do: which files they open, what they write of them, and which file is replaced.
-use Rattle.std.specs.Prelude.{◌≡◌, ◌⊎◌, ℕ, Bool, true, false, List, take, codes, bytes_eq, Option, Some, None, Vec, Result}
+use Rattle.std.specs.Prelude.{◌≡◌, ◌⊎◌, ℕ, Bool, true, false, List, take, codes, bytes_eq, Option, Some, None, Vec}
+use Rattle.std.specs.Prelude.{Result}
 use Rattle.std.specs.Prelude.{Ok, Err, if◌then◌else◌}
 use Rattle.std.specs.Io.KnownBytes.{Appends, Consumes, IsAtEnd, Keeps}
 use Rattle.std.specs.declared.alloc.Global.{Global}
@@ -320,7 +321,8 @@ module _ {S I O : Type 0} (calls : SystemOf S I O) (sources : SourceOf I) (sinks
     pub middle : Option (List ℕ)
     pub failed : Bool
     pub says : EndsFile original.name.now target edited (record errors { after = middle; has_failed = failed }) first
-    pub ends : EndsTarget target written (is_whole edited) first (record errors { before = middle; had_failed = failed })
+    pub ends : EndsTarget target written (is_whole edited) first
+        (record errors { before = middle; had_failed = failed })
         status
 
   abbrev pub WritesFile : (edits : List Edit) (original : Original) (target : List ℕ) (errors : Device) (status : ℕ)
@@ -340,7 +342,8 @@ module _ {S I O : Type 0} (calls : SystemOf S I O) (sources : SourceOf I) (sinks
     pub middle : Option (List ℕ)
     pub failed : Bool
     pub says : EndsBytes target is_complete (record errors { after = middle; has_failed = failed }) first
-    pub ends : EndsTarget target written is_complete first (record errors { before = middle; had_failed = failed }) status
+    pub ends : EndsTarget target written is_complete first
+        (record errors { before = middle; had_failed = failed }) status
 
   abbrev pub WritesBytesFile : (bytes name target : List ℕ) (errors : Device) (status : ℕ) → Type 0
   WritesBytesFile bytes name target errors status =

@@ -1,4 +1,11 @@
 // The command `add`: appends custom sections, or replaces them.
+ghost use Rattle.std.specs.Prelude.{false, IfOk, map};
+ghost use Rattle.wasm_commands.specs.ArgumentLists.{has_option};
+ghost use Rattle.wasm_commands.specs.Parsing.{reads_of, texts};
+ghost use Rattle.wasm_commands.specs.declared.options.Flag.TheVariants.{Replace};
+ghost use Rattle.wasm_commands.specs.RewriteCommands.{Adds, AddsAll, AddsBy, AddsHeld, AddsLoaded, AddsRead, AddsSearched, AddsTo, AddsWords, AreAdditions, AreOperands, EachInTurn, IfAdded, IfAllocated, IsAdded, IsAddedBy, IsAddition, LoadsAll, Searches, WritesAdded, loaded_parts, no_addition, parts_of};
+ghost use Rattle.wasm_text.specs.Calls.{device_of, writer_device};
+
 use crate::arguments::Arguments;
 use crate::extract::{Wanted, find};
 use crate::messages::{Complaint, complain, refuse_file};
@@ -15,14 +22,23 @@ use wasm_parser::Result as ParserResult;
 use wasm_tree::Faults;
 
 // A section to add: its name, and the file with its data.
-#[derive(Clone, Copy)]
+#[derive(Drop)]
 struct Addition<'a> {
     name: &'a str,
     file: &'a str,
 }
 
+// A section to add: its name and its data.
+#[derive(Drop)]
+struct Loaded<'a> {
+    name: &'a str,
+    bytes: Vec<u8>,
+}
+
 // Parses `NAME=DATA`.
-fn parse_addition(word: &str) -> Option<Addition<'_>> {
+fn parse_addition(word: &str) -> Option<Addition<'_>>
+    ensures { IsAddition word.now result }
+{
     match word.split_once('=') {
         Some((name, file)) => Some(Addition { name, file }),
         None => None,
@@ -33,32 +49,122 @@ fn parse_addition(word: &str) -> Option<Addition<'_>> {
 fn parse_additions<'a>(
     alloc: Global,
     words: &[&'a str],
-) -> Result<Result<Vec<Addition<'a>>, &'a str>, AllocError> {
+) -> Result<Result<Vec<Addition<'a>>, &'a str>, AllocError>
+    ensures { IfOk result (λ parsed. AreAdditions (texts words.now) parsed) }
+{
     let mut additions = Vec::new(alloc);
-    for word in words {
+    let mut rest = words;
+    'words: while let [word, more @ ..] = rest {
         match parse_addition(word) {
             Some(addition) => additions.push(addition)?,
             None => return Ok(Err(word)),
         }
+        rest = more;
     }
     Ok(Ok(additions))
 }
 
 // Reads the data of all sections. Says why if that fails, and returns the exit status.
-fn data_of<S: System, E: Sink>(
+fn load_all<'a, S: System, E: Sink>(
     alloc: Global,
-    additions: &[Addition<'_>],
+    additions: &[Addition<'a>],
     system: &S,
     errors: &mut E,
-) -> Result<Result<Vec<Vec<u8>>, u8>, AllocError> {
+) -> Result<Result<Vec<Loaded<'a>>, u8>, AllocError>
+    ensures { LoadsAll S.System S.Input.Source S.Output.Sink system.now
+        (map parts_of additions.now) (device_of E.taken E.has_failed errors.old errors.new) result }
+{
     let mut all = Vec::new(alloc);
     for addition in additions {
         match hold(alloc, addition.file, system, errors) {
-            Ok(data) => all.push(data)?,
+            Ok(bytes) => all.push(Loaded {
+                name: addition.name,
+                bytes,
+            })?,
             Err(status) => return Ok(Err(status)),
         }
     }
     Ok(Ok(all))
+}
+
+// Returns the edit that adds a section: in place of those with its name, or after the others.
+fn edit_of<'a>(name: &'a str, bytes: &'a [u8], replaces: bool) -> Edit<'a>
+    ensures { IsAddedBy replaces (name.now, bytes.now) result }
+{
+    let new = NewSection { name, data: bytes };
+    if replaces {
+        Edit::Replace(new)
+    } else {
+        Edit::Append(new)
+    }
+}
+
+// Returns the edits that append these sections.
+fn edits_at_end<'a>(alloc: Global, loaded: &'a [Loaded<'a>]) -> Result<Vec<Edit<'a>>, AllocError>
+    ensures { IfOk result (λ edits.
+        EachInTurn (IsAddedBy false) (map loaded_parts loaded.now) edits.items) }
+{
+    let mut edits = Vec::new(alloc);
+    for section in loaded {
+        edits.push(edit_of(section.name, section.bytes.as_slice(), false))?;
+    }
+    Ok(edits)
+}
+
+// Returns the edits that add these sections to a stream in memory. Those whose name it has are replaced.
+fn edits_to<'a>(
+    alloc: Global,
+    loaded: &'a [Loaded<'a>],
+    bytes: &[u8],
+) -> Result<ParserResult<Vec<Edit<'a>>>, AllocError>
+    ensures { IfOk result (λ edits. AddsTo bytes.now (map loaded_parts loaded.now) edits) }
+{
+    let mut edits = Vec::new(alloc);
+    for section in loaded {
+        let wanted = Wanted {
+            name: section.name,
+            before: 0,
+        };
+        let replaces = match find(bytes, wanted) {
+            Ok(found) => found.is_some(),
+            Err(error) => return Ok(Err(error)),
+        };
+        edits.push(edit_of(section.name, section.bytes.as_slice(), replaces))?;
+    }
+    Ok(Ok(edits))
+}
+// Returns whether the flag with this index is set.
+fn is_set(found: &[Cell<bool>], index: usize) -> bool {
+    match found.get(index) {
+        Some(flag) => flag.get(),
+        None => false,
+    }
+}
+
+// Returns the edits that add these sections. Those of which the flag is set are replaced.
+fn edits_by<'a>(
+    alloc: Global,
+    loaded: &'a [Loaded<'a>],
+    found: &[Cell<bool>],
+) -> Result<Vec<Edit<'a>>, AllocError>
+    ensures { IfOk result (λ edits.
+        EachInTurn IsAdded (map loaded_parts loaded.now) edits.items) }
+{
+    let mut edits = Vec::new(alloc);
+    for section in loaded {
+        let replaces = is_set(found, edits.len());
+        edits.push(edit_of(section.name, section.bytes.as_slice(), replaces))?;
+    }
+    Ok(edits)
+}
+
+// Returns the choices of the sections with these names.
+fn choices_of<'a>(alloc: Global, loaded: &[Loaded<'a>]) -> Result<Vec<Only<'a>>, AllocError> {
+    let mut only = Vec::new(alloc);
+    for section in loaded {
+        only.push(Only::Name(section.name))?;
+    }
+    Ok(only)
 }
 
 // Reads a stream for these custom sections, and sets a flag for each one that it has. Returns how the stream ended, and the
@@ -81,84 +187,26 @@ fn find_named<R: Source, W: Write>(
     (how, tree.into_output())
 }
 
-// Sets a flag for each section that a stream in memory has. Returns how the stream ended, as far as it was read.
-fn find_held(
-    bytes: &[u8],
-    additions: &[Addition<'_>],
-    found: &[Cell<bool>],
-) -> ParserResult<Ended> {
-    for (addition, is_there) in additions.iter().zip(found.iter()) {
-        let wanted = Wanted {
-            name: addition.name,
-            before: 0,
-        };
-        is_there.set(find(bytes, wanted)?.is_some());
-    }
-    Ok(Ended::End)
-}
-
-// Sets a flag for each section that is to be added: whether the stream has one with its name. Returns the exit status, 0 or
-// that of a fault or a failure, which it reports, and the output.
-fn find_all<S: System, W: Write, E: Sink>(
+// Reads a file for these custom sections, and sets a flag for each one that it has. Returns the exit status, 0 or that of a
+// fault or a failure, which it reports, and the output.
+fn search<S: System, W: Write, E: Sink>(
     alloc: Global,
-    additions: &[Addition<'_>],
+    only: &[Only<'_>],
     found: &[Cell<bool>],
-    original: &Original<'_>,
+    name: &str,
     system: &S,
     output: WriteSink<W>,
     errors: &mut E,
-) -> (Result<u8, AllocError>, WriteSink<W>) {
-    if let Some(bytes) = &original.held {
-        let status = match find_held(bytes, additions, found) {
-            Ok(_) => 0,
-            Err(error) => report_fault(alloc, error, errors),
-        };
-        return (Ok(status), output);
-    }
-    let only = match choices_of(alloc, additions) {
-        Ok(only) => only,
-        Err(refused) => return (Err(refused), output),
-    };
-    let mut input = match system.open(original.name) {
+) -> (u8, WriteSink<W>)
+    ensures { Searches S.System S.Input.Source S.Output.Sink system.now name.now
+        (device_of E.taken E.has_failed errors.old errors.new) result.0 }
+{
+    let mut input = match system.open(name) {
         Ok(input) => input,
-        Err(cause) => return (Ok(refuse_file(original.name, cause, errors)), output),
+        Err(cause) => return (refuse_file(name, cause, errors), output),
     };
-    let (how, output) = find_named(alloc, &only, found, &mut input, output);
-    (
-        Ok(answer(alloc, original.name, how, system, errors)),
-        output,
-    )
-}
-
-// Returns the choices of the sections with these names.
-fn choices_of<'a>(alloc: Global, additions: &[Addition<'a>]) -> Result<Vec<Only<'a>>, AllocError> {
-    let mut only = Vec::new(alloc);
-    for addition in additions {
-        only.push(Only::Name(addition.name))?;
-    }
-    Ok(only)
-}
-
-// Returns the edits that add these sections. Those of which the flag is set are replaced.
-fn edits_of<'a>(
-    alloc: Global,
-    additions: &[Addition<'a>],
-    data: &'a [Vec<u8>],
-    found: &[Cell<bool>],
-) -> Result<Vec<Edit<'a>>, AllocError> {
-    let mut edits = Vec::new(alloc);
-    for ((addition, bytes), is_there) in additions.iter().zip(data.iter()).zip(found.iter()) {
-        let section = NewSection {
-            name: addition.name,
-            data: bytes.as_slice(),
-        };
-        edits.push(if is_there.get() {
-            Edit::Replace(section)
-        } else {
-            Edit::Append(section)
-        })?;
-    }
-    Ok(edits)
+    let (how, output) = find_named(alloc, only, found, &mut input, output);
+    (answer(alloc, name, how, system, errors), output)
 }
 
 // Returns the name of the first section that is too large.
@@ -174,6 +222,194 @@ fn large_name<'a>(edits: &[Edit<'a>]) -> &'a str {
     ""
 }
 
+// Writes a stream with these edits, unless a section is too large. Returns the exit status.
+fn write_added<S: System, W: Write, E: Sink>(
+    alloc: Global,
+    edits: &[Edit<'_>],
+    original: &Original<'_>,
+    arguments: &Arguments<'_>,
+    system: &S,
+    output: &mut WriteSink<W>,
+    errors: &mut E,
+) -> u8
+    ensures { WritesAdded S.System S.Input.Source S.Output.Sink system.now (reads_of arguments.now)
+        (writer_device W.contents output.old output.new) output.new.forwarded
+        (device_of E.taken E.has_failed errors.old errors.new) edits.now original.now result }
+{
+    if all_fit(edits) {
+        return write_edited(alloc, edits, original, arguments, system, output, errors);
+    }
+    let name = large_name(edits);
+    complain(Complaint::TooLarge(Verb::Add, name), errors)
+}
+
+// Writes a stream with these sections after the others. Returns the exit status.
+fn add_at_end<'a, S: System, W: Write, E: Sink>(
+    alloc: Global,
+    loaded: &'a [Loaded<'a>],
+    original: &Original<'_>,
+    arguments: &Arguments<'_>,
+    system: &S,
+    output: &mut WriteSink<W>,
+    errors: &mut E,
+) -> Result<u8, AllocError>
+    ensures { IfAllocated (AddsBy S.System S.Input.Source S.Output.Sink system.now
+        (reads_of arguments.now) (writer_device W.contents output.old output.new)
+        output.new.forwarded (device_of E.taken E.has_failed errors.old errors.new)
+        (IsAddedBy false) (map loaded_parts loaded.now) original.now)
+        (writer_device W.contents output.old output.new)
+        (device_of E.taken E.has_failed errors.old errors.new) result }
+{
+    let edits = edits_at_end(alloc, loaded)?;
+    Ok(write_added(alloc, &edits, original, arguments, system, output, errors))
+}
+
+// Writes a stream in memory with these sections, in place of those with their names. Returns the exit status.
+fn add_to_held<'a, S: System, W: Write, E: Sink>(
+    alloc: Global,
+    loaded: &'a [Loaded<'a>],
+    bytes: &[u8],
+    original: &Original<'_>,
+    arguments: &Arguments<'_>,
+    system: &S,
+    output: &mut WriteSink<W>,
+    errors: &mut E,
+) -> Result<u8, AllocError>
+    ensures { IfAllocated (AddsHeld S.System S.Input.Source S.Output.Sink system.now
+        (reads_of arguments.now) (writer_device W.contents output.old output.new)
+        output.new.forwarded (device_of E.taken E.has_failed errors.old errors.new)
+        bytes.now (map loaded_parts loaded.now) original.now)
+        (writer_device W.contents output.old output.new)
+        (device_of E.taken E.has_failed errors.old errors.new) result }
+{
+    match edits_to(alloc, loaded, bytes)? {
+        Ok(edits) => Ok(write_added(alloc, &edits, original, arguments, system, output, errors)),
+        Err(error) => Ok(report_fault(alloc, error, errors)),
+    }
+}
+
+// Writes a file with these sections, in place of those of which the flag is set. Returns the exit status.
+fn add_found<'a, S: System, W: Write, E: Sink>(
+    alloc: Global,
+    loaded: &'a [Loaded<'a>],
+    found: &[Cell<bool>],
+    original: &Original<'_>,
+    arguments: &Arguments<'_>,
+    system: &S,
+    output: &mut WriteSink<W>,
+    errors: &mut E,
+) -> Result<u8, AllocError>
+    ensures { IfAllocated (AddsBy S.System S.Input.Source S.Output.Sink system.now
+        (reads_of arguments.now) (writer_device W.contents output.old output.new)
+        output.new.forwarded (device_of E.taken E.has_failed errors.old errors.new)
+        IsAdded (map loaded_parts loaded.now) original.now)
+        (writer_device W.contents output.old output.new)
+        (device_of E.taken E.has_failed errors.old errors.new) result }
+{
+    let edits = edits_by(alloc, loaded, found)?;
+    Ok(write_added(alloc, &edits, original, arguments, system, output, errors))
+}
+
+// Searches a file for these sections, and writes it with them. Those whose name it has are replaced. Returns the exit
+// status, and the output.
+fn add_to_file<'a, S: System, W: Write, E: Sink>(
+    alloc: Global,
+    loaded: &'a [Loaded<'a>],
+    name: &str,
+    arguments: &Arguments<'_>,
+    system: &S,
+    output: WriteSink<W>,
+    errors: &mut E,
+) -> (Result<u8, AllocError>, WriteSink<W>)
+    ensures { IfAdded (AddsSearched S.System S.Input.Source S.Output.Sink system.now
+        (reads_of arguments.now) (writer_device W.contents output result.1) result.1.forwarded
+        (device_of E.taken E.has_failed errors.old errors.new) (map loaded_parts loaded.now) name.now)
+        (device_of E.taken E.has_failed errors.old errors.new) result.0 }
+{
+    let only = match choices_of(alloc, loaded) {
+        Ok(only) => only,
+        Err(error) => return (Err(error), output),
+    };
+    let found = match vec![in alloc; Cell::new(false); loaded.len()] {
+        Ok(found) => found,
+        Err(error) => return (Err(error), output),
+    };
+    let (status, mut output) = search(alloc, &only, &found, name, system, output, errors);
+    if status != 0 {
+        return (Ok(status), output);
+    }
+    let original = Original {
+        name,
+        held: None,
+        is_checked: true,
+    };
+    let result = add_found(
+        alloc,
+        loaded,
+        &found,
+        &original,
+        arguments,
+        system,
+        &mut output,
+        errors,
+    );
+    (result, output)
+}
+
+// Writes a stream with these sections. Returns the exit status, and the output.
+fn add_to<'a, S: System, W: Write, E: Sink>(
+    alloc: Global,
+    loaded: &'a [Loaded<'a>],
+    original: &Original<'_>,
+    arguments: &Arguments<'_>,
+    system: &S,
+    mut output: WriteSink<W>,
+    errors: &mut E,
+) -> (Result<u8, AllocError>, WriteSink<W>)
+    ensures { IfAdded (AddsLoaded S.System S.Input.Source S.Output.Sink system.now
+        (reads_of arguments.now) (writer_device W.contents output result.1) result.1.forwarded
+        (device_of E.taken E.has_failed errors.old errors.new)
+        (has_option Replace (reads_of arguments.now)) (map loaded_parts loaded.now) original.now)
+        (device_of E.taken E.has_failed errors.old errors.new) result.0 }
+{
+    if !arguments.has(Flag::Replace) {
+        let result = add_at_end(
+            alloc,
+            loaded,
+            original,
+            arguments,
+            system,
+            &mut output,
+            errors,
+        );
+        return (result, output);
+    }
+    match &original.held {
+        Some(bytes) => {
+            let result = add_to_held(
+                alloc,
+                loaded,
+                bytes,
+                original,
+                arguments,
+                system,
+                &mut output,
+                errors,
+            );
+            (result, output)
+        }
+        None => add_to_file(
+            alloc,
+            loaded,
+            original.name,
+            arguments,
+            system,
+            output,
+            errors,
+        ),
+    }
+}
+
 // The operands of the command: what is added, and the file to which it is added.
 #[derive(Clone, Copy)]
 struct Operands<'a> {
@@ -182,96 +418,80 @@ struct Operands<'a> {
 }
 
 // Returns the operands, if there are enough.
-fn operands_of<'a>(operands: &'a [&'a str]) -> Option<Operands<'a>> {
+fn operands_of<'a>(operands: &'a [&'a str]) -> Option<Operands<'a>>
+    ensures { AreOperands (texts operands.now) result }
+{
     match operands {
         [] | [_] => None,
         [words @ .., file] => Some(Operands { words, file }),
     }
 }
 
-// Writes a file with these sections and their data. Those of which the flag is set are replaced. Returns the exit status.
-fn write_all_of<S: System, W: Write, E: Sink>(
+// Reads the stream of a file, and writes it with these sections. Returns the exit status, and the output.
+fn add_loaded<'a, S: System, W: Write, E: Sink>(
     alloc: Global,
-    additions: &[Addition<'_>],
-    data: &[Vec<u8>],
-    found: &[Cell<bool>],
-    original: &Original<'_>,
-    arguments: &Arguments<'_>,
-    system: &S,
-    output: &mut WriteSink<W>,
-    errors: &mut E,
-) -> Result<u8, AllocError> {
-    let edits = edits_of(alloc, additions, data, found)?;
-    if !all_fit(&edits) {
-        return Ok(complain(Complaint::TooLarge(Verb::Add, large_name(&edits)), errors));
-    }
-    Ok(write_edited(alloc, &edits, original, arguments, system, output, errors))
-}
-
-// Writes a file with these sections and their data. Returns the exit status, and the output.
-fn add_to<S: System, W: Write, E: Sink>(
-    alloc: Global,
-    additions: &[Addition<'_>],
-    data: &[Vec<u8>],
-    mut original: Original<'_>,
-    arguments: &Arguments<'_>,
-    system: &S,
-    mut output: WriteSink<W>,
-    errors: &mut E,
-) -> (Result<u8, AllocError>, WriteSink<W>) {
-    let found = match vec![in alloc; Cell::new(false); additions.len()] {
-        Ok(found) => found,
-        Err(refused) => return (Err(refused), output),
-    };
-    if arguments.has(Flag::Replace) {
-        let (searched, after) = find_all(
-            alloc, additions, &found, &original, system, output, errors,
-        );
-        if !matches!(searched, Ok(0)) {
-            return (searched, after);
-        }
-        output = after;
-        original.is_checked = true;
-    }
-    let status = write_all_of(
-        alloc,
-        additions,
-        data,
-        &found,
-        &original,
-        arguments,
-        system,
-        &mut output,
-        errors,
-    );
-    (status, output)
-}
-
-// Reads the file that sections are added to if it can be read only once, and adds them. Returns the exit status, and the
-// output.
-fn add_all<S: System, W: Write, E: Sink>(
-    alloc: Global,
-    operands: Operands<'_>,
+    loaded: &'a [Loaded<'a>],
+    file: &str,
     arguments: &Arguments<'_>,
     system: &S,
     output: WriteSink<W>,
     errors: &mut E,
-) -> (Result<u8, AllocError>, WriteSink<W>) {
-    let additions = match parse_additions(alloc, operands.words) {
-        Ok(Ok(additions)) => additions,
-        Ok(Err(word)) => return (Ok(complain(Complaint::NoData(word), errors)), output),
-        Err(refused) => return (Err(refused), output),
-    };
-    let data = match data_of(alloc, &additions, system, errors) {
-        Ok(Ok(data)) => data,
-        Ok(Err(status)) => return (Ok(status), output),
-        Err(refused) => return (Err(refused), output),
-    };
-    match original_of(alloc, operands.file, system, errors) {
-        Ok(original) => add_to(
-            alloc, &additions, &data, original, arguments, system, output, errors,
-        ),
+) -> (Result<u8, AllocError>, WriteSink<W>)
+    ensures { IfAdded (AddsRead S.System S.Input.Source S.Output.Sink system.now
+        (reads_of arguments.now) (writer_device W.contents output result.1) result.1.forwarded
+        (device_of E.taken E.has_failed errors.old errors.new) (map loaded_parts loaded.now) file.now)
+        (device_of E.taken E.has_failed errors.old errors.new) result.0 }
+{
+    match original_of(alloc, file, system, errors) {
+        Ok(original) => add_to(alloc, loaded, &original, arguments, system, output, errors),
         Err(status) => (Ok(status), output),
+    }
+}
+
+// Reads the data of sections, and writes a file with these. Returns the exit status, and the output.
+fn add_data<S: System, W: Write, E: Sink>(
+    alloc: Global,
+    additions: &[Addition<'_>],
+    file: &str,
+    arguments: &Arguments<'_>,
+    system: &S,
+    output: WriteSink<W>,
+    errors: &mut E,
+) -> (Result<u8, AllocError>, WriteSink<W>)
+    ensures { IfAdded (AddsAll S.System S.Input.Source S.Output.Sink system.now
+        (reads_of arguments.now) (writer_device W.contents output result.1) result.1.forwarded
+        (device_of E.taken E.has_failed errors.old errors.new) (map parts_of additions.now) file.now)
+        (device_of E.taken E.has_failed errors.old errors.new) result.0 }
+{
+    match load_all(alloc, additions, system, errors) {
+        Ok(Ok(loaded)) => add_loaded(alloc, &loaded, file, arguments, system, output, errors),
+        Ok(Err(status)) => (Ok(status), output),
+        Err(error) => (Err(error), output),
+    }
+}
+
+// Writes a file with the sections that these words name. Returns the exit status, and the output.
+fn add_words<S: System, W: Write, E: Sink>(
+    alloc: Global,
+    words: &[&str],
+    file: &str,
+    arguments: &Arguments<'_>,
+    system: &S,
+    output: WriteSink<W>,
+    errors: &mut E,
+) -> (Result<u8, AllocError>, WriteSink<W>)
+    ensures { IfAdded (AddsWords S.System S.Input.Source S.Output.Sink system.now
+        (reads_of arguments.now) (writer_device W.contents output result.1) result.1.forwarded
+        (device_of E.taken E.has_failed errors.old errors.new) (no_addition (texts words.now))
+        (texts words.now) file.now)
+        (device_of E.taken E.has_failed errors.old errors.new) result.0 }
+{
+    match parse_additions(alloc, words) {
+        Ok(Ok(additions)) => {
+            add_data(alloc, &additions, file, arguments, system, output, errors)
+        }
+        Ok(Err(word)) => (Ok(complain(Complaint::NoData(word), errors)), output),
+        Err(error) => (Err(error), output),
     }
 }
 
@@ -286,13 +506,25 @@ pub(crate) fn add<S: System, W: Write, E: Sink>(
     system: &S,
     output: WriteSink<W>,
     errors: &mut E,
-) -> (Result<u8, AllocError>, WriteSink<W>) {
+) -> (Result<u8, AllocError>, WriteSink<W>)
+    // Proved: `add` reads the files with the data of the sections, in order, and then the file to
+    //   which they are added, or standard input, and writes that with a section for each, to the
+    //   output or to the file of `--output`, which is replaced only if all was written; or it says
+    //   why not. With `--replace`, of a stream in memory exactly the sections that are found by
+    //   their names are replaced [`add` (`Adds`: `AddsOperands`, `AddsLoaded`, `AddsBy`)]
+    ensures { Adds S.System S.Input.Source S.Output.Sink system.now (reads_of arguments.now)
+        (writer_device W.contents output result.1) result.1.forwarded
+        (device_of E.taken E.has_failed errors.old errors.new) result.0 }
+{
     let words = match arguments.operands(alloc) {
         Ok(words) => words,
-        Err(refused) => return (Err(refused), output),
+        Err(error) => return (Err(error), output),
     };
     match operands_of(words.as_slice()) {
-        Some(operands) => add_all(alloc, operands, arguments, system, output, errors),
+        Some(operands) => {
+            let Operands { words, file } = operands;
+            add_words(alloc, words, file, arguments, system, output, errors)
+        }
         None => {
             let complaint = Complaint::Few(Verb::Add, "NAME=DATA and FILE");
             (Ok(complain(complaint, errors)), output)

@@ -1,0 +1,60 @@
+-- Lists whose elements are related in turn.
+use Rattle.std.proofs.Common.{◌≡◌, ◌∙◌, ◌+◌, ◌<◌, ℕ, Bool, Option, List, [], ◌∷◌, ◌++◌, ap, sym, subst₂, map, take, length, get_or}
+use Rattle.std.proofs.lemmas.List.{map-append, map_more, take-map}
+use Rattle.wasm_console.specs.Devices.{IsUntouched}
+use Rattle.wasm_commands.proofs.Editing.{untouched_before}
+use Rattle.wasm_text.specs.declared.devices.sink.Sink.{Ghosts as SinkOf}
+use Rattle.wasm_text.specs.declared.devices.source.Source.{Ghosts as SourceOf}
+use Rattle.wasm_commands.specs.RewriteCommands.{CannotLoad, EachInTurn, IsLoaded, parts_of}
+use Rattle.wasm_commands.specs.Rewrites.{CannotHold}
+use Rattle.wasm_commands.specs.declared.add.Addition.{Addition}
+use Rattle.wasm_commands.specs.declared.system.System.{Ghosts as SystemOf}
+
+each_more : {A B : Type 0} (R : A → B → Type 0) (xs : List A) (ys : List B) (x : A) (y : B) → EachInTurn R xs ys → R x y
+    → EachInTurn R (xs ++ x ∷ []) (ys ++ y ∷ [])
+each_more R [] [] x y all one = (one, tt)
+each_more R [] (other ∷ ys) x y all one = absurd all
+each_more R (first ∷ xs) [] x y all one = absurd all
+each_more R (first ∷ xs) (other ∷ ys) x y all one = (all.0, each_more R xs ys x y all.1 one)
+
+-- the elements up to the next one
+pub up_to_next : {X A : Type 0} (f : X → A) (xs : List X) (i : ℕ) (x : X) → i < length xs → x ≡ get_or xs i x
+    → map f (take (i + 1) xs) ≡ map f (take i xs) ++ f x ∷ []
+up_to_next f xs i x less is = map_more f xs i x less ∙ ap (λ y. map f (take i xs) ++ f y ∷ []) (sym is)
+
+pub begins_with_next : {X A : Type 0} (f : X → A) (xs : List X) (i : ℕ) (x : X) → i < length xs → x ≡ get_or xs i x
+    → take (i + 1) (map f xs) ≡ map f (take i xs) ++ f x ∷ []
+begins_with_next f xs i x less is = take-map f (i + 1) xs ∙ up_to_next f xs i x less is
+
+-- one more element has its counterpart
+pub each_next : {X A B : Type 0} (R : A → B → Type 0) (f : X → A) (xs : List X) (i : ℕ) (x : X) (ys new : List B) (y : B)
+    → i < length xs → x ≡ get_or xs i x → EachInTurn R (map f (take i xs)) ys → R (f x) y → new ≡ ys ++ y ∷ []
+    → EachInTurn R (map f (take (i + 1) xs)) new
+each_next R f xs i x ys new y less is all one e = subst₂ (EachInTurn R) (sym (up_to_next f xs i x less is)) (sym e)
+    (each_more R (map f (take i xs)) ys (f x) y all one)
+
+-- the same for a list that is seen through a function
+pub each_next_seen : {X Y A B : Type 0} (R : A → B → Type 0) (f : X → A) (g : Y → B) (xs : List X) (i : ℕ) (x : X)
+    (ys new : List Y) (y : Y) → i < length xs → x ≡ get_or xs i x → EachInTurn R (map f (take i xs)) (map g ys) → R (f x) (g y)
+    → new ≡ ys ++ y ∷ [] → EachInTurn R (map f (take (i + 1) xs)) (map g new)
+each_next_seen R f g xs i x ys new y less is all one e =
+    each_next R f xs i x (map g ys) (map g new) (g y) less is all one (ap (map g) e ∙ map-append g ys (y ∷ []))
+
+-- the file of the next section could not be read
+pub cannot_load : {S I O : Type 0} (calls : SystemOf S I O) (sources : SourceOf I) (sinks : SinkOf O) (system : S)
+    (additions : List Addition) (i : ℕ) (x : Addition) (loaded : List (List ℕ × List ℕ)) (a b c : Option (List ℕ)) (f g h : Bool)
+    (status : ℕ) → i < length additions → x ≡ get_or additions i x
+    → EachInTurn (IsLoaded calls sources sinks system) (map parts_of (take i additions)) loaded
+    → IsUntouched (record { before = a; after = b; had_failed = f; has_failed = g })
+    → CannotHold calls sources sinks system x.file.now (record { before = b; after = c; had_failed = g; has_failed = h }) status
+    → CannotLoad calls sources sinks system (map parts_of additions)
+    (record { before = a; after = c; had_failed = f; has_failed = h }) status
+cannot_load calls sources sinks system additions i x loaded a b c f g h status less is loads silent cannot = record {
+  first = map parts_of (take i additions);
+  next = parts_of x;
+  count = i + 1;
+  begins = begins_with_next parts_of additions i x less is;
+  loaded = loaded;
+  loads = loads;
+  cannot = untouched_before (λ d. CannotHold calls sources sinks system x.file.now d status) a b c f g h silent cannot;
+}

@@ -1,0 +1,7 @@
+use Rattle.std.proofs.Common.{map, take}
+use Rattle.wasm_commands.specs.RewriteCommands.{EachInTurn, IsAddedTo, loaded_parts}
+use Rattle.wasm_commands.proofs.add.edits_to.Given as goal
+
+abbrev pub invariant-loop-section : goal.invariant-loop-section
+invariant-loop-section l =
+    EachInTurn (IsAddedTo l.bytes) (map loaded_parts (take l.section-index l.loaded)) l.edits.items
