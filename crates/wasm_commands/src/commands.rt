@@ -252,6 +252,8 @@ pub fn run<S: System, W: Write, E: Sink>(
     //   or the output fails, and the status is 3 with its reason [the clause of `run` (`RunsWords`, `Prints`)]
     // Proved: what `check`, `list` and `dump` wrote was forwarded if the status is 0 or 1 [the clause of `run`
     //   (`RunsWords`, `IsForwarded`)]
+    // Proved: `strip`, `extract`, `add` and `producers` do what is said of them above [the clause of `run` (`RunsWords`,
+    //   `RunsCommand`)]
     // Proved: `list` and `dump` open each file in turn, twice for names, and write what is asked for in the format that is
     //   asked for, each under its name if there are several. The status is the greatest: 0 for a file that was read to its
     //   end, 1 at its fault or with a message for each word that chose nothing, and 3 with the system's reason if something
