@@ -14,13 +14,11 @@ pub use Rattle.wasm_base.proofs.NumberLaws.{number-used}
 pub use Rattle.wasm_base.specs.FaultAt.{FaultAt, fault_at, at_offset, hint_of}
 pub use Rattle.wasm_base.specs.Header.{magic, agree}
 pub use Rattle.wasm_base.specs.Hints.{hint_at, missing_at}
-pub use Rattle.wasm_base.specs.Item.{ReadsAs}
 pub use Rattle.wasm_base.specs.Name.{name_limit}
 unfoldable pub use Rattle.wasm_base.specs.Name.{text_at}
 pub use Rattle.wasm_base.specs.Number.{number, read}
 unfoldable pub use Rattle.wasm_base.specs.Number.{unsigned_at}
 pub use Rattle.wasm_base.specs.Outcome.{Outcome, ◌>>=◌}
-pub use Rattle.wasm_base.specs.Section.{Section}
 pub use Rattle.wasm_base.specs.Window.{Window, Place, advanced, window_over, place}
 pub use Rattle.wasm_base.specs.declared.error.Error.{Error}
 pub use Rattle.wasm_base.specs.declared.fault.Fault.TheVariants.{OffsetRange, UnexpectedEof, FunctionCodeDiffer, CodeWithoutFunction}
@@ -44,15 +42,15 @@ pub use Rattle.wasm_grammar.specs.Grammar.{whole_grammar, wrong_data, content_gr
 unfoldable pub use Rattle.wasm_grammar.specs.Grammar.{verdict, header_grammar, body_grammar, section_grammar}
 pub use Rattle.wasm_grammar.specs.Ids.{data_id, function_id}
 pub use Rattle.wasm_grammar.specs.Reading.{stream_end, Event, tile_report, event_of, events_of, last_event, Reading, Stream, code_start}
-pub use Rattle.wasm_grammar.specs.Reading.{Report, counted, start_section, data_count_section, section_report}
+pub use Rattle.wasm_grammar.specs.Reading.{Report, start_section, data_count_section, section_report}
 pub use Rattle.wasm_grammar.specs.Tiling.{bytes_of, grammar, inside, context_of, bodies_left, bytes_left, counts}
 pub use Rattle.wasm_grammar.specs.Waiting.{Waiting, enough, wants, asked_at_section}
 unfoldable pub use Rattle.wasm_grammar.specs.Waiting.{waiting}
 pub use Rattle.wasm_frames.specs.Answer.{GivesFrame, answer_by, answer_in_time, answer_to, content_of, is_end, state_after_result}
-pub use Rattle.wasm_frames.specs.Frame.{counted_in, custom_in, unknown_in, unread}
+pub use Rattle.wasm_frames.specs.Frame.{counted_in, custom_in, unknown_in}
 pub use Rattle.wasm_frames.specs.ParserState.{ParserState, initial_state, grammar_of, known_context, ended_state, IsStateAfter}
 pub use Rattle.wasm_frames.specs.ParserState.{is_at_section, greatest, skipped_state}
-pub use Rattle.wasm_frames.specs.ReadsPart.{MatchesGrammar, ReadsByGrammar, MatchesVerdict, is_lacking, is_miscounted, is_other}
+pub use Rattle.wasm_frames.specs.ReadsPart.{MatchesGrammar, ReadsByGrammar, MatchesVerdict, is_lacking, is_miscounted}
 unfoldable pub use Rattle.wasm_frames.specs.ReadsPart.{content_at}
 pub use Rattle.wasm_frames.specs.SkipNext.{Skip, SkipsPart, skip_in}
 pub use Rattle.wasm_frames.specs.StateAfter.{state_after, state_after_tile}

@@ -1,9 +1,15 @@
+pub mod Along
+pub mod AnswerBounds
+pub mod AnswerTables
+pub mod AsksWhereOpen
 pub mod Bodies
 pub mod Bounds
 pub mod Common
-pub mod Forms
+pub mod Consumed
 pub mod CutParts
 pub mod Cuts
+pub mod Following
+pub mod Forms
 pub mod Framed
 pub mod Headers
 pub mod Heads
@@ -12,5 +18,7 @@ pub mod Passing
 pub mod ReadingFields
 pub mod Results
 pub mod Settled
+pub mod SkipAlong
 pub mod SkipNext
+pub mod SkippedLaws
 pub mod StateLaws

@@ -1,5 +1,6 @@
--- What one call of `next` returns, and the parser afterwards.
-use Rattle.std.specs.Prelude.{◌≡◌, ℕ, ◌+◌, ◌^◌, Bool, true, false, List, length, nat_lt, if◌then◌else◌}
+-- What one call of a parser returns, and the parser afterwards.
+use Rattle.std.specs.Prelude.{◌≡◌, ℕ, ◌+◌, ◌≤◌, ◌^◌, Bool, true, false, List, length}
+use Rattle.std.specs.Prelude.{nat_eq, nat_lt, if◌then◌else◌}
 use Rattle.wasm_base.specs.FaultAt.{FaultAt, fault_at, at_offset}
 use Rattle.wasm_base.specs.declared.fault.Fault.TheVariants.{OffsetRange}
 use Rattle.wasm_frames.specs.ParserState.{ParserState, grammar_of, ended_state}
@@ -57,10 +58,47 @@ content_of (Parsed frame consumed) = reports frame consumed
 content_of (NeedMoreData hint) = asks hint
 content_of (Fault e) = refuses (fault_at e)
 
--- | what `next` returns for all the rest of a stream, or for bytes after which more may come, by what the parser knows
+-- | what a call returns for all the rest of a stream, or for bytes after which more may come, by what the parser knows
 --   [`answer_to`, `answer_by`, `answer_in_time`, `state_after_result`]
--- The result of a call, and the state after it, by the state before it.
-pub record GivesFrame (old : ParserState) (eof : Bool) (rest : List ℕ) (result : NextFrame) (new : ParserState) :
+-- A call returned this, and the parser is then in this state, by the state before it.
+pub record GivesAnswer (old : ParserState) (eof : Bool) (rest : List ℕ) (given : Answer) (new : ParserState) :
     Type 0 where
-  pub answer : content_of result ≡ answer_to old eof rest
-  pub state : new ≡ state_after_result old (content_of result)
+  pub answer : given ≡ answer_to old eof rest
+  pub state : new ≡ state_after_result old given
+
+-- | what `next` returns [`GivesAnswer`, `content_of`]
+-- The result of a call of `next`, and the state after it.
+abbrev pub GivesFrame : (old : ParserState) (eof : Bool) (rest : List ℕ) → NextFrame → (new : ParserState) → Type 0
+GivesFrame old eof rest result new = GivesAnswer old eof rest (content_of result) new
+
+-- | what a call consumes: bytes of the input, and some except at the end
+-- A part consumes bytes that are there. The end consumes none, and any other part at least one.
+abbrev pub Consumes : List ℕ → Answer → Type 0
+Consumes rest (asks hint) = Unit {0}
+Consumes rest (reports report consumed) = (consumed ≤ length rest) × (nat_eq consumed 0 ≡ is_end report)
+Consumes rest (refuses f) = Unit {0}
+
+-- | a fault lies between the parser and the end of the bytes, wherever the parser is
+-- The offset of a fault is between the parser's offset and the end of the bytes.
+abbrev pub FaultsWithin : ParserState → List ℕ → Answer → Type 0
+FaultsWithin p rest (asks hint) = Unit {0}
+FaultsWithin p rest (reports report consumed) = Unit {0}
+FaultsWithin p rest (refuses f) = (p.offset ≤ f.offset) × (f.offset ≤ p.offset + length rest)
+
+-- | after a fault or a request for more bytes the parser is unchanged
+abbrev pub IsUnchanged : (old : ParserState) → Answer → (new : ParserState) → Type 0
+IsUnchanged old (asks hint) new = new ≡ old
+IsUnchanged old (reports report consumed) new = Unit {0}
+IsUnchanged old (refuses f) new = new ≡ old
+
+-- A request is for one byte or more.
+abbrev pub AsksForSome : Answer → Type 0
+AsksForSome (asks hint) = 1 ≤ hint
+AsksForSome (reports report consumed) = Unit {0}
+AsksForSome (refuses f) = Unit {0}
+
+-- The result is a request for more bytes.
+abbrev pub IsRequest : Answer → Type 0
+IsRequest (asks hint) = Unit {0}
+IsRequest (reports report consumed) = ⊥
+IsRequest (refuses f) = ⊥

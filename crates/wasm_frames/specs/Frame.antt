@@ -139,8 +139,8 @@ Reads other reader = Unit {0}
 -- This is the offset of the data of a custom section, or of the first item of a section of items.
 abbrev pub StartsData : Report → (offset : ℕ) → Type 0
 StartsData (report.custom_section name data_offset window) offset = offset ≡ data_offset
-StartsData (report.counted id count window) offset = (first : Place) → unsigned_at VarU32 (place window)
-    ≡ Ok (count, first) → offset ≡ first.offset
+StartsData (report.counted id count window) offset =
+    (first : Place) × (unsigned_at VarU32 (place window) ≡ Ok (count, first)) × (offset ≡ first.offset)
 StartsData other offset = Unit {0}
 
 -- A part of a stream, or its end, is reported, and no fault.

@@ -1,11 +1,17 @@
+pub mod Along
 pub mod Answer
+pub mod AsksWhereOpen
 pub mod Checkpoint
 pub mod Contents
 pub mod Cuts
 pub mod Frame
+pub mod GivesNextEvent
 pub mod Heads
+pub mod ParserLaws
 pub mod ParserState
 pub mod ReadsPart
+pub mod SkipAlong
 pub mod SkipNext
+pub mod Skipped
 pub mod StateAfter
 pub mod Stored

@@ -16,6 +16,7 @@ mod frame;
 mod head;
 mod header;
 mod kind;
+pub mod laws;
 mod next;
 mod parser;
 mod skipping;

@@ -1,7 +1,9 @@
 // The parser of frames.
 ghost use Rattle.std.specs.Prelude.{◌≡◌, ◌+◌, ◌<◌, ◌^◌, not, true, [], length, nat_eq};
 ghost use Rattle.wasm_base.specs.Window.{place, window_over};
-ghost use Rattle.wasm_frames.specs.Answer.{GivesFrame};
+ghost use Rattle.wasm_frames.specs.Answer.{AsksForSome, Consumes, FaultsWithin, GivesFrame, content_of};
+ghost use Rattle.wasm_frames.specs.AsksWhereOpen.{AsksWhereOpen};
+ghost use Rattle.wasm_frames.specs.GivesNextEvent.{GivesNextEvent};
 ghost use Rattle.wasm_frames.specs.ParserState.{is_at_section as at_section};
 ghost use Rattle.wasm_frames.specs.Contents.{IsWhole};
 ghost use Rattle.wasm_frames.specs.ReadsPart.{IsBegun, place_of, ReadsBody, ReadsContent, ReadsNext, Refuses};
@@ -40,7 +42,13 @@ impl StoredParser {
         // Proved: `next` returns what the grammar says of the bytes, by what the parser knows: a
         //   frame, a fault, or a request where they do not decide; the parser is then after the
         //   frame, and otherwise unchanged
-        ensures { GivesFrame (parser_of self.old) eof bytes.now result (parser_of self.new) }
+        ensures answers { GivesFrame (parser_of self.old) eof bytes.now result (parser_of self.new) }
+        ensures gives { GivesNextEvent (parser_of self.old) eof bytes.now (content_of result)
+            (parser_of self.new) }
+        ensures consumes { Consumes bytes.now (content_of result) }
+        ensures asks { AsksForSome (content_of result) }
+        ensures waits { AsksWhereOpen (parser_of self.old) eof bytes.now (content_of result) }
+        ensures faults { FaultsWithin (parser_of self.old) bytes.now (content_of result) }
     {
         self.settle();
         self.next_settled(bytes, eof)

@@ -5,10 +5,11 @@ pub use Rattle.wasm_grammar.proofs.accepted.Frames.{reads_accepted}
 pub use Rattle.wasm_grammar.proofs.accepted.Accepting.{fault_ends}
 pub use Rattle.wasm_grammar.proofs.accepted.Walks.{accepted_reads}
 pub use Rattle.wasm_grammar.proofs.readings.Readings.{reading_same}
-pub use Rattle.wasm_parser.proofs.Along.{answers_go_along}
-pub use Rattle.wasm_parser.proofs.AnswerBounds.{answers_last}
-pub use Rattle.wasm_parser.proofs.Consumed.{end_consumes_all}
+pub use Rattle.wasm_frames.proofs.Along.{answers_go_along}
+pub use Rattle.wasm_frames.proofs.AnswerBounds.{answers_last}
+pub use Rattle.wasm_frames.proofs.Consumed.{end_consumes_all}
+pub use Rattle.wasm_parser.proofs.EachPayload.{PayloadCame, WalkedTo, payload_came, walk_begins, walk_begun, walk_ends, walk_faults}
 pub use Rattle.wasm_grammar.proofs.frames.Kept.{frames_read_the_same, rankless_may_go}
 pub use Rattle.wasm_grammar.proofs.accepted.KindIds.{custom_has_its_id}
 pub use Rattle.wasm_grammar.proofs.frames.ReportedAs.{frames_give_events, one_division}
-pub use Rattle.wasm_parser.proofs.SkipAlong.{skipping_goes_along}
+pub use Rattle.wasm_frames.proofs.SkipAlong.{skipping_goes_along}

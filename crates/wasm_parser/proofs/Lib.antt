@@ -1,13 +1,6 @@
-pub mod Along
-pub mod AnswerBounds
-pub mod AnswerTables
-pub mod AsksWhereOpen
 pub mod Common
-pub mod Consumed
-pub mod Following
+pub mod EachPayload
 pub mod ForCallers
 pub mod Parsing
 pub mod PayloadItems
-pub mod SkipAlong
-pub mod SkippedLaws
 pub mod Walking

@@ -3,7 +3,7 @@ use Rattle.wasm_parser.proofs.Common.{◌≡◌, ℕ, ◌+◌, ◌^◌, ◌<◌,
 use Rattle.wasm_parser.proofs.Common.{subst, ◌∙◌, arith, length-append, append_assoc, drop, Some, None, Option, drop_at, All-nil, All-cons}
 use Rattle.wasm_parser.proofs.Common.{All, fault_at, Error, Grown, grows, Ending, fault, ended, Tile, Verdict, tile, final, verdict}
 use Rattle.wasm_parser.proofs.Common.{stream_end, Event, event_of, events_of, last_event, Reading, Stream, Report, bytes_of, grammar}
-use Rattle.wasm_parser.proofs.Common.{report_of, is_end, ParserState, initial_state, grammar_of, IsStateAfter, state_after_tile, Parsed}
+use Rattle.wasm_parser.proofs.Common.{report_of, is_end, ParserState, initial_state, grammar_of, IsStateAfter, state_after_tile}
 use Rattle.wasm_parser.proofs.Common.{Payload}
 use Rattle.std.specs.Iterator.{Yields}
 use Rattle.std.specs.List.{cons_option}
@@ -15,7 +15,8 @@ use Rattle.wasm_parser.specs.ParseAll.{event_report, EndsAt, GivesReading, Walks
 use Rattle.wasm_grammar.proofs.accepted.Accepting.{accepted_ends}
 use Rattle.wasm_grammar.proofs.frames.SectionPlaces.{sections_tile}
 use Rattle.wasm_grammar.proofs.readings.Readings.{reads_same, reading_same}
-use Rattle.wasm_parser.proofs.AnswerTables.{Answers, as_table}
+use Rattle.wasm_frames.specs.Answer.{refuses, reports}
+use Rattle.wasm_frames.proofs.AnswerTables.{Answers, as_table}
 use Rattle.wasm_frames.proofs.Results.{goes_on}
 use Rattle.wasm_frames.proofs.StateLaws.{grammar_same, nothing_passed, state_goes_on, state_goes_on-tiles}
 
@@ -106,12 +107,12 @@ module _ (start features : ℕ) (stream : List ℕ) where
       let none : given ≡ [] = over_gives_nothing run.0 t given step.2 run.2 in
       let r : ReadsOn start features stream tiles (stream_end (fault (fault_at e)) ∷ []) =
       refused (verdict (grammar_of s.state) s.bytes) refl
-      ((as_table s.state run.0.state true s.bytes (Err e) step.0).within (within s tiles w)) in
+      ((as_table s.state run.0.state true s.bytes (refuses (fault_at e)) step.0.gives).within (within s tiles w)) in
       subst (λ (y : List (Result Payload Error)). ReadsOn start features stream tiles
       (stream_end (fault (fault_at e)) ∷ map given_report y))
       (sym none) r
     where
-      refused : (v : Verdict) → verdict (grammar_of s.state) s.bytes ≡ v → Answers s.state v (Err e) run.0.state
+      refused : (v : Verdict) → verdict (grammar_of s.state) s.bytes ≡ v → Answers s.state v (refuses (fault_at e)) run.0.state
           → ReadsOn start features stream tiles (stream_end (fault (fault_at e)) ∷ [])
       refused (tile x) q a = absurd a
       refused (final (fault f)) q a = stops_here s tiles w (fault f) (stream_end (fault (fault_at e))) q
@@ -119,11 +120,12 @@ module _ (start features : ℕ) (stream : List ℕ) where
       refused (final (ended o)) q a = absurd a
   walks (Ok payload ∷ given) s t u tiles w going run end =
       answered (λ ts on still. walks given run.0 t u ts on still run.2 end) (verdict (grammar_of s.state) s.bytes) refl
-      (grind (arith, as_table, within))
+      ((as_table s.state run.0.state true s.bytes (reports (report_of payload) (consumed_between s run.0))
+      (run.1.going going).0.gives).within (within s tiles w))
     where
       answered : ((ts : List Tile) → Walked start features stream run.0 ts → run.0.ended ≡ false
           → ReadsOn start features stream ts (map given_report given)) → (v : Verdict) → verdict (grammar_of s.state) s.bytes ≡ v
-          → Answers s.state v (Ok (Parsed (consumed_between s run.0) payload)) run.0.state
+          → Answers s.state v (reports (report_of payload) (consumed_between s run.0)) run.0.state
           → ReadsOn start features stream tiles (report_of payload ∷ map given_report given)
       answered next (tile x) q a =
           let on : Walked start features stream run.0 (x ∷ tiles) =
@@ -133,7 +135,7 @@ module _ (start features : ℕ) (stream : List ℕ) where
           (cc) (next (x ∷ tiles) on still)
       answered next (final (fault f)) q a = absurd a
       answered next (final (ended o)) q a =
-          let over : run.0.ended ≡ true = (run.1.going going).2 ∙ ap is_end a.1.0 in
+          let over : run.0.ended ≡ true = (run.1.going going).2 ∙ ap is_end a.1 in
           let none : given ≡ [] = over_gives_nothing run.0 t given over run.2 in
           grind (arith, stops_here)
 

@@ -1,9 +1,3 @@
-pub mod Along
-pub mod AsksWhereOpen
-pub mod GivesNextEvent
 pub mod ParseAll
 pub mod ParseAnswer
-pub mod ParserLaws
 pub mod PayloadItems
-pub mod SkipAlong
-pub mod Skipped

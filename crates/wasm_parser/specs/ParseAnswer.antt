@@ -1,16 +1,14 @@
 -- What one call of `parse` returns.
-use Rattle.std.specs.Prelude.{◌≡◌, ℕ, ◌+◌, ◌≤◌, Bool, List, length, nat_eq, Option, Some, None, IfSome, Result, Ok, Err}
-use Rattle.std.specs.Prelude.{if◌then◌else◌}
+use Rattle.std.specs.Prelude.{◌≡◌, ℕ, Bool, List, Option, Some, None, IfSome, Result, Ok, Err}
 use Rattle.wasm_base.specs.FaultAt.{fault_at}
 use Rattle.wasm_base.specs.Number.{unsigned_at}
 use Rattle.wasm_base.specs.Section.{Section}
 use Rattle.wasm_base.specs.Window.{place, range_of}
 use Rattle.wasm_base.specs.declared.error.Error.{Error}
 use Rattle.wasm_base.specs.declared.fault.NumberKind.TheVariants.{VarU32}
-use Rattle.wasm_frames.specs.Answer.{Answer, asks, reports, refuses, answer_to, is_end}
+use Rattle.wasm_frames.specs.Answer.{Answer, GivesAnswer, asks, reports, refuses}
 use Rattle.wasm_frames.specs.Frame.{unread}
-use Rattle.wasm_frames.specs.ParserState.{ParserState, ended_state}
-use Rattle.wasm_frames.specs.StateAfter.{state_after}
+use Rattle.wasm_frames.specs.ParserState.{ParserState}
 use Rattle.wasm_grammar.specs.Content.{ended}
 use Rattle.wasm_grammar.specs.Ids.{data_id, element_id, export_id, function_id, global_id, import_id, memory_id}
 use Rattle.wasm_grammar.specs.Ids.{table_id, tag_id, type_id}
@@ -87,27 +85,11 @@ ItemsBegin payload = IfSome (items_in payload) (λ x. BeginsAfterCount x.1)
 abbrev pub IsPayload : Report → Payload → Type 0
 IsPayload report payload = (report_of payload ≡ report) × ItemsBegin payload
 
--- | what `parse` consumes: bytes of the input, and some except at the end
--- A payload consumes bytes that are there. The end consumes none, and any other payload at least one.
-abbrev pub Consumes : List ℕ → Result Chunk Error → Type 0
-Consumes rest (Ok (Parsed consumed payload)) = (consumed ≤ length rest)
-    × (nat_eq consumed 0 ≡ is_end (report_of payload))
-Consumes rest (Ok (NeedMoreData hint)) = Unit {0}
-Consumes rest (Err e) = Unit {0}
-
 -- the content of a result
 abbrev pub said : Result Chunk Error → Answer
 said (Ok (NeedMoreData hint)) = asks hint
 said (Ok (Parsed consumed payload)) = reports (report_of payload) consumed
 said (Err e) = refuses (fault_at e)
-
--- | the parser after a result; the last result; results that say the same [`Along.is_last`, `SaysTheSame`]
--- the state after a call: after the reported part, or at the end; unchanged after a request or a fault
-abbrev pub state_after_answer : ParserState → Result Chunk Error → ParserState
-state_after_answer p (Ok (NeedMoreData hint)) = p
-state_after_answer p (Ok (Parsed consumed payload)) =
-    if is_end (report_of payload) then ended_state p else state_after p (p.offset + consumed) (report_of payload)
-state_after_answer p (Err e) = p
 
 -- If the result is a counted section, its reader is at the first item.
 abbrev pub AnswerBegins : Result Chunk Error → Type 0
@@ -115,35 +97,10 @@ AnswerBegins (Ok (NeedMoreData hint)) = Unit {0}
 AnswerBegins (Ok (Parsed consumed payload)) = ItemsBegin payload
 AnswerBegins (Err e) = Unit {0}
 
--- | what `parse` returns for all the rest of a stream, or for bytes after which more may come, by what the parser
---   knows [`state_after_answer`; `wasm_frames`: `Answer.answer_to`, `answer_by`, `answer_in_time`]
+-- | what `parse` returns: what the parser of frames does, with readers of items [`said`; `wasm_frames`:
+--   `Answer.GivesAnswer`, `answer_to`, `answer_by`, `answer_in_time`]
 -- The result of a call, and the state after it, by the state before it.
 pub record ParseAnswer (old : ParserState) (eof : Bool) (rest : List ℕ) (result : Result Chunk Error)
     (new : ParserState) : Type 0 where
-  pub answer : said result ≡ answer_to old eof rest
+  pub gives : GivesAnswer old eof rest (said result) new
   pub items : AnswerBegins result
-  pub state : new ≡ state_after_answer old result
-
--- | a fault lies between the parser and the end of the bytes, wherever the parser is
--- The offset of a fault is between the parser's offset and the end of the bytes.
-abbrev pub FaultsWithin : ParserState → List ℕ → Result Chunk Error → Type 0
-FaultsWithin p rest (Ok chunk) = Unit {0}
-FaultsWithin p rest (Err e) = (p.offset ≤ (fault_at e).offset) × ((fault_at e).offset ≤ p.offset + length rest)
-
--- | after a fault or a request for more bytes the parser is unchanged
-abbrev pub IsUnchanged : (old : ParserState) → Result Chunk Error → (new : ParserState) → Type 0
-IsUnchanged old (Ok (Parsed consumed payload)) new = Unit {0}
-IsUnchanged old (Ok (NeedMoreData hint)) new = new ≡ old
-IsUnchanged old (Err e) new = new ≡ old
-
--- A request is for one byte or more.
-abbrev pub AsksForSome : Result Chunk Error → Type 0
-AsksForSome (Ok (NeedMoreData hint)) = 1 ≤ hint
-AsksForSome (Ok (Parsed consumed payload)) = Unit {0}
-AsksForSome (Err e) = Unit {0}
-
--- The result is a request for more bytes.
-abbrev pub IsRequest : Result Chunk Error → Type 0
-IsRequest (Ok (NeedMoreData hint)) = Unit {0}
-IsRequest (Ok (Parsed consumed payload)) = ⊥
-IsRequest (Err e) = ⊥

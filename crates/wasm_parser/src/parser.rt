@@ -3,17 +3,18 @@ ghost use Rattle.std.specs.Prelude.{⊤, ◌≡◌, ◌+◌, ◌<◌, ◌^◌, l
 ghost use Rattle.std.specs.Option.{IsSome};
 ghost use Rattle.wasm_base.specs.Features.{feature_bits, all_features};
 ghost use Rattle.wasm_base.specs.Window.{window_over};
+ghost use Rattle.wasm_frames.specs.Answer.{AsksForSome, Consumes, FaultsWithin, IsUnchanged};
+ghost use Rattle.wasm_frames.specs.AsksWhereOpen.{AsksWhereOpen};
 ghost use Rattle.wasm_frames.specs.Checkpoint.{state_of};
+ghost use Rattle.wasm_frames.specs.GivesNextEvent.{GivesNextEvent};
 ghost use Rattle.wasm_frames.specs.ParserState.{initial_state, skippable_of, skipped_state};
 ghost use Rattle.wasm_frames.specs.SkipNext.{SkipsNext, skip_is, skip_of, state_after_skip};
+ghost use Rattle.wasm_frames.specs.Skipped.{SkipsSection};
 ghost use Rattle.wasm_frames.specs.Stored.{numbers_of, parser_of};
 ghost use Rattle.wasm_grammar.specs.Accepted.{begins_with_header};
 ghost use Rattle.wasm_grammar.specs.declared.encoding.Encoding.TheVariants.{Module, Component};
-ghost use Rattle.wasm_parser.specs.AsksWhereOpen.{AsksWhereOpen};
-ghost use Rattle.wasm_parser.specs.GivesNextEvent.{GivesNextEvent};
 ghost use Rattle.wasm_parser.specs.ParseAll.{walk_over, WalksWhole};
-ghost use Rattle.wasm_parser.specs.ParseAnswer.{AsksForSome, Consumes, ParseAnswer, FaultsWithin, IsUnchanged};
-ghost use Rattle.wasm_parser.specs.Skipped.{SkipsSection};
+ghost use Rattle.wasm_parser.specs.ParseAnswer.{ParseAnswer, said};
 
 use crate::parse_all::ParseAll;
 use crate::payload::{Chunk, Payload};
@@ -106,29 +107,29 @@ impl Parser {
         // Proved: what `parse` returns, in terms of what the parser knows alone; data past the
         //   offsets of a stream is `OffsetRange`
         // Proved: the reader of a payload's section is at the first item, after the count
-        //   [`answers` and `gives` on `parse` (`IsPayload`); `items` of `GivesReading`]
+        //   [`answers` on `parse` (`AnswerBegins`); `items` of `GivesReading`]
         ensures answers { ParseAnswer self.old eof bytes.now result self.new }
         // Proved: `parse` consumes the bytes of its event, and the parser is then after them, with
         //   the same features [`gives` (`GivesEvent`)]
-        ensures gives { GivesNextEvent self.old eof bytes.now result self.new }
+        ensures gives { GivesNextEvent self.old eof bytes.now (said result) self.new }
         // On a part.
         // Proved: consumed bytes are part of the input, and there are some except at the end
-        ensures consumes { Consumes bytes.now result }
+        ensures consumes { Consumes bytes.now (said result) }
         // On a request.
         // Proved: without `eof`, `parse` asks for as many bytes as the first unfinished field is
         //   known to lack, and at least one. If the bytes where a section may start may begin a
         //   second header, it asks for the rest of the magic, though a short custom section may end
         //   before. With `eof` it never asks [`answers`, `gives` (`answer_in_time`, `IsUndecided`),
         //   `asks` (`AsksForSome`)]
-        ensures asks { AsksForSome result }
-        ensures waits { AsksWhereOpen self.old eof bytes.now result }
+        ensures asks { AsksForSome (said result) }
+        ensures waits { AsksWhereOpen self.old eof bytes.now (said result) }
         // On an error.
         // Proved: the offset of a fault lies between the parser's and the end of the bytes,
         //   wherever the parser is
-        ensures faults { FaultsWithin self.old bytes.now result }
+        ensures faults { FaultsWithin self.old bytes.now (said result) }
         // On a request or an error.
         // Proved: after a fault or a request the parser is unchanged
-        ensures unchanged { IsUnchanged self.old result self.new }
+        ensures unchanged { IsUnchanged self.old (said result) self.new }
     {
         // Each of the frequent kinds returns on its own, so that its fields go straight to the caller's memory.
         match self.stored.next_settled(bytes, eof) {
@@ -365,7 +366,9 @@ impl Parser {
 
 impl Model for Parser {
     ghost use Rattle.std.specs.Prelude.{◌+◌, ◌<◌, ◌^◌};
+    ghost use Rattle.wasm_frames.specs.GivesNextEvent.{GivesNextEvent};
     ghost use Rattle.wasm_frames.specs.ParserState.{ParserState};
+    ghost use Rattle.wasm_frames.specs.Skipped.{SkipsSection};
     ghost use Rattle.wasm_frames.specs.Stored.{numbers_of};
 
     ghost Value = { ParserState };

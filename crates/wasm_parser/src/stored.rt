@@ -1,8 +1,9 @@
 // Payloads from a parser as numbers.
+ghost use Rattle.wasm_frames.specs.Answer.{AsksForSome, Consumes, FaultsWithin, IsUnchanged};
+ghost use Rattle.wasm_frames.specs.AsksWhereOpen.{AsksWhereOpen};
+ghost use Rattle.wasm_frames.specs.GivesNextEvent.{GivesNextEvent};
 ghost use Rattle.wasm_frames.specs.Stored.{parser_of};
-ghost use Rattle.wasm_parser.specs.AsksWhereOpen.{AsksWhereOpen};
-ghost use Rattle.wasm_parser.specs.GivesNextEvent.{GivesNextEvent};
-ghost use Rattle.wasm_parser.specs.ParseAnswer.{AsksForSome, Consumes, FaultsWithin, IsUnchanged, ParseAnswer};
+ghost use Rattle.wasm_parser.specs.ParseAnswer.{ParseAnswer, said};
 
 use crate::payload::{Chunk, Payload};
 use wasm_base::Result;
@@ -34,13 +35,13 @@ impl ParsePayloads for StoredParser {
         //   can be stored [`parse` of `StoredParser` and `stored` of `Parser` in `wasm_parser`
         //   (`parser_of`)]
         ensures answers { ParseAnswer (parser_of self.old) eof bytes.now result (parser_of self.new) }
-        ensures gives { GivesNextEvent (parser_of self.old) eof bytes.now result
+        ensures gives { GivesNextEvent (parser_of self.old) eof bytes.now (said result)
             (parser_of self.new) }
-        ensures consumes { Consumes bytes.now result }
-        ensures asks { AsksForSome result }
-        ensures waits { AsksWhereOpen (parser_of self.old) eof bytes.now result }
-        ensures faults { FaultsWithin (parser_of self.old) bytes.now result }
-        ensures unchanged { IsUnchanged (parser_of self.old) result (parser_of self.new) }
+        ensures consumes { Consumes bytes.now (said result) }
+        ensures asks { AsksForSome (said result) }
+        ensures waits { AsksWhereOpen (parser_of self.old) eof bytes.now (said result) }
+        ensures faults { FaultsWithin (parser_of self.old) bytes.now (said result) }
+        ensures unchanged { IsUnchanged (parser_of self.old) (said result) (parser_of self.new) }
     {
         // As in `Parser::parse`, each of the frequent kinds returns on its own.
         match self.next(bytes, eof) {

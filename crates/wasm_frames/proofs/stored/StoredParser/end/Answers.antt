@@ -9,7 +9,8 @@ returns-then-lacks-clause-answers c =
 
 pub returns-then-lacks-2-clause-answers : goal.returns-then-lacks-2-clause-answers
 returns-then-lacks-2-clause-answers c =
-    data_count_alone _ _ (omega arith) c.requires (c.if-lacks.ensures ∙ (λ i. is_lacking (c.functions.ensures i) (c.codes.ensures i)))
+    data_count_alone (numbers_of c.args.self.now) c.new-then-lacks-2.result (omega arith) c.requires
+    (c.if-lacks.ensures ∙ (λ i. is_lacking (c.functions.ensures i) (c.codes.ensures i)))
     (c.if-lacks-2.ensures ∙ (λ i. is_lacking (c.data_counts.ensures i) (c.datas.ensures i))) c.new-then-lacks-2.ensures.report
 
 pub returns-clause-answers : goal.returns-clause-answers

@@ -1,5 +1,5 @@
 use Rattle.wasm_parser.proofs.Common.{◌+◌, ap, ◌∙◌, skipped_state, numbers_of}
-use Rattle.wasm_parser.proofs.SkippedLaws.{skips_section, in_code_where_skippable}
+use Rattle.wasm_frames.proofs.SkippedLaws.{skips_section, in_code_where_skippable}
 use Rattle.wasm_parser.proofs.parser.Parser.skip_section.Goals as goal
 
 pub returns-clause-skips : goal.returns-clause-skips

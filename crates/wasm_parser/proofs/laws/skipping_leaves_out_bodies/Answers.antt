@@ -1,5 +1,0 @@
-use Rattle.wasm_parser.proofs.SkippedLaws.{skipping_leaves_out_bodies}
-use Rattle.wasm_parser.proofs.laws.skipping_leaves_out_bodies.Goals as goal
-
-pub returns : goal.returns
-returns c = skipping_leaves_out_bodies
