@@ -3,10 +3,11 @@ use Rattle.std.proofs.Common.{◌≡◌, ℕ, ◌^◌, ◌<◌, ◌≤◌, true,
 use Rattle.std.proofs.Common.{◌∙◌, arith}
 use Rattle.std.proofs.lemmas.List.{take-append-drop, length-take-le}
 use Rattle.wasm_base.specs.declared.error.Error.{Error}
-use Rattle.wasm_parser.specs.Along.{Along, Came}
+use Rattle.wasm_base.specs.FaultAt.{fault_at}
+use Rattle.wasm_frames.specs.Along.{Along, Came}
 use Rattle.wasm_grammar.specs.Content.{ended}
 use Rattle.wasm_parser.specs.ParseAnswer.{report_of, ParseAnswer}
-use Rattle.wasm_frames.specs.Answer.{is_end}
+use Rattle.wasm_frames.specs.Answer.{asks, is_end, refuses, reports}
 use Rattle.wasm_frames.specs.ParserState.{ParserState, initial_state}
 use Rattle.wasm_grammar.specs.Reading.{Event, last_event, Reading}
 use Rattle.wasm_parser.specs.declared.payload.Chunk.TheVariants.{NeedMoreData, Parsed}
@@ -38,18 +39,18 @@ pub record Moved (stream : List ℕ) (p : ParserState) (rest : List ℕ) (consum
 module _ (stream : List ℕ) (p new : ParserState) (rest : List ℕ) (w : Passed stream p rest) (small : length stream < 2 ^ 64) where
   module _ (consumed : ℕ) (payload : Payload) (a : ParseAnswer p true rest (Ok (Parsed consumed payload)) new) where
     there : consumed ≤ length rest
-    there = (answers_go_along.consumes p new true rest (Ok (Parsed consumed payload)) a).0
+    there = (answers_go_along.consumes p new true rest (reports (report_of payload) consumed) a.gives).0
 
-    came : Came 0 all_features true stream w.events (take consumed rest) payload new (drop consumed rest)
+    came : Came 0 all_features true stream w.events (take consumed rest) (report_of payload) new (drop consumed rest)
     came =
-        answers_go_along.answers 0 all_features stream p rest w.events true (Ok (Parsed consumed payload)) (take consumed rest) new
-        (drop consumed rest) w.is_along (omega (arith, small)) a (sym (take-append-drop consumed rest))
+        answers_go_along.answers 0 all_features stream p rest w.events true (reports (report_of payload) consumed) (take consumed rest) new
+        (drop consumed rest) w.is_along (omega (arith, small)) a.gives (sym (take-append-drop consumed rest))
         (length-take-le consumed rest there)
 
     pub moved : ((at : ℕ) → payload ≡ payloads.End at → ⊥) → Moved stream new rest consumed
     moved h = record {
       there = there;
-      some = answers_go_along.takes_some p new true rest consumed payload a (goes_on payload h);
+      some = answers_go_along.takes_some p new true rest consumed (report_of payload) a.gives (goes_on payload h);
       passed = record { events = w.events ++ came.event ∷ []; is_along = (came.goes_on (goes_on payload h)).0 };
     }
 
@@ -59,17 +60,17 @@ module _ (stream : List ℕ) (p new : ParserState) (rest : List ℕ) (w : Passed
         let (offset, last) = came.last is in
         let same : last_event (ended offset) ≡ last_event (ended at) =
         ap (λ (x : _). record { report = x; consumed = [] }) (sym (ap (λ (x : Event). x.report) last)
-        ∙ (sym came.is_payload.0 ∙ ap report_of e)) in
+        ∙ (sym came.is_report ∙ ap report_of e)) in
         (w.events, subst (λ (x : Event). Reading stream 0 all_features (w.events ++ x ∷ [])) (last ∙ same) (came.ends is stream refl))
 
   pub stops : (e : Error) → ParseAnswer p true rest (Err e) new → IsEndOf stream (Err e)
   stops e a = (
     w.events,
-    (answers_go_along.answers 0 all_features stream p rest w.events true (Err e) [] new rest w.is_along
-        (omega (arith, small)) a
+    (answers_go_along.answers 0 all_features stream p rest w.events true (refuses (fault_at e)) [] new rest w.is_along
+        (omega (arith, small)) a.gives
         refl refl).0 stream refl,
   )
 
   -- at the end of a stream nothing is asked for
   pub never_asked : (hint : ℕ) → ParseAnswer p true rest (Ok (NeedMoreData hint)) new → ⊥
-  never_asked hint a = let no : true ≡ false = (answers_go_along.asks p new true rest hint a).0 in cc
+  never_asked hint a = let no : true ≡ false = (answers_go_along.asks p new true rest hint a.gives).0 in cc

@@ -2,7 +2,7 @@
 use Rattle.std.proofs.Common.{◌≡◌, ℕ, ◌^◌, ◌<◌, List, [], ◌∷◌, ◌++◌, length, map, Some, None, Result, Ok, Err, refl, sym, ap, ◌∙◌}
 use Rattle.wasm_base.specs.FaultAt.{fault_at}
 use Rattle.wasm_base.specs.declared.error.Error.{Error}
-use Rattle.wasm_parser.specs.Along.{ReadingBegins}
+use Rattle.wasm_frames.specs.Along.{ReadingBegins}
 use Rattle.wasm_grammar.specs.Content.{fault}
 use Rattle.wasm_parser.specs.ParseAll.{Walk, walk_over, NextPayload, event_report}
 use Rattle.wasm_frames.specs.ParserState.{initial_state}
@@ -10,7 +10,7 @@ use Rattle.wasm_parser.specs.ParseAnswer.{report_of, ItemsBegin}
 use Rattle.wasm_grammar.specs.Reading.{Report, Event, last_event, stream_end}
 use Rattle.wasm_parser.specs.declared.payload.Payload.{Payload}
 use Rattle.wasm_examples.specs.Folding.{unless_refused, after_all, ReadsTo}
-use Rattle.wasm_examples.proofs.Walking as walking
+use Rattle.wasm_parser.proofs.ForCallers.{PayloadCame, WalkedTo, payload_came, walk_begins, walk_begun, walk_ends, walk_faults}
 use Rattle.wasm_base.specs.Features.{all_features}
 
 map-append : (xs ys : List Event) → map event_report (xs ++ ys) ≡ map event_report xs ++ map event_report ys
@@ -39,17 +39,17 @@ module _ {S R : Type 0} (step : S → Report → Result S R) where
   -- the payloads so far fold to this from the start value
   pub record Came (begin : S) (stream : List ℕ) (it : Walk) (s : S) : Type 0 where
     pub events : List Event
-    pub walked : walking.Walked stream it events
+    pub walked : WalkedTo stream it events
     pub made : after_all step begin (map event_report events) ≡ Ok s
 
   pub begun : (begin : S) (stream : List ℕ) (it : Walk) (s : S) → it ≡ walk_over (initial_state 0 all_features) stream → s ≡ begin
       → Came begin stream it s
-  begun begin stream it s e same = record { events = []; walked = walking.walk_begun stream it e; made = ap Ok (sym same) }
+  begun begin stream it s e same = record { events = []; walked = walk_begun stream it e; made = ap Ok (sym same) }
 
   module _ (begin : S) (stream : List ℕ) (it next : Walk) (s : S) (w : Came begin stream it s) (small : length stream < 2 ^ 64) where
     module _ (payload : Payload) (n : NextPayload it (Some (Ok payload)) next) where
-      came : walking.PayloadCame stream next w.events payload
-      came = walking.payload_came stream it next w.events w.walked small payload n
+      came : PayloadCame stream next w.events payload
+      came = payload_came stream it next w.events w.walked small payload n
 
       pub items : ItemsBegin payload
       items = came.items
@@ -67,7 +67,7 @@ module _ {S R : Type 0} (step : S → Report → Result S R) where
       pub refused : (r : R) → step s (report_of payload) ≡ Err r → ReadsTo step begin stream (Err r)
       refused r h =
           let b : ReadingBegins 0 all_features stream (w.events ++ came.event ∷ []) =
-          walking.first_of stream next (w.events ++ came.event ∷ []) came.walked in (
+          walk_begins stream next (w.events ++ came.event ∷ []) came.walked in (
             b.events,
             b.reading,
             ap (λ (l : List Event). after_all step begin (map event_report l)) b.begins
@@ -81,10 +81,10 @@ module _ {S R : Type 0} (step : S → Report → Result S R) where
         → ReadsTo step begin stream (Err r)
     fault_came e r h n = (
       w.events ++ last_event (fault (fault_at e)) ∷ [],
-      walking.fault_came stream it next w.events w.walked small e n,
+      walk_faults stream it next w.events w.walked small e n,
       one_more begin s w.events (last_event (fault (fault_at e))) w.made ∙ ap (λ (x : Result S R). unless_refused x (λ t. Ok t)) h,
     )
 
     -- nothing arrived: the walk is over
     pub nothing_came : NextPayload it None next → ReadsTo step begin stream (Ok s)
-    nothing_came n = (w.events, walking.nothing_came stream it next w.events w.walked small n, w.made)
+    nothing_came n = (w.events, walk_ends stream it next w.events w.walked small n, w.made)

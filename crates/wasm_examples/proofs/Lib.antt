@@ -10,4 +10,3 @@ pub mod Payloads
 pub mod Starting
 pub mod Sums
 pub mod Visiting
-pub mod Walking

@@ -5,9 +5,9 @@ use Rattle.std.proofs.Common.{append_assoc, inl, inr}
 use Rattle.std.proofs.lemmas.List.{take_all}
 use Rattle.wasm_base.specs.declared.error.Error.{Error}
 use Rattle.wasm_base.specs.FaultAt.{fault_at}
-use Rattle.wasm_parser.specs.Along.{Came}
+use Rattle.wasm_frames.specs.Along.{Came}
 use Rattle.wasm_grammar.specs.Content.{ended, fault}
-use Rattle.wasm_parser.specs.GivesNextEvent.{MayBe, IsUndecided}
+use Rattle.wasm_frames.specs.GivesNextEvent.{MayBe, IsUndecided}
 use Rattle.wasm_parser.specs.ParseAnswer.{report_of}
 use Rattle.wasm_frames.specs.Answer.{is_end}
 use Rattle.wasm_grammar.specs.Reading.{Event, last_event, Reading}
@@ -15,7 +15,7 @@ use Rattle.wasm_parser.specs.declared.payload.Payload.{Payload}
 use Rattle.wasm_parser.proofs.ForCallers.{answers_go_along}
 use Rattle.wasm_feeder.specs.Feed.{Feed, new_feed, pushed, finished, RefusesPush}
 use Rattle.wasm_feeder.specs.Pieces.{joined}
-use Rattle.wasm_feeder.specs.Step.{Steps}
+use Rattle.wasm_feeder.specs.Step.{Steps, told}
 use Rattle.wasm_feeder.specs.declared.feeder.Step.TheVariants.{NeedMoreData, Parsed}
 use Rattle.wasm_feeder.specs.declared.turns.Ended.{Ended}
 use Rattle.wasm_feeder.specs.declared.turns.Turn.{Turn}
@@ -39,21 +39,21 @@ module _ {V : Type 0} (takes : V → Event → V → Type 0) where
     -- an event arrived, and was reported
     part_visited : (bytes : Bor (List ℕ)) (payload : Payload) (after : V) → Steps f (Ok (Parsed bytes payload)) g
         → is_end (report_of payload) ≡ false → takes before (part bytes.now payload) after → VisitsNext takes f before (Ok Advance) g after
-    part_visited bytes payload after s goes t = (shorter, s.eof, visited)
+    part_visited bytes payload after s goes t = (shorter, s.moves.eof, visited)
       where
         shorter : length g.held < length f.held
         shorter =
-            let n : length f.held ≡ length bytes.now + length g.held = ap (λ (x : List ℕ). length x) s.shows
+            let n : length f.held ≡ length bytes.now + length g.held = ap (λ (x : List ℕ). length x) s.moves.shows
             ∙ length-append bytes.now g.held in
-            let some : 0 < length bytes.now = feeders_go_along.shows_some f g bytes payload s goes in
+            let some : 0 < length bytes.now = feeders_go_along.shows_some f g (report_of payload) bytes.now s.moves goes in
             omega (arith, n, some)
 
         visited : (features : ℕ) (given : List ℕ) (begun : V) → HasVisited takes features given begun f before → length given < 2 ^ 64
             → HasVisited takes features given begun g after
         visited features given begun h l =
-            let came : Came 0 features f.eof given h.events bytes.now payload g.state g.held =
-            feeders_go_along.steps 0 features given f g h.events (Ok (Parsed bytes payload)) h.is_along (omega (arith, l)) s in
-            let same : part bytes.now payload ≡ came.event = (λ i. record { report = came.is_payload.0 i; consumed = sym came.consumed i })
+            let came : Came 0 features f.eof given h.events bytes.now (report_of payload) g.state g.held =
+            feeders_go_along.steps 0 features given f g h.events (told (Ok (Parsed bytes payload))) h.is_along (omega (arith, l)) s.moves in
+            let same : part bytes.now payload ≡ came.event = (λ i. record { report = came.is_report i; consumed = sym came.consumed i })
             in
             record {
               events = h.events ++ came.event ∷ [];
@@ -63,20 +63,21 @@ module _ {V : Type 0} (takes : V → Event → V → Type 0) where
 
     -- more was asked for
     pub asked : (hint : ℕ) → Steps f (Ok (NeedMoreData hint)) g → VisitsNext takes f before (Ok Read) g before
-    asked hint s = ((s.wants_more, hint, feeders_go_along.asks f g hint s), s.eof, visited)
+    asked hint s = ((s.moves.wants_more, hint, feeders_go_along.asks f g hint s.moves), s.moves.eof, visited)
       where
         visited : (features : ℕ) (given : List ℕ) (begun : V) → HasVisited takes features given begun f before → length given < 2 ^ 64
             → HasVisited takes features given begun g before
         visited features given begun h l =
-            let u = feeders_go_along.steps 0 features given f g h.events (Ok (NeedMoreData hint)) h.is_along (omega (arith, l)) s in
+            let u = feeders_go_along.steps 0 features given f g h.events (told (Ok (NeedMoreData hint))) h.is_along (omega (arith, l))
+            s.moves in
             record { events = h.events; is_along = u.1; visits = h.visits }
 
     -- the end arrived
     ended_there : (bytes : Bor (List ℕ)) (payload : Payload) (how : Ended) → Steps f (Ok (Parsed bytes payload)) g
         → is_end (report_of payload) ≡ true → VisitsNext takes f before (Ok (End how)) g before
     ended_there bytes payload how s is features given begun h l =
-        let came : Came 0 features f.eof given h.events bytes.now payload g.state g.held =
-        feeders_go_along.steps 0 features given f g h.events (Ok (Parsed bytes payload)) h.is_along (omega (arith, l)) s in
+        let came : Came 0 features f.eof given h.events bytes.now (report_of payload) g.state g.held =
+        feeders_go_along.steps 0 features given f g h.events (told (Ok (Parsed bytes payload))) h.is_along (omega (arith, l)) s.moves in
         let (offset, last) = came.last is in
         record {
           events = h.events;
@@ -88,7 +89,7 @@ module _ {V : Type 0} (takes : V → Event → V → Type 0) where
     -- a fault arrived
     pub stopped : (e : Error) → Steps f (Err e) g → VisitsNext takes f before (Err e) g before
     stopped e s features given begun h l =
-        let u = feeders_go_along.steps 0 features given f g h.events (Err e) h.is_along (omega (arith, l)) s in
+        let u = feeders_go_along.steps 0 features given f g h.events (told (Err e)) h.is_along (omega (arith, l)) s.moves in
         inr (h.events, u.0, h.visits)
 
     -- what arrived with a part

@@ -5,9 +5,9 @@ use Rattle.std.specs.Prelude.{Err}
 use Rattle.wasm_base.specs.FaultAt.{fault_at}
 use Rattle.wasm_base.specs.Owned.{out_of_memory}
 use Rattle.wasm_base.specs.declared.error.Error.{Error}
-use Rattle.wasm_parser.specs.Along.{Along, ReadsEach}
+use Rattle.wasm_frames.specs.Along.{Along, ReadsEach}
 use Rattle.wasm_grammar.specs.Content.{ended, fault}
-use Rattle.wasm_parser.specs.GivesNextEvent.{IsUndecided}
+use Rattle.wasm_frames.specs.GivesNextEvent.{IsUndecided}
 use Rattle.wasm_parser.specs.ParseAnswer.{report_of}
 use Rattle.wasm_frames.specs.Answer.{is_end}
 use Rattle.wasm_frames.specs.ParserState.{ParserState, grammar_of}

@@ -36,7 +36,7 @@ pub use Rattle.wasm_feeder.specs.Fates.{head_stays, stays_by}
 pub use Rattle.wasm_feeder.specs.Feed.{Feed, pushed}
 pub use Rattle.wasm_feeder.specs.Passing.{GivesUp, SkipsHere, held_by}
 pub use Rattle.wasm_feeder.specs.Progress.{Progress, Wants, weight}
-pub use Rattle.wasm_feeder.specs.Step.{Steps}
+pub use Rattle.wasm_feeder.specs.Step.{Moves}
 pub use Rattle.wasm_feeder.specs.declared.feeder.Cursor.{Cursor}
 pub use Rattle.wasm_feeder.specs.declared.passing.Passing.{Passing}
 pub use Rattle.wasm_feeder.specs.declared.turns.Ended.TheVariants.{Fault}

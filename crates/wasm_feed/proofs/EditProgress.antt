@@ -5,7 +5,7 @@ use Rattle.wasm_feed.proofs.Common.{Consumes-nil}
 use Rattle.wasm_feed.proofs.Common.{Appends, fault_at, all_features, Error, fault, Ending, consumed_by, Event, last_event, Reading}
 use Rattle.wasm_feed.proofs.Common.{answers_go_along, from_to, IsCut, PutsBytes, ListError, StopsHere, AtEnd, All}
 use Rattle.wasm_feed.proofs.Common.{arrived, cut_within, is_short, past, puts_more, seen, lending, head_stays, Feed, pushed, SkipsHere}
-use Rattle.wasm_feed.proofs.Common.{held_by, Progress, Wants, weight, Steps, Cursor, Passing, Fault}
+use Rattle.wasm_feed.proofs.Common.{held_by, Progress, Wants, weight, Moves, Cursor, Passing, Fault}
 use Rattle.std.specs.Io.KnownBytes.{Consumes}
 use Rattle.std.specs.Prelude.{IfErr, IfOk}
 use Rattle.wasm_feed.specs.EditStream.{EditsHead, IsPartial, IsStreamed, PassesHere, ReadsOrPasses, piece_after}
@@ -18,7 +18,7 @@ use Rattle.wasm_feeder.specs.Beside.{unseen}
 use Rattle.wasm_feeder.specs.Passing.{EndsBefore, PartEnds, if_stays}
 use Rattle.wasm_feeder.specs.Progress.{Reached}
 use Rattle.wasm_feeder.specs.Turns.{turn_after}
-use Rattle.wasm_feeder.specs.declared.feeder.Step.{Step}
+use Rattle.wasm_feeder.specs.Step.{Told}
 use Rattle.wasm_feeder.specs.declared.turns.Ended.{Ended}
 use Rattle.wasm_feeder.specs.declared.turns.Ended.TheVariants.{End}
 use Rattle.wasm_feeder.specs.declared.turns.Turn.{Turn}
@@ -38,12 +38,12 @@ edited_by : (edits : List Edit) (es : List Event) (e : Event) (fate : Fate) (byt
     → e.consumed ≡ bytes → edited_bytes edits (es ++ e ∷ []) ≡ edited_bytes edits es ++ bytes_as fate bytes
 edited_by edits es e fate bytes s is = grind (arith, edited_more, append-nil)
 
-edited_event : (edits : List Edit) (x : Result Step Error) (es : List Event) (e : Event) → IsEvent x e
+edited_event : (edits : List Edit) (x : Told) (es : List Event) (e : Event) → IsEvent x e
     → edited_bytes edits (es ++ e ∷ []) ≡ edited_bytes edits es ++ piece_after edits x
 edited_event edits x es e is = grind (arith, edited_by)
 
 -- only an event has bytes
-nothing_after : (edits : List Edit) (x : Result Step Error) (t : Turn) → t ≡ turn_after x → (t ≡ turn.Advance → ⊥)
+nothing_after : (edits : List Edit) (x : Told) (t : Turn) → t ≡ turn_after x → (t ≡ turn.Advance → ⊥)
     → piece_after edits x ≡ []
 nothing_after edits x t is other = grind arith
 
@@ -122,7 +122,7 @@ module _ (edits : List Edit) (source rest taken written : Option (List ℕ)) (f 
   gave_up_at_once rest' more gave = gave_up edits source rest f p.events p.reached taken written [] (f.held ++ more) rest' more gave refl
       (inl refl) (rw (append-nil (edited_bytes edits p.events)) (head_of_puts taken written [] (edited_bytes edits p.events) page p.puts))
 
-  module _ (g : Feed) (x : Result Step Error) (s : Steps f x g) where
+  module _ (g : Feed) (x : Told) (s : Moves f x g) where
     -- the bytes of a step could not be put, or were put and could not be written
     wrote_up_to : (written' : Option (List ℕ)) → WritesHead written written' (page ++ piece_after edits x) → (t : Turn) → t ≡ turn_after x
         → EditsHead edits (from_to source rest) (from_to taken written')

@@ -1,9 +1,8 @@
 -- What a step over a stream that is edited says of the bytes that are written.
 use Rattle.wasm_feed.proofs.Common.{◌≡◌, ℕ, true, false, List, [], ◌∷◌, ◌++◌, length, refl, sym, arith, length-append}
-use Rattle.wasm_feed.proofs.Common.{append-nil, ◌≤◌, ◌<◌, ap, ◌∙◌, ◌^◌, Ok, Err, Some, None, Option, subst₂, all_features, Error, Event}
-use Rattle.wasm_feed.proofs.Common.{answers_go_along, EndsWithFault, HasEdited, ReadsEdited, Feed, Steps, Ending, last_event, fault}
+use Rattle.wasm_feed.proofs.Common.{append-nil, ◌≤◌, ◌<◌, ap, ◌∙◌, ◌^◌, Ok, Some, None, Option, subst₂, all_features, Error, Event}
+use Rattle.wasm_feed.proofs.Common.{answers_go_along, EndsWithFault, HasEdited, ReadsEdited, Feed, Moves, Ending, last_event, fault}
 use Rattle.wasm_feed.proofs.Common.{fault_at}
-use Rattle.std.proofs.Common.{Bor}
 use Rattle.std.proofs.lemmas.Bool.Decides.{nat_tests}
 use Rattle.wasm_feed.proofs.EditLaws.{edited_more}
 use Rattle.wasm_feed.specs.EditParts.{GoesOn, IsPartOf, PartComes}
@@ -12,51 +11,50 @@ use Rattle.wasm_feed.specs.Edits.{bytes_as, edited_bytes, report_fate}
 use Rattle.wasm_feed.specs.declared.edits.Edit.{Edit}
 use Rattle.wasm_feed.specs.declared.editing.Part.{Part}
 use Rattle.wasm_feeder.specs.Step.{answer_of}
-use Rattle.wasm_feeder.specs.declared.feeder.Step.TheVariants.{Parsed}
 use Rattle.wasm_parser.proofs.ForCallers.{reading_same}
 use Rattle.wasm_grammar.specs.Content.{ended}
-use Rattle.wasm_grammar.specs.Reading.{stream_end}
-use Rattle.wasm_parser.specs.Along.{Along, Came, ReadingBegins}
-use Rattle.wasm_parser.specs.ParseAnswer.{report_of}
+use Rattle.wasm_grammar.specs.Reading.{Report, stream_end}
+use Rattle.wasm_frames.specs.Along.{Along, Came, ReadingBegins}
 use Rattle.wasm_frames.specs.Answer.{is_end}
 use Rattle.wasm_frames.specs.ParserState.{ParserState, initial_state}
-use Rattle.wasm_parser.specs.declared.payload.Payload.{Payload}
 use Rattle.wasm_feeder.proofs.ForCallers.{stepped}
+use Rattle.wasm_feeder.specs.Step as tells
 
 -- fewer bytes are held after a part that isn't the end
-fewer : (f g : Feed) (bytes : Bor (List ℕ)) (payload : Payload) → Steps f (Ok (Parsed bytes payload)) g → is_end (report_of payload) ≡ false
+fewer : (f g : Feed) (report : Report) (bytes : List ℕ) → Moves f (tells.Part report bytes) g → is_end report ≡ false
     → length g.held < length f.held
-fewer f g bytes payload s n =
-    let c = answers_go_along.consumes f.state g.state f.eof f.held (answer_of (Ok (Parsed bytes payload))) s.parses in
+fewer f g report bytes s n =
+    let c = answers_go_along.consumes f.state g.state f.eof f.held (answer_of (tells.Part report bytes)) s.parses in
     grind (arith, length-append, nat_tests)
 
-pub part_goes_on : (edits : List Edit) (f g : Feed) (bytes : Bor (List ℕ)) (payload : Payload) (part : Option Part)
-    → Steps f (Ok (Parsed bytes payload)) g → IsPartOf edits (report_of payload) bytes.now part → GoesOn f (Ok part) g
-part_goes_on edits f g bytes payload (Some part) s i = fewer f g bytes payload s i.0
-part_goes_on edits f g bytes payload None s i = tt
+pub part_goes_on : (edits : List Edit) (f g : Feed) (report : Report) (bytes : List ℕ) (part : Option Part)
+    → Moves f (tells.Part report bytes) g → IsPartOf edits report bytes part → GoesOn f (Ok part) g
+part_goes_on edits f g report bytes (Some part) s i = fewer f g report bytes s i.0
+part_goes_on edits f g report bytes None s i = tt
 
 module _ (edits : List Edit) (stream : List ℕ) (events : List Event) (f g : Feed)
     (a : Along 0 all_features stream f.state f.held events)
     (l : length stream < 2 ^ 64) (eof : f.eof ≡ true) where
-  -- what arrived with a payload
-  came : (bytes : Bor (List ℕ)) (payload : Payload) → Steps f (Ok (Parsed bytes payload)) g
-      → Came 0 all_features true stream events bytes.now payload g.state g.held
-  came bytes payload s =
-      rw eof at (stepped 0 all_features stream f.state f.held events a f.eof (Ok (Parsed bytes payload)) g.state g.held (omega (arith, l))
+  -- what arrived with a part
+  came : (report : Report) (bytes : List ℕ) → Moves f (tells.Part report bytes) g
+      → Came 0 all_features true stream events bytes report g.state g.held
+  came report bytes s =
+      rw eof at (stepped 0 all_features stream f.state f.held events a f.eof (tells.Part report bytes) g.state g.held (omega (arith, l))
       s.parses s.shows)
 
-  pub part_comes : (bytes : Bor (List ℕ)) (payload : Payload) (part : Option Part) → Steps f (Ok (Parsed bytes payload)) g
-      → IsPartOf edits (report_of payload) bytes.now part → PartComes edits stream events (Ok part) g
-  part_comes bytes payload None s i =
-      let u : Came 0 all_features true stream events bytes.now payload g.state g.held = came bytes payload s in
+  pub part_comes : (report : Report) (bytes : List ℕ) (part : Option Part) → Moves f (tells.Part report bytes) g
+      → IsPartOf edits report bytes part → PartComes edits stream events (Ok part) g
+  part_comes report bytes None s i =
+      let u : Came 0 all_features true stream events bytes report g.state g.held = came report bytes s in
       grind arith
-  part_comes bytes payload (Some part) s (n, b, is) =
-      let u : Came 0 all_features true stream events bytes.now payload g.state g.held = came bytes payload s in
-      (u.event, u.consumed ∙ sym b, is ∙ ap (report_fate edits) u.is_payload.0, (u.goes_on n).0)
+  part_comes report bytes (Some part) s (n, b, is) =
+      let u : Came 0 all_features true stream events bytes report g.state g.held = came report bytes s in
+      (u.event, u.consumed ∙ sym b, is ∙ ap (report_fate edits) u.is_report, (u.goes_on n).0)
 
-  pub fault_comes : (e : Error) → Steps f (Err e) g → EndsWithFault stream e
+  pub fault_comes : (e : Error) → Moves f (tells.Stop e) g → EndsWithFault stream e
   fault_comes e s =
-      let u = stepped 0 all_features stream f.state f.held events a f.eof (Err e) g.state g.held (omega (arith, l)) s.parses s.shows in
+      let u = stepped 0 all_features stream f.state f.held events a f.eof (tells.Stop e) g.state g.held (omega (arith, l))
+      s.parses s.shows in
       (events, grind arith)
 
 -- ---- the bytes that are written

@@ -1,5 +1,5 @@
 -- No shorter bytes are read as a name than those that it is encoded as.
-use Rattle.std.proofs.Common.{◌≡◌, ℕ, ◌+◌, ◌≤◌, false, List, length, take, drop, Some, arith, length-append, nat_lt}
+use Rattle.std.proofs.Common.{◌≡◌, ℕ, ◌+◌, ◌≤◌, List, length, Some, arith, length-append}
 use Rattle.std.proofs.lemmas.List.{length-take-le}
 use Rattle.wasm_base.specs.Name.{after_size, name, name_limit, named, text_after}
 use Rattle.wasm_base.specs.Number.{Number, bad, number, read, short}

@@ -11,7 +11,7 @@ use Rattle.wasm_feeder.specs.Feed.{Feed}
 use Rattle.wasm_grammar.specs.Content.{ended}
 use Rattle.wasm_frames.specs.Answer.{is_end}
 use Rattle.wasm_grammar.specs.Reading.{Event, last_event, Reading, Report}
-use Rattle.wasm_parser.specs.Along.{Along}
+use Rattle.wasm_frames.specs.Along.{Along}
 
 -- This is the part with this report and these bytes, or the end.
 abbrev pub IsPartOf : List Edit → Report → (bytes : List ℕ) → Option Part → Type 0

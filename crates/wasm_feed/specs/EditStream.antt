@@ -19,8 +19,8 @@ use Rattle.wasm_feeder.specs.Lists.{IsEndedBy, IsWhole, PassesTop}
 use Rattle.wasm_feeder.specs.Passing.{GivesUp, PassesPart, SkipsHere, SkipsNothing, held_by}
 use Rattle.wasm_feeder.specs.Turns.{turn_after}
 use Rattle.wasm_feeder.specs.declared.feeder.Cursor.{Cursor}
-use Rattle.wasm_feeder.specs.declared.feeder.Step.{Step}
-use Rattle.wasm_feeder.specs.declared.feeder.Step.TheVariants.{NeedMoreData, Parsed}
+use Rattle.wasm_feeder.specs.Step as tells
+use Rattle.wasm_feeder.specs.Step.{Told}
 use Rattle.wasm_feeder.specs.declared.turns.Ended.{Ended}
 use Rattle.wasm_feeder.specs.declared.turns.Ended.TheVariants.{End}
 use Rattle.wasm_feeder.specs.declared.turns.Turn.{Turn}
@@ -30,8 +30,7 @@ use Rattle.wasm_frames.specs.SkipNext.{Skip, SkipsPart}
 use Rattle.wasm_grammar.specs.Content.{Ending}
 use Rattle.wasm_grammar.specs.EventRanges.{consumed_by}
 use Rattle.wasm_grammar.specs.Reading.{Event, last_event, Stream}
-use Rattle.wasm_parser.specs.Along.{Along, ReadingBegins}
-use Rattle.wasm_parser.specs.ParseAnswer.{report_of}
+use Rattle.wasm_frames.specs.Along.{Along, ReadingBegins}
 use Rattle.wasm_text.specs.Calls.{Change, Device, bytes_of, input_failed, output_failed}
 use Rattle.wasm_text.specs.Page.{IsCut, PutsBytes, WritesHead}
 use Rattle.wasm_text.specs.declared.devices.ListError.{ListError}
@@ -39,15 +38,15 @@ use Rattle.wasm_text.specs.declared.devices.ListError.{ListError}
 -- ---- bytes that are forwarded
 
 -- the bytes that are written of a result
-abbrev pub piece_after : List Edit → Result Step Error → List ℕ
-piece_after edits (Ok (NeedMoreData hint)) = []
-piece_after edits (Ok (Parsed bytes payload)) =
-    if is_end (report_of payload) then [] else bytes_as (report_fate edits (report_of payload)) bytes.now
-piece_after edits (Err e) = []
+abbrev pub piece_after : List Edit → Told → List ℕ
+piece_after edits (tells.Request hint) = []
+piece_after edits (tells.Part report bytes) =
+    if is_end report then [] else bytes_as (report_fate edits report) bytes
+piece_after edits (tells.Stop e) = []
 
 -- They were put after those that waited, and this is what is done next.
 abbrev pub TakesPiece : List Edit → (taken written : Option (List ℕ)) (waiting new : List ℕ)
-    → Result Step Error → Result Turn ListError → Type 0
+    → Told → Result Turn ListError → Type 0
 TakesPiece edits taken written waiting new answer (Ok next) =
     PutsBytes taken written waiting (piece_after edits answer) new × (next ≡ turn_after answer)
 TakesPiece edits taken written waiting new answer (Err e) = IsCut taken written (waiting ++ piece_after edits answer) e

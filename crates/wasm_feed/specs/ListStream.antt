@@ -1,9 +1,8 @@
 -- The listing of a stream while it is read.
 use Rattle.std.specs.Prelude.{◌≡◌, ℕ, List, Option, Result, Ok, Err}
-use Rattle.wasm_base.specs.declared.error.Error.{Error}
 use Rattle.wasm_feeder.specs.Lists.{ListsBy}
 use Rattle.wasm_feeder.specs.Turns.{text_after, turn_after}
-use Rattle.wasm_feeder.specs.declared.feeder.Step.{Step}
+use Rattle.wasm_feeder.specs.Step.{Told}
 use Rattle.wasm_feeder.specs.declared.turns.Ended.{Ended}
 use Rattle.wasm_feeder.specs.declared.turns.Turn.{Turn}
 use Rattle.wasm_lines.specs.Listing.{line_of}
@@ -11,14 +10,14 @@ use Rattle.wasm_text.specs.Calls.{Change, Device, bytes_of, input_failed, output
 use Rattle.wasm_text.specs.Page.{IsCut, PutsBytes}
 use Rattle.wasm_text.specs.declared.devices.ListError.{ListError}
 
--- the line that is written for a result
-abbrev pub line_after : Result Step Error → List ℕ
+-- the line that is written after a step
+abbrev pub line_after : Told → List ℕ
 line_after answer = text_after line_of answer
 
--- | what a listing does after a result of the parser, and what one read did; how it reads on, past a part that it
+-- | what a listing does after a step, and what one read did; how it reads on, past a part that it
 --   skips [`Lists.Refills`; `Progress.ReadsOn`, `Dropping.DropsHere`]
--- The line of the result was appended to the pending ones.
-abbrev pub TakesTurn : (taken written : Option (List ℕ)) (waiting new : List ℕ) → Result Step Error
+-- The line of the step was appended to the pending ones.
+abbrev pub TakesTurn : (taken written : Option (List ℕ)) (waiting new : List ℕ) → Told
     → Result Turn ListError → Type 0
 TakesTurn taken written waiting new answer (Ok next) =
     PutsBytes taken written waiting (line_after answer) new × (next ≡ turn_after answer)

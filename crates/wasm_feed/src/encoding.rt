@@ -5,8 +5,7 @@ ghost use Rattle.wasm_base.specs.Owned.{out_of_memory};
 ghost use Rattle.wasm_feed.specs.Encoded.{Fits, content_of, encoded, encoded_section};
 
 use std::alloc::Allocator;
-use wasm_base::MAX_WASM_STRING_SIZE;
-use wasm_parser::{Error, Fault, Result};
+use wasm_base::{Error, Fault, MAX_WASM_STRING_SIZE, Result};
 use wasm_text::write_bytes;
 
 /// A custom section to write: its name and its data.

@@ -8,6 +8,7 @@ ghost use Rattle.wasm_frames.specs.SkipNext.{skip_is};
 ghost use Rattle.wasm_feeder.specs.Beside.{beside, lending};
 ghost use Rattle.wasm_feeder.specs.Cursors.{feed_of};
 ghost use Rattle.wasm_feeder.specs.Progress.{ReadsOn};
+ghost use Rattle.wasm_feeder.specs.Step.{told};
 ghost use Rattle.wasm_feed.specs.Dropping.{DropsIfAny};
 ghost use Rattle.wasm_feed.specs.ListStream.{ListsSource, TakesTurn};
 
@@ -24,7 +25,7 @@ fn put_answer<A: Allocator, W: Sink>(
     answer: &ParserResult<Step<'_>>,
 ) -> Result<Turn, ListError>
     ensures takes { TakesTurn (W.taken output.old) (W.taken output.new)
-        page.old page.new answer.now result }
+        page.old page.new (told answer.now) result }
     ensures failed { W.has_failed output.new ≡ output_failed result (W.has_failed output.old) }
 {
     match answer {

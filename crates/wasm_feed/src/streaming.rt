@@ -4,6 +4,7 @@ ghost use Rattle.wasm_text.specs.Calls.{device_of, input_failed, output_failed};
 ghost use Rattle.wasm_feeder.specs.Beside.{beside};
 ghost use Rattle.wasm_feeder.specs.Cursors.{feed_of};
 ghost use Rattle.wasm_feeder.specs.Passing.{PutsAll};
+ghost use Rattle.wasm_feeder.specs.Step.{told};
 ghost use Rattle.wasm_feed.specs.Edits.{CanBeMade, CanBeWritten, bytes_as};
 ghost use Rattle.wasm_feed.specs.Encoded.{Fits, encoded_section};
 ghost use Rattle.wasm_feed.specs.EditStream.{CanBePassed, CanBeSkipped, EditsParts, EditsSource, ReadsOrPasses, SkipsIfAny, StopsHere, TakesPiece, WritesNew};
@@ -71,7 +72,7 @@ fn put_part<A: Allocator + Copy, W: Sink>(
 ) -> Result<Turn, ListError>
     requires { All CanBeMade edits.now }
     ensures takes { TakesPiece edits.now (W.taken output.old) (W.taken output.new)
-        page.old page.new answer.now result }
+        page.old page.new (told answer.now) result }
     ensures failed { W.has_failed output.new ≡ output_failed result (W.has_failed output.old) }
 {
     match answer {

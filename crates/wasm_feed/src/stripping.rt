@@ -11,8 +11,9 @@ ghost use Rattle.wasm_grammar.specs.Reading.{Stream};
 use crate::editing::{edit, edited_len, next_part};
 use crate::edits::{Edit, Fate};
 use std::alloc::{Allocator, Global};
+use wasm_base::Result;
 use wasm_feeder::{Cursor, Keep};
-use wasm_parser::{Parser, Result};
+use wasm_parser::Parser;
 
 // Returns the length of the stripped stream, if it has no fault.
 fn stripped_len(bytes: &[u8], keep: Keep<'_>) -> Result<usize>

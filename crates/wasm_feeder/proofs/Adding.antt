@@ -1,10 +1,11 @@
 -- What a step adds to the events so far.
 use Rattle.wasm_feeder.proofs.Common.{◌≡◌, ℕ, ◌+◌, ◌^◌, ◌<◌, Bool, true, false, List, [], ◌∷◌, ◌++◌, length, take, drop, slice_index_or}
-use Rattle.wasm_feeder.proofs.Common.{Bor, Some, None, Result, Ok, Err, refl, sym, ap, subst₂, ◌∙◌, arith, length-append, nat_tests}
-use Rattle.wasm_feeder.proofs.Common.{fault_at, Error, fault, last_event, answers_go_along, Came, report_of, is_end, ParseAnswer, Payload}
+use Rattle.wasm_feeder.proofs.Common.{Bor, Some, None, Ok, refl, sym, ap, subst₂, ◌∙◌, arith, length-append, nat_tests}
+use Rattle.wasm_feeder.proofs.Common.{fault_at, Error, fault, last_event, answers_go_along, Came, is_end, GivesAnswer}
 use Rattle.wasm_feeder.proofs.Common.{feed_of, Feed, new_feed, pushed, finished, joined, HasCome, HasEnded, answer_of, shown, is_request}
-use Rattle.wasm_feeder.proofs.Common.{Steps, Cursor, Step, NeedMoreData, Parsed}
+use Rattle.wasm_feeder.proofs.Common.{Told, Request, Part, Stop, Moves, Cursor}
 use Rattle.std.specs.List.{AllZip}
+use Rattle.wasm_frames.specs.Frame.{IsPart}
 use Rattle.wasm_feeder.specs.Events.{IsKindOf, IsEvent, is_last, IsEventOfStep}
 use Rattle.wasm_feeder.specs.Pieces.{IsReading, GivenTo, ReadsHeld}
 use Rattle.wasm_feeder.specs.declared.events.Event.{Event}
@@ -12,20 +13,21 @@ use Rattle.wasm_feeder.specs.declared.events.EventKind.{EventKind}
 use Rattle.wasm_feeder.proofs.Joining.{joined_more, joined_parts}
 use Rattle.wasm_feeder.proofs.Stepping.{stepped}
 use Rattle.wasm_grammar.specs.Reading as reading
+use Rattle.wasm_grammar.specs.Reading.{Report}
 
--- the end alone is the last payload
-last_is_end : (payload : Payload) (kind : EventKind) → IsKindOf (report_of payload) kind → is_last kind ≡ is_end (report_of payload)
-last_is_end payload kind h = grind arith
+-- the end alone is the last part
+last_is_end : (report : Report) (kind : EventKind) → IsPart report → IsKindOf report kind → is_last kind ≡ is_end report
+last_is_end report kind p h = grind arith
 
 fault_is_last : (e : Error) (kind : EventKind) → IsKindOf (last_event (fault (fault_at e))).report kind → is_last kind ≡ true
 fault_is_last e kind h = grind arith
 
 -- the event that a step gave
-came_is : {A : Type 0} (start features : ℕ) (eof : Bool) (given : List ℕ) (events : List reading.Event) (bytes : List ℕ) (payload : Payload)
+came_is : {A : Type 0} (start features : ℕ) (eof : Bool) (given : List ℕ) (events : List reading.Event) (bytes : List ℕ) (report : Report)
     (f : Feed) (value : Event A)
-    → (c : Came start features eof given events bytes payload f.state f.held)
-    → IsEvent (record { report = report_of payload; consumed = bytes }) value → IsEvent c.event value
-came_is start features eof given events bytes payload f value c i = grind arith
+    → (c : Came start features eof given events bytes report f.state f.held)
+    → IsEvent (record { report = report; consumed = bytes }) value → IsEvent c.event value
+came_is start features eof given events bytes report f value c i = grind arith
 
 -- one event more
 all_more : {X Y : Type 0} (R : X → Y → Type 0) (xs : List X) (ys : List Y) (x : X) (y : Y) → AllZip R xs ys → R x y
@@ -39,49 +41,52 @@ all_more R _ _ x y h r = absurd h
 module _ {A : Type 0} (start features : ℕ) (given : List ℕ) (f g : Feed) (values : List (Event A))
     (h : HasCome start features given f values) (l : start + length given < 2 ^ 64) where
   -- more is asked for
-  pub asks : (x : Result Step Error) → Steps f x g → IsEventOfStep {A = A} x None → HasCome start features given g values × (f.eof ≡ false)
+  pub asks : (x : Told) → Moves f x g → IsEventOfStep {A = A} x None → HasCome start features given g values × (f.eof ≡ false)
   asks x s i = grind (arith, stepped)
 
   -- an event arrived, and is not the last one
-  pub adds : (x : Result Step Error) (value : Event A) → Steps f x g → IsEventOfStep x (Some value) → is_last value.kind ≡ false
+  pub adds : (x : Told) (value : Event A) → Moves f x g → IsEventOfStep x (Some value) → is_last value.kind ≡ false
       → HasCome start features given g (values ++ value ∷ [])
-  adds (Ok (NeedMoreData hint)) value s i n = absurd i
-  adds (Ok (Parsed bytes payload)) value s i n =
-      let u : Came start features f.eof given h.0 bytes.now payload g.state g.held =
-      stepped start features given f.state f.held h.0 h.1 f.eof (Ok (Parsed bytes payload)) g.state g.held l s.parses s.shows in
+  adds (Request hint) value s i n = absurd i
+  adds (Part report bytes) value s i n =
+      let u : Came start features f.eof given h.0 bytes report g.state g.held =
+      stepped start features given f.state f.held h.0 h.1 f.eof (Part report bytes) g.state g.held l s.parses s.shows in
+      let p : IsPart report = answers_go_along.is_part f.state g.state f.eof f.held report (length bytes) s.parses in
       grind (arith, last_is_end, all_more, came_is)
-  adds (Err e) value s i n = let no : true ≡ false = sym (fault_is_last e value.kind i.kind) ∙ n in cc
+  adds (Stop e) value s i n = let no : true ≡ false = sym (fault_is_last e value.kind i.kind) ∙ n in cc
 
   -- the last event arrived
-  pub ends : (x : Result Step Error) (value : Event A) → Steps f x g → IsEventOfStep x (Some value) → is_last value.kind ≡ true
+  pub ends : (x : Told) (value : Event A) → Moves f x g → IsEventOfStep x (Some value) → is_last value.kind ≡ true
       → HasEnded start features f.eof given (values ++ value ∷ [])
-  ends (Ok (NeedMoreData hint)) value s i n = absurd i
-  ends (Ok (Parsed bytes payload)) value s i n =
-      let u : Came start features f.eof given h.0 bytes.now payload g.state g.held =
-      stepped start features given f.state f.held h.0 h.1 f.eof (Ok (Parsed bytes payload)) g.state g.held l s.parses s.shows in
-      let over : is_end (report_of payload) ≡ true = grind (arith, last_is_end) in (
+  ends (Request hint) value s i n = absurd i
+  ends (Part report bytes) value s i n =
+      let u : Came start features f.eof given h.0 bytes report g.state g.held =
+      stepped start features given f.state f.held h.0 h.1 f.eof (Part report bytes) g.state g.held l s.parses s.shows in
+      let p : IsPart report = answers_go_along.is_part f.state g.state f.eof f.held report (length bytes) s.parses in
+      let over : is_end report ≡ true = grind (arith, last_is_end) in (
         h.0 ++ u.event ∷ [],
         u.ends over,
         search (all_more, came_is),
       )
-  ends (Err e) value s i n =
-      let u = stepped start features given f.state f.held h.0 h.1 f.eof (Err e) g.state g.held l s.parses s.shows in
+  ends (Stop e) value s i n =
+      let u = stepped start features given f.state f.held h.0 h.1 f.eof (Stop e) g.state g.held l s.parses s.shows in
       (search all_more)
 
 -- there is less to read after an event that is not the last one
-pub fewer : {A : Type 0} (f g : Feed) (x : Result Step Error) (value : Event A) → Steps f x g → IsEventOfStep x (Some value)
+pub fewer : {A : Type 0} (f g : Feed) (x : Told) (value : Event A) → Moves f x g → IsEventOfStep x (Some value)
     → is_last value.kind ≡ false → length g.held < length f.held
-fewer f g (Ok (NeedMoreData hint)) value s i n = absurd i
-fewer f g (Ok (Parsed bytes payload)) value s i n =
-    let c = answers_go_along.consumes f.state g.state f.eof f.held (answer_of (Ok (Parsed bytes payload))) s.parses in
+fewer f g (Request hint) value s i n = absurd i
+fewer f g (Part report bytes) value s i n =
+    let c = answers_go_along.consumes f.state g.state f.eof f.held (answer_of (Part report bytes)) s.parses in
+    let p : IsPart report = answers_go_along.is_part f.state g.state f.eof f.held report (length bytes) s.parses in
     grind (arith, length-append, nat_tests)
-fewer f g (Err e) value s i n = let no : true ≡ false = sym (fault_is_last e value.kind i.kind) ∙ n in cc
+fewer f g (Stop e) value s i n = let no : true ≡ false = sym (fault_is_last e value.kind i.kind) ∙ n in cc
 
 -- what is known of a step in these bytes
-pub steps_in : (bytes : List ℕ) (old new : Cursor) (x : Result Step Error)
-    → ParseAnswer old.parser old.is_finished (drop old.mark bytes) (answer_of x) new.parser → drop old.mark bytes ≡ shown x
+pub steps_in : (bytes : List ℕ) (old new : Cursor) (x : Told)
+    → GivesAnswer old.parser old.is_finished (drop old.mark bytes) (answer_of x) new.parser → drop old.mark bytes ≡ shown x
     ++ drop new.mark bytes
-    → new.is_finished ≡ old.is_finished → new.wants_more ≡ is_request x → Steps (feed_of bytes old) x (feed_of bytes new)
+    → new.is_finished ≡ old.is_finished → new.wants_more ≡ is_request x → Moves (feed_of bytes old) x (feed_of bytes new)
 steps_in bytes old new x parses shows finished wants = grind arith
 
 -- ---- the chunks

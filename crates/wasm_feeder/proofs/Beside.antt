@@ -1,32 +1,31 @@
 -- That what a step returns beside a chunk is what it returns on all of the chunk.
-use Rattle.wasm_feeder.proofs.Common.{◌≡◌, ℕ, ◌+◌, ◌<◌, Bool, true, false, List, [], ◌∷◌, ◌++◌, length, drop, Result, Ok, Err, refl, sym}
+use Rattle.wasm_feeder.proofs.Common.{◌≡◌, ℕ, ◌+◌, ◌<◌, Bool, true, false, List, [], ◌∷◌, ◌++◌, length, drop, refl, sym}
 use Rattle.wasm_feeder.proofs.Common.{ap, subst₂, ◌∙◌, arith, length-append, ◌-◌, ◌≤◌, append_assoc, append-nil, append_cancel_right}
-use Rattle.wasm_feeder.proofs.Common.{length-drop, drop-drop, Error, waiting, answers_go_along, is_last, SaysTheSame, ParseAnswer}
-use Rattle.wasm_feeder.proofs.Common.{IsRequest, ParserState, grammar_of, beside, seen, lending, StepsOver, feed_of, Feed, answer_of, shown}
-use Rattle.wasm_feeder.proofs.Common.{is_request, Steps, Cursor, Step}
+use Rattle.wasm_feeder.proofs.Common.{length-drop, drop-drop, waiting, answers_go_along, is_last, GivesAnswer}
+use Rattle.wasm_feeder.proofs.Common.{IsRequest, ParserState, grammar_of, beside, seen, lending, MovesOver, feed_of, Feed, answer_of, shown}
+use Rattle.wasm_feeder.proofs.Common.{is_request, Moves, Cursor, Told}
 use Rattle.wasm_feeder.specs.Beside.{SeesEnough, AreEnough, ReadsEnough, MakesReady, Bounds, HasDecided, StaysIdle}
 use Rattle.wasm_grammar.specs.Waiting.{enough as decides_all}
-use Rattle.wasm_parser.specs.ParserLaws.{AnswersLast}
-use Rattle.wasm_parser.specs.declared.payload.Chunk.{Chunk}
-use Rattle.wasm_feeder.proofs.Stepping.{none_passed, steps_from}
-use Rattle.wasm_parser.specs.declared.payload.Chunk.TheVariants as chunk
+use Rattle.wasm_frames.specs.ParserLaws.{AnswersLast}
+use Rattle.wasm_feeder.proofs.Stepping.{moves_from, none_passed}
+use Rattle.wasm_frames.specs.Answer.{Answer, asks, refuses, reports}
 
 -- ---- enough bytes
 
 -- bytes for which one result is no request are enough
-pub enough : (law : AnswersLast) (p : ParserState) (bytes : List ℕ) (one : Result Chunk Error) (new : ParserState)
-    → ParseAnswer p false bytes one new → (IsRequest one → ⊥) → AreEnough p bytes
+pub enough : (law : AnswersLast) (p : ParserState) (bytes : List ℕ) (one : Answer) (new : ParserState)
+    → GivesAnswer p false bytes one new → (IsRequest one → ⊥) → AreEnough p bytes
 enough law p bytes one new a decided more l other last b = law p last bytes more other b
     (grind (arith, decides, answers_go_along.once)) l false
   where
-    decides : (x y : Result Chunk Error) → SaysTheSame x y → (IsRequest x → ⊥) → IsRequest y → ⊥
-    decides (Ok (chunk.NeedMoreData hint)) y e goes r = goes tt
-    decides (Ok (chunk.Parsed consumed payload)) (Ok (chunk.NeedMoreData hint)) e goes r = cc
-    decides (Ok (chunk.Parsed consumed payload)) (Ok (chunk.Parsed other_consumed other)) e goes r = r
-    decides (Ok (chunk.Parsed consumed payload)) (Err x) e goes r = r
-    decides (Err x) (Ok (chunk.NeedMoreData hint)) e goes r = cc
-    decides (Err x) (Ok (chunk.Parsed consumed payload)) e goes r = r
-    decides (Err x) (Err y) e goes r = r
+    decides : (x y : Answer) → x ≡ y → (IsRequest x → ⊥) → IsRequest y → ⊥
+    decides (asks hint) y e goes r = goes tt
+    decides (reports report consumed) (asks hint) e goes r = cc
+    decides (reports report consumed) (reports other other_consumed) e goes r = r
+    decides (reports report consumed) (refuses x) e goes r = r
+    decides (refuses x) (asks hint) e goes r = cc
+    decides (refuses x) (reports report consumed) e goes r = r
+    decides (refuses x) (refuses y) e goes r = r
 
 -- no bytes more change nothing
 pub nothing_more : (p : ParserState) (eof : Bool) (bytes more : List ℕ) → more ≡ [] → SeesEnough p eof bytes more
@@ -69,13 +68,13 @@ ready old piece (x ∷ xs) count c within first same state eof wants sees stores
 -- ---- a step
 
 -- what the cursor says of a step is what the feeder beside the chunk does
-pub both : (f : Feed) (stored piece items rest bytes : List ℕ) (old new : Cursor) (x : Result Step Error) → lending stored piece old ≡ f
+pub both : (f : Feed) (stored piece items rest bytes : List ℕ) (old new : Cursor) (x : Told) → lending stored piece old ≡ f
     → ReadsEnough stored piece old → bytes ≡ seen items rest → items ≡ stored → rest ≡ piece
-    → ParseAnswer old.parser old.is_finished (drop old.mark bytes) (answer_of x) new.parser
+    → GivesAnswer old.parser old.is_finished (drop old.mark bytes) (answer_of x) new.parser
     → drop old.mark bytes ≡ shown x ++ drop new.mark bytes → new.is_finished ≡ old.is_finished → new.wants_more ≡ is_request x
-    → Steps f x (lending stored piece new)
+    → Moves f x (lending stored piece new)
 both f stored piece items rest bytes old new x from sees read items_are rest_is parses shows finished wants =
-    steps_from (lending stored piece old) f x (lending stored piece new) from (grind (arith, same, append_assoc))
+    moves_from (lending stored piece old) f x (lending stored piece new) from (grind (arith, same, append_assoc))
   where
     same : bytes ≡ seen stored piece
     same = cc
@@ -83,25 +82,25 @@ both f stored piece items rest bytes old new x from sees read items_are rest_is 
 -- ---- a step over a chunk
 
 -- where more bytes are asked for, those that are there don't decide
-pub undecided : (p new : ParserState) (bytes : List ℕ) (one : Result Chunk Error) (hint : ℕ) → ParseAnswer p false bytes one new
-    → one ≡ Ok (chunk.NeedMoreData hint) → waiting (grammar_of p) bytes ≡ decides_all → ⊥
+pub undecided : (p new : ParserState) (bytes : List ℕ) (one : Answer) (hint : ℕ) → GivesAnswer p false bytes one new
+    → one ≡ asks hint → waiting (grammar_of p) bytes ≡ decides_all → ⊥
 undecided p new bytes one hint a is e = grind (arith, answers_go_along.asks)
 
 -- bytes that decide are no request
-decided : (p new : ParserState) (bytes : List ℕ) (x : Result Step Error) → ParseAnswer p false bytes (answer_of x) new
+decided : (p new : ParserState) (bytes : List ℕ) (x : Told) → GivesAnswer p false bytes (answer_of x) new
     → waiting (grammar_of p) bytes ≡ decides_all → is_request x ≡ false
 decided p new bytes x a e = grind (arith, undecided)
 
-last_is_no_request : (x : Result Step Error) → is_last (answer_of x) ≡ true → is_request x ≡ false
+last_is_no_request : (x : Told) → is_last (answer_of x) ≡ true → is_request x ≡ false
 last_is_no_request x l = grind arith
 
 -- A step over a chunk: `old` is the cursor once this many bytes of the chunk are stored, and `new` the cursor after the step.
-module _ (f : Feed) (piece rest stored items bytes : List ℕ) (count : ℕ) (old new : Cursor) (x : Result Step Error)
+module _ (f : Feed) (piece rest stored items bytes : List ℕ) (count : ℕ) (old new : Cursor) (x : Told)
     (r : MakesReady f piece count stored old) (left : rest ≡ drop count piece) (read : bytes ≡ seen items rest) (items_are : items ≡ stored)
-    (parses : ParseAnswer old.parser old.is_finished (drop old.mark bytes) (answer_of x) new.parser)
+    (parses : GivesAnswer old.parser old.is_finished (drop old.mark bytes) (answer_of x) new.parser)
     (shows : drop old.mark bytes ≡ shown x ++ drop new.mark bytes) (finished : new.is_finished ≡ old.is_finished)
     (wants : new.wants_more ≡ is_request x) (moves : new.mark ≡ old.mark + length (shown x)) where
-  stepped : Steps (beside f piece) x (lending stored (drop count piece) new)
+  stepped : Moves (beside f piece) x (lending stored (drop count piece) new)
   stepped = search both
 
   reads : bytes ≡ seen stored rest
@@ -119,11 +118,11 @@ module _ (f : Feed) (piece rest stored items bytes : List ℕ) (count : ℕ) (ol
       → taken ≤ length rest → (new.wants_more ≡ true → taken ≡ length rest) → length kept ≤ length stored + length rest
       → (new.wants_more ≡ false → (stored ≡ [] → new.mark ≡ 0) → drop last.mark kept ≡ drop new.mark (seen stored rest))
       → (new.wants_more ≡ false → 0 < length stored → (taken ≡ 0) × (length kept ≡ length stored))
-      → StepsOver f piece x (count + taken) (feed_of kept last)
-  over taken kept last takes within asks bounded stays idle = record {
-    steps = rw same stepped;
-    asks = λ e. let all = asks (wants ∙ e) in omega (arith, all, size, sizes, r.within);
-    stays = λ l. subst₂ (λ (p q : ParserState). ParseAnswer p f.eof (drop last.mark kept) (answer_of x) q) state
+      → MovesOver f piece x (count + taken) (feed_of kept last)
+  over taken kept last takes within whole bounded stays idle = record {
+    moves = rw same stepped;
+    asks = λ e. let all = whole (wants ∙ e) in omega (arith, all, size, sizes, r.within);
+    stays = λ l. subst₂ (λ (p q : ParserState). GivesAnswer p f.eof (drop last.mark kept) (answer_of x) q) state
         (sym (ap (λ (g : Feed). g.state) takes))
         (grind (arith, held, eof));
     stores = omega (arith, length-drop last.mark kept);

@@ -17,25 +17,22 @@ pub use Rattle.wasm_grammar.specs.Reading.{last_event, Event}
 pub use Rattle.wasm_grammar.specs.Waiting.{enough}
 unfoldable pub use Rattle.wasm_grammar.specs.Waiting.{waiting}
 pub use Rattle.wasm_parser.proofs.ForCallers.{answers_go_along}
-pub use Rattle.wasm_parser.specs.Along.{Came, is_last, SaysTheSame, ReadingBegins}
-pub use Rattle.wasm_parser.specs.ParseAnswer.{report_of, ParseAnswer, IsRequest}
+pub use Rattle.wasm_frames.specs.Along.{Came, is_last, ReadingBegins}
+pub use Rattle.wasm_frames.specs.Answer.{GivesAnswer, IsRequest}
 pub use Rattle.wasm_frames.specs.Answer.{is_end}
 pub use Rattle.wasm_frames.specs.ParserState.{ParserState, grammar_of}
-pub use Rattle.wasm_parser.specs.declared.payload.Payload.{Payload}
 pub use Rattle.wasm_text.specs.Page.{IsCut, PutsBytes, WritesHead}
 pub use Rattle.wasm_text.specs.declared.devices.ListError.{ListError}
 pub use Rattle.wasm_text.specs.declared.devices.ListError.TheVariants.{Input}
-pub use Rattle.wasm_feeder.specs.Beside.{beside, seen, lending, StepsOver, FillsAlike}
+pub use Rattle.wasm_feeder.specs.Beside.{beside, seen, lending, MovesOver, FillsAlike}
 pub use Rattle.wasm_feeder.specs.Cursors.{feed_of}
 pub use Rattle.wasm_feeder.specs.Feed.{Feed, new_feed, pushed, finished, end_of}
 pub use Rattle.wasm_feeder.specs.Passing.{held_by}
 pub use Rattle.wasm_feeder.specs.Pieces.{joined, HasCome, HasEnded}
 pub use Rattle.wasm_feeder.specs.Progress.{weight, Reached, Asks}
-pub use Rattle.wasm_feeder.specs.Step.{answer_of, shown, is_request, Steps, Stepped, GivesStep}
+pub use Rattle.wasm_feeder.specs.Step.{Told, Request, Part, Stop, answer_of, shown, is_request, Moves, Stepped, GivesTold}
 pub use Rattle.wasm_feeder.specs.Turns.{turn_after}
 pub use Rattle.wasm_feeder.specs.declared.feeder.Cursor.{Cursor}
-pub use Rattle.wasm_feeder.specs.declared.feeder.Step.{Step}
-pub use Rattle.wasm_feeder.specs.declared.feeder.Step.TheVariants.{NeedMoreData, Parsed}
 pub use Rattle.wasm_feeder.specs.declared.passing.Passing.{Passing}
 pub use Rattle.wasm_feeder.specs.declared.turns.Ended.{Ended}
 pub use Rattle.wasm_feeder.specs.declared.turns.Ended.TheVariants.{Fault}

@@ -1,8 +1,8 @@
 -- How far a caller has come that writes a text of the events it reads, and what each turn does to it.
-use Rattle.wasm_feeder.proofs.Common.{◌≡◌, ℕ, ◌<◌, List, [], ◌∷◌, ◌++◌, Result, Ok, Err, refl, sym, ap, ◌∙◌, arith, append_assoc}
+use Rattle.wasm_feeder.proofs.Common.{◌≡◌, ℕ, ◌<◌, List, [], ◌∷◌, ◌++◌, Err, refl, sym, ap, ◌∙◌, arith, append_assoc}
 use Rattle.wasm_feeder.proofs.Common.{append-nil, Option, Consumes-kept, Consumes-nil, Consumes-trans, Appends, Consumes, all_features}
-use Rattle.wasm_feeder.proofs.Common.{Error, Ending, last_event, Event, answers_go_along, ReadingBegins, IsCut, PutsBytes, WritesHead}
-use Rattle.wasm_feeder.proofs.Common.{ListError, Input, FillsAlike, Feed, weight, Reached, Steps, turn_after, Step, NeedMoreData, Ended}
+use Rattle.wasm_feeder.proofs.Common.{Ending, last_event, Event, answers_go_along, ReadingBegins, IsCut, PutsBytes, WritesHead}
+use Rattle.wasm_feeder.proofs.Common.{ListError, Input, FillsAlike, Feed, weight, Reached, Moves, turn_after, Told, Request, Ended}
 use Rattle.std.proofs.KnownBytes.{Appends-nil}
 use Rattle.std.specs.Io.KnownBytes.{Keeps}
 use Rattle.wasm_feeder.specs.Lists.{IsListed, Begins, IsHead, Refills, ListsBy, listing_by}
@@ -35,7 +35,7 @@ same_lighter text input output e f g page same p = rw same p
 module _ (text : List Event → List ℕ) (source rest taken written : Option (List ℕ)) (f : Feed) (page : List ℕ) where
   module _ (p : Progress text (from_to source rest) (from_to taken written) f page) (written' : Option (List ℕ)) where
     -- what was put after the text of these events is that of one more
-    module _ (g : Feed) (x : Result Step Error) (s : Steps f x g) (piece page' : List ℕ) (w : PutsBytes written written' page piece page')
+    module _ (g : Feed) (x : Told) (s : Moves f x g) (piece page' : List ℕ) (w : PutsBytes written written' page piece page')
       where
         pub advanced : turn.Advance ≡ turn_after x
             → ((e : Event) → IsEvent x e → text (p.events ++ e ∷ []) ≡ text p.events ++ piece)
@@ -45,7 +45,7 @@ module _ (text : List Event → List ℕ) (source rest taken written : Option (L
             let puts = puts_more taken written written' [] (text p.events) page piece page' p.puts w in
             (record { events = p.events ++ e ∷ []; reached = after; puts = rw (more e is) puts }, less)
 
-        pub asked : turn.Read ≡ turn_after x → ((hint : ℕ) → x ≡ Ok (NeedMoreData hint) → piece ≡ [])
+        pub asked : turn.Read ≡ turn_after x → ((hint : ℕ) → x ≡ Request hint → piece ≡ [])
             → Wants text (from_to source rest) (from_to taken written') g page' × (weight g ≡ weight f)
         asked t none =
             let (hint, is, asks, same) = reached.next_asks source rest f p.events p.reached g x s t in
@@ -76,11 +76,11 @@ module _ (text_of : Report → List ℕ) where
   pub one_more : (es : List Event) (e : Event) → listing_by text_of (es ++ e ∷ []) ≡ listing_by text_of es ++ text_of e.report
   one_more es e = listing-append es (e ∷ []) ∙ ap (λ (l : List ℕ). listing_by text_of es ++ l) (append-nil (text_of e.report))
 
-  pub text_of_event : (x : Result Step Error) (es : List Event) (e : Event) → IsEvent x e
+  pub text_of_event : (x : Told) (es : List Event) (e : Event) → IsEvent x e
       → listing_by text_of (es ++ e ∷ []) ≡ listing_by text_of es ++ text_after text_of x
   text_of_event x es e is = grind (arith, one_more)
 
-  text_of_ending : (x : Result Step Error) (end : Ending) → IsEnding x end → text_after text_of x ≡ text_of (stream_end end)
+  text_of_ending : (x : Told) (end : Ending) → IsEnding x end → text_after text_of x ≡ text_of (stream_end end)
   text_of_ending x end is = grind arith
 
   -- a prefix of the listing, of a stream whose reading begins with these events
@@ -168,7 +168,7 @@ module _ (text_of : Report → List ℕ) where
 
     -- ---- the turns
 
-    module _ (g : Feed) (x : Result Step Error) (s : Steps f x g) (written' : Option (List ℕ)) (page' : List ℕ)
+    module _ (g : Feed) (x : Told) (s : Moves f x g) (written' : Option (List ℕ)) (page' : List ℕ)
         (w : PutsBytes written written' page (text_after text_of x) page') where
       pub line_advanced : turn.Advance ≡ turn_after x
           → Progress (listing_by text_of) (from_to source rest) (from_to taken written') g page' × (weight g < weight f)

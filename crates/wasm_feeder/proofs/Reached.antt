@@ -1,20 +1,20 @@
 -- What each call does to where a feeder is along what a source gave.
-use Rattle.wasm_feeder.proofs.Common.{◌≡◌, ℕ, ◌+◌, ◌^◌, ◌<◌, Bool, true, false, List, [], ◌∷◌, ◌++◌, length, Result, Ok, Err, refl, sym, ap}
+use Rattle.wasm_feeder.proofs.Common.{◌≡◌, ℕ, ◌+◌, ◌^◌, ◌<◌, Bool, true, false, List, [], ◌∷◌, ◌++◌, length, refl, sym, ap}
 use Rattle.wasm_feeder.proofs.Common.{◌∙◌, arith, length-append, ◌≤◌, append-nil, Option, subst, inl, inr, Consumes-nil, Consumes-trans}
-use Rattle.wasm_feeder.proofs.Common.{Consumes, fault_at, at_offset, all_features, Error, OffsetRange, fault, Ending, last_event, Event}
-use Rattle.wasm_feeder.proofs.Common.{answers_go_along, Came, ReadingBegins, report_of, is_end, Payload, beside, FillsAlike, feed_of, Feed}
-use Rattle.wasm_feeder.proofs.Common.{new_feed, pushed, weight, Reached, Asks, Steps, Stepped, turn_after, Cursor, Step, NeedMoreData}
-use Rattle.wasm_feeder.proofs.Common.{Parsed, Ended, Fault}
+use Rattle.wasm_feeder.proofs.Common.{Consumes, fault_at, at_offset, all_features, OffsetRange, fault, Ending, last_event, Event}
+use Rattle.wasm_feeder.proofs.Common.{answers_go_along, Came, ReadingBegins, is_end, beside, FillsAlike, feed_of, Feed}
+use Rattle.wasm_feeder.proofs.Common.{new_feed, pushed, weight, Reached, Asks, Moves, Stepped, turn_after, Cursor}
+use Rattle.wasm_feeder.proofs.Common.{Told, Request, Part, Stop, answer_of, Ended, Fault}
 use Rattle.std.specs.Io.KnownBytes.{IsAtEnd}
 use Rattle.std.specs.Prelude.{if◌then◌else◌}
 use Rattle.wasm_feeder.specs.Beside.{IsAlike}
 use Rattle.wasm_feeder.specs.Lists.{IsEndedBy, IsWhole}
-use Rattle.wasm_feeder.specs.Step.{chunk_of}
 use Rattle.wasm_feeder.specs.declared.turns.Ended.TheVariants.{End}
 use Rattle.wasm_grammar.specs.Content.{ended}
 use Rattle.wasm_grammar.specs.EventRanges.{consumed_by}
-use Rattle.wasm_parser.specs.Along.{ReadsEach}
-use Rattle.wasm_parser.specs.GivesNextEvent.{MayBe}
+use Rattle.wasm_grammar.specs.Reading.{Report}
+use Rattle.wasm_frames.specs.Along.{IsNoFault, ReadsEach}
+use Rattle.wasm_frames.specs.GivesNextEvent.{MayBe}
 use Rattle.wasm_feeder.proofs.Stepping.{stepped as step_along}
 use Rattle.wasm_feeder.specs.declared.turns.Turn.TheVariants as turn
 
@@ -38,17 +38,17 @@ begun_beside source stored piece c none no_piece new = grind (arith, alike, appe
 -- ---- results
 
 -- This event is the result, and not the last one.
-abbrev pub IsEvent : Result Step Error → Event → Type 0
-IsEvent (Ok (NeedMoreData hint)) e = ⊥
-IsEvent (Ok (Parsed bytes payload)) e = (is_end (report_of payload) ≡ false) × (report_of payload ≡ e.report) × (e.consumed ≡ bytes.now)
-IsEvent (Err error) e = ⊥
+abbrev pub IsEvent : Told → Event → Type 0
+IsEvent (Request hint) e = ⊥
+IsEvent (Part report bytes) e = (is_end report ≡ false) × (report ≡ e.report) × (e.consumed ≡ bytes)
+IsEvent (Stop error) e = ⊥
 
 -- The result is this ending.
-abbrev pub IsEnding : Result Step Error → Ending → Type 0
-IsEnding (Ok (NeedMoreData hint)) end = ⊥
-IsEnding (Ok (Parsed bytes payload)) end = (is_end (report_of payload) ≡ true) × (report_of payload ≡ (last_event end).report)
-    × (bytes.now ≡ [])
-IsEnding (Err error) end = end ≡ fault (fault_at error)
+abbrev pub IsEnding : Told → Ending → Type 0
+IsEnding (Request hint) end = ⊥
+IsEnding (Part report bytes) end = (is_end report ≡ true) × (report ≡ (last_event end).report)
+    × (bytes ≡ [])
+IsEnding (Stop error) end = end ≡ fault (fault_at error)
 
 -- A stream ends so after these events, and a run as it does.
 pub record AtEnd (given : List ℕ) (events : List Event) (eof : Bool) (how : Ended) (end : Ending) : Type 0 where
@@ -99,42 +99,42 @@ module _ (source rest : Option (List ℕ)) (f : Feed) (events : List Event) (r :
 
   module _ (g : Feed) where
     -- what it says, if the given bytes are below the top
-    stepped : (x : Result Step Error) → Steps f x g → length r.given < 2 ^ 64
+    stepped : (x : Told) → Moves f x g → length r.given < 2 ^ 64
         → Stepped 0 all_features f.eof r.given events x g.state g.held
     stepped x s l = step_along 0 all_features r.given f.state f.held events r.is_along f.eof x g.state g.held (omega (arith, l))
         s.parses s.shows
 
-    below : (step : Step) → Steps f (Ok step) g → length r.given < 2 ^ 64
-    below step s = let o = answers_go_along.below f.state g.state f.eof f.held (chunk_of step) s.parses in omega (arith, o, ends_at)
+    below : (x : Told) → Moves f x g → IsNoFault (answer_of x) → length r.given < 2 ^ 64
+    below x s n = let o = answers_go_along.below f.state g.state f.eof f.held (answer_of x) s.parses n in omega (arith, o, ends_at)
 
-    came : (bytes : _) (payload : Payload) → Steps f (Ok (Parsed bytes payload)) g
-        → Came 0 all_features f.eof r.given events bytes.now payload g.state g.held
-    came bytes payload s = stepped (Ok (Parsed bytes payload)) s (below (Parsed bytes payload) s)
+    came : (report : Report) (bytes : List ℕ) → Moves f (Part report bytes) g
+        → Came 0 all_features f.eof r.given events bytes report g.state g.held
+    came report bytes s = stepped (Part report bytes) s (below (Part report bytes) s tt)
 
     -- an event that isn't the last one: there is less to consume
-    pub next_event : (x : Result Step Error) → Steps f x g → turn.Advance ≡ turn_after x
+    pub next_event : (x : Told) → Moves f x g → turn.Advance ≡ turn_after x
         → (e : Event) × IsEvent x e × Reached source rest g (events ++ e ∷ []) × (weight g < weight f)
-    next_event (Ok (NeedMoreData hint)) s t = cc
-    next_event (Ok (Parsed bytes payload)) s t =
-        let n = if_end (is_end (report_of payload)) t in
-        let came = came bytes payload s in
+    next_event (Request hint) s t = cc
+    next_event (Part report bytes) s t =
+        let n = if_end (is_end report) t in
+        let came = came report bytes s in
         let (after, some) = came.goes_on n in
         let o : g.state.offset + length g.held ≡ 0 + length r.given =
         answers_go_along.ends 0 all_features r.given g.state g.held (events ++ came.event ∷ []) after in
-        let l : length f.held ≡ length bytes.now + length g.held = grind (arith, length-append) in (
+        let l : length f.held ≡ length bytes + length g.held = grind (arith, length-append) in (
           came.event,
-          (n, came.is_payload.0, came.consumed),
+          (n, came.is_report, came.consumed),
           record { given = r.given; is_along = after; gave = r.gave; at_end = λ e. r.at_end (sym s.eof ∙ e) },
-          rw s.eof (omega (arith, ends_at, o, l, some, below (Parsed bytes payload) s)),
+          rw s.eof (omega (arith, ends_at, o, l, some, below (Part report bytes) s tt)),
         )
-    next_event (Err e) s t = cc
+    next_event (Stop e) s t = cc
 
     -- a request: the parser is undecided
-    pub next_asks : (x : Result Step Error) → Steps f x g → turn.Read ≡ turn_after x
-        → (hint : ℕ) × (x ≡ Ok (NeedMoreData hint)) × Asks source rest g events × (weight g ≡ weight f)
-    next_asks (Ok (NeedMoreData hint)) s t =
-        let l = below (NeedMoreData hint) s in
-        let (u, a) = stepped (Ok (NeedMoreData hint)) s l in
+    pub next_asks : (x : Told) → Moves f x g → turn.Read ≡ turn_after x
+        → (hint : ℕ) × (x ≡ Request hint) × Asks source rest g events × (weight g ≡ weight f)
+    next_asks (Request hint) s t =
+        let l = below (Request hint) s tt in
+        let (u, a) = stepped (Request hint) s l in
         let stays : g.state ≡ f.state = cc in (
           hint,
           refl,
@@ -146,16 +146,16 @@ module _ (source rest : Option (List ℕ)) (f : Feed) (events : List Event) (r :
           },
           rw (stays, sym s.shows, s.eof) refl,
         )
-    next_asks (Ok (Parsed bytes payload)) s t = absurd (no_read (is_end (report_of payload)) t)
-    next_asks (Err e) s t = cc
+    next_asks (Part report bytes) s t = absurd (no_read (is_end report) t)
+    next_asks (Stop e) s t = cc
 
-    pub next_ends : (x : Result Step Error) → Steps f x g → (how : Ended) → turn.End how ≡ turn_after x
+    pub next_ends : (x : Told) → Moves f x g → (how : Ended) → turn.End how ≡ turn_after x
         → (end : Ending) × AtEnd r.given events f.eof how end × IsEnding x end
-    next_ends (Ok (NeedMoreData hint)) s how t = cc
-    next_ends (Ok (Parsed bytes payload)) s how t =
-        let (e, is_it) = at_end (is_end (report_of payload)) how t in
-        let l = below (Parsed bytes payload) s in
-        let came = came bytes payload s in
+    next_ends (Request hint) s how t = cc
+    next_ends (Part report bytes) s how t =
+        let (e, is_it) = at_end (is_end report) how t in
+        let l = below (Part report bytes) s tt in
+        let came = came report bytes s in
         let (offset, last) = came.last e in (
           ended offset,
           record {
@@ -164,14 +164,14 @@ module _ (source rest : Option (List ℕ)) (f : Feed) (events : List Event) (r :
             past_the_top = λ h. absurd (omega (arith, h, l));
             whole = λ _. (offset, refl, l);
           },
-          (e, came.is_payload.0 ∙ ap (λ (y : Event). y.report) last, sym came.consumed ∙ ap (λ (y : Event). y.consumed) last),
+          (e, came.is_report ∙ ap (λ (y : Event). y.report) last, sym came.consumed ∙ ap (λ (y : Event). y.consumed) last),
         )
-    next_ends (Err e) s how t =
+    next_ends (Stop e) s how t =
         let is_it : how ≡ Fault e = cc in (
           fault (fault_at e),
           record {
             ends = rw is_it refl;
-            within = λ l. (stepped (Err e) s l).0;
+            within = λ l. (stepped (Stop e) s l).0;
             past_the_top = grind (arith, ends_at, passed);
             whole = λ z. let no : Fault e ≡ End = sym is_it ∙ z in cc;
           },

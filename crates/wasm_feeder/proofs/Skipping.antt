@@ -7,7 +7,7 @@ use Rattle.wasm_feeder.specs.Beside.{unseen}
 use Rattle.wasm_feeder.specs.Passing.{SkipsHere}
 use Rattle.wasm_grammar.specs.Reading.{Reading}
 use Rattle.wasm_frames.specs.SkipNext.{Head, skip_in}
-use Rattle.wasm_parser.specs.SkipAlong.{SkipCame}
+use Rattle.wasm_frames.specs.SkipAlong.{SkipCame}
 use Rattle.wasm_feeder.proofs.Reached.{AtEnd, ends_at}
 use Rattle.wasm_parser.proofs.ForCallers.{skipping_goes_along}
 

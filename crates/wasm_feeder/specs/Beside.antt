@@ -4,14 +4,13 @@ use Rattle.std.specs.Prelude.{◌⊎◌, take, drop, Option, Result, Ok, Err}
 use Rattle.std.specs.Io.KnownBytes.{Consumes, IsAtEnd, Keeps}
 use Rattle.wasm_base.specs.declared.error.Error.{Error}
 use Rattle.wasm_grammar.specs.Waiting.{enough, waiting}
-use Rattle.wasm_parser.specs.Along.{is_last}
-use Rattle.wasm_parser.specs.ParseAnswer.{ParseAnswer}
+use Rattle.wasm_frames.specs.Along.{is_last}
+use Rattle.wasm_frames.specs.Answer.{Answer, GivesAnswer}
 use Rattle.wasm_frames.specs.ParserState.{ParserState, grammar_of}
-use Rattle.wasm_parser.specs.declared.payload.Chunk.{Chunk}
 use Rattle.wasm_feeder.specs.Cursors.{feed_of}
 use Rattle.wasm_feeder.specs.Feed.{Feed, pushed, finished, end_of}
 use Rattle.wasm_feeder.specs.Lists.{Refills}
-use Rattle.wasm_feeder.specs.Step.{answer_of, is_request, Steps}
+use Rattle.wasm_feeder.specs.Step.{Told, answer_of, is_request, Moves, StepBegins, told}
 use Rattle.wasm_text.specs.declared.devices.Failed.{Failed}
 use Rattle.wasm_text.specs.declared.devices.ListError.{ListError}
 use Rattle.wasm_feeder.specs.declared.feeder.Cursor.{Cursor}
@@ -19,9 +18,10 @@ use Rattle.wasm_feeder.specs.declared.feeder.Step.{Step}
 
 -- | a feeder next to a chunk, as one that holds both; what a step reads of them, and what is enough for it; a step
 --   over a chunk, and what a read made of a feeder next to it [`lending`, `seen`, `SeesEnough`, `MakesReady`,
---   `MayCome`, `Bounds`, `HasDecided`, `StepsOver`, `RefillsAlike`]
+--   `MayCome`, `Bounds`, `HasDecided`, `MovesOver`, `StepsOver`,
+--   `RefillsAlike`]
 -- a feeder and the bytes after its own, as one that holds both; how many are stored is left out, so that a step over a
--- chunk is `Steps` of this feeder, and the laws of feeders hold for it as they are
+-- chunk is `Moves` of this feeder, and the laws of feeders hold for it as they are
 abbrev pub beside : Feed → (rest : List ℕ) → Feed
 beside f rest = record f { held = f.held ++ rest; stored = 0 }
 
@@ -41,8 +41,8 @@ lending stored piece c = beside (feed_of (seen stored piece) c) (unseen stored p
 
 -- What a parser returns for the first bytes is what it returns for all of them.
 abbrev pub SeesEnough : ParserState → (eof : Bool) → (first more : List ℕ) → Type 0
-SeesEnough p eof first more = (answer : Result Chunk Error) (new : ParserState) → ParseAnswer p eof first answer new
-    → ParseAnswer p eof (first ++ more) answer new
+SeesEnough p eof first more = (answer : Answer) (new : ParserState) → GivesAnswer p eof first answer new
+    → GivesAnswer p eof (first ++ more) answer new
 
 -- These bytes are enough, whatever more comes.
 abbrev pub AreEnough : ParserState → (bytes : List ℕ) → Type 0
@@ -96,13 +96,18 @@ pub record MakesReady (old : Feed) (piece : List ℕ) (count : ℕ) (stored : Li
 
 -- A step along what a feeder holds and then a chunk, of which it took this many bytes: all if more is asked for, and
 -- none if the bytes that it holds decide. After the end or a fault it holds the bytes that decided that.
-pub record StepsOver (old : Feed) (piece : List ℕ) (result : Result Step Error) (taken : ℕ) (new : Feed) : Type 0 where
-  pub steps : Steps (beside old piece) result (beside new (drop taken piece))
-  pub asks : is_request result ≡ true → taken ≡ length piece
-  pub stays : is_last (answer_of result) ≡ true → ParseAnswer old.state old.eof new.held (answer_of result) new.state
+pub record MovesOver (old : Feed) (piece : List ℕ) (said : Told) (taken : ℕ) (new : Feed) : Type 0 where
+  pub moves : Moves (beside old piece) said (beside new (drop taken piece))
+  pub asks : is_request said ≡ true → taken ≡ length piece
+  pub stays : is_last (answer_of said) ≡ true → GivesAnswer old.state old.eof new.held (answer_of said) new.state
   pub stores : length new.held ≤ new.stored
   pub bounded : Bounds old piece new.stored
   pub idle : HasDecided old piece → (taken ≡ 0) × (new.stored ≤ old.stored)
+
+-- the same of a step that returns a payload
+pub record StepsOver (old : Feed) (piece : List ℕ) (result : Result Step Error) (taken : ℕ) (new : Feed) : Type 0 where
+  pub moves : MovesOver old piece (told result) taken new
+  pub items : StepBegins result
 
 -- Two feeders are in one place, with the same bytes.
 pub record IsAlike (f g : Feed) : Type 0 where

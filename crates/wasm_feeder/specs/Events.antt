@@ -1,21 +1,18 @@
 -- The events of a reading as values.
-use Rattle.std.specs.Prelude.{◌≡◌, ℕ, Bool, true, false, List, Option, Some, None, Result, Ok, Err}
+use Rattle.std.specs.Prelude.{◌≡◌, ℕ, Bool, true, false, List, Option, Some, None}
 use Rattle.std.specs.List.{AllZip}
 use Rattle.std.specs.declared.ops.Range.{Range}
 use Rattle.wasm_base.specs.FaultAt.{FaultAt, fault_at}
 use Rattle.wasm_base.specs.Window.{range_of}
-use Rattle.wasm_base.specs.declared.error.Error.{Error}
 use Rattle.wasm_grammar.specs.Content.{fault, ended}
-use Rattle.wasm_parser.specs.ParseAnswer.{report_of}
 use Rattle.wasm_grammar.specs.Reading as reading
 use Rattle.wasm_grammar.specs.Reading.{Report, version, counted, start_section, data_count_section, code_start}
 use Rattle.wasm_grammar.specs.Reading.{code_entry, custom_section, unknown_section, stream_end, last_event}
+use Rattle.wasm_feeder.specs.Step.{Told, Part, Request, Stop}
 use Rattle.wasm_feeder.specs.declared.events.Event.{Event}
 use Rattle.wasm_feeder.specs.declared.events.EventKind.{EventKind}
 use Rattle.wasm_feeder.specs.declared.events.EventKind.TheVariants.{Version, Section, Start, DataCount, Code, Body}
 use Rattle.wasm_feeder.specs.declared.events.EventKind.TheVariants.{Custom, Unknown, End, Fault}
-use Rattle.wasm_feeder.specs.declared.feeder.Step.{Step}
-use Rattle.wasm_feeder.specs.declared.feeder.Step.TheVariants.{NeedMoreData, Parsed}
 
 -- The kind is this fault.
 abbrev pub IsFaultOf : FaultAt → EventKind → Type 0
@@ -69,9 +66,9 @@ is_last (Fault e) = true
 is_last other = false
 
 -- what is made of a step: nothing of a request, and elsewhere its event
-abbrev pub IsEventOfStep : {A : Type 0} → Result Step Error → Option (Event A) → Type 0
-IsEventOfStep (Ok (NeedMoreData hint)) None = Unit {0}
-IsEventOfStep (Ok (Parsed bytes payload)) (Some value) =
-    IsEvent (record { report = report_of payload; consumed = bytes.now }) value
-IsEventOfStep (Err e) (Some value) = IsEvent (last_event (fault (fault_at e))) value
+abbrev pub IsEventOfStep : {A : Type 0} → Told → Option (Event A) → Type 0
+IsEventOfStep (Request hint) None = Unit {0}
+IsEventOfStep (Part report bytes) (Some value) =
+    IsEvent (record { report = report; consumed = bytes }) value
+IsEventOfStep (Stop e) (Some value) = IsEvent (last_event (fault (fault_at e))) value
 IsEventOfStep other value = ⊥

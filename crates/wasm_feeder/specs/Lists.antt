@@ -8,7 +8,7 @@ use Rattle.wasm_base.specs.declared.fault.Fault.TheVariants.{OffsetRange}
 use Rattle.wasm_grammar.specs.Content.{Ending, fault, ended}
 use Rattle.wasm_grammar.specs.EventRanges.{consumed_by}
 use Rattle.wasm_grammar.specs.Reading.{Report, Event, last_event, Reading}
-use Rattle.wasm_parser.specs.Along.{ReadingBegins}
+use Rattle.wasm_frames.specs.Along.{ReadingBegins}
 use Rattle.wasm_text.specs.Calls.{Change}
 use Rattle.wasm_feeder.specs.Feed.{Feed, pushed, finished}
 use Rattle.wasm_feeder.specs.declared.turns.Ended.{Ended}

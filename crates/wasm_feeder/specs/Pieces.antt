@@ -6,7 +6,7 @@ use Rattle.wasm_base.specs.Owned.{out_of_memory}
 use Rattle.wasm_base.specs.declared.error.Error.{Error}
 use Rattle.wasm_grammar.specs.Reading as reading
 use Rattle.wasm_grammar.specs.Reading.{Reading}
-use Rattle.wasm_parser.specs.Along.{Along, ReadsEach}
+use Rattle.wasm_frames.specs.Along.{Along, ReadsEach}
 use Rattle.wasm_feeder.specs.Events.{AreEvents}
 use Rattle.wasm_feeder.specs.Feed.{Feed}
 use Rattle.wasm_feeder.specs.declared.events.Event.{Event}

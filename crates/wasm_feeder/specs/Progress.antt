@@ -2,8 +2,8 @@
 use Rattle.std.specs.Prelude.{◌≡◌, ℕ, ◌+◌, ◌-◌, ◌<◌, ◌^◌, true, List, [], length, if◌then◌else◌, Option, Some, None}
 use Rattle.std.specs.Prelude.{Result, Ok, Err}
 use Rattle.std.specs.Io.KnownBytes.{Consumes, IsAtEnd}
-use Rattle.wasm_parser.specs.Along.{Along}
-use Rattle.wasm_parser.specs.GivesNextEvent.{IsUndecided}
+use Rattle.wasm_frames.specs.Along.{Along}
+use Rattle.wasm_frames.specs.GivesNextEvent.{IsUndecided}
 use Rattle.wasm_grammar.specs.Reading.{Report, Event}
 use Rattle.wasm_base.specs.declared.error.Error.{Error}
 use Rattle.wasm_text.specs.Calls.{Change, from_to}

@@ -1,53 +1,77 @@
--- What a step of a feeder returns, and the feeder after it.
+-- What a step says, and the feeder after it.
 use Rattle.std.specs.Prelude.{◌≡◌, ℕ, Bool, true, false, List, [], ◌++◌, length, drop, Result, Ok, Err}
+use Rattle.wasm_base.specs.FaultAt.{fault_at}
 use Rattle.wasm_base.specs.declared.error.Error.{Error}
-use Rattle.wasm_parser.specs.Along.{GoesAlong}
-use Rattle.wasm_parser.specs.ParseAnswer.{ParseAnswer, state_after_answer}
-use Rattle.wasm_frames.specs.ParserState.{ParserState}
-use Rattle.wasm_grammar.specs.Reading.{Event}
-use Rattle.wasm_parser.specs.declared.payload.Chunk.{Chunk}
-use Rattle.wasm_parser.specs.declared.payload.Chunk.TheVariants as chunk
 use Rattle.wasm_feeder.specs.Feed.{Feed}
 use Rattle.wasm_feeder.specs.declared.feeder.Step.{Step}
 use Rattle.wasm_feeder.specs.declared.feeder.Step.TheVariants.{NeedMoreData, Parsed}
+use Rattle.wasm_frames.specs.Along.{GoesAlong}
+use Rattle.wasm_frames.specs.Answer.{Answer, GivesAnswer, asks, refuses, reports, state_after_result}
+use Rattle.wasm_frames.specs.ParserState.{ParserState}
+use Rattle.wasm_grammar.specs.Reading.{Event, Report}
+use Rattle.wasm_parser.specs.ParseAnswer.{ItemsBegin, report_of}
 
--- the parser's result in a step
-abbrev pub chunk_of : Step → Chunk
-chunk_of (NeedMoreData hint) = chunk.NeedMoreData hint
-chunk_of (Parsed bytes payload) = chunk.Parsed (length bytes.now) payload
+-- what a step says: it requests more, returns a part with these bytes, or stops at a fault
+pub data Told : Type 0 where
+  Request : (hint : ℕ) → Told
+  Part : Report → (bytes : List ℕ) → Told
+  Stop : Error → Told
 
-abbrev pub answer_of : Result Step Error → Result Chunk Error
-answer_of (Ok step) = Ok (chunk_of step)
-answer_of (Err e) = Err e
+-- what the parser returned in it
+abbrev pub answer_of : Told → Answer
+answer_of (Request hint) = asks hint
+answer_of (Part report bytes) = reports report (length bytes)
+answer_of (Stop e) = refuses (fault_at e)
 
--- the bytes that a step shows
-abbrev pub shown : Result Step Error → List ℕ
-shown (Ok (NeedMoreData hint)) = []
-shown (Ok (Parsed bytes payload)) = bytes.now
-shown (Err e) = []
+-- the bytes that it shows
+abbrev pub shown : Told → List ℕ
+shown (Request hint) = []
+shown (Part report bytes) = bytes
+shown (Stop e) = []
 
--- whether a step asks for more
-abbrev pub is_request : Result Step Error → Bool
-is_request (Ok (NeedMoreData hint)) = true
-is_request (Ok (Parsed bytes payload)) = false
-is_request (Err e) = false
+-- whether it requests more
+abbrev pub is_request : Told → Bool
+is_request (Request hint) = true
+is_request (Part report bytes) = false
+is_request (Stop e) = false
 
--- The step is what a parser in this state returns on these bytes, and shows those that it consumed.
-pub record GivesStep (p : ParserState) (eof : Bool) (held : List ℕ) (result : Result Step Error) : Type 0 where
-  pub parses : ParseAnswer p eof held (answer_of result) (state_after_answer p (answer_of result))
-  pub shows : held ≡ shown result ++ drop (length (shown result)) held
+-- what a step says that returns a payload
+abbrev pub told : Result Step Error → Told
+told (Ok (NeedMoreData hint)) = Request hint
+told (Ok (Parsed bytes payload)) = Part (report_of payload) bytes.now
+told (Err e) = Stop e
+
+-- If the step returns a counted section, its reader is at the first item.
+abbrev pub StepBegins : Result Step Error → Type 0
+StepBegins (Ok (NeedMoreData hint)) = Unit {0}
+StepBegins (Ok (Parsed bytes payload)) = ItemsBegin payload
+StepBegins (Err e) = Unit {0}
+
+-- A step says what a parser in this state returns on these bytes, and shows those that it consumed.
+pub record GivesTold (p : ParserState) (eof : Bool) (held : List ℕ) (said : Told) : Type 0 where
+  pub parses : GivesAnswer p eof held (answer_of said) (state_after_result p (answer_of said))
+  pub shows : held ≡ shown said ++ drop (length (shown said)) held
 
 -- The feeder's parser returned this on the held bytes, and has consumed what it returned; the feeder holds the bytes
--- after the shown ones, and wants more exactly if the result is a request.
-pub record Steps (old : Feed) (result : Result Step Error) (new : Feed) : Type 0 where
-  pub parses : ParseAnswer old.state old.eof old.held (answer_of result) new.state
-  pub shows : old.held ≡ shown result ++ new.held
+-- after the shown ones, and wants more exactly if the step requests it.
+pub record Moves (old : Feed) (said : Told) (new : Feed) : Type 0 where
+  pub parses : GivesAnswer old.state old.eof old.held (answer_of said) new.state
+  pub shows : old.held ≡ shown said ++ new.held
   pub stored : new.stored ≡ old.stored
   pub eof : new.eof ≡ old.eof
-  pub wants_more : new.wants_more ≡ is_request result
+  pub wants_more : new.wants_more ≡ is_request said
+
+-- the same of a step that returns a payload
+pub record GivesStep (p : ParserState) (eof : Bool) (held : List ℕ) (result : Result Step Error) : Type 0 where
+  pub gives : GivesTold p eof held (told result)
+  pub items : StepBegins result
+
+pub record Steps (old : Feed) (result : Result Step Error) (new : Feed) : Type 0 where
+  pub moves : Moves old (told result) new
+  pub items : StepBegins result
 
 -- what a step says of every stream with this prefix, whose events before the step are these
-abbrev pub Stepped : (start features : ℕ) (eof : Bool) (given : List ℕ) (events : List Event) → Result Step Error
+abbrev pub Stepped : (start features : ℕ) (eof : Bool) (given : List ℕ) (events : List Event) → Told
     → (new : ParserState) (rest : List ℕ) → Type 0
-Stepped start features eof given events result new rest =
-    GoesAlong start features eof given events (answer_of result) (shown result) new rest
+Stepped start features eof given events said new rest =
+    GoesAlong start features eof given events (answer_of said) (shown said) new rest

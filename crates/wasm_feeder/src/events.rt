@@ -4,6 +4,7 @@ ghost use Rattle.wasm_base.specs.FaultAt.{fault_at};
 ghost use Rattle.wasm_base.specs.Owned.{out_of_memory};
 ghost use Rattle.wasm_parser.specs.ParseAnswer.{report_of};
 ghost use Rattle.wasm_feeder.specs.Events.{IsKindOf, offsets_of, is_last, IsEventOfStep};
+ghost use Rattle.wasm_feeder.specs.Step.{told};
 
 use crate::feeder::Step;
 use std::alloc::{Allocator, Global};
@@ -162,7 +163,7 @@ fn payload_kind(payload: &Payload) -> (EventKind, Range<u64>)
 
 /// What a step says of the stream: its event, with a copy of its bytes, or nothing where it asks for more.
 pub(crate) fn event_of<A: Allocator>(alloc: A, step: Result<Step<'_>>) -> Result<Option<Event<A>>>
-    ensures is { IfOk result (λ event. IsEventOfStep step.entry event) }
+    ensures is { IfOk result (λ event. IsEventOfStep (told step.entry) event) }
     ensures memory { IfErr result (λ e. fault_at e ≡ out_of_memory) }
 {
     match step {

@@ -3,14 +3,14 @@ ghost use Rattle.std.specs.Prelude.{⊤, ◌≡◌, ◌+◌, ◌<◌, ◌≤◌,
 ghost use Rattle.wasm_base.specs.FaultAt.{fault_at};
 ghost use Rattle.wasm_base.specs.Features.{feature_bits};
 ghost use Rattle.wasm_base.specs.Owned.{out_of_memory};
-ghost use Rattle.wasm_parser.specs.ParseAnswer.{ParseAnswer};
+ghost use Rattle.wasm_frames.specs.Answer.{GivesAnswer};
 ghost use Rattle.wasm_frames.specs.SkipNext.{SkipsNext, skip_is, skip_of};
 ghost use Rattle.wasm_feeder.specs.Beside.{MayCome, StepsOver};
 ghost use Rattle.wasm_feeder.specs.Cursors.{feed_of, finished_cursor};
 ghost use Rattle.wasm_feeder.specs.Feed.{empty_feed, new_feed, pushed, finished, RefusesPush};
 ghost use Rattle.wasm_feeder.specs.Lists.{Refills};
 ghost use Rattle.wasm_text.specs.Calls.{input_failed};
-ghost use Rattle.wasm_feeder.specs.Step.{answer_of, shown, is_request, GivesStep};
+ghost use Rattle.wasm_feeder.specs.Step.{GivesStep, StepBegins, answer_of, is_request, shown, told};
 
 mod lending;
 
@@ -614,13 +614,14 @@ pub(crate) fn read_more<A: Allocator, R: Source>(
 /// }
 /// ```
 pub fn parse_next<'a>(cursor: &mut Cursor, bytes: &'a [u8]) -> Result<Step<'a>>
-    ensures parses { ParseAnswer cursor.old.parser cursor.old.is_finished
-        (drop cursor.old.mark bytes.now) (answer_of result) cursor.new.parser }
+    ensures parses { GivesAnswer cursor.old.parser cursor.old.is_finished
+        (drop cursor.old.mark bytes.now) (answer_of (told result)) cursor.new.parser }
+    ensures items { StepBegins result }
     ensures shows { drop cursor.old.mark bytes.now
-        ≡ shown result ++ drop cursor.new.mark bytes.now }
+        ≡ shown (told result) ++ drop cursor.new.mark bytes.now }
     ensures finished { cursor.new.is_finished ≡ cursor.old.is_finished }
-    ensures wants { cursor.new.wants_more ≡ is_request result }
-    ensures mark { cursor.new.mark ≡ cursor.old.mark + length (shown result) }
+    ensures wants { cursor.new.wants_more ≡ is_request (told result) }
+    ensures mark { cursor.new.mark ≡ cursor.old.mark + length (shown (told result)) }
 {
     let rest = after(bytes, cursor.mark);
     match cursor.parser.parse(rest, cursor.is_finished) {

@@ -1,15 +1,16 @@
 use Rattle.wasm_feed.proofs.Common.{◌≡◌, refl, sym, arith, ◌∙◌, Consumes-nil, common_steps, err_from_is_err_and, line_of, listing_by}
 use Rattle.wasm_feed.proofs.Common.{cut_of, from_to, cut, begun, begun_beside, both, nothing_read, same_lighter, lending, beside, feed_of}
-use Rattle.wasm_feed.proofs.Common.{Wants, weight, Steps}
+use Rattle.wasm_feed.proofs.Common.{Wants, weight, Moves}
+use Rattle.wasm_feeder.specs.Step.{told}
 use Rattle.wasm_feed.proofs.listing.list_in.Given.{Over}
 use Rattle.wasm_feed.proofs.listing.list_in.Goals.{In_ok-turn, In-Read}
 use Rattle.wasm_feeder.proofs.ForCallers.{end_cut, line_advanced, line_asked, listed_all, no_memory}
 use Rattle.wasm_feed.proofs.listing.list_in.Goals as goal
 
 -- the parser made a step
-steps_so : (g : Over) (c : In_ok-turn g) → Steps (beside (feed_of c.events.stored.items c.events.cursor) c.events.ahead)
-    c.parse_next-answer.result (lending c.make_ready.new.stored.items c.make_ready.new.self c.parse_next-answer.new.cursor)
-steps_so g c =
+moves_so : (g : Over) (c : In_ok-turn g) → Moves (beside (feed_of c.events.stored.items c.events.cursor) c.events.ahead)
+    (told c.parse_next-answer.result) (lending c.make_ready.new.stored.items c.make_ready.new.self c.parse_next-answer.new.cursor)
+moves_so g c =
     let a = c.parse_next-answer.ensures in
     let ready = c.in_ok-make_ready.ensures in
     both _ _ _ _ _ _ _ _ _ ready.same ready.enough c.seen.ensures c.deref.ensures.value c.bytes.ensures a.parses a.shows a.finished
@@ -23,7 +24,7 @@ asks_so : (g : Over) (c : In-Read g) → Wants (listing_by line_of) (from_to (g.
     × (weight (lending c.make_ready.new.stored.items c.make_ready.new.self c.parse_next-answer.new.cursor)
     ≡ weight (beside (feed_of c.events.stored.items c.events.cursor) c.events.ahead))
 asks_so g c =
-    let s = steps_so g (goal.at.In-Read g c).In_ok-turn in
+    let s = moves_so g (goal.at.In-Read g c).In_ok-turn in
     let t = c.in_ok-turn.ensures.takes in
     line_asked line_of _ _ _ _ _ _ c.events.invariant.progress _ _ s _ _ t.0 (sym c.in-Read.is ∙ t.1)
 
@@ -60,7 +61,7 @@ returns-in_err-turn g c =
 
 pub events-smaller-in-Advance : goal.events-smaller-in-Advance
 events-smaller-in-Advance g c =
-    let s = steps_so g (goal.at.events-smaller-in-Advance g c).In_ok-turn in
+    let s = moves_so g (goal.at.events-smaller-in-Advance g c).In_ok-turn in
     let t = c.in_ok-turn.ensures.takes in
     (same_lighter (listing_by line_of) _ _ (beside (feed_of c.events.stored.items c.events.cursor) c.events.ahead) _ _ _
     (rw c.deref-in-Advance.ensures.value at c.pass_borrowed.ensures)
@@ -68,7 +69,7 @@ events-smaller-in-Advance g c =
 
 pub events-preserved-in-Advance : goal.events-preserved-in-Advance
 events-preserved-in-Advance g c =
-    let s = steps_so g (goal.at.events-preserved-in-Advance g c).In_ok-turn in
+    let s = moves_so g (goal.at.events-preserved-in-Advance g c).In_ok-turn in
     let t = c.in_ok-turn.ensures.takes in
     record {
       progress = (same_lighter (listing_by line_of) _ _ (beside (feed_of c.events.stored.items c.events.cursor) c.events.ahead) _ _ _
@@ -114,7 +115,7 @@ events-preserved g c =
 
 pub returns-in_err-write_out-in-End : goal.returns-in_err-write_out-in-End
 returns-in_err-write_out-in-End g c =
-    let s = steps_so g (goal.at.returns-in_err-write_out-in-End g c).In_ok-turn in
+    let s = moves_so g (goal.at.returns-in_err-write_out-in-End g c).In_ok-turn in
     let t = c.in_ok-turn.ensures.takes in
     let e = err_from_is_err_and c.from_residual-in_err-write_out-in-End.result c.from_residual-in_err-write_out-in-End.ensures.1 in
     record {
@@ -126,7 +127,7 @@ returns-in_err-write_out-in-End g c =
 
 pub returns-in-End : goal.returns-in-End
 returns-in-End g c =
-    let s = steps_so g (goal.at.returns-in-End g c).In_ok-turn in
+    let s = moves_so g (goal.at.returns-in-End g c).In_ok-turn in
     let t = c.in_ok-turn.ensures.takes in
     record {
       lists = listed_all line_of _ _ _ _ _ _ c.events.invariant.progress _ _ s _ _ t.0 _ (sym c.in-End.is ∙ t.1) _

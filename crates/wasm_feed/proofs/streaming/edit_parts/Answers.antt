@@ -1,16 +1,17 @@
 use Rattle.wasm_feed.proofs.Common.{◌≡◌, [], refl, sym, arith, ◌∙◌, Consumes-nil, common_steps, err_from_is_err_and, cut_of, from_to}
-use Rattle.wasm_feed.proofs.Common.{begun, begun_beside, both, nothing_read, same_lighter, lending, beside, feed_of, Wants, weight, Steps}
+use Rattle.wasm_feed.proofs.Common.{begun, begun_beside, both, nothing_read, same_lighter, lending, beside, feed_of, Wants, weight, Moves}
 use Rattle.wasm_feed.specs.Edits.{edited_bytes}
 use Rattle.wasm_feed.proofs.EditProgress.{advanced, asked, cut, cut_after, cut_page, gave_up_at_once, put_not, stopped_here, streamed}
 use Rattle.wasm_feed.proofs.EditProgress.{was_cut, went_past}
+use Rattle.wasm_feeder.specs.Step.{told}
 use Rattle.wasm_feed.proofs.streaming.edit_parts.Given.{Over}
 use Rattle.wasm_feed.proofs.streaming.edit_parts.Goals.{After-put_part-turn, In-Read}
 use Rattle.wasm_feed.proofs.streaming.edit_parts.Goals as goal
 
 -- the parser made a step
-steps_so : (g : Over) (c : After-put_part-turn g) → Steps (beside (feed_of c.parts.stored.items c.parts.cursor) c.parts.ahead)
-    c.parse_next-answer.result (lending c.make_ready.new.stored.items c.make_ready.new.self c.parse_next-answer.new.cursor)
-steps_so g c =
+moves_so : (g : Over) (c : After-put_part-turn g) → Moves (beside (feed_of c.parts.stored.items c.parts.cursor) c.parts.ahead)
+    (told c.parse_next-answer.result) (lending c.make_ready.new.stored.items c.make_ready.new.self c.parse_next-answer.new.cursor)
+moves_so g c =
     let a = c.parse_next-answer.ensures in
     let ready = c.in_ok-make_ready.ensures in
     both _ _ _ _ _ _ _ _ _ ready.same ready.enough c.seen.ensures c.deref.ensures.value c.bytes.ensures a.parses a.shows a.finished
@@ -24,7 +25,7 @@ asks_so : (g : Over) (c : In-Read g) → Wants (edited_bytes c.args.edits.now)
     × (weight (lending c.make_ready.new.stored.items c.make_ready.new.self c.parse_next-answer.new.cursor)
     ≡ weight (beside (feed_of c.parts.stored.items c.parts.cursor) c.parts.ahead))
 asks_so g c =
-    let s = steps_so g (goal.at.In-Read g c).After-put_part-turn in
+    let s = moves_so g (goal.at.In-Read g c).After-put_part-turn in
     let t = c.in_ok-turn.ensures.takes in
     asked c.args.edits.now _ _ _ _ _ _ c.parts.invariant.progress _ _ s _ _ t.0 (sym c.in-Read.is ∙ t.1)
 
@@ -52,7 +53,7 @@ returns-in_err-make_ready g c =
 
 pub returns-in_err-turn : goal.returns-in_err-turn
 returns-in_err-turn g c =
-    let s = steps_so g (goal.at.returns-in_err-turn g c).After-put_part-turn in
+    let s = moves_so g (goal.at.returns-in_err-turn g c).After-put_part-turn in
     let e = err_from_is_err_and c.from_residual-in_err-turn.result c.from_residual-in_err-turn.ensures.1 in
     record {
       parts = rw e.1 (cut c.args.edits.now _ _ _ _ _ _ c.parts.invariant.progress _ _ s _ _ c.in_err-turn.ensures.takes);
@@ -62,7 +63,7 @@ returns-in_err-turn g c =
 
 pub parts-smaller-in-Advance : goal.parts-smaller-in-Advance
 parts-smaller-in-Advance g c =
-    let s = steps_so g (goal.at.parts-smaller-in-Advance g c).After-put_part-turn in
+    let s = moves_so g (goal.at.parts-smaller-in-Advance g c).After-put_part-turn in
     let t = c.in_ok-turn.ensures.takes in
     (same_lighter (edited_bytes c.args.edits.now) _ _ (beside (feed_of c.parts.stored.items c.parts.cursor) c.parts.ahead) _ _ _
     (rw c.deref-in-Advance.ensures.value at c.pass_borrowed.ensures)
@@ -70,7 +71,7 @@ parts-smaller-in-Advance g c =
 
 pub parts-preserved-in-Advance : goal.parts-preserved-in-Advance
 parts-preserved-in-Advance g c =
-    let s = steps_so g (goal.at.parts-preserved-in-Advance g c).After-put_part-turn in
+    let s = moves_so g (goal.at.parts-preserved-in-Advance g c).After-put_part-turn in
     let t = c.in_ok-turn.ensures.takes in
     record {
       progress = (same_lighter (edited_bytes c.args.edits.now) _ _ (beside (feed_of c.parts.stored.items c.parts.cursor) c.parts.ahead)
@@ -83,7 +84,7 @@ parts-preserved-in-Advance g c =
 
 pub returns-in_err-write_out-in-End : goal.returns-in_err-write_out-in-End
 returns-in_err-write_out-in-End g c =
-    let s = steps_so g (goal.at.returns-in_err-write_out-in-End g c).After-put_part-turn in
+    let s = moves_so g (goal.at.returns-in_err-write_out-in-End g c).After-put_part-turn in
     let t = c.in_ok-turn.ensures.takes in
     let e = err_from_is_err_and c.from_residual-in_err-write_out-in-End.result c.from_residual-in_err-write_out-in-End.ensures.1 in
     record {
@@ -158,7 +159,7 @@ parts-preserved g c =
 
 pub returns-in-End : goal.returns-in-End
 returns-in-End g c =
-    let s = steps_so g (goal.at.returns-in-End g c).After-put_part-turn in
+    let s = moves_so g (goal.at.returns-in-End g c).After-put_part-turn in
     let t = c.in_ok-turn.ensures.takes in
     record {
       parts = streamed c.args.edits.now _ _ _ _ _ _ c.parts.invariant.progress _ _ s _ _ t.0 c.requires.fits _ (sym c.in-End.is ∙ t.1) _

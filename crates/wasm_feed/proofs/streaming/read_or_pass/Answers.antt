@@ -1,7 +1,6 @@
-use Rattle.wasm_feed.proofs.Common.{◌≡◌, ℕ, inl, inr, List, arith, refl, Option, Result, Error, ListError, None, Some, StopsHere, seen}
+use Rattle.wasm_feed.proofs.Common.{◌≡◌, ℕ, List, arith, Option, ListError, StopsHere, seen}
 use Rattle.wasm_feed.proofs.Common.{GivesUp}
 use Rattle.wasm_feed.proofs.Common.{held_by, Cursor, err_from_is_err_and}
-use Rattle.std.specs.Prelude.{IfErr}
 use Rattle.wasm_feed.specs.EditStream.{SkipsAs}
 use Rattle.wasm_feed.specs.declared.edits.Edit.{Edit}
 use Rattle.wasm_feed.specs.declared.streaming.Skipped.{Skipped}

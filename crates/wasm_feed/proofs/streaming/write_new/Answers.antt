@@ -1,4 +1,4 @@
-use Rattle.wasm_feed.proofs.Common.{◌≡◌, ℕ, List, [], ◌++◌, ap, sym, refl, ◌∙◌, append-nil, append_assoc, arith, common_steps, cut_of}
+use Rattle.wasm_feed.proofs.Common.{◌≡◌, [], ◌++◌, ap, sym, refl, ◌∙◌, append-nil, append_assoc, arith, common_steps}
 use Rattle.wasm_feed.proofs.Common.{err_from_is_err_and, puts_more}
 use Rattle.wasm_feed.specs.Edits.{bytes_as, new_bytes}
 use Rattle.wasm_feed.proofs.Appended.{later, later_fit, new_apart}

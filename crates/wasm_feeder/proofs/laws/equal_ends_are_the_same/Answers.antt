@@ -1,4 +1,4 @@
-use Rattle.wasm_feeder.proofs.Common.{◌≡◌, Some, refl, ap, arith}
+use Rattle.wasm_feeder.proofs.Common.{◌≡◌, Some, arith}
 use Rattle.wasm_base.specs.Comparing.{DecidesWhether}
 use Rattle.wasm_base.specs.FaultAt.{FaultAt}
 use Rattle.wasm_feeder.specs.Ends.{fault_at_end}

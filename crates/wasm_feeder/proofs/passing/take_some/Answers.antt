@@ -1,4 +1,4 @@
-use Rattle.wasm_feeder.proofs.Common.{refl, arith, err_from_is_err_and}
+use Rattle.wasm_feeder.proofs.Common.{arith, err_from_is_err_and}
 use Rattle.wasm_feeder.proofs.PassedParts.{cut_from, few_of, not_filled, not_put}
 use Rattle.wasm_feeder.proofs.passing.take_some.Goals as goal
 

@@ -1,4 +1,4 @@
-use Rattle.wasm_feeder.proofs.Common.{ℕ, List, [], length, take, slice_index_or, Bor, refl, ap, arith, length-append, take_all, joined}
+use Rattle.wasm_feeder.proofs.Common.{ℕ, List, [], length, take, slice_index_or, Bor, ap, arith, length-append, take_all, joined}
 use Rattle.wasm_feeder.proofs.Joining.{joined_more, joined_within}
 use Rattle.wasm_feeder.proofs.pieces.fits_pieces.Goals as goal
 

@@ -6,7 +6,7 @@ use Rattle.wasm_feeder.proofs.ByHand.{stop, no_more, and_then, returns, alloc_al
 use Rattle.wasm_feeder.proofs.ByHand.{free_all, look_at, get, through, sets, lands_as, shows, Is, mut_vals, mut_Tells, no, plain, named_lft}
 use Rattle.wasm_feeder.proofs.ByHand.{mut_ref_to, nothing, heard, peeks, only, calls_at, Lasts, lasts, triple_of, Stays, stay_dropped}
 use Rattle.wasm_feeder.proofs.ByHand.{Goes-spent_ref, framed, left, right, followed, ◌≡◌}
-use Rattle.wasm_feeder.proofs.Stepping.{gives, steps_from}
+use Rattle.wasm_feeder.proofs.Stepping.{step_given, steps_from}
 use Rattle.wasm_feeder.proofs.Resting.{rests_close}
 use Rattle.std.specs.Prelude.{Result}
 use Rattle.std.specs.Io.BufRead.{Rests}
@@ -90,7 +90,7 @@ step_spec 𝓤 𝓛 𝓜 𝓡 wired =
     error-laws.the_row_laws).lawful 𝓛).typed x (u ∷ []) is').0 $
     returns ! (look_at ! 0 refl) $ free_all ! refl $
     move ! (2 ∷ []) $ use1 𝓛 (‵ (Rests R a.0 (Steps old x))) (rests_close 𝓛 R a.0 (Steps old x) last made) $
-    use0 𝓛 (raw (fact 𝓤 (GivesStep old.state old.eof old.held x))) (fact_i 𝓤 _ (emp 𝓤) (gives old x last made)) $ move ! (1 ∷ 0 ∷ []) $ join
-    ! $
+    use0 𝓛 (raw (fact 𝓤 (GivesStep old.state old.eof old.held x))) (fact_i 𝓤 _ (emp 𝓤) (step_given old x last made)) $
+    move ! (1 ∷ 0 ∷ []) $ join ! $
     nothing ! $ nothing ! $ fjoin ! $ keep ! (3 ∷ 0 ∷ 2 ∷ 1 ∷ []) $
     by ! (leaves 𝓛 f.ended stayed c ((κs, qs, bounds, a, (vs, tt)), tt) u x (tt, tt) (tt, tt))))))))))))))

@@ -1,5 +1,6 @@
 use Rattle.wasm_feeder.proofs.Common.{arith, feed_of}
 use Rattle.std.proofs.lemmas.List.{take_rest}
+use Rattle.wasm_feeder.specs.Step.{told}
 use Rattle.wasm_feeder.proofs.Beside.{over}
 use Rattle.wasm_feeder.proofs.feeder.Feeder.step_over.Goals as goal
 
@@ -12,7 +13,10 @@ returns-clause-steps g c =
     let new = feed_of stored c.take_left-taken.new.cursor in (
       c.parse_next.result,
       c.look-looked.ensures,
-      rw c.self.view_is at (over _ piece _ _ _ _ _ _ _ c.parse_next.result c.in-Ok.ensures.ok (take_rest piece c.in-Ok.ready) c.seen.ensures
-          c.deref.ensures.value a.parses a.shows a.finished a.wants a.mark c.take_left-taken.result stored c.take_left-taken.new.cursor
-          t.takes t.within t.asks (omega (arith, t.bounded)) t.stays t.idle),
+      record {
+        moves = rw c.self.view_is at (over _ piece _ _ _ _ _ _ _ (told c.parse_next.result) c.in-Ok.ensures.ok
+            (take_rest piece c.in-Ok.ready) c.seen.ensures c.deref.ensures.value a.parses a.shows a.finished a.wants a.mark
+            c.take_left-taken.result stored c.take_left-taken.new.cursor t.takes t.within t.asks (omega (arith, t.bounded)) t.stays t.idle);
+        items = a.items;
+      },
     )

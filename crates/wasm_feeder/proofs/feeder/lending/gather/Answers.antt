@@ -1,6 +1,7 @@
 use Rattle.wasm_feeder.proofs.Common.{◌≡◌, ℕ, ◌+◌, List, ◌++◌, length, take, drop, ap, ◌∙◌, arith, ◌-◌, append_assoc, append-nil}
-use Rattle.wasm_feeder.proofs.Common.{length-drop, length-take, waiting, grammar_of}
+use Rattle.wasm_feeder.proofs.Common.{length-append, length-drop, length-take, waiting, grammar_of}
 use Rattle.std.proofs.Math.Seq.{take-add}
+use Rattle.wasm_feeder.specs.Beside.{AreEnough}
 use Rattle.wasm_feeder.proofs.feeder.lending.gather.Goals as goal
 
 more_put : (old held new part piece : List ℕ) (n m : ℕ) → held ≡ old ++ take n piece → new ≡ held ++ part
@@ -26,4 +27,24 @@ parts-preserved g c =
       put = more_put c.args.held.now.items c.parts.held.items c.put.new.bytes.items _ c.args.piece.now c.parts.count c.min.result
           c.parts.invariant.put c.put.ensures.items (ap (λ (k : ℕ). take k (drop c.parts.count c.args.piece.now)) size);
       room = omega (arith, c.put.ensures.len, c.put.ensures.capacity, c.parts.invariant.room, c.min.ensures, sizes, left, put);
+    }
+
+pub returns-then-missing-eq0-clause-gathers : goal.returns-then-missing-eq0-clause-gathers
+returns-then-missing-eq0-clause-gathers g c =
+    let p = c.args.parser.now in
+    let piece = c.args.piece.now in
+    let n = c.parts.count in
+    let held = c.parts.held.items in
+    let enough : AreEnough p held = rw c.deref.ensures.value at (c.missing-missing.ensures.enough c.if-missing-eq0.true) in
+    record {
+      within = c.parts.invariant.within;
+      stores = c.parts.invariant.put;
+      idle = c.parts.invariant.idle;
+      enough = enough (drop n piece) (rw c.parts.invariant.put
+          (let sizes = length-append (c.args.held.now.items ++ take n piece) (drop n piece) in
+          let first = length-append c.args.held.now.items (take n piece) in
+          let taken = length-take n piece in
+          let left = length-drop n piece in
+          let below = c.requires.below in
+          omega (arith, sizes, first, taken, left, below, c.parts.invariant.within)));
     }
