@@ -63,7 +63,7 @@ pub extern "C" fn pulleynavy_parse(
     //   every stream that continues this way, a fault, or a request. It says where in the bytes the
     //   event's contents are and consumes bytes of the input. If the bytes don't decide, it asks
     //   for at least one more. Afterwards it is where that parser is: after a fault or a request,
-    //   where it was [the clause of `pulleynavy_parse` (`ParsesPlain`: `asks`, `waits`, `answers`)]
+    //   where it was [the clause of `pulleynavy_parse` (`ParsesPlain`: `asks_for_some`, `waits`, `answers`)]
     ensures { ParsesPlain 0 (parser_of parser.old) is_all bytes.now result (parser_of parser.new) }
 {
     parse(parser, bytes, is_all)

@@ -1,12 +1,9 @@
 -- Texts of faults.
-use Rattle.std.specs.Prelude.{◌≡◌, ◌≢◌, ℕ, ◌++◌, Bool, List, length, take, drop, Result, Ok, Err}
-use Rattle.wasm_base.specs.FaultAt.{fault_at}
+use Rattle.std.specs.Prelude.{◌≡◌, ◌≢◌, ℕ, ◌++◌, Bool, List, length, take, drop}
 use Rattle.wasm_base.specs.Message.{message_of}
-use Rattle.wasm_base.specs.declared.error.Error.{Error}
 use Rattle.wasm_base.specs.declared.fault.Fault.{Fault}
-use Rattle.wasm_parser.specs.ParseAnswer.{ParseAnswer}
+use Rattle.wasm_frames.specs.Answer.{Answer, GivesAnswer, refuses}
 use Rattle.wasm_frames.specs.ParserState.{ParserState}
-use Rattle.wasm_parser.specs.declared.payload.Chunk.{Chunk}
 use Rattle.wasm_plain.specs.Faults.{fault_code}
 
 -- | the first bytes of a text over others; the text of a fault, and of the fault that has a number [`SaysText`,
@@ -24,9 +21,9 @@ abbrev pub SaysNothing : (old : List ℕ) (size : ℕ) (new : List ℕ) → Type
 SaysNothing old size new = (size ≡ 0) × (new ≡ old)
 
 -- A fault's text was written; for any other result, nothing.
-abbrev pub Says : Result Chunk Error → (old : List ℕ) (size : ℕ) (new : List ℕ) → Type 0
-Says (Ok chunk) old size new = SaysNothing old size new
-Says (Err e) old size new = SaysText (message_of (fault_at e).fault) old size new
+abbrev pub Says : Answer → (old : List ℕ) (size : ℕ) (new : List ℕ) → Type 0
+Says (refuses f) old size new = SaysText (message_of f.fault) old size new
+Says other old size new = SaysNothing old size new
 
 -- The text of the fault that has this number was written; where no fault has it, nothing.
 pub record SaysMessage (kind : ℕ) (old : List ℕ) (size : ℕ) (new : List ℕ) : Type 0 where
@@ -36,7 +33,7 @@ pub record SaysMessage (kind : ℕ) (old : List ℕ) (size : ℕ) (new : List �
 -- The text of the fault that a parser returns here was written, or nothing.
 pub record SaysFault (p : ParserState) (eof : Bool) (bytes old : List ℕ) (size : ℕ) (new : List ℕ)
     : Type 0 where
-  pub answer : Result Chunk Error
+  pub answer : Answer
   pub after : ParserState
-  pub answers : ParseAnswer p eof bytes answer after
+  pub answers : GivesAnswer p eof bytes answer after
   pub says : Says answer old size new

@@ -3,7 +3,7 @@ ghost use Rattle.wasm_plain.specs.EventBatches.{StoresEvents};
 ghost use Rattle.wasm_frames.specs.Stored.{parser_of};
 
 use crate::events::PlainEvent;
-use crate::parsing::put_next;
+use crate::parsing::next_event;
 use crate::spans::after;
 use wasm_parser::StoredParser;
 
@@ -24,8 +24,9 @@ pub fn next_events(
     let mut at = 0;
     let mut count = 0;
     while count < out.len() {
-        put_next(parser, rest, is_all, at, &mut out[count]);
-        let consumed = out[count].consumed;
+        let event = next_event(parser, rest, is_all, at);
+        let consumed = event.consumed;
+        out[count] = event;
         count += 1;
         if consumed == 0 {
             return count;

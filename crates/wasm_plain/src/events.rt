@@ -1,21 +1,15 @@
 // The results of a parser as plain numbers.
 ghost use Rattle.std.specs.Prelude.{◌≡◌};
 ghost use Rattle.wasm_base.specs.FaultAt.{fault_at};
-ghost use Rattle.wasm_parser.specs.ParseAnswer.{report_of};
-ghost use Rattle.wasm_plain.specs.Events.{answer_event, code_event, counted_event, encoding_code, event_between, fault_event, parsed_event, placed_at, report_event, request_event};
-ghost use Rattle.wasm_parser.specs.declared.payload.Payload.TheVariants.{CodeSectionEntry, CustomSection};
+ghost use Rattle.wasm_frames.specs.Answer.{content_of};
+ghost use Rattle.wasm_plain.specs.Events.{answer_event, code_event, encoding_code, event_between, fault_event, placed_at, report_event, request_event};
 
 use crate::faults::{NO_FAULT, PlainFault, plain_fault};
 use crate::spans::distance;
 use std::ops::Range;
-use wasm_grammar::{
-    CODE_SECTION, CUSTOM_SECTION, DATA_COUNT_SECTION, DATA_SECTION, ELEMENT_SECTION,
-    EXPORT_SECTION, FUNCTION_SECTION, GLOBAL_SECTION, IMPORT_SECTION, MEMORY_SECTION,
-    START_SECTION, TABLE_SECTION, TAG_SECTION, TYPE_SECTION,
-};
-use wasm_parser::{
-    Chunk, CustomSectionReader, Encoding, Error, FunctionBody, Payload, Result, SectionLimited,
-};
+use wasm_base::Error;
+use wasm_frames::{Frame, FrameKind, NextFrame};
+use wasm_grammar::{CODE_SECTION, CUSTOM_SECTION, DATA_COUNT_SECTION, Encoding, START_SECTION};
 
 /// An event of a stream, a fault or a request for more input. Fields that the kind does not use are 0.
 ///
@@ -109,19 +103,6 @@ fn encoding_code(encoding: Encoding) -> u32
     }
 }
 
-// A section that begins with a count.
-#[inline(always)]
-fn counted_event<T>(origin: Origin, id: u8, section: &SectionLimited<'_, T>) -> PlainEvent
-    ensures { result ≡ placed_at origin (counted_event id section.now) }
-{
-    let range = section.range();
-    PlainEvent {
-        count: section.count(),
-        data_offset: section.original_position(),
-        ..event_between(origin, 2, u32::from(id), range.start, range.end)
-    }
-}
-
 // The start of a code section.
 #[inline(always)]
 fn code_event(origin: Origin, count: u32, from: u64, to: u64, size: u32) -> PlainEvent
@@ -135,107 +116,39 @@ fn code_event(origin: Origin, count: u32, from: u64, to: u64, size: u32) -> Plai
     }
 }
 
-/// A custom section.
+/// A frame.
 #[inline(always)]
-pub(crate) fn custom_event(origin: Origin, section: &CustomSectionReader) -> PlainEvent
-    ensures { result ≡ placed_at origin
-        (report_event (report_of (CustomSection section.now))) }
+pub(crate) fn frame_event(origin: Origin, frame: &Frame) -> PlainEvent
+    ensures { result ≡ placed_at origin (report_event frame.now) }
 {
-    let range = section.range();
-    PlainEvent {
-        data_offset: section.data_offset(),
-        name_size: section.name().len(),
-        ..event_between(origin, 7, u32::from(CUSTOM_SECTION), range.start, range.end)
-    }
-}
-
-/// A body.
-#[inline(always)]
-pub(crate) fn body_event(origin: Origin, body: &FunctionBody) -> PlainEvent
-    ensures { result ≡ placed_at origin
-        (report_event (report_of (CodeSectionEntry body.now))) }
-{
-    let range = body.range();
-    event_between(origin, 6, u32::from(CODE_SECTION), range.start, range.end)
-}
-
-/// A section with an unknown id.
-#[inline(always)]
-pub(crate) fn unknown_event(origin: Origin, id: u8, range: &Range<u64>) -> PlainEvent
-    ensures { result ≡ placed_at origin (event_between 8 id range.now.start range.now.end) }
-{
-    event_between(origin, 8, u32::from(id), range.start, range.end)
-}
-
-/// Stores a payload that was read at this offset, whose byte is at `base` in memory. Each kind is stored on its own, so that its
-/// fields go straight to their places.
-#[inline(always)]
-pub(crate) fn put_parsed(
-    out: &mut PlainEvent,
-    offset: u64,
-    base: usize,
-    consumed: usize,
-    payload: &Payload,
-)
-    ensures { out.new ≡ parsed_event base offset consumed payload.now }
-{
-    let origin = Origin {
-        offset,
-        base,
-        consumed,
-    };
-    match payload {
-        Payload::Version {
-            num,
-            encoding,
-            range,
-        } => *out = PlainEvent {
-            count: u32::from(*num),
-            ..event_between(origin, 1, encoding_code(*encoding), range.start, range.end)
+    let Range { start, end } = frame.range();
+    match frame.kind() {
+        FrameKind::Body => event_between(origin, 6, u32::from(CODE_SECTION), start, end),
+        FrameKind::Custom => PlainEvent {
+            data_offset: frame.data_offset(),
+            name_size: frame.name().len(),
+            ..event_between(origin, 7, u32::from(CUSTOM_SECTION), start, end)
         },
-        Payload::TypeSection(section) => *out = counted_event(origin, TYPE_SECTION, section),
-        Payload::ImportSection(section) => *out = counted_event(origin, IMPORT_SECTION, section),
-        Payload::FunctionSection(section) => *out = counted_event(
-            origin,
-            FUNCTION_SECTION,
-            section,
-        ),
-        Payload::TableSection(section) => *out = counted_event(origin, TABLE_SECTION, section),
-        Payload::MemorySection(section) => *out = counted_event(origin, MEMORY_SECTION, section),
-        Payload::TagSection(section) => *out = counted_event(origin, TAG_SECTION, section),
-        Payload::GlobalSection(section) => *out = counted_event(origin, GLOBAL_SECTION, section),
-        Payload::ExportSection(section) => *out = counted_event(origin, EXPORT_SECTION, section),
-        Payload::ElementSection(section) => *out = counted_event(origin, ELEMENT_SECTION, section),
-        Payload::DataSection(section) => *out = counted_event(origin, DATA_SECTION, section),
-        Payload::StartSection { func, range } => *out = PlainEvent {
-            count: *func,
-            ..event_between(origin, 3, u32::from(START_SECTION), range.start, range.end)
+        FrameKind::Unknown => event_between(origin, 8, u32::from(frame.id()), start, end),
+        FrameKind::Items => PlainEvent {
+            count: frame.count(),
+            data_offset: frame.data_offset(),
+            ..event_between(origin, 2, u32::from(frame.id()), start, end)
         },
-        Payload::DataCountSection { count, range } => *out = PlainEvent {
-            count: *count,
-            ..event_between(
-                origin,
-                4,
-                u32::from(DATA_COUNT_SECTION),
-                range.start,
-                range.end,
-            )
+        FrameKind::Header => PlainEvent {
+            count: u32::from(frame.version()),
+            ..event_between(origin, 1, encoding_code(frame.encoding()), start, end)
         },
-        Payload::CodeSectionStart {
-            count,
-            unchecked_range,
-            size,
-        } => *out = code_event(
-            origin,
-            *count,
-            unchecked_range.start,
-            unchecked_range.end,
-            *size,
-        ),
-        Payload::CodeSectionEntry(body) => *out = body_event(origin, body),
-        Payload::CustomSection(section) => *out = custom_event(origin, section),
-        Payload::UnknownSection { id, range, .. } => *out = unknown_event(origin, *id, range),
-        Payload::End(offset) => *out = event_between(origin, 9, 0, *offset, *offset),
+        FrameKind::Start => PlainEvent {
+            count: frame.count(),
+            ..event_between(origin, 3, u32::from(START_SECTION), start, end)
+        },
+        FrameKind::DataCount => PlainEvent {
+            count: frame.count(),
+            ..event_between(origin, 4, u32::from(DATA_COUNT_SECTION), start, end)
+        },
+        FrameKind::CodeStart => code_event(origin, frame.count(), start, end, frame.size()),
+        FrameKind::End => event_between(origin, 9, 0, start, start),
     }
 }
 
@@ -266,14 +179,19 @@ pub(crate) fn request_event(hint: usize, base: usize) -> PlainEvent
 
 /// What a parser returned at this offset, whose byte is at `base` in memory.
 #[inline(always)]
-pub(crate) fn put_answer(out: &mut PlainEvent, offset: u64, base: usize, answer: &Result<Chunk<'_>>)
-    ensures { out.new ≡ answer_event base offset answer.now }
+pub(crate) fn answer_event(offset: u64, base: usize, answer: &NextFrame<'_>) -> PlainEvent
+    ensures { result ≡ answer_event base offset (content_of answer.now) }
 {
     match answer {
-        Ok(Chunk::Parsed { consumed, payload }) => {
-            put_parsed(out, offset, base, *consumed, payload);
+        NextFrame::Parsed { frame, consumed } => {
+            let origin = Origin {
+                offset,
+                base,
+                consumed: *consumed,
+            };
+            frame_event(origin, frame)
         }
-        Ok(Chunk::NeedMoreData(hint)) => *out = request_event(*hint, base),
-        Err(error) => *out = fault_event(*error, base),
+        NextFrame::NeedMoreData(hint) => request_event(*hint, base),
+        NextFrame::Fault(error) => fault_event(*error, base),
     }
 }

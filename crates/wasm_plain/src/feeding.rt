@@ -3,8 +3,8 @@ ghost use Rattle.std.specs.Prelude.{◌≡◌, ◌+◌, ◌++◌, ◌≤◌, ◌
 ghost use Rattle.wasm_frames.specs.ParserState.{initial_state};
 ghost use Rattle.wasm_plain.specs.Feeds.{IsFinished, IsNewFeed, PushesPlain, StepsPlain};
 
-use crate::events::{PlainEvent, SILENT};
-use crate::parsing::{new_parser, put_next};
+use crate::events::PlainEvent;
+use crate::parsing::{new_parser, next_event};
 use crate::spans::{after, front};
 use wasm_parser::StoredParser;
 
@@ -49,8 +49,7 @@ pub fn step_feed(feed: &mut StoredFeed, storage: &[u8]) -> PlainEvent
 {
     let held = after(front(storage, feed.end), feed.mark);
     let is_all = feed.is_finished != 0;
-    let mut event = SILENT;
-    put_next(&mut feed.parser, held, is_all, feed.mark, &mut event);
+    let event = next_event(&mut feed.parser, held, is_all, feed.mark);
     feed.mark = feed.mark.saturating_add(event.consumed);
     event
 }

@@ -1,17 +1,16 @@
 // A parser for programs in C: each call takes plain numbers and bytes of the caller, and none has a condition.
 ghost use Rattle.std.specs.Prelude.{◌≡◌};
 ghost use Rattle.wasm_frames.specs.ParserState.{initial_state};
+ghost use Rattle.wasm_frames.specs.Answer.{content_of};
 ghost use Rattle.wasm_plain.specs.Events.{ParsesPlain};
 ghost use Rattle.wasm_frames.specs.Stored.{parser_of};
 ghost use Rattle.wasm_plain.specs.Texts.{Says, SaysFault};
 
-use crate::events::{
-    Origin, PlainEvent, SILENT, body_event, custom_event, fault_event, put_answer, put_parsed,
-    request_event, unknown_event,
-};
+use crate::events::{PlainEvent, answer_event};
 use crate::text::write_text;
 use bitflags::Flags;
-use wasm_parser::{Chunk, ParsePayloads, Parser, Payload, Result, StoredParser, WasmFeatures};
+use wasm_frames::NextFrame;
+use wasm_parser::{Parser, StoredParser, WasmFeatures};
 
 /// Returns a parser of a stream that begins at this offset, with these features.
 ///
@@ -24,21 +23,19 @@ pub fn new_parser(offset: u64, features: u32) -> StoredParser
     parser.stored()
 }
 
-// Stores what `parse` returns, for bytes that begin at `base` of a storage.
+/// Returns the next event of a stream, a fault, or a request for more bytes, for bytes that begin at `base` of a storage.
 #[inline(always)]
-pub(crate) fn put_next(
+pub(crate) fn next_event(
     parser: &mut StoredParser,
     bytes: &[u8],
     is_all: bool,
     base: usize,
-    out: &mut PlainEvent,
-)
-    ensures { ParsesPlain base (parser_of parser.old) is_all bytes.now out.new
+) -> PlainEvent
+    ensures { ParsesPlain base (parser_of parser.old) is_all bytes.now result
         (parser_of parser.new) }
 {
     let offset = parser.offset;
-    let answer = parser.parse(bytes, is_all);
-    put_answer(out, offset, base, &answer);
+    answer_event(offset, base, &parser.next(bytes, is_all))
 }
 
 /// Returns the next event of a stream, a fault, or a request for more bytes.
@@ -48,35 +45,7 @@ pub(crate) fn put_next(
 pub fn parse(parser: &mut StoredParser, bytes: &[u8], is_all: bool) -> PlainEvent
     ensures { ParsesPlain 0 (parser_of parser.old) is_all bytes.now result (parser_of parser.new) }
 {
-    let offset = parser.offset;
-    match parser.parse(bytes, is_all) {
-        Ok(
-            Chunk::Parsed {
-                consumed,
-                ref payload,
-            },
-        ) => {
-            let origin = Origin {
-                offset,
-                base: 0,
-                consumed,
-            };
-            // Each of the frequent kinds returns on its own, so that its fields go straight to the caller's memory.
-            match payload {
-                Payload::CodeSectionEntry(body) => return body_event(origin, body),
-                Payload::CustomSection(section) => return custom_event(origin, section),
-                Payload::UnknownSection { id, range, .. } => {
-                    return unknown_event(origin, *id, range);
-                }
-                _ => {}
-            }
-            let mut event = SILENT;
-            put_parsed(&mut event, offset, 0, consumed, payload);
-            event
-        }
-        Ok(Chunk::NeedMoreData(hint)) => request_event(hint, 0),
-        Err(error) => fault_event(error, 0),
-    }
+    next_event(parser, bytes, is_all, 0)
 }
 
 /// Writes the text of the fault that `parse` returns for the same arguments, and returns its length in bytes, or 0 without one.
@@ -87,14 +56,14 @@ pub fn write_next_fault(parser: &StoredParser, bytes: &[u8], is_all: bool, out: 
     ensures { SaysFault (parser_of parser.now) is_all bytes.now out.old result out.new }
 {
     let mut copy = *parser;
-    write_fault(copy.parse(bytes, is_all), out)
+    write_fault(copy.next(bytes, is_all), out)
 }
 
-fn write_fault(answer: Result<Chunk<'_>>, out: &mut [u8]) -> usize
-    ensures { Says answer.entry out.old result out.new }
+fn write_fault(answer: NextFrame<'_>, out: &mut [u8]) -> usize
+    ensures { Says (content_of answer.entry) out.old result out.new }
 {
     match answer {
-        Ok(_) => 0,
-        Err(error) => write_text(error.message().as_bytes(), out),
+        NextFrame::Fault(error) => write_text(error.message().as_bytes(), out),
+        _ => 0,
     }
 }

@@ -1,9 +1,10 @@
+use Rattle.wasm_frames.specs.Answer.{content_of}
 use Rattle.wasm_plain.proofs.parsing.write_next_fault.Goals as goal
 
 pub returns : goal.returns
 returns c = record {
-  answer = c.parse.result;
+  answer = content_of c.next.result;
   after = _;
-  answers = c.parse.ensures.answers;
+  answers = c.next.ensures.answers;
   says = c.write_fault.ensures;
 }
