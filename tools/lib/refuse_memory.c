@@ -1,6 +1,6 @@
 /* A library to preload, which makes allocations of a program fail: malloc, calloc and realloc return a null pointer at the call with the
- * number REFUSE_CALL, and where REFUSE_LATER is set, at every later one. The calls are counted from the program's start. For each that
- * fails, a byte is written to the file descriptor REFUSE_LOG. free is not touched.
+ * number REFUSE_CALL, and where REFUSE_LATER is set, at every later one. The calls are counted from the program's start. Where REFUSE_ABOVE
+ * is set, so does each for more bytes than that. For each that fails, a byte is written to the file descriptor REFUSE_LOG. free is not touched.
  */
 /* The toolchain's compiler has no headers: these are the calls of glibc that this file makes. */
 typedef __SIZE_TYPE__ size_t;
@@ -18,7 +18,7 @@ static void *(*real_malloc)(size_t);
 static void *(*real_calloc)(size_t, size_t);
 static void *(*real_realloc)(void *, size_t);
 
-static unsigned long first, calls;
+static unsigned long first, calls, most;
 static int later, log_to, resolving;
 
 static unsigned long number(const char *name) {
@@ -40,16 +40,23 @@ __attribute__((constructor)) static void start(void) {
     later = number("REFUSE_LATER") != 0;
     log_to = (int)number("REFUSE_LOG");
     first = number("REFUSE_CALL");
+    most = number("REFUSE_ABOVE");
 }
 
-/* Whether this call is to fail. dlsym may allocate, and does without it. */
-static int is_refused(void) {
-    if (resolving)
-        return 1;
+/* Whether the call with the next number is to fail. */
+static int is_next(void) {
     if (first == 0)
         return 0;
     calls++;
-    if (calls < first || (calls > first && !later))
+    return calls == first || (calls > first && later);
+}
+
+/* Whether this call, for this many bytes, is to fail. dlsym may allocate, and does without it. */
+static int is_refused(size_t size) {
+    if (resolving)
+        return 1;
+    int is_large = most != 0 && size > most;
+    if (!is_next() && !is_large)
         return 0;
     if (write(log_to, "x", 1) != 1)
         abort();
@@ -58,7 +65,7 @@ static int is_refused(void) {
 }
 
 void *malloc(size_t size) {
-    if (is_refused())
+    if (is_refused(size))
         return NULL;
     if (!real_malloc)
         resolve();
@@ -66,7 +73,7 @@ void *malloc(size_t size) {
 }
 
 void *calloc(size_t count, size_t size) {
-    if (is_refused())
+    if (is_refused(count * size))
         return NULL;
     if (!real_calloc)
         resolve();
@@ -74,7 +81,7 @@ void *calloc(size_t count, size_t size) {
 }
 
 void *realloc(void *old, size_t size) {
-    if (is_refused())
+    if (is_refused(size))
         return NULL;
     if (!real_realloc)
         resolve();

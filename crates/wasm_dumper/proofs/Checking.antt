@@ -1,12 +1,11 @@
 -- What a tree that keeps faults alone has found of a stream.
 use Rattle.wasm_dumper.proofs.Common.{◌≡◌, ℕ, ◌+◌, Bool, true, false, List, [], ◌∷◌, ◌++◌, Some, None, Result, Ok, Err, refl, sym, ap}
 use Rattle.wasm_dumper.proofs.Common.{subst, ◌∙◌, arith, Option, Outcome, Place, ReadsAs}
-use Rattle.wasm_base.specs.Window.{Window, place}
+use Rattle.wasm_base.specs.Window.{place}
 use Rattle.wasm_custom.specs.Custom.{Custom}
-use Rattle.std.specs.Io.KnownBytes.{Consumes}
 use Rattle.wasm_base.specs.Features.{all_features}
-use Rattle.wasm_dumper.proofs.Common.{length, drop, Error, seen, lending, beside, feed_of, Feed, Steps, turn_after, Cursor, Step}
-use Rattle.wasm_dumper.proofs.Common.{NeedMoreData, Parsed, Ending, Event, last_event, report_of, Writing, Only}
+use Rattle.wasm_dumper.proofs.Common.{drop, Error, seen, lending, beside, feed_of, Feed, Moves, turn_after, Cursor, Told}
+use Rattle.wasm_dumper.proofs.Common.{Request, Part, Stop, Ending, Event, last_event, report_of, Writing, Only}
 use Rattle.wasm_dumper.specs.Checks.{FindsIn, answer_faulty, any_faulty, custom_of, faulty_if, report_faulty, shown_faulty}
 use Rattle.wasm_feeder.specs.Beside.{FillsAlike, ReadsEnough}
 use Rattle.wasm_feeder.specs.Feed.{new_feed}
@@ -17,7 +16,7 @@ use Rattle.wasm_feeder.specs.declared.turns.Turn.{Turn}
 use Rattle.wasm_feeder.proofs.ForCallers.{IsEnding, IsEvent, begins, next_asks, next_ends, next_event, reads_on, whole_input}
 use Rattle.wasm_feeder.proofs.ForCallers as progress
 use Rattle.wasm_feeder.specs.declared.turns.Turn.TheVariants as turn
-use Rattle.wasm_parser.specs.ParseAnswer.{ParseAnswer}
+use Rattle.wasm_frames.specs.Answer.{GivesAnswer}
 use Rattle.wasm_parser.specs.declared.payload.Payload.{Payload}
 use Rattle.wasm_parser.specs.declared.payload.Payload.TheVariants.{End}
 use Rattle.wasm_grammar.specs.Reading.{Report, stream_end}
@@ -79,7 +78,7 @@ both_more true false is = refl
 both_more true true None = refl
 both_more true true (Some is) = refl
 
-finds_both : (a b : Bool) (old mid new : Option Bool) → Finds a old mid → Finds b mid new → Finds (either a b) old new
+pub finds_both : (a b : Bool) (old mid new : Option Bool) → Finds a old mid → Finds b mid new → Finds (either a b) old new
 finds_both a b old mid new f g is h = subst (λ (x : Option Bool). HasFound x new) (both_more a b is)
     (g (with_more a is) (f is h))
 
@@ -99,8 +98,8 @@ pub record Seeking (only : List Only) (full rest : Option (List ℕ)) (f : Feed)
 
 -- a step of the feeder, and what was found of it
 pub record FindsStep (only : List Only) (old new : Feed) (before after : Option Bool) (next : Turn) : Type 0 where
-  pub answer : Result Step Error
-  pub steps : Steps old answer new
+  pub answer : Told
+  pub steps : Moves old answer new
   pub turns : next ≡ turn_after answer
   pub finds : Finds (answer_faulty only answer) before after
 
@@ -113,9 +112,9 @@ finds_beside only full found stored piece cursor none no_piece new = record {
   found = λ is h. h;
 }
 
-pub finds_step : (only : List Only) (f : Feed) (stored piece items rest bytes : List ℕ) (old new : Cursor) (x : Result Step Error)
+pub finds_step : (only : List Only) (f : Feed) (stored piece items rest bytes : List ℕ) (old new : Cursor) (x : Told)
     (now ready after : Option Bool) (next : Turn) → lending stored piece old ≡ f → ReadsEnough stored piece old → bytes ≡ seen items rest
-    → items ≡ stored → rest ≡ piece → ParseAnswer old.parser old.is_finished (drop old.mark bytes) (answer_of x) new.parser
+    → items ≡ stored → rest ≡ piece → GivesAnswer old.parser old.is_finished (drop old.mark bytes) (answer_of x) new.parser
     → drop old.mark bytes ≡ shown x ++ drop new.mark bytes → new.is_finished ≡ old.is_finished → new.wants_more ≡ is_request x
     → next ≡ turn_after x → ready ≡ now → Finds (answer_faulty only x) ready after
     → FindsStep only f (lending stored piece new) now after next
@@ -127,15 +126,15 @@ finds_step only f stored piece items rest bytes old new x now ready after next f
       finds = subst (λ (y : Option Bool). Finds (answer_faulty only x) y after) kept finds;
     }
 
-event_faulty : (only : List Only) (x : Result Step Error) (e : Event) → IsEvent x e → answer_faulty only x ≡ shown_faulty only e.report
-event_faulty only (Ok (Parsed bytes payload)) e (n, says, is) = ap (shown_faulty only) says
+event_faulty : (only : List Only) (x : Told) (e : Event) → IsEvent x e → answer_faulty only x ≡ shown_faulty only e.report
+event_faulty only (Part report bytes) e (n, says, is) = ap (shown_faulty only) says
 event_faulty only _ e is = absurd is
 
-ending_faulty : (only : List Only) (x : Result Step Error) (end : Ending) → IsEnding x end
+ending_faulty : (only : List Only) (x : Told) (end : Ending) → IsEnding x end
     → answer_faulty only x ≡ shown_faulty only (last_event end).report
-ending_faulty only (Ok (NeedMoreData hint)) end is = absurd is
-ending_faulty only (Ok (Parsed bytes payload)) end is = ap (shown_faulty only) is.1
-ending_faulty only (Err e) end is = ap (λ (y : Ending). shown_faulty only (last_event y).report) (sym is)
+ending_faulty only (Request hint) end is = absurd is
+ending_faulty only (Part report bytes) end is = ap (shown_faulty only) is.1
+ending_faulty only (Stop e) end is = ap (λ (y : Ending). shown_faulty only (last_event y).report) (sym is)
 
 module _ (only : List Only) (full rest : Option (List ℕ)) (f : Feed) (old now : Option Bool) (d : Finding only full rest f old now)
     (g : Feed) (new : Option Bool) (next : Turn) (s : FindsStep only f g now new next) where
@@ -199,6 +198,10 @@ module _ (only : List Only) (full rest : Option (List ℕ)) (f : Feed) (old now 
 pub finds_same : (only : List Only) (full rest : Option (List ℕ)) (f g : Feed) (old new : Option Bool) → g ≡ f
     → Finding only full rest f old new → Finding only full rest g old new
 finds_same only full rest f g old new same p = subst (λ (x : Feed). Finding only full rest x old new) (sym same) p
+
+pub same_found : (only : List Only) (full rest : Option (List ℕ)) (f : Feed) (old now last : Option Bool) → last ≡ now
+    → Finding only full rest f old now → Finding only full rest f old last
+same_found only full rest f old now last same p = subst (λ (x : Option Bool). Finding only full rest f old x) (sym same) p
 
 pub finds_filled : (only : List Only) (full rest : Option (List ℕ)) (f : Feed) (old now last : Option Bool)
     → Seeking only full rest f old now → FindsNone now last → (rest' : Option (List ℕ)) (g : Feed) → FillsAlike rest rest' f g

@@ -19,11 +19,9 @@ pub use Rattle.wasm_feeder.specs.Beside.{seen, lending, beside}
 pub use Rattle.wasm_feeder.specs.Cursors.{feed_of}
 pub use Rattle.wasm_feeder.specs.Feed.{Feed, pushed}
 pub use Rattle.wasm_feeder.specs.Progress.{weight}
-pub use Rattle.wasm_feeder.specs.Step.{Steps}
+pub use Rattle.wasm_feeder.specs.Step.{Told, Part, Request, Stop, Moves}
 pub use Rattle.wasm_feeder.specs.Turns.{turn_after}
 pub use Rattle.wasm_feeder.specs.declared.feeder.Cursor.{Cursor}
-pub use Rattle.wasm_feeder.specs.declared.feeder.Step.{Step}
-pub use Rattle.wasm_feeder.specs.declared.feeder.Step.TheVariants.{NeedMoreData, Parsed}
 pub use Rattle.wasm_feeder.specs.declared.turns.Ended.TheVariants.{Fault, End}
 pub use Rattle.wasm_grammar.specs.Content.{fault, Ending}
 pub use Rattle.wasm_grammar.specs.Ids.{import_id}
@@ -47,7 +45,7 @@ pub use Rattle.wasm_dumper.specs.Counting.{one_number, after, after_all, no_coun
 pub use Rattle.wasm_dumper.specs.Counting.{item_at}
 pub use Rattle.wasm_dumper.specs.Dump.{AreOfItemsIf, ShowsItemsIf}
 pub use Rattle.wasm_dumper.specs.Dump.{AreOfShown, DumpsInto, ShowsAnswer, bytes_of_events, origin, shown_bytes, AreOf, AreOfEvents}
-pub use Rattle.wasm_dumper.specs.Hiding.{FailsWithin, Hides}
+pub use Rattle.wasm_dumper.specs.Hiding.{FailsWithin, Skips}
 pub use Rattle.wasm_dumper.specs.declared.counts.Counts.{Counts}
 pub use Rattle.wasm_dumper.specs.declared.events.Only.{Only}
 pub use Rattle.wasm_dumper.specs.Chosen.{shows_items}

@@ -1,91 +1,48 @@
--- How far a dump has come after a part of which nothing is shown, and which was dropped.
+-- How far a dump has come after a part that was skipped by its first fields, and dropped.
 use Rattle.wasm_dumper.proofs.Common.{◌≡◌, ℕ, ◌+◌, ◌^◌, ◌<◌, Bool, true, false, List, [], ◌∷◌, ◌++◌, Some, None, Err, refl, sym, ap, subst}
-use Rattle.wasm_dumper.proofs.Common.{◌∙◌, append-nil, arith, nat_eq, length, Option, append_assoc, length-append, drop, Consumes-trans}
-use Rattle.wasm_dumper.proofs.Common.{list_any, if◌then◌else◌, fault_at, Error, seen, lending, Feed, pushed, weight, Steps, Cursor, Fault}
-use Rattle.wasm_dumper.proofs.Common.{fault, import_id, Report, counted, Event, last_event, input_failed, ListError, Input, Writing, Adds}
-use Rattle.wasm_dumper.proofs.Common.{IsOut, base_of, chosen_line, is_chosen, shown_line, after, after_all, no_counts}
-use Rattle.wasm_dumper.proofs.Common.{shows_items, AreOfShown}
-use Rattle.wasm_dumper.proofs.Common.{DumpsInto, ShowsAnswer, bytes_of_events, origin, shown_bytes, FailsWithin, Hides, Counts, Only}
-use Rattle.std.proofs.Common.{not, ◌&&◌, nat_lt}
+use Rattle.wasm_dumper.proofs.Common.{subst₂, ◌∙◌, arith, length, Option, append_assoc, length-append, drop, Consumes-trans}
+use Rattle.wasm_dumper.proofs.Common.{fault_at, Error, seen, lending, Feed, pushed, weight, Moves, Cursor, Stop, Fault}
+use Rattle.wasm_dumper.proofs.Common.{fault, Event, last_event, input_failed, ListError, Input, Writing, IsWritten, Adds}
+use Rattle.wasm_dumper.proofs.Common.{IsOut, chosen_line, after, no_counts}
+use Rattle.wasm_dumper.proofs.Common.{AreOf, DumpsInto, ShowsAnswer, bytes_of_events, origin, FailsWithin, Skips, Counts, Only}
+use Rattle.std.proofs.Common.{nat_lt}
 use Rattle.std.proofs.lemmas.Bool.Decides.{nat_tests}
 use Rattle.std.specs.Io.KnownBytes.{IsAtEnd}
 use Rattle.wasm_base.specs.FaultAt.{at_offset}
 use Rattle.wasm_base.specs.declared.fault.Fault.TheVariants.{UnexpectedEof}
-use Rattle.wasm_dumper.specs.Chosen.{is_chosen_by}
-use Rattle.wasm_dumper.specs.Hiding.{DropsPart, after_hidden, has_imports, has_symbols, is_body_head, is_hidden}
-use Rattle.wasm_dumper.specs.declared.hidden.Hidden.{Hidden}
+use Rattle.wasm_dumper.specs.Hiding.{CountsOutline, DropsPart, ReportsOutline, ShowsOutline}
+use Rattle.wasm_dumper.specs.declared.hidden.Skipped.{Skipped}
 use Rattle.wasm_feeder.specs.Beside.{unseen}
 use Rattle.wasm_feeder.specs.Passing.{SkipsHere, held_by}
+use Rattle.wasm_feeder.specs.Progress.{Reached}
 use Rattle.wasm_grammar.specs.Grammar.{final, verdict}
-use Rattle.wasm_grammar.specs.Reading.{code_entry, custom_section, unknown_section}
 use Rattle.wasm_frames.specs.ParserState.{grammar_of}
-use Rattle.wasm_frames.specs.SkipNext.{Head, Skip, items, body, report_with, skip_in}
-use Rattle.wasm_dumper.proofs.Dumping.{Dumping, HasWritten, ShowsStep, Wanting, all, bytes_more, dumped, has_failed, numbers_of, outline_of}
-use Rattle.wasm_dumper.proofs.Dumping.{not_whole, source, whole}
-use Rattle.wasm_dumper.proofs.Numbering.{all_more, events_more, no_numbers}
+use Rattle.wasm_frames.specs.SkipNext.{Head, skip_in}
+use Rattle.wasm_dumper.proofs.Dumping.{Dumping, HasWritten, IsFresh, ShowsStep, Wanting, WrittenWith, all, bytes_more, dumped, events_are}
+use Rattle.wasm_dumper.proofs.Dumping.{has_failed, not_whole, numbers_of, outline_of, source, stopped_after, whole}
+use Rattle.wasm_dumper.proofs.Numbering.{all_more, events_more}
 use Rattle.wasm_feeder.proofs.ForCallers.{arrived, is_short, one_more, past, reads_short, same_held}
 use Rattle.wasm_feeder.specs.declared.turns.Turn.TheVariants as turn
 
--- ---- a part by its first fields as by its report
-
-abbrev skip_or : Skip → Option Skip → Skip
-skip_or s (Some x) = x
-skip_or s None = s
-
-none_of : (a b c : Bool) → not a && (not b && not c) ≡ true → (a ≡ false) × (c ≡ false)
-none_of true b c e = cc
-none_of false true c e = cc
-none_of false false true e = cc
-none_of false false false e = (refl, refl)
-
-hidden_by : (only : List Only) (s : Skip) (x : Option Skip) → x ≡ Some s → is_hidden only s.head ≡ true
-    → (has_imports (skip_or s x).head ≡ false)
-    × (list_any (λ choice. is_chosen_by choice (report_with (skip_or s x).head)) only ≡ false)
-hidden_by only s x e h = none_of (has_imports (skip_or s x).head) (has_symbols (skip_or s x).head)
-    (list_any (λ choice. is_chosen_by choice (report_with (skip_or s x).head)) only)
-    (subst (λ (y : Option Skip). is_hidden only (skip_or s y).head ≡ true) (sym e) h)
-
-pub not_chosen : (only : List Only) (r : Report) (s : Skip) → skip_in r ≡ Some s → is_hidden only s.head ≡ true → is_chosen only r ≡ false
-not_chosen only (custom_section text at window) s e h = (hidden_by only s (skip_in (custom_section text at window)) e h).1
-not_chosen only (counted id count window) s e h = (hidden_by only s (skip_in (counted id count window)) e h).1
-not_chosen only (unknown_section id contents from to) s e h = (hidden_by only s (skip_in (unknown_section id contents from to)) e h).1
-not_chosen only (code_entry window) s e h = (hidden_by only s (skip_in (code_entry window)) e h).1
-not_chosen only _ s e h = cc
-
-counted_as : (only : List Only) (c : Counts) (r : Report) (s : Skip) → skip_in r ≡ Some s → is_hidden only s.head ≡ true
-    → after c r ≡ after_hidden c (is_body_head s.head)
-counted_as only c (custom_section text at window) s e h = ap (λ (x : Option Skip). after_hidden c (is_body_head (skip_or s x).head)) e
-counted_as only c (unknown_section id contents from to) s e h =
-    ap (λ (x : Option Skip). after_hidden c (is_body_head (skip_or s x).head)) e
-counted_as only c (code_entry window) s e h = ap (λ (x : Option Skip). after_hidden c (is_body_head (skip_or s x).head)) e
-counted_as only c (counted id count window) s e h =
-    let no : nat_eq id import_id ≡ false = (hidden_by only s (skip_in (counted id count window)) e h).0 in
-    rw no (ap (λ (x : Option Skip). after_hidden c (is_body_head (skip_or s x).head)) e)
-counted_as only c _ s e h = cc
-
-no_bytes : (has_bytes : Bool) (only : List Only) (r : Report) (bytes : List ℕ) → is_chosen only r ≡ false
-    → shown_bytes has_bytes only r bytes ≡ []
-no_bytes true only r bytes e = rw e refl
-no_bytes false only r bytes e = refl
-
 -- the bytes of a step are those that it sees
-pub hides_here : (only : List Only) (old : Cursor) (stored chunk kept rest bytes : List ℕ) (hidden : Hidden) (new : Cursor)
-    → bytes ≡ seen kept rest → kept ≡ stored → rest ≡ chunk → Hides only old bytes hidden new
-    → Hides only old (seen stored chunk) hidden new
-hides_here only old stored chunk kept rest bytes hidden new read kept_is rest_is h =
+pub skips_here : (only : List Only) (has_bytes : Bool) (old : Cursor) (stored chunk kept rest bytes : List ℕ) (part : Skipped)
+    (new : Cursor)
+    → bytes ≡ seen kept rest → kept ≡ stored → rest ≡ chunk → Skips only has_bytes old bytes part new
+    → Skips only has_bytes old (seen stored chunk) part new
+skips_here only has_bytes old stored chunk kept rest bytes part new read kept_is rest_is h =
     rw (sym rest_is, sym kept_is, sym read) h
 
 -- ---- the part is dropped
 
--- the lines so far are written, and the parser has skipped a part of which nothing is shown
+-- the lines so far are written, and the parser has skipped a part
 module _ (only : List Only) (has_bytes : Bool) (full rest : Option (List ℕ)) (before : Writing) (cur : Cursor) (stored chunk : List ℕ)
     (c : Counts) (now last : Writing) (d : Wanting only has_bytes full rest before (lending stored chunk cur) c now) (a : Adds now last)
-    (out : IsOut last) (going : last.why ≡ None) (hidden : Hidden) (skipped : Cursor)
-    (h : Hides only cur (seen stored chunk) hidden skipped) (rest' : Option (List ℕ)) where
+    (out : IsOut last) (going : last.why ≡ None) (part : Skipped) (skipped : Cursor)
+    (h : Skips only has_bytes cur (seen stored chunk) part skipped) (rest' : Option (List ℕ)) where
   abbrev stays : Head → Bool
   stays head = false
 
-  abbrev sk : SkipsHere stays cur (seen stored chunk) hidden.passing skipped
+  abbrev sk : SkipsHere stays cur (seen stored chunk) part.passing skipped
   sk = h.skips
 
   written : HasWritten only has_bytes before d.events last
@@ -93,7 +50,7 @@ module _ (only : List Only) (has_bytes : Bool) (full rest : Option (List ℕ)) (
 
   -- the source failed within the part
   pub failed_within : (had mid has : Bool) → mid ≡ had → (e : ListError)
-      → FailsWithin rest rest' hidden.passing.size (held_by skipped stored chunk) e → has ≡ input_failed {A = Option Error} (Err e) mid
+      → FailsWithin rest rest' part.passing.size (held_by skipped stored chunk) e → has ≡ input_failed {A = Option Error} (Err e) mid
       → DumpsInto only has_bytes (source full rest' had has) before (Err e) last
   failed_within had mid has m e w s =
       let failed_so : has ≡ input_failed {A = Option Error} (Err Input) mid = rw w.is at s in
@@ -106,52 +63,72 @@ module _ (only : List Only) (has_bytes : Bool) (full rest : Option (List ℕ)) (
       dumped outline numbers bytes (record {
         given = d.asks.reached.given ++ w.given;
         events = d.events;
-        last = last_event (fault (at_offset UnexpectedEof hidden.passing.from));
+        last = last_event (fault (at_offset UnexpectedEof part.passing.from));
         gave = Consumes-trans full rest rest' d.asks.reached.given w.given d.asks.reached.gave w.gave;
         listed = refl;
-        reading = reads_short stays full rest d.events cur stored chunk d.asks hidden.passing skipped sk w.given w.fewer;
+        reading = reads_short stays full rest d.events cur stored chunk d.asks part.passing skipped sk w.given w.fewer;
       }) (numbers_of None false only has_bytes full rest (lending stored chunk cur) d.events d.asks.reached rest' w.given w.gave numbers
       (not_whole (held_by cur stored chunk ++ w.given)) are) (whole o last going out wrote) failed_so (has_failed o last going wrote))
 
   -- the part was dropped, or the source ended within it
-  module _ (cut : Option Error) (left : List ℕ) (x : DropsPart rest rest' hidden.passing (held_by skipped stored chunk) cut left) where
-    -- an event of which nothing is shown
-    written_more : (e : Event) → is_chosen only e.report ≡ false → HasWritten only has_bytes before (d.events ++ e ∷ []) last
-    written_more e unshown taken failed i =
-        let (numbers, are, wrote) = written taken failed i in
-        let was = outline_of before.style only d.events in
-        let bytes = bytes_of_events has_bytes only d.events in
-        let same : outline_of before.style only (d.events ++ e ∷ []) ≡ was = one_more (chosen_line before.style only) d.events e
-        ∙ (ap (λ (b : Bool). was ++ (if b then shown_line (base_of before.style) e.report else [])) unshown ∙ append-nil was) in
-        let none : bytes_of_events has_bytes only (d.events ++ e ∷ []) ≡ bytes =
-        bytes_more has_bytes only d.events e e.report e.consumed refl refl
-        ∙ (ap (λ (y : List ℕ). bytes ++ y) (no_bytes has_bytes only e.report e.consumed unshown) ∙ append-nil bytes) in (
-          numbers ++ [],
-          events_more None only no_counts d.events numbers e [] are
-              (subst (λ (b : Bool). AreOfShown None b (shows_items only) (after_all no_counts d.events) e.report []) (sym unshown) refl),
-          rw (same, none) (no_numbers (origin before.style taken failed was numbers bytes) last wrote),
-        )
+  module _ (cut : Option Error) (left : List ℕ) (x : DropsPart rest rest' part.passing (held_by skipped stored chunk) cut left) where
+    -- it was dropped, and what is shown of it was written
+    module _ (n : cut ≡ None) (new : Feed) (state : new.state ≡ skipped.parser) (held : new.held ≡ left)
+        (eof : new.eof ≡ skipped.is_finished) (shown : Writing) (shows : ShowsOutline only has_bytes c part.outline last shown) where
+      came : (e : Event) × (skip_in e.report ≡ Some sk.skip) × (e.consumed ≡ x.part) × Reached full rest' new (d.events ++ e ∷ [])
+          × (weight new < weight (lending stored chunk cur))
+      came = past stays full rest d.events cur stored chunk d.asks part.passing skipped sk x.fetched x.part left x.parts (rw n at x.ends)
+          rest' x.gave new state held eof
 
-    pub dropped : cut ≡ None → (new : Feed) → new.state ≡ skipped.parser → new.held ≡ left → new.eof ≡ skipped.is_finished
-        → (c' : Counts) → c' ≡ after_hidden c hidden.is_body
-        → Dumping only has_bytes full rest' before new c' last × (weight new < weight (lending stored chunk cur))
-    dropped n new state held eof c' counts =
-        let (e, says, is, reached, less) = past stays full rest d.events cur stored chunk d.asks hidden.passing skipped sk x.fetched
-        x.part left x.parts (rw n at x.ends) rest' x.gave new state held eof in (
-          record {
-            events = d.events ++ e ∷ [];
-            reached = reached;
-            counted = counts ∙ (ap (after_hidden c) h.body ∙ (sym (counted_as only c e.report sk.skip says h.hides)
-                ∙ (ap (λ (y : Counts). after y e.report) d.counted ∙ sym (all_more no_counts d.events e))));
-            writing = written_more e (not_chosen only e.report sk.skip says h.hides);
-          },
-          less,
-        )
+      abbrev e : Event
+      e = came.0
+
+      is_it : ReportsOutline only has_bytes part.outline e.report
+      is_it = (sk.skip, came.1, h.shows)
+
+      abbrev events : List Event
+      events = d.events ++ e ∷ []
+
+      written_more : (taken : Option (List ℕ)) (failed : Bool) → IsFresh before taken failed
+          → WrittenWith shown.why only has_bytes events before.style taken failed (outline_of before.style only events) shown
+      written_more taken failed i =
+          let (numbers, are, wrote) = written taken failed i in
+          let was = outline_of before.style only d.events in
+          let bytes = bytes_of_events has_bytes only d.events in
+          let (more, of, going) = shows e.report e.consumed is_it (origin before.style taken failed was numbers bytes) wrote in (
+            numbers ++ more,
+            events_more shown.why only no_counts d.events numbers e more (events_are shown.why only no_counts d.events numbers are)
+                (subst (λ (k : Counts). AreOf shown.why only k e.report more) d.counted of),
+            subst₂ (λ (y z : List ℕ). IsWritten (origin before.style taken failed y (numbers ++ more) z) shown)
+                (sym (one_more (chosen_line before.style only) d.events e))
+                (sym (bytes_more has_bytes only d.events e e.report e.consumed refl refl)) going,
+          )
+
+      pub dropped : (c' : Counts) → CountsOutline only has_bytes part.outline c c' → shown.why ≡ None
+          → Dumping only has_bytes full rest' before new c' shown × (weight new < weight (lending stored chunk cur))
+      dropped c' counts on = (
+        record {
+          events = events;
+          reached = came.3;
+          counted = counts e.report is_it
+              ∙ (ap (λ (y : Counts). after y e.report) d.counted ∙ sym (all_more no_counts d.events e));
+          writing = λ taken failed i. subst (λ (why : Option ListError).
+              WrittenWith why only has_bytes events before.style taken failed (outline_of before.style only events) shown) on
+              (written_more taken failed i);
+        },
+        came.4,
+      )
+
+      -- the tree stopped meanwhile
+      pub stopped_within : (had has : Bool) → has ≡ had → (why : ListError) → shown.why ≡ Some why
+          → DumpsInto only has_bytes (source full rest' had has) before (Err why) shown
+      stopped_within had has same why w = stopped_after only has_bytes full rest' before new events came.3 had has same shown.why shown
+          shown why written_more (λ o i. i) w
 
     -- the source ended within the part: all that arrived is the fault
     module _ (error : Error) (cuts : cut ≡ Some error) where
-      ends : (length x.part < hidden.passing.size) × IsAtEnd rest' × (left ≡ [])
-          × (fault_at error ≡ at_offset UnexpectedEof hidden.passing.from)
+      ends : (length x.part < part.passing.size) × IsAtEnd rest' × (left ≡ [])
+          × (fault_at error ≡ at_offset UnexpectedEof part.passing.from)
       ends = rw cuts at x.ends
 
       abbrev feed : Feed
@@ -162,10 +139,10 @@ module _ (only : List Only) (has_bytes : Bool) (full rest : Option (List ℕ)) (
 
       within : cur.parser.offset + length (first ++ (unseen stored chunk ++ x.fetched)) < sk.skip.to
       within =
-          let few = is_short stays full rest d.events cur stored chunk d.asks hidden.passing skipped sk x.fetched x.part left x.parts
+          let few = is_short stays full rest d.events cur stored chunk d.asks part.passing skipped sk x.fetched x.part left x.parts
           ends.0 ends.2 in
           let s = ap (λ (l : List ℕ). length l)
-          (same_held stays full rest d.events cur stored chunk d.asks hidden.passing skipped sk x.fetched) in
+          (same_held stays full rest d.events cur stored chunk d.asks part.passing skipped sk x.fetched) in
           let n = length-append first (unseen stored chunk ++ x.fetched) in
           let m = length-append (unseen stored chunk) x.fetched in
           let l = length-append first (unseen stored chunk) in
@@ -184,9 +161,9 @@ module _ (only : List Only) (has_bytes : Bool) (full rest : Option (List ℕ)) (
           let f = sk.skips.fits in
           grind (arith, nat_tests, l, f, within)
 
-      pub fault_step : Steps feed (Err error) feed
+      pub fault_step : Moves feed (Stop error) feed
       fault_step = record {
-        parses = record { answer = rw (below, refused) refl; items = tt; state = refl };
+        parses = record { answer = rw (below, refused) refl; state = refl };
         shows = refl;
         stored = refl;
         eof = refl;
@@ -201,6 +178,6 @@ module _ (only : List Only) (has_bytes : Bool) (full rest : Option (List ℕ)) (
         writing = written;
       }
 
-      pub shows_fault : (shown : Writing) (c' : Counts) → ShowsAnswer only has_bytes c (Err error) last shown → c' ≡ c
+      pub shows_fault : (shown : Writing) (c' : Counts) → ShowsAnswer only has_bytes c (Stop error) last shown → c' ≡ c
           → ShowsStep only has_bytes c c' feed feed last shown (turn.End (Fault error))
-      shows_fault shown c' s same = record { answer = Err error; steps = fault_step; turns = refl; shows = s; counted = same }
+      shows_fault shown c' s same = record { answer = Stop error; steps = fault_step; turns = refl; shows = s; counted = same }

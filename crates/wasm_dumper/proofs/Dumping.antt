@@ -1,8 +1,8 @@
 -- How far a dump has come. Its outline is what a listing by the lines that are shown would have written.
 use Rattle.wasm_dumper.proofs.Common.{◌≡◌, ℕ, ◌<◌, Bool, true, false, List, [], ◌∷◌, ◌++◌, Some, None, Result, Ok, Err, refl, sym, ap}
 use Rattle.wasm_dumper.proofs.Common.{subst, subst₂, ◌∙◌, append-nil, arith, length, Option, append_assoc, length-append, drop}
-use Rattle.wasm_dumper.proofs.Common.{Consumes-trans, if◌then◌else◌, Error, seen, lending, beside, feed_of, Feed, weight, Steps, turn_after}
-use Rattle.wasm_dumper.proofs.Common.{Cursor, Step, NeedMoreData, Parsed, Fault, End, Ending, Report, Event, last_event, report_of}
+use Rattle.wasm_dumper.proofs.Common.{Consumes-trans, if◌then◌else◌, Error, seen, lending, beside, feed_of, Feed, weight, Moves, turn_after}
+use Rattle.wasm_dumper.proofs.Common.{Cursor, Told, Request, Stop, Fault, End, Ending, Report, Event, last_event}
 use Rattle.wasm_dumper.proofs.Common.{input_failed, ListError, Input, Base, Number, Writing, IsWritten, Adds, IsOut, Origin, chosen_line}
 use Rattle.wasm_dumper.proofs.Common.{is_chosen, after, after_all, no_counts, DumpsInto, ShowsAnswer, bytes_of_events, origin, shown_bytes}
 use Rattle.wasm_dumper.proofs.Common.{AreOf, AreOfEvents, Counts, Only}
@@ -19,11 +19,12 @@ use Rattle.wasm_feeder.specs.Lists.{IsHead, ListsBy, Refills, listing_by}
 use Rattle.wasm_feeder.specs.Progress.{Reached, Asks, Progress}
 use Rattle.wasm_feeder.specs.Step.{answer_of, is_request, shown}
 use Rattle.wasm_feeder.specs.Turns.{text_after}
+use Rattle.wasm_feeder.specs.Step as tells
 use Rattle.wasm_feeder.specs.declared.turns.Ended.{Ended}
 use Rattle.wasm_feeder.specs.declared.turns.Turn.{Turn}
 use Rattle.wasm_grammar.specs.EventRanges.{consumed_by}
 use Rattle.wasm_grammar.specs.Reading.{Reading}
-use Rattle.wasm_parser.specs.ParseAnswer.{ParseAnswer}
+use Rattle.wasm_frames.specs.Answer.{GivesAnswer}
 use Rattle.wasm_text.specs.Calls.{Change, Device, bytes_of, from_to, output_failed}
 use Rattle.wasm_text.specs.Page.{WritesHead, PutsBytes}
 use Rattle.wasm_text.specs.declared.devices.ListError.TheVariants.{Output, Memory}
@@ -62,7 +63,7 @@ WrittenWith why only has_bytes events style taken failed outline now =
     × IsWritten (origin style taken failed outline numbers (bytes_of_events has_bytes only events)) now
 
 -- what is shown of a result continues from what was shown of events to that of these
-abbrev pub Continues : List Only → (has_bytes : Bool) → Counts → Result Step Error → (old new : List Event) → Type 0
+abbrev pub Continues : List Only → (has_bytes : Bool) → Counts → Told → (old new : List Event) → Type 0
 Continues only has_bytes c x old new = ((why : Option ListError) (numbers shown : List Number)
     → AreOfEvents why only no_counts old numbers → AreOfAnswer why only c x shown
     → AreOfEvents why only no_counts new (numbers ++ shown))
@@ -154,20 +155,20 @@ none_shown false only r bytes e = refl
 
 module _ (only : List Only) (has_bytes : Bool) (events : List Event) (c : Counts) (k : c ≡ after_all no_counts events) where
   -- after an event
-  counted_on : (x : Result Step Error) (e : Event) → IsEvent x e
+  counted_on : (x : Told) (e : Event) → IsEvent x e
       → (after_answer c x ≡ after_all no_counts (events ++ e ∷ [])) × Continues only has_bytes c x events (events ++ e ∷ [])
-  counted_on (Ok (Parsed bytes payload)) e (n, says, is) = (
+  counted_on (tells.Part report bytes) e (n, says, is) = (
     ap (λ (r : Report). after c r) says ∙ (ap (λ (d : Counts). after d e.report) k ∙ sym (all_more no_counts events e)),
     (
       λ why numbers shown a b. events_more why only no_counts events numbers e shown a
           (subst₂ (λ (d : Counts) (r : Report). AreOf why only d r shown) k says b),
-      bytes_more has_bytes only events e (report_of payload) bytes.now says is,
+      bytes_more has_bytes only events e report bytes says is,
     ),
   )
   counted_on _ e is = absurd is
 
   -- where nothing is shown
-  counted_still : (x : Result Step Error) → ((why : Option ListError) (shown : List Number) → AreOfAnswer why only c x shown → shown ≡ [])
+  counted_still : (x : Told) → ((why : Option ListError) (shown : List Number) → AreOfAnswer why only c x shown → shown ≡ [])
       → bytes_of_answer has_bytes only x ≡ [] → Continues only has_bytes c x events events
   counted_still x none no_byte = (
     λ why numbers shown a b. subst (AreOfEvents why only no_counts events)
@@ -176,11 +177,11 @@ module _ (only : List Only) (has_bytes : Bool) (events : List Event) (c : Counts
   )
 
   -- at an end
-  counted_last : (x : Result Step Error) (end : Ending) → IsEnding x end → Continues only has_bytes c x events events
-  counted_last (Ok (NeedMoreData hint)) end is = absurd is
-  counted_last (Ok (Parsed bytes payload)) end is = counted_still (Ok (Parsed bytes payload))
-      (λ why shown b. end_none why only c (report_of payload) shown is.0 b) (none_shown has_bytes only (report_of payload) bytes.now is.2)
-  counted_last (Err e) end is = counted_still (Err e) (λ why shown b. b) refl
+  counted_last : (x : Told) (end : Ending) → IsEnding x end → Continues only has_bytes c x events events
+  counted_last (Request hint) end is = absurd is
+  counted_last (tells.Part report bytes) end is = counted_still (tells.Part report bytes)
+      (λ why shown b. end_none why only c report shown is.0 b) (none_shown has_bytes only report bytes is.2)
+  counted_last (Stop e) end is = counted_still (Stop e) (λ why shown b. b) refl
 
 empty : (bytes : List ℕ) → length bytes ≡ 0 → bytes ≡ []
 empty [] e = refl
@@ -267,7 +268,7 @@ source_begins why whole stop only has_bytes input numbers bytes a = record {
 }
 
 -- those where it goes on are such in any case
-events_are : (why : Option ListError) (only : List Only) (c : Counts) (events : List Event) (numbers : List Number)
+pub events_are : (why : Option ListError) (only : List Only) (c : Counts) (events : List Event) (numbers : List Number)
     → AreOfEvents None only c events numbers → AreOfEvents why only c events numbers
 events_are None only c events numbers a = a
 events_are (Some why) only c events numbers a = events_begin None why only c events numbers a
@@ -313,18 +314,27 @@ listed only style full rest f events r = record {
   puts = record { moved = outline_of style only events; writes = refl; waits = sym (append-nil (outline_of style only events)) };
 }
 
--- the tree has stopped before a step
+-- the tree has stopped after these events were shown
+pub stopped_after : (only : List Only) (has_bytes : Bool) (full rest : Option (List ℕ)) (before : Writing) (f : Feed) (events : List Event)
+    → Reached full rest f events → (had has : Bool) → has ≡ had → (why : Option ListError) (now last : Writing) (stop : ListError)
+    → ((taken : Option (List ℕ)) (failed : Bool) → IsFresh before taken failed
+    → WrittenWith why only has_bytes events before.style taken failed (outline_of before.style only events) now)
+    → Adds now last → last.why ≡ Some stop → DumpsInto only has_bytes (source full rest had has) before (Err stop) last
+stopped_after only has_bytes full rest before f events r had has h why now last stop wrote a w taken failed i =
+    let (numbers, are, going) = wrote taken failed i in
+    let outline = outline_of before.style only events in
+    cut_off before.style only has_bytes full rest had has h taken failed outline numbers (bytes_of_events has_bytes only events) stop last
+    (progress.cut (chosen_line before.style only) full rest (Some []) (Some outline) f []
+    (listed only before.style full rest f events r) (Some outline) Output (nothing_cut (Some outline)))
+    (source_begins why false stop only has_bytes _ numbers _ (numbers_of why false only has_bytes full rest f events r rest []
+    (Consumes-nil rest) numbers (not_whole (f.held ++ [])) are)) (as_short _ last stop w (a _ going))
+
+-- it has before a step
 pub stopped_before : (only : List Only) (has_bytes : Bool) (full rest : Option (List ℕ)) (before : Writing) (f : Feed) (c : Counts)
     (now : Writing) → Dumping only has_bytes full rest before f c now → (had has : Bool) → has ≡ had → (last : Writing)
     (why : ListError) → Adds now last → last.why ≡ Some why → DumpsInto only has_bytes (source full rest had has) before (Err why) last
-stopped_before only has_bytes full rest before f c now d had has h last why a w taken failed i =
-    let (numbers, are, going) = d.writing taken failed i in
-    let outline = outline_of before.style only d.events in
-    cut_off before.style only has_bytes full rest had has h taken failed outline numbers (bytes_of_events has_bytes only d.events) why last
-    (progress.cut (chosen_line before.style only) full rest (Some []) (Some outline) f []
-    (listed only before.style full rest f d.events d.reached) (Some outline) Output (nothing_cut (Some outline)))
-    (source_begins None false why only has_bytes _ numbers _ (numbers_of None false only has_bytes full rest f d.events d.reached rest []
-    (Consumes-nil rest) numbers (not_whole (f.held ++ [])) are)) (as_short _ last why w (a _ going))
+stopped_before only has_bytes full rest before f c now d had has h last why a w =
+    stopped_after only has_bytes full rest before f d.events d.reached had has h None now last why d.writing a w
 
 -- ---- a step
 
@@ -335,17 +345,17 @@ puts outline line = record { moved = line; writes = refl; waits = sym (append-ni
 -- A step of the feeder was shown, and this is done next.
 pub record ShowsStep (only : List Only) (has_bytes : Bool) (counts counts' : Counts) (old new : Feed) (before after : Writing) (next : Turn)
     : Type 0 where
-  pub answer : Result Step Error
-  pub steps : Steps old answer new
+  pub answer : Told
+  pub steps : Moves old answer new
   pub turns : next ≡ turn_after answer
   pub shows : ShowsAnswer only has_bytes counts answer before after
   pub counted : counts' ≡ after_answer counts answer
 
 -- a step of a parser beside a chunk, which was shown
 pub shows_step : (only : List Only) (has_bytes : Bool) (c c' : Counts) (f : Feed) (stored piece items rest bytes : List ℕ)
-    (old new : Cursor) (x : Result Step Error) (now ready after : Writing) (next : Turn) → lending stored piece old ≡ f
+    (old new : Cursor) (x : Told) (now ready after : Writing) (next : Turn) → lending stored piece old ≡ f
     → ReadsEnough stored piece old → bytes ≡ seen items rest → items ≡ stored → rest ≡ piece
-    → ParseAnswer old.parser old.is_finished (drop old.mark bytes) (answer_of x) new.parser
+    → GivesAnswer old.parser old.is_finished (drop old.mark bytes) (answer_of x) new.parser
     → drop old.mark bytes ≡ shown x ++ drop new.mark bytes → new.is_finished ≡ old.is_finished → new.wants_more ≡ is_request x
     → next ≡ turn_after x → ready ≡ now → ShowsAnswer only has_bytes c x ready after → c' ≡ after_answer c x
     → ShowsStep only has_bytes c c' f (lending stored piece new) now after next
@@ -390,8 +400,8 @@ module _ (only : List Only) (has_bytes : Bool) (full rest : Option (List ℕ)) (
       subst₂ (λ (why : Option ListError) (o : List ℕ). WrittenWith why only has_bytes events before.style taken failed o new) going same
       (written events more taken failed i)
 
-  still : (hint : ℕ) → s.answer ≡ Ok (NeedMoreData hint) → Continues only has_bytes c s.answer d.events d.events
-  still hint is = rw is (counted_still only has_bytes d.events c d.counted (Ok (NeedMoreData hint)) (λ why shown b. b) refl)
+  still : (hint : ℕ) → s.answer ≡ Request hint → Continues only has_bytes c s.answer d.events d.events
+  still hint is = rw is (counted_still only has_bytes d.events c d.counted (Request hint) (λ why shown b. b) refl)
 
   pub advanced : new.why ≡ None → next ≡ turn.Advance → Dumping only has_bytes full rest before g c' new × (weight g < weight f)
   advanced going t =
@@ -412,7 +422,7 @@ module _ (only : List Only) (has_bytes : Bool) (full rest : Option (List ℕ)) (
         record {
           events = d.events;
           asks = asks;
-          counted = s.counted ∙ (ap (λ (x : Result Step Error). after_answer c x) is ∙ d.counted);
+          counted = s.counted ∙ (ap (λ (x : Told). after_answer c x) is ∙ d.counted);
           writing = going_on going d.events (rw is (append-nil outlined)) (still hint is);
         },
         same,
@@ -510,6 +520,12 @@ pub same_going : (only : List Only) (has_bytes : Bool) (full rest : Option (List
     → Dumping only has_bytes full rest before g c now × (weight g < weight e)
 same_going only has_bytes full rest before e f g c now same p = rw same p
 
+-- what the tree has written afterwards
+pub same_written : (only : List Only) (has_bytes : Bool) (full rest : Option (List ℕ)) (before : Writing) (f : Feed) (c : Counts)
+    (now last : Writing) → last ≡ now → Dumping only has_bytes full rest before f c now → Dumping only has_bytes full rest before f c last
+same_written only has_bytes full rest before f c now last same d =
+    subst (λ (w : Writing). Dumping only has_bytes full rest before f c w) (sym same) d
+
 -- ---- a read
 
 module _ (only : List Only) (has_bytes : Bool) (full rest : Option (List ℕ)) (before : Writing) (f : Feed) (c : Counts) (now last : Writing)
@@ -556,6 +572,13 @@ module _ (only : List Only) (has_bytes : Bool) (full rest : Option (List ℕ)) (
       rest' r.0 r.1 numbers (not_whole (f.held ++ r.0)) (events_begin None Memory only no_counts d.events numbers are))
       (some_of o last (whole o last going out wrote)) (h ∙ m) (has_failed o last going wrote)
   not_filled had mid has m rest' g Output r h taken failed i = absurd r
+
+  -- an allocation failed
+  pub without_memory : (had has : Bool) → has ≡ had → (e : ListError) → e ≡ Memory
+      → DumpsInto only has_bytes (source full rest had has) before (Err e) last
+  without_memory had has h e is =
+      subst (λ (x : ListError). DumpsInto only has_bytes (source full rest had has) before (Err x) last) (sym is)
+      (not_filled had has has h rest f Memory ([], Consumes-nil rest) refl)
 
 -- ---- the whole
 

@@ -6,3 +6,4 @@ pub mod DroppedParts
 pub mod Dumping
 pub mod Lines
 pub mod Numbering
+pub mod Outlines

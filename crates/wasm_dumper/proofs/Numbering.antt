@@ -2,7 +2,7 @@
 use Rattle.wasm_dumper.proofs.Common.{◌≡◌, ℕ, zero, suc, ◌+◌, ◌^◌, ◌<◌, Bool, true, false, List, [], ◌∷◌, ◌++◌, Some, None, Result, Ok, Err}
 use Rattle.wasm_dumper.proofs.Common.{refl, sym, ap, subst, subst₂, ◌∙◌, add-one, append-nil, arith, nat_eq, Option, append_assoc, is_some}
 use Rattle.wasm_dumper.proofs.Common.{if◌then◌else◌, fault_at, ReadsAs, unsigned_at, Outcome, Section, Place, place, Error, VarU32}
-use Rattle.wasm_dumper.proofs.Common.{turn_after, Step, NeedMoreData, Parsed, End, fault, Ending, import_id, Report, counted, Event}
+use Rattle.wasm_dumper.proofs.Common.{turn_after, Told, Request, Part, Stop, End, fault, Ending, import_id, Report, counted, Event}
 use Rattle.wasm_dumper.proofs.Common.{stream_end, line_in, report_of, ListError, Base, Number, more, numbers_from, numbers_read, Writing}
 use Rattle.wasm_dumper.proofs.Common.{IsWritten, with_numbers, AddsThese, AddsNumbers, Adds, base_of, Origin, AddsFirst, AddsUpTo, Space}
 use Rattle.wasm_dumper.proofs.Common.{Types, is_chosen, shown_line, numbered_line, one_number, after, after_all, numbers_in_line, Found}
@@ -256,7 +256,7 @@ shows_defined c id space s old new begins isnt next a o i =
     (next (numbers_read (item_at id) s.count (place s.reader)) shown held) in
     (shown, subst (λ (b : Bool). AreOfSection new.why b c id s.count (unread s.reader) shown) (sym isnt) are, wrote)
 
-no_bytes : (o : Origin) (w : Writing) → IsWritten o w → IsWritten (with_bytes o []) w
+pub no_bytes : (o : Origin) (w : Writing) → IsWritten o w → IsWritten (with_bytes o []) w
 no_bytes o w i = subst (λ (x : List ℕ). IsWritten (record o { bytes = x }) w) (sym (append-nil o.bytes)) i
 
 nothing_more : (o : Origin) (w : Writing) → IsWritten o w → IsWritten (with_bytes (with_numbers (with_line o []) []) []) w
@@ -309,7 +309,7 @@ last_chosen : (only : List Only) (end : Ending) → is_chosen only (stream_end e
 last_chosen only end = refl
 
 fault_shown : (only : List Only) (has_bytes : Bool) (c : Counts) (e : Error) (old new : Writing)
-    → AddsFirst (line_in (base_of old.style) (stream_end (fault (fault_at e)))) old new → ShowsAnswer only has_bytes c (Err e) old new
+    → AddsFirst (line_in (base_of old.style) (stream_end (fault (fault_at e)))) old new → ShowsAnswer only has_bytes c (Stop e) old new
 fault_shown only has_bytes c e old new a o i =
     let r = stream_end (fault (fault_at e)) in
     let base = base_of o.style in
@@ -323,19 +323,19 @@ fault_shown only has_bytes c e old new a o i =
     )
 
 -- a fault of the stream
-module _ (only : List Only) (has_bytes : Bool) (c : Counts) (answer : Result Step Error) where
-  pub shows_fault : (e : Error) (old new : Writing) → answer ≡ Err e
+module _ (only : List Only) (has_bytes : Bool) (c : Counts) (answer : Told) where
+  pub shows_fault : (e : Error) (old new : Writing) → answer ≡ Stop e
       → AddsFirst (line_in (base_of old.style) (stream_end (fault (fault_at e)))) old new
       → ShowsAnswer only has_bytes c answer old new
-  shows_fault e old new is a = subst (λ (x : Result Step Error). ShowsAnswer only has_bytes c x old new) (sym is)
+  shows_fault e old new is a = subst (λ (x : Told). ShowsAnswer only has_bytes c x old new) (sym is)
       (fault_shown only has_bytes c e old new a)
 
 -- where more is asked for, nothing is shown
-pub shows_request : (only : List Only) (has_bytes : Bool) (c : Counts) (answer : Result Step Error) (w : Writing)
+pub shows_request : (only : List Only) (has_bytes : Bool) (c : Counts) (answer : Told) (w : Writing)
     → turn.Read ≡ turn_after answer → ShowsAnswer only has_bytes c answer w w
-shows_request only has_bytes c (Ok (NeedMoreData hint)) w t = λ o i. ([], refl, nothing_more o w i)
-shows_request only has_bytes c (Err e) w t = cc
-shows_request only has_bytes c (Ok (Parsed bytes payload)) w t = absurd (by_end (is_end (report_of payload)) t)
+shows_request only has_bytes c (Request hint) w t = λ o i. ([], refl, nothing_more o w i)
+shows_request only has_bytes c (Stop e) w t = cc
+shows_request only has_bytes c (Part report bytes) w t = absurd (by_end (is_end report) t)
   where
     by_end : (b : Bool) → turn.Read ≡ (if b then turn.End End else turn.Advance) → ⊥
     by_end true e = cc

@@ -12,8 +12,7 @@ use Rattle.wasm_dumper.specs.Chosen.{is_chosen, shows_items}
 use Rattle.wasm_dumper.specs.Counting.{after_number, imports_in}
 use Rattle.wasm_dumper.specs.declared.events.Only.{Only}
 use Rattle.wasm_feeder.specs.Lists.{IsEndedBy, IsWhole, PassesTop}
-use Rattle.wasm_feeder.specs.declared.feeder.Step.{Step}
-use Rattle.wasm_feeder.specs.declared.feeder.Step.TheVariants.{NeedMoreData, Parsed}
+use Rattle.wasm_feeder.specs.Step.{Told, Part, Request, Stop}
 use Rattle.wasm_feeder.specs.declared.turns.Ended.{Ended}
 use Rattle.wasm_grammar.specs.Content.{Ending, fault}
 use Rattle.wasm_grammar.specs.Ids.{type_id, import_id, function_id, table_id, memory_id, tag_id, global_id, export_id}
@@ -27,7 +26,6 @@ use Rattle.wasm_items.specs.Memories.{memory_type_at}
 use Rattle.wasm_items.specs.RecGroups.{rec_group_at}
 use Rattle.wasm_items.specs.Tables.{table_at}
 use Rattle.wasm_items.specs.Tags.{tag_type_at}
-use Rattle.wasm_parser.specs.ParseAnswer.{report_of}
 use Rattle.wasm_show.specs.Faults.{any_fault, custom_faulty, items_faulty, plainly}
 use Rattle.wasm_text.specs.Calls.{Change}
 use Rattle.wasm_text.specs.declared.devices.ListError.{ListError}
@@ -81,10 +79,10 @@ any_faulty only [] = false
 any_faulty only (e ∷ events) = either (shown_faulty only e.report) (any_faulty only events)
 
 -- of the result of a step
-abbrev pub answer_faulty : List Only → Result Step Error → Bool
-answer_faulty only (Ok (NeedMoreData hint)) = false
-answer_faulty only (Ok (Parsed bytes payload)) = shown_faulty only (report_of payload)
-answer_faulty only (Err e) = true
+abbrev pub answer_faulty : List Only → Told → Bool
+answer_faulty only (Request hint) = false
+answer_faulty only (Part report bytes) = shown_faulty only report
+answer_faulty only (Stop e) = true
 
 -- What the source gave is read as events, of which one that is shown has a malformed item or is a fault exactly if this
 -- says so. The run ended as they do.

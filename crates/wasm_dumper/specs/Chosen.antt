@@ -6,6 +6,7 @@ use Rattle.wasm_grammar.specs.Reading.{Report, counted, code_entry, custom_secti
 use Rattle.wasm_grammar.specs.Ids.{code_id}
 use Rattle.wasm_grammar.specs.Ids.{name_of as section_name}
 use Rattle.wasm_grammar.specs.Sections.{section_of}
+use Rattle.wasm_frames.specs.SkipNext.{Skip, custom}
 use Rattle.wasm_lines.specs.Listing.{line_of, report_text}
 use Rattle.wasm_text.specs.declared.digits.Base.{Base}
 use Rattle.wasm_text.specs.declared.digits.Base.TheVariants.{Decimal}
@@ -14,6 +15,7 @@ use Rattle.wasm_dumper.specs.Counting.{numbers_in_line}
 use Rattle.wasm_tree.specs.Tree.{base_of}
 use Rattle.wasm_dumper.specs.declared.counts.Counts.{Counts}
 use Rattle.wasm_tree.specs.declared.tree.Style.{Style}
+use Rattle.wasm_dumper.specs.declared.events.CustomFields.{CustomFields}
 use Rattle.wasm_dumper.specs.declared.events.Only.{Only}
 use Rattle.wasm_dumper.specs.declared.events.Only.TheVariants.{All, Parts, Id, Name}
 
@@ -65,6 +67,10 @@ is_parts other = false
 -- whether items are shown: no choice is of the parts alone
 abbrev pub shows_items : List Only → Bool
 shows_items only = not (list_any is_parts only)
+
+-- a custom section by its first fields, as a part
+abbrev pub fields_part : CustomFields → Skip
+fields_part f = record { from = f.start; to = f.end; head = custom f.name.now f.data_offset }
 
 -- the name of the section that is reported with its id; the text of any other report begins with its name
 abbrev pub counted_name : Report → Option (List ℕ)

@@ -6,13 +6,11 @@ use Rattle.wasm_base.specs.Features.{all_features}
 use Rattle.wasm_base.specs.declared.error.Error.{Error}
 use Rattle.wasm_grammar.specs.EventRanges.{consumed_by}
 use Rattle.wasm_grammar.specs.Reading.{Report, Event}
-use Rattle.wasm_parser.specs.Along.{ReadingBegins}
-use Rattle.wasm_parser.specs.ParseAnswer.{report_of}
+use Rattle.wasm_frames.specs.Along.{ReadingBegins}
 use Rattle.wasm_text.specs.Calls.{Change, Device, bytes_of, from_to, input_failed, output_failed}
 use Rattle.wasm_feeder.specs.Lists.{ListsBy}
 use Rattle.wasm_feeder.specs.Turns.{text_after}
-use Rattle.wasm_feeder.specs.declared.feeder.Step.{Step}
-use Rattle.wasm_feeder.specs.declared.feeder.Step.TheVariants.{NeedMoreData, Parsed}
+use Rattle.wasm_feeder.specs.Step.{Told, Part, Request, Stop}
 use Rattle.wasm_feeder.specs.declared.turns.Ended.{Ended}
 use Rattle.wasm_feeder.specs.declared.turns.Ended.TheVariants.{End}
 use Rattle.wasm_text.specs.declared.devices.ListError.{ListError}
@@ -151,25 +149,25 @@ ShowsReport only has_bytes counts report bytes old new = ShowsLine (λ style. ch
     (AreOf new.why only counts report) (shown_bytes has_bytes only report bytes) old new
 
 -- the numbers that are shown of a result, and the counts after it
-abbrev pub AreOfAnswer : (why : Option ListError) → List Only → Counts → Result Step Error → List Number → Type 0
-AreOfAnswer why only counts (Ok (NeedMoreData hint)) shown = shown ≡ []
-AreOfAnswer why only counts (Ok (Parsed bytes payload)) shown = AreOf why only counts (report_of payload) shown
-AreOfAnswer why only counts (Err e) shown = shown ≡ []
+abbrev pub AreOfAnswer : (why : Option ListError) → List Only → Counts → Told → List Number → Type 0
+AreOfAnswer why only counts (Request hint) shown = shown ≡ []
+AreOfAnswer why only counts (Part report bytes) shown = AreOf why only counts report shown
+AreOfAnswer why only counts (Stop e) shown = shown ≡ []
 
-abbrev pub after_answer : Counts → Result Step Error → Counts
-after_answer counts (Ok (NeedMoreData hint)) = counts
-after_answer counts (Ok (Parsed bytes payload)) = after counts (report_of payload)
-after_answer counts (Err e) = counts
+abbrev pub after_answer : Counts → Told → Counts
+after_answer counts (Request hint) = counts
+after_answer counts (Part report bytes) = after counts report
+after_answer counts (Stop e) = counts
 
 -- the bytes that are shown with a result
-abbrev pub bytes_of_answer : (has_bytes : Bool) → List Only → Result Step Error → List ℕ
-bytes_of_answer has_bytes only (Ok (NeedMoreData hint)) = []
-bytes_of_answer has_bytes only (Ok (Parsed bytes payload)) =
-    shown_bytes has_bytes only (report_of payload) bytes.now
-bytes_of_answer has_bytes only (Err e) = []
+abbrev pub bytes_of_answer : (has_bytes : Bool) → List Only → Told → List ℕ
+bytes_of_answer has_bytes only (Request hint) = []
+bytes_of_answer has_bytes only (Part report bytes) =
+    shown_bytes has_bytes only report bytes
+bytes_of_answer has_bytes only (Stop e) = []
 
 -- A result was shown, if it was chosen.
-abbrev pub ShowsAnswer : List Only → (has_bytes : Bool) → Counts → Result Step Error → (old new : Writing) → Type 0
+abbrev pub ShowsAnswer : List Only → (has_bytes : Bool) → Counts → Told → (old new : Writing) → Type 0
 ShowsAnswer only has_bytes counts answer old new = ShowsLine (λ style. text_after (chosen_line style only) answer)
     (AreOfAnswer new.why only counts answer) (bytes_of_answer has_bytes only answer) old new
 

@@ -1,12 +1,15 @@
 // Collects the names of items from the custom sections of a stream: `name`, or else `linking`.
-ghost use Rattle.std.specs.Prelude.{◌≡◌, IfErr, if◌then◌else◌};
+ghost use Rattle.std.specs.Prelude.{◌≡◌, ◌<◌, ◌≤◌, ◌+◌, length, vec_capacity, vec_len, IfErr, if◌then◌else◌};
 ghost use Rattle.wasm_text.specs.declared.devices.ListError.TheVariants.{Memory};
 ghost use Rattle.wasm_tree.specs.ItemNames.{KeepsNames};
 
+use crate::events::{Only, Shown};
+use crate::hidden::{Outline, Skipped, drop_part, skip_unread};
 use crate::linked::Linked;
 use std::alloc::Global;
 use wasm_custom::{Name, NameMap, NameSectionReader};
-use wasm_feeder::{Feeder, Step};
+use wasm_feeder::{Ahead, Cursor, Step, parse_next, seen};
+use wasm_grammar::CUSTOM_SECTION;
 use wasm_parser::{Parser, Payload, Result as ParserResult};
 use wasm_text::{ListError, Source};
 use wasm_tree::{ItemNames, Space};
@@ -161,14 +164,23 @@ impl Collected {
         }
     }
 
-    // Performs one step and adds the names of its payload. Returns what to do next.
-    fn add_step(&mut self, alloc: Global, feeder: &mut Feeder) -> Result<Next, ListError>
+    // Passes a part that was skipped. The name of a custom section is kept: symbols name sections.
+    fn add_skipped(&mut self, alloc: Global, outline: Outline) -> Result<(), ListError>
         ensures keeps { KeepsNames self.old.named self.new.named }
         ensures linked { KeepsNames self.old.linked.names self.new.linked.names }
         ensures memory { IfErr result (λ why. why ≡ Memory) }
     {
-        let answer = feeder.step();
-        self.add_answer(alloc, &answer)
+        match outline {
+            Outline::Hidden { is_body } => {
+                self.linked.pass_hidden(is_body);
+                Ok(())
+            }
+            Outline::Custom(section) => {
+                let payload = section.without_data();
+                self.linked
+                    .pass(alloc, &mut self.named, &[], &payload, true)
+            }
+        }
     }
 
     // The names of a section called `name`, if there is one, or else those that symbols give. Symbols have theirs anyway.
@@ -188,24 +200,70 @@ impl Collected {
     }
 }
 
-// Reads the source once. Returns false if it failed or the feeder wants no more.
+// The parts that are read: custom sections with known names. Import sections are read in any case.
+fn named_parts() -> Shown<'static> {
+    Shown {
+        only: &[Only::Id(CUSTOM_SECTION)],
+        has_bytes: false,
+        found: &[],
+    }
+}
+
+// Reads the source once, or skips the part at the cursor. Returns false if the source failed or ended within that part.
 fn read_more<R: Source>(
-    feeder: &mut Feeder,
+    alloc: Global,
+    names: &mut Collected,
+    cursor: &mut Cursor,
+    stored: &mut Vec<u8>,
+    ahead: &mut Ahead<Global>,
     input: &mut R,
-    buffer: &mut [u8],
 ) -> Result<bool, ListError>
-    ensures { IfErr result (λ why. why ≡ Memory) }
+    requires { vec_len stored.old + length ahead.old ≤ vec_capacity stored.old }
+    ensures keeps { KeepsNames names.old.named names.new.named }
+    ensures linked { KeepsNames names.old.linked.names names.new.linked.names }
+    ensures memory { IfErr result (λ why. why ≡ Memory) }
 {
-    if buffer.is_empty() {
-        return Ok(false);
+    let part = skip_unread(alloc, named_parts(), cursor, seen(stored, ahead.bytes()))?;
+    let Some(Skipped { passing, outline }) = part else {
+        return match ahead.refill(cursor, stored, input) {
+            Ok(()) => Ok(true),
+            Err(ListError::Memory) => Err(ListError::Memory),
+            Err(_) => Ok(false),
+        };
+    };
+    match drop_part(alloc, passing, cursor, stored, ahead, input) {
+        Ok(None) => {
+            names.add_skipped(alloc, outline)?;
+            Ok(true)
+        }
+        _ => Ok(false),
     }
-    if !feeder.wants_more() {
-        return Ok(false);
-    }
-    match feeder.read_from(input, buffer) {
-        Ok(()) => Ok(true),
-        Err(ListError::Memory) => Err(ListError::Memory),
-        Err(_) => Ok(false),
+}
+
+// Performs one step and adds the names of its payload, or reads on. Returns false at the end.
+fn add_next<R: Source>(
+    alloc: Global,
+    names: &mut Collected,
+    cursor: &mut Cursor,
+    stored: &mut Vec<u8>,
+    ahead: &mut Ahead<Global>,
+    input: &mut R,
+) -> Result<bool, ListError>
+    ensures keeps { KeepsNames names.old.named names.new.named }
+    ensures linked { KeepsNames names.old.linked.names names.new.linked.names }
+    ensures memory { IfErr result (λ why. why ≡ Memory) }
+{
+    ahead.make_ready(cursor, stored)?;
+    let answer = parse_next(cursor, seen(stored, ahead.bytes()));
+    let next = names.add_answer(alloc, &answer);
+    drop(answer);
+    match next? {
+        Next::Step => {
+            ahead.pass_borrowed(cursor, stored);
+            Ok(true)
+        }
+        Next::Read => read_more(alloc, names, cursor, stored, ahead, input),
+        Next::End => Ok(false),
     }
 }
 
@@ -214,8 +272,9 @@ fn collect_into<R: Source>(
     alloc: Global,
     names: &mut Collected,
     input: &mut R,
-    buffer: &mut [u8],
+    buffer: Vec<u8>,
 ) -> Result<(), ListError>
+    requires { 0 < vec_len buffer }
     // Proved: whatever comes in a stream after a name was collected from a section called `name`, its item keeps it
     //   [`keeps` (`KeepsNames`) of `collected::collect_into`, and of all that it calls]
     // Proved: so does an item that has a name by its symbol [`linked`, the same]
@@ -223,16 +282,12 @@ fn collect_into<R: Source>(
     ensures linked { KeepsNames names.old.linked.names names.new.linked.names }
     ensures memory { IfErr result (λ why. why ≡ Memory) }
 {
-    let mut feeder = Feeder::new(alloc, 0, Parser::new(0).features());
+    let mut ahead = Ahead::new(buffer);
+    let mut stored = Vec::new(alloc);
+    let mut cursor = Cursor::new(Parser::new(0));
     'steps: for _ in 0..u64::MAX {
-        match names.add_step(alloc, &mut feeder)? {
-            Next::Step => {}
-            Next::Read => {
-                if !read_more(&mut feeder, input, buffer)? {
-                    break;
-                }
-            }
-            Next::End => break,
+        if !add_next(alloc, names, &mut cursor, &mut stored, &mut ahead, input)? {
+            break;
         }
     }
     Ok(())
@@ -246,7 +301,8 @@ fn collect_into<R: Source>(
 ///
 /// These are the names before the first fault of the stream, of a name section or of the source. Those of a section
 /// `linking` end at its first fault, those of imports at theirs. If an item has two names, the first one counts. It reads
-/// at most 65,536 bytes at once.
+/// at most 65,536 bytes at once. It buffers import sections and custom sections with known names, and of other parts only
+/// the first fields.
 ///
 /// # Errors
 ///
@@ -267,7 +323,7 @@ pub fn collect_names<R: Source>(alloc: Global, input: &mut R) -> Result<ItemName
         has_section: false,
         linked: Linked::new(alloc, true),
     };
-    let mut buffer = vec![in alloc; 0u8; PIECE]?;
-    collect_into(alloc, &mut names, input, buffer.as_mut_slice())?;
+    let buffer = vec![in alloc; 0u8; PIECE]?;
+    collect_into(alloc, &mut names, input, buffer)?;
     Ok(names.into_names())
 }

@@ -1,12 +1,15 @@
 // Which events a dump shows, and the line or JSON object of each.
 ghost use Rattle.std.specs.List.{list_any};
-ghost use Rattle.std.specs.Prelude.{◌≡◌, ◌≤◌, ◌+◌, ◌++◌, codes, false, IfSome, length, option_map, take, true};
+ghost use Rattle.std.specs.Prelude.{◌≡◌, ◌≤◌, ◌+◌, ◌++◌, codes, false, IfSome, length, option_map, Some, take, true};
 ghost use Rattle.wasm_base.specs.FaultAt.{fault_at};
-ghost use Rattle.wasm_dumper.specs.Chosen.{after_blank, counted_name as name_counted, end_text, id_of as id_reported, is_chosen, is_chosen_by, is_chosen_with, is_parts, name_of as name_reported, numbered_line, shows_items as items_are_shown};
+ghost use Rattle.wasm_base.specs.Window.{place};
+ghost use Rattle.wasm_dumper.specs.Chosen.{after_blank, counted_name as name_counted, end_text, fields_part, id_of as id_reported, is_chosen, is_chosen_by, is_chosen_with, is_parts, name_of as name_reported, numbered_line, shows_items as items_are_shown};
 ghost use Rattle.wasm_grammar.specs.Content.{fault};
 ghost use Rattle.wasm_grammar.specs.Ids.{name_of};
 ghost use Rattle.wasm_grammar.specs.Reading.{stream_end};
-ghost use Rattle.wasm_lines.specs.Listing.{line_in};
+ghost use Rattle.wasm_frames.specs.Frame.{unread};
+ghost use Rattle.wasm_frames.specs.SkipNext.{custom, skip_is, windowed};
+ghost use Rattle.wasm_lines.specs.Listing.{line_in, skip_text};
 ghost use Rattle.wasm_parser.specs.ParseAnswer.{report_of};
 ghost use Rattle.wasm_tree.specs.Found.{Finds, FindsNone};
 ghost use Rattle.wasm_tree.specs.Tree.{Adds, AddsFirst, base_of, has_line_feed};
@@ -15,10 +18,11 @@ use crate::counts::Counts;
 use std::cell::Cell;
 use std::ops::Range;
 use wasm_base::Error;
-use wasm_grammar::{CODE_SECTION, section_name};
+use wasm_custom::CustomSectionReader;
+use wasm_grammar::{CODE_SECTION, CUSTOM_SECTION, section_name};
 use wasm_items::FunctionBody;
-use wasm_lines::{FaultLine, encoding_name, write_payload};
-use wasm_parser::{Encoding, Payload};
+use wasm_lines::{FaultLine, SkippedLine, encoding_name, write_payload};
+use wasm_parser::{Encoding, PartHead, Payload, SkippedPart};
 use wasm_text::{Base, ShortText, write_word};
 use wasm_tree::{Space, Style, Tree, Within, write_item};
 
@@ -265,6 +269,19 @@ fn standard_name(id: u8, payload: &Payload<'_>) -> Option<&'static str> {
     }
 }
 
+// Begins the object of a section, with the members that all sections have.
+fn begin_section<O: Tree>(id: u8, name: Option<&'static str>, range: &Range<u64>, out: &mut O)
+    ensures { Adds (O.writing out.old) (O.writing out.new) }
+{
+    begin_event("section", out);
+    out.range("range", range.start, range.end);
+    out.number("id", u64::from(id));
+    match name {
+        Some(name) => out.quoted("name", name),
+        None => out.nothing("name"),
+    }
+}
+
 // Writes the members that only some sections have.
 fn section_fields<O: Tree>(payload: &Payload<'_>, out: &mut O)
     ensures { Adds (O.writing out.old) (O.writing out.new) }
@@ -272,10 +289,6 @@ fn section_fields<O: Tree>(payload: &Payload<'_>, out: &mut O)
     match payload {
         Payload::StartSection { func, .. } => out.number("func", u64::from(*func)),
         Payload::CodeSectionStart { size, .. } => out.number("size", u64::from(*size)),
-        Payload::CustomSection(section) => {
-            out.quoted("custom_name", section.name());
-            out.number("data_offset", section.data_offset());
-        }
         _ => {}
     }
 }
@@ -287,13 +300,7 @@ fn section_event<O: Tree>(payload: &Payload<'_>, out: &mut O)
     let Some((id, range, count)) = payload.section_parts() else {
         return;
     };
-    begin_event("section", out);
-    out.range("range", range.start, range.end);
-    out.number("id", u64::from(id));
-    match standard_name(id, payload) {
-        Some(name) => out.quoted("name", name),
-        None => out.nothing("name"),
-    }
+    begin_section(id, standard_name(id, payload), &range, out);
     if let Some(count) = count {
         out.number("count", u64::from(count));
     }
@@ -345,28 +352,110 @@ fn function_of(counts: &Counts, payload: &Payload<'_>) -> Option<u64> {
     }
 }
 
-// Returns the name of a custom section, if no line below has it: items are not shown.
-fn name_in_line<'a>(only: &[Only<'_>], payload: &Payload<'a>) -> Option<&'a str> {
-    if shows_items(only) {
-        None
-    } else {
-        name_of_custom(payload)
+/// The first fields of a custom section, which its line shows.
+#[derive(Clone, Copy)]
+pub(crate) struct CustomFields<'a> {
+    /// Its name.
+    pub(crate) name: &'a str,
+    /// The offset at which its content starts.
+    pub(crate) start: u64,
+    /// The offset at which its content ends.
+    pub(crate) end: u64,
+    /// The offset of its data, after the name.
+    pub(crate) data_offset: u64,
+}
+
+// Returns the first fields of a custom section.
+fn fields_of<'a>(section: &CustomSectionReader<'a>) -> CustomFields<'a>
+    ensures { fields_part result ≡ windowed (unread section.now.reader)
+        (custom section.now.name (place section.now.reader).offset) }
+{
+    let range = section.range();
+    CustomFields {
+        name: section.name(),
+        start: range.start,
+        end: range.end,
+        data_offset: section.data_offset(),
     }
 }
 
-// Writes a line of the first level, with a name in quotes if there is one, or the name of a function.
-fn write_first<T: ShortText, O: Tree>(
-    text: &T,
-    name: Option<&str>,
-    function: Option<u64>,
-    out: &mut O,
-)
+// Returns a custom section by its first fields.
+fn part_of<'a>(fields: CustomFields<'a>) -> SkippedPart<'a>
+    ensures { skip_is result ≡ fields_part fields.entry }
+{
+    SkippedPart {
+        range: fields.start..fields.end,
+        head: PartHead::Custom {
+            name: fields.name,
+            data_offset: fields.data_offset,
+        },
+    }
+}
+
+// Writes the object of a custom section.
+fn custom_object<O: Tree>(fields: CustomFields<'_>, out: &mut O)
+    ensures adds { Adds (O.writing out.old) (O.writing out.new) }
+    ensures found { FindsNone (O.found out.old) (O.found out.new) }
+{
+    if O::ONLY_FAULTS {
+        return;
+    }
+    let range = fields.start..fields.end;
+    begin_section(CUSTOM_SECTION, section_name(CUSTOM_SECTION), &range, out);
+    out.quoted("custom_name", fields.name);
+    out.number("data_offset", fields.data_offset);
+}
+
+// Returns the name of a custom section, if no line below has it: items are not shown.
+fn name_in_line<'a>(only: &[Only<'_>], name: &'a str) -> Option<&'a str> {
+    if shows_items(only) { None } else { Some(name) }
+}
+
+// Writes a line of the first level, with a name in quotes if there is one.
+fn write_first<T: ShortText, O: Tree>(text: &T, name: Option<&str>, out: &mut O)
     ensures adds { AddsFirst (T.text text.now ++ codes "\n") (O.writing out.old) (O.writing out.new) }
     ensures found { FindsNone (O.found out.old) (O.found out.new) }
 {
     match name {
         Some(name) => out.first_named(text, name),
-        None => out.first_of_function(text, function),
+        None => out.first_of_function(text, None),
+    }
+}
+
+/// Writes the line of a custom section, or its object. The line has its name, if items are not shown: else a line below has
+/// it.
+pub(crate) fn show_custom_event<O: Tree>(only: &[Only<'_>], fields: CustomFields<'_>, out: &mut O)
+    ensures adds { AddsFirst (skip_text (base_of (O.writing out.old).style) (fields_part fields.entry) ++ codes "\n")
+        (O.writing out.old) (O.writing out.new) }
+    ensures found { FindsNone (O.found out.old) (O.found out.new) }
+{
+    match out.style() {
+        Style::Lines(base) => {
+            let part = part_of(fields);
+            let line = SkippedLine { base, part: &part };
+            write_first(&line, name_in_line(only, fields.name), out);
+        }
+        Style::Objects => custom_object(fields, out),
+    }
+}
+
+// Writes the line of an event that is no custom section, or its object. That of a body has the number and the name of its
+// function.
+fn show_other_event<O: Tree>(counts: &Counts, payload: &Payload<'_>, out: &mut O)
+    ensures adds { AddsFirst (numbered_line (base_of (O.writing out.old).style) counts.now (report_of payload.now))
+        (O.writing out.old) (O.writing out.new) }
+    ensures found { FindsNone (O.found out.old) (O.found out.new) }
+{
+    match out.style() {
+        Style::Lines(base) => {
+            let heading = Heading {
+                base,
+                counts,
+                payload,
+            };
+            out.first_of_function(&heading, function_of(counts, payload));
+        }
+        Style::Objects => event_object(counts, payload, out),
     }
 }
 
@@ -382,17 +471,9 @@ pub(crate) fn show_event<O: Tree>(
         (O.writing out.old) (O.writing out.new) }
     ensures found { FindsNone (O.found out.old) (O.found out.new) }
 {
-    match out.style() {
-        Style::Lines(base) => {
-            let heading = Heading {
-                base,
-                counts,
-                payload,
-            };
-            let name = name_in_line(only, payload);
-            write_first(&heading, name, function_of(counts, payload), out);
-        }
-        Style::Objects => event_object(counts, payload, out),
+    match payload {
+        Payload::CustomSection(section) => show_custom_event(only, fields_of(section), out),
+        _ => show_other_event(counts, payload, out),
     }
 }
 

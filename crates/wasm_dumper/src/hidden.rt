@@ -1,28 +1,91 @@
-// Skips the parts of a stream of which a dump shows nothing.
-ghost use Rattle.std.specs.Prelude.{◌≡◌, ◌<◌, [], false, drop, length, option_map, Some, IfErr, IfOk};
-ghost use Rattle.wasm_dumper.specs.Chosen.{id_of as id_reported, name_of as name_reported};
-ghost use Rattle.wasm_dumper.specs.Hiding.{DropsPart, FailsWithin, HidesIfAny, has_imports as imports_are_in, has_symbols as symbols_are_in, is_body_head, is_hidden as hides};
+// Skips the parts of a stream of which a dump shows nothing, or only their first fields.
+ghost use Rattle.std.specs.List.{starts_with};
+ghost use Rattle.std.specs.Prelude.{◌≡◌, ◌<◌, [], codes, false, drop, length, nat_eq, option_map, Some, IfErr, IfOk};
+ghost use Rattle.std.specs.String.{string_bytes};
+ghost use Rattle.wasm_base.specs.Features.{all_features};
+ghost use Rattle.wasm_base.specs.Window.{window_over};
+ghost use Rattle.wasm_dumper.specs.Chosen.{fields_part, id_of as id_reported, name_of as name_reported};
+ghost use Rattle.wasm_dumper.specs.Hiding.{DropsPart, FailsWithin, IsOutlineIfAny, SkipsIfAny, has_imports as imports_are_in, has_symbols as symbols_are_in};
+ghost use Rattle.wasm_dumper.specs.Hiding.{is_body_head, is_hidden as hides, is_known as name_is_known, is_outlined as outlines, outlined_part};
 ghost use Rattle.wasm_feeder.specs.Beside.{seen};
 ghost use Rattle.wasm_feeder.specs.Passing.{held_by};
-ghost use Rattle.wasm_frames.specs.SkipNext.{head_is, report_with};
+ghost use Rattle.wasm_frames.specs.SkipNext.{head_is, report_with, skip_is};
+ghost use Rattle.wasm_grammar.specs.Reading.{custom_section};
+ghost use Rattle.wasm_parser.specs.ParseAnswer.{ItemsBegin, report_of};
 ghost use Rattle.wasm_text.specs.Calls.{input_failed};
+ghost use Rattle.wasm_text.specs.declared.devices.ListError.TheVariants.{Memory};
 
-use crate::events::{Only, is_chosen_by_any};
+use crate::events::{CustomFields, Only, Shown, is_chosen_by_any, shows_items};
 use crate::linked::LINKING;
 use std::alloc::Global;
 use std::io;
+use wasm_base::BinaryReader;
+use wasm_custom::CustomSectionReader;
 use wasm_feeder::{Ahead, Cursor, Passing, pass_part};
 use wasm_grammar::{CODE_SECTION, CUSTOM_SECTION, IMPORT_SECTION};
-use wasm_parser::{Error, PartHead};
+use wasm_parser::{Error, PartHead, Payload, SkippedPart};
 use wasm_text::{ListError, Page, Source};
 
-/// A part of which a dump shows nothing.
-#[derive(Clone, Copy)]
-pub(crate) struct Hidden {
+/// A part that was skipped by its first fields.
+#[derive(Drop)]
+pub(crate) struct Skipped {
     /// Its offset and its size.
     pub(crate) passing: Passing,
-    /// Whether it is a function body.
-    pub(crate) is_body: bool,
+    /// What a dump shows of it.
+    pub(crate) outline: Outline,
+}
+
+/// What a dump shows of a part that was skipped.
+#[derive(Drop)]
+pub(crate) enum Outline {
+    /// Nothing.
+    Hidden {
+        /// Whether it is a function body.
+        is_body: bool,
+    },
+    /// The first fields of a custom section.
+    Custom(CustomOutline),
+}
+
+/// The first fields of a custom section that was skipped.
+#[derive(Drop)]
+pub(crate) struct CustomOutline {
+    name: String,
+    start: u64,
+    end: u64,
+    data_offset: u64,
+}
+
+impl CustomOutline {
+    /// Returns the first fields.
+    pub(crate) fn fields(&self) -> CustomFields<'_>
+        ensures { fields_part result ≡ outlined_part self.now }
+    {
+        CustomFields {
+            name: self.name.as_str(),
+            start: self.start,
+            end: self.end,
+            data_offset: self.data_offset,
+        }
+    }
+
+    /// Returns the payload of the section as if it had no data, of which a dump shows nothing.
+    pub(crate) fn without_data(&self) -> Payload<'_>
+        ensures is { report_of result ≡ custom_section (string_bytes self.now.name) self.now.data_offset
+            (window_over all_features self.now.data_offset []) }
+        ensures begins { ItemsBegin result }
+    {
+        empty_section(self.name.as_str(), self.data_offset)
+    }
+}
+
+// Returns the payload of a custom section without data.
+fn empty_section<'a>(name: &'a str, data_offset: u64) -> Payload<'a>
+    ensures is { report_of result ≡ custom_section name.now data_offset (window_over all_features data_offset []) }
+    ensures begins { ItemsBegin result }
+{
+    let data = BinaryReader::new(&[], data_offset);
+    Payload::CustomSection(CustomSectionReader::after_name(name, data))
 }
 
 // Returns the id of the section that a part with these first fields is, or belongs to.
@@ -89,55 +152,128 @@ fn is_body(head: &PartHead<'_>) -> bool
     }
 }
 
-/// Skips the part at the cursor if a dump shows nothing of it and its first fields are in these bytes.
-pub(crate) fn skip_hidden(only: &[Only<'_>], cursor: &mut Cursor, bytes: &[u8]) -> Option<Hidden>
-    // Proved: a part is skipped exactly if nothing of it is chosen, it is no import section and not called `linking`,
-    //   and `skip_next` skips it; of such parts the bodies are counted [`hidden::skip_hidden` (`HidesIfAny`),
-    //   `Counts::pass_hidden` (`after_hidden`)]
-    ensures { HidesIfAny only.now cursor.old bytes.now result cursor.new }
+// Returns whether a custom section with this name has relocations.
+fn has_relocations(name: &str) -> bool
+    ensures { result ≡ starts_with nat_eq name.now (codes "reloc.") }
+{
+    name.starts_with("reloc.")
+}
+
+// Returns whether the name of a custom section is known: a dump that shows items reads the data of such a section.
+fn is_known(name: &str) -> bool
+    ensures { result ≡ name_is_known name.now }
+{
+    match name {
+        "name"
+        | "metadata.code.branch_hint"
+        | "producers"
+        | "dylink.0"
+        | "core"
+        | "coremodules"
+        | "coreinstances"
+        | "corestack"
+        | "linking"
+        | "target_features" => true,
+        _ => has_relocations(name),
+    }
+}
+
+// Returns whether a dump shows the first fields of the custom section with this name, and nothing of its data.
+fn is_outlined(shown: Shown<'_>, name: &str) -> bool
+    ensures { result ≡ outlines shown.entry.only.now shown.entry.has_bytes name.now }
+{
+    if shown.has_bytes {
+        return false;
+    }
+    if shows_items(shown.only) && is_known(name) {
+        return false;
+    }
+    is_chosen_by_any(shown.only, Some(CUSTOM_SECTION), Some(name))
+}
+
+// Returns what a dump shows of a part, if its first fields are enough for that.
+fn outline_of(
+    alloc: Global,
+    shown: Shown<'_>,
+    part: &SkippedPart<'_>,
+) -> Result<Option<Outline>, ListError>
+    ensures outlines { IfOk result (λ outline.
+        IsOutlineIfAny shown.entry.only.now shown.entry.has_bytes (skip_is part.now) outline) }
+    ensures memory { IfErr result (λ why. why ≡ Memory) }
+{
+    if is_hidden(shown.only, &part.head) {
+        return Ok(Some(Outline::Hidden {
+            is_body: is_body(&part.head),
+        }));
+    }
+    match &part.head {
+        PartHead::Custom { name, data_offset } if is_outlined(shown, name) => {
+            Ok(Some(Outline::Custom(CustomOutline {
+                name: String::from_str(alloc, name)?,
+                start: part.range.start,
+                end: part.range.end,
+                data_offset: *data_offset,
+            })))
+        }
+        _ => Ok(None),
+    }
+}
+
+/// Skips the part at the cursor if its first fields are in these bytes, and are all that a dump needs of it.
+pub(crate) fn skip_unread(
+    alloc: Global,
+    shown: Shown<'_>,
+    cursor: &mut Cursor,
+    bytes: &[u8],
+) -> Result<Option<Skipped>, ListError>
+    // Proved: a part is skipped only if nothing of it is chosen, it is no import section and not called `linking`; or if it
+    //   is a custom section that is chosen without bytes, and its items are not shown or its name is not known. Then
+    //   `skip_next` skips it [`hidden::skip_unread` (`SkipsIfAny`)]
+    ensures skips { IfOk result (λ part. SkipsIfAny shown.entry.only.now shown.entry.has_bytes
+        cursor.old bytes.now part cursor.new) }
+    ensures memory { IfErr result (λ why. why ≡ Memory) }
 {
     let start = cursor.offset();
-    let mut skipped = cursor.clone().unwrap();
-    let part = skipped.skip_next(bytes)?;
-    if !is_hidden(only, &part.head) {
-        return None;
-    }
-    let hidden = Hidden {
-        passing: Passing {
-            from: part.range.start,
-            size: part.range.end - start,
-            stays: false,
-        },
-        is_body: is_body(&part.head),
+    let mut after = cursor.clone().unwrap();
+    let Some(part) = after.skip_next(bytes) else {
+        return Ok(None);
     };
-    *cursor = skipped;
-    Some(hidden)
+    let Some(outline) = outline_of(alloc, shown, &part)? else {
+        return Ok(None);
+    };
+    let passing = Passing {
+        from: part.range.start,
+        size: part.range.end - start,
+        stays: false,
+    };
+    *cursor = after;
+    Ok(Some(Skipped { passing, outline }))
 }
 
 /// Drops a part that the cursor has skipped, whose first bytes are held. Returns the fault of a stream that ends before
 /// the part does.
-pub(crate) fn drop_hidden<R: Source>(
+pub(crate) fn drop_part<R: Source>(
     alloc: Global,
-    hidden: Hidden,
+    passing: Passing,
     cursor: &mut Cursor,
     stored: &mut Vec<u8>,
     ahead: &mut Ahead<Global>,
     input: &mut R,
 ) -> Result<Option<Error>, ListError>
-    requires held { length (drop cursor.old.mark (seen stored.old.items ahead.old)) < hidden.passing.size }
-    requires drops { hidden.passing.stays ≡ false }
+    requires held { length (drop cursor.old.mark (seen stored.old.items ahead.old)) < passing.size }
+    requires drops { passing.stays ≡ false }
     // Proved: dropping it leaves what follows it: what was held and then read is the part and these bytes; or the
-    //   source ended or failed before all of the part had come [`hidden::drop_hidden` (`DropsPart`, `FailsWithin`)]
+    //   source ended or failed before all of the part had come [`hidden::drop_part` (`DropsPart`, `FailsWithin`)]
     ensures drops { IfOk result (λ fault. DropsPart (R.remaining input.old) (R.remaining input.new)
-        hidden.passing (held_by cursor.old stored.old.items ahead.old) fault ahead.new) }
+        passing (held_by cursor.old stored.old.items ahead.old) fault ahead.new) }
     ensures none { stored.new.items ≡ [] }
     ensures cursor { cursor.new ≡ record cursor.old { mark = 0 } }
     ensures fails { IfErr result (λ e. FailsWithin (R.remaining input.old) (R.remaining input.new)
-        hidden.passing.size (held_by cursor.old stored.old.items ahead.old) e) }
+        passing.size (held_by cursor.old stored.old.items ahead.old) e) }
     ensures source { R.has_failed input.new ≡ input_failed result (R.has_failed input.old) }
 {
     pass_part(
-        hidden.passing,
+        passing,
         cursor,
         stored,
         ahead,

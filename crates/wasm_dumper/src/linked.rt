@@ -103,7 +103,9 @@ impl Linked {
     }
 
     /// Passes a part that was skipped: a function body, or a section, whose name is not kept.
-    pub(crate) fn pass_hidden(&mut self, is_body: bool) {
+    pub(crate) fn pass_hidden(&mut self, is_body: bool)
+        ensures keeps { self.new.names ≡ self.old.names }
+    {
         if !is_body {
             self.pass_section();
         }

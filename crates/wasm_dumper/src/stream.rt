@@ -2,18 +2,22 @@
 ghost use Rattle.std.specs.Prelude.{◌≡◌, ◌≤◌, ◌<◌, ◌+◌, [], length, vec_len, vec_capacity, Some, None, OnOk, IfErr, if◌then◌else◌};
 ghost use Rattle.wasm_feeder.specs.Beside.{beside, lending, ReadsEnough};
 ghost use Rattle.wasm_feeder.specs.Cursors.{feed_of};
-ghost use Rattle.wasm_parser.specs.ParseAnswer.{AnswerBegins, ItemsBegin, report_of};
+ghost use Rattle.wasm_parser.specs.ParseAnswer.{ItemsBegin, report_of};
 ghost use Rattle.wasm_text.specs.Calls.{device_of, from_to};
-ghost use Rattle.wasm_feeder.specs.Step.{answer_of};
+ghost use Rattle.wasm_feeder.specs.Step.{StepBegins, told};
 ghost use Rattle.wasm_feeder.specs.Turns.{turn_after};
 ghost use Rattle.wasm_dumper.specs.Dump.{DumpsByTree, DumpsInto, ShowsAnswer, ShowsReport, after_answer};
 ghost use Rattle.wasm_dumper.specs.Checks.{FindsAt, answer_faulty, shown_faulty};
+ghost use Rattle.wasm_dumper.specs.Hiding.{CountsOutline, FindsOutline, ShowsOutline};
+ghost use Rattle.wasm_dumper.specs.declared.hidden.Outline.TheVariants.{Custom};
 ghost use Rattle.wasm_tree.specs.Found.{Finds, FindsNone};
 ghost use Rattle.wasm_tree.specs.Tree.{Adds, AddsBytes, IsOut};
 
 use crate::counts::Counts;
-use crate::events::{Only, Shown, chooses, note_found, show_event, show_last_fault, shows_items};
-use crate::hidden::{drop_hidden, skip_hidden};
+use crate::events::{
+    Only, Shown, chooses, note_found, show_custom_event, show_event, show_last_fault, shows_items,
+};
+use crate::hidden::{CustomOutline, Outline, Skipped, drop_part, skip_unread};
 use crate::linked::Linked;
 use crate::payload::{offsets_of_items, show_payload_if};
 use std::alloc::Global;
@@ -88,13 +92,13 @@ fn show_answer<O: Tree>(
     answer: &ParserResult<Step<'_>>,
     out: &mut O,
 ) -> Turn
-    ensures turns { result ≡ turn_after answer.now }
-    ensures shows { AnswerBegins (answer_of answer.now) → ShowsAnswer shown.entry.only.now
-        shown.entry.has_bytes counts.old answer.now (O.writing out.old) (O.writing out.new) }
-    ensures counts { AnswerBegins (answer_of answer.now)
-        → counts.new ≡ after_answer counts.old answer.now }
-    ensures found { AnswerBegins (answer_of answer.now) → Finds
-        (answer_faulty shown.entry.only.now answer.now) (O.found out.old) (O.found out.new) }
+    ensures turns { result ≡ turn_after (told answer.now) }
+    ensures shows { StepBegins answer.now → ShowsAnswer shown.entry.only.now
+        shown.entry.has_bytes counts.old (told answer.now) (O.writing out.old) (O.writing out.new) }
+    ensures counts { StepBegins answer.now
+        → counts.new ≡ after_answer counts.old (told answer.now) }
+    ensures found { StepBegins answer.now → Finds
+        (answer_faulty shown.entry.only.now (told answer.now)) (O.found out.old) (O.found out.new) }
 {
     match answer {
         Ok(Step::NeedMoreData(_)) => Turn::Read,
@@ -115,6 +119,47 @@ fn show_answer<O: Tree>(
             show_last_fault(error, out);
             Turn::End(Ended::Fault(*error))
         }
+    }
+}
+
+// Writes the line of a custom section that was skipped, and the line below it, if items are shown.
+fn show_outline<O: Tree>(
+    alloc: Global,
+    shown: Shown<'_>,
+    counts: &Counts,
+    section: &CustomOutline,
+    out: &mut O,
+)
+    ensures shows { ShowsOutline shown.entry.only.now shown.entry.has_bytes counts.now (Custom section.now)
+        (O.writing out.old) (O.writing out.new) }
+    ensures found { FindsOutline shown.entry.only.now shown.entry.has_bytes (Custom section.now)
+        (O.found out.old) (O.found out.new) }
+{
+    let payload = section.without_data();
+    note_found(shown, &payload);
+    show_custom_event(shown.only, section.fields(), out);
+    show_payload_if(shows_items(shown.only), alloc, counts, &payload, out);
+}
+
+// Counts a part that was skipped, and writes what is shown of it.
+fn show_skipped<O: Tree>(
+    alloc: Global,
+    shown: Shown<'_>,
+    counts: &mut Counts,
+    outline: &Outline,
+    out: &mut O,
+)
+    // Proved: what is shown and counted of a part that was skipped is what is shown and counted of its event, whatever its
+    //   other bytes are [`stream::show_skipped` (`ShowsOutline`, `CountsOutline`, `FindsOutline`)]
+    ensures shows { ShowsOutline shown.entry.only.now shown.entry.has_bytes counts.old outline.now
+        (O.writing out.old) (O.writing out.new) }
+    ensures counts { CountsOutline shown.entry.only.now shown.entry.has_bytes outline.now counts.old counts.new }
+    ensures found { FindsOutline shown.entry.only.now shown.entry.has_bytes outline.now
+        (O.found out.old) (O.found out.new) }
+{
+    match outline {
+        Outline::Hidden { is_body } => counts.pass_hidden(*is_body),
+        Outline::Custom(section) => show_outline(alloc, shown, counts, section, out),
     }
 }
 
@@ -190,6 +235,35 @@ fn learn_payload<O: Tree>(
     }
 }
 
+// Passes a part that was skipped. The name of a custom section that is shown is kept, if the tree shows items: symbols name
+// sections. The tree stops if an allocation fails.
+fn learn_skipped<O: Tree>(
+    alloc: Global,
+    only: &[Only<'_>],
+    linked: &mut Linked,
+    outline: Outline,
+    out: &mut O,
+) -> Result<(), ListError>
+    ensures keeps { OnOk result (O.writing out.new ≡ O.writing out.old) }
+    ensures found { OnOk result (O.found out.new ≡ O.found out.old) }
+    ensures adds { Adds (O.writing out.old) (O.writing out.new) }
+    ensures stops { IfErr result (λ why. (O.writing out.new).why ≡ Some why) }
+{
+    match outline {
+        Outline::Hidden { is_body } => {
+            linked.pass_hidden(is_body);
+            Ok(())
+        }
+        Outline::Custom(section) => {
+            if !O::ONLY_FAULTS && shows_items(only) {
+                learn_payload(alloc, only, linked, &[], &section.without_data(), out)
+            } else {
+                Ok(())
+            }
+        }
+    }
+}
+
 // Stops the tree because an allocation failed.
 fn stop<O: Tree>(out: &mut O) -> Result<(), ListError>
     ensures fails { OnOk result ⊥ }
@@ -257,19 +331,21 @@ fn dump_into<R: Source, O: Tree>(
             Turn::Read => {
                 flush(out)?;
                 let bytes = seen(&stored, ahead.bytes());
-                let Some(hidden) = skip_hidden(shown.only, &mut cursor, bytes) else {
+                let part = skip_unread(alloc, shown, &mut cursor, bytes)?;
+                let Some(Skipped { passing, outline }) = part else {
                     ahead.refill(&mut cursor, &mut stored, input)?;
                     continue;
                 };
-                let cut = drop_hidden(alloc, hidden, &mut cursor, &mut stored, &mut ahead, input)?;
+                let cut = drop_part(alloc, passing, &mut cursor, &mut stored, &mut ahead, input)?;
                 if let Some(error) = cut {
                     show_answer(alloc, shown, &mut counts, &mut offset, &Err(error), out);
                     go_on(out)?;
                     flush(out)?;
                     return Ok(Ended::Fault(error));
                 }
-                counts.pass_hidden(hidden.is_body);
-                linked.pass_hidden(hidden.is_body);
+                show_skipped(alloc, shown, &mut counts, &outline, out);
+                go_on(out)?;
+                learn_skipped(alloc, shown.only, &mut linked, outline, out)?;
                 offset = cursor.offset();
             }
             Turn::End(ended) => {
@@ -292,7 +368,8 @@ fn dump_into<R: Source, O: Tree>(
 /// buffers the last chunk, the undecided bytes, which are less than a part, and the lines that are not written yet, at
 /// most 65,536 bytes; if bytes are shown, also a copy of the current part and the offsets of its items. Of a part that
 /// is not chosen it buffers only the first fields, except of import sections, whose items count, and of sections
-/// `linking`, whose symbols relocations name. It also holds a copy of the import section, and the names of symbols and of
+/// `linking`, whose symbols relocations name. The same goes for a custom section that is chosen without bytes, if items
+/// are not shown or its name is unknown. It also holds a copy of the import section, and the names of symbols and of
 /// custom sections that it shows, if it shows items.
 ///
 /// A fault of the stream is no error: its line is written, and `Ended::Fault` is returned. A fault of an item is a line

@@ -7,5 +7,6 @@ mod golden;
 mod named;
 mod names;
 mod naming;
+mod skipped;
 mod symbols;
 mod trees;

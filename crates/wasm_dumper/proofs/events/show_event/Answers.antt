@@ -1,18 +1,18 @@
-use Rattle.wasm_dumper.proofs.Common.{◌≡◌, sym, ap, subst, ◌∙◌, report_of, Base, first_in_objects, base_of, AddsFirst, numbered_line}
-use Rattle.wasm_dumper.proofs.Lines.{text_fed}
+use Rattle.wasm_dumper.proofs.Common.{ℕ, List, Some, sym, ap, subst, Report, report_of, base_of, AddsFirst, numbered_line}
+use Rattle.wasm_base.specs.Window.{place}
+use Rattle.wasm_dumper.specs.Chosen.{fields_part}
+use Rattle.wasm_frames.specs.Frame.{unread}
+use Rattle.wasm_frames.specs.SkipNext.{Skip}
+use Rattle.wasm_dumper.proofs.Outlines.{custom_line}
 use Rattle.wasm_dumper.proofs.events.show_event.Goals as goal
 
-pub returns-in-Lines-clause-adds : goal.returns-in-Lines-clause-adds
-returns-in-Lines-clause-adds g c =
-    let writing = g.O.Tree.writing in
-    let report = report_of c.args.payload.now in
-    let base = c.in-Lines.base in
-    let same : base ≡ base_of (writing c.args.out.now).style = ap base_of (sym c.in-Lines.is ∙ c.style.ensures) in
-    let line = rw (text_fed base c.args.counts.now report) at c.write_first.ensures.adds in
-    subst (λ (b : Base). AddsFirst (numbered_line b c.args.counts.now report) (writing c.args.out.now)
-    (writing c.write_first.new.out)) same line
-
-pub returns-in-Objects-clause-adds : goal.returns-in-Objects-clause-adds
-returns-in-Objects-clause-adds g c =
-    first_in_objects _ _ (sym c.style.ensures ∙ c.in-Objects.is) c.event_object.ensures.adds
-    (numbered_line (base_of (g.O.Tree.writing c.args.out.now).style) c.args.counts.now (report_of c.args.payload.now))
+pub returns-in-CustomSection-clause-adds : goal.returns-in-CustomSection-clause-adds
+returns-in-CustomSection-clause-adds g c =
+    let s = c.in-CustomSection.section in
+    let old = g.O.Tree.writing c.args.out.now in
+    let new = g.O.Tree.writing c.show_custom_event.new.out in
+    let base = base_of old.style in
+    let line = custom_line base c.args.counts.now s.name (place s.reader).offset (unread s.reader) (fields_part c.fields_of.result)
+    (ap (λ (x : Skip). Some x) (sym c.fields_of.ensures)) in
+    subst (λ (r : Report). AddsFirst (numbered_line base c.args.counts.now r) old new) (ap report_of (sym c.in-CustomSection.is))
+    (subst (λ (x : List ℕ). AddsFirst x old new) (sym line) c.show_custom_event.ensures.adds)

@@ -1,5 +1,5 @@
 use Rattle.wasm_base.specs.Item.{ReadsAs}
-use Rattle.wasm_base.specs.Section.{all_items, most_items}
+use Rattle.wasm_base.specs.Section.{most_items}
 use Rattle.wasm_items.specs.RecGroups.{rec_group_at, rec_group_parts}
 use Rattle.wasm_dumper.proofs.Common.{AddsUpTo, Types}
 use Rattle.wasm_show.proofs.ForCallers.{SoFar}

@@ -1,6 +1,6 @@
 use Rattle.wasm_show.proofs.ForCallers.{SoFar, none_so_far, import_found, all_imports_found, not_known}
-use Rattle.wasm_show.specs.Faults.{OwesList, no_lists}
-use Rattle.wasm_dumper.proofs.Common.{List, refl, sym, ap, subst, ◌∙◌, Section, place, flattened, Found, import_numbers, Counts}
+use Rattle.wasm_show.specs.Faults.{OwesList}
+use Rattle.wasm_dumper.proofs.Common.{List, sym, ap, subst, ◌∙◌, Section, place, flattened, Found, import_numbers, Counts}
 use Rattle.wasm_dumper.proofs.Numbering.{AddsAllBut, none_shown, import_shown, all_shown, some_shown}
 use Rattle.wasm_dumper.proofs.numbered.show_imports.Goals.{in-None, in-Some+then-has_stopped}
 use Rattle.wasm_dumper.proofs.numbered.show_imports.Goals as goal

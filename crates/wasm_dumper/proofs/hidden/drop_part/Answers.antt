@@ -2,7 +2,7 @@ use Rattle.wasm_dumper.proofs.Common.{◌≡◌, ℕ, Bool, false, List, Result,
 use Rattle.std.specs.Prelude.{IfErr}
 use Rattle.wasm_feeder.specs.Passing.{GivesUp}
 use Rattle.wasm_feeder.proofs.ForCallers.{dropped_before}
-use Rattle.wasm_dumper.proofs.hidden.drop_hidden.Goals as goal
+use Rattle.wasm_dumper.proofs.hidden.drop_part.Goals as goal
 
 fails_so : (source rest taken written : Option (List ℕ)) (stays : Bool) (size : ℕ) (held waiting left new : List ℕ)
     (r : Result (Option Error) ListError) → stays ≡ false

@@ -1,0 +1,200 @@
+-- What is shown of a part that was skipped, by its first fields, is what is shown of its event.
+use Rattle.wasm_dumper.proofs.Common.{◌≡◌, ℕ, Bool, true, false, List, [], ◌∷◌, ◌++◌, Some, None, Option, refl, sym, ap, subst, subst₂, ◌∙◌}
+use Rattle.wasm_dumper.proofs.Common.{list_any, if◌then◌else◌, nat_eq, import_id, Report, counted, Writing, Base, base_of, AddsFirst}
+use Rattle.wasm_dumper.proofs.Common.{numbered_line, is_chosen, after, no_counts, shows_items, ShowsItemsIf, Counts, Only}
+use Rattle.std.proofs.Common.{not, ◌&&◌, ◌||◌, bytes_eq, codes}
+use Rattle.std.specs.List.{starts_with}
+use Rattle.std.specs.String.{string_bytes}
+use Rattle.wasm_base.specs.Window.{Window, place, whole_window}
+use Rattle.wasm_custom.specs.Known.{Known, known_of, read_by_name, readings, relocations_in, unknown}
+use Rattle.wasm_dumper.specs.Checks.{custom_of, faulty_if, shown_faulty}
+use Rattle.wasm_dumper.specs.Chosen.{is_chosen_by}
+use Rattle.wasm_dumper.specs.Dump.{ShowsReport}
+use Rattle.wasm_dumper.specs.Hiding.{ReportsOutline, after_hidden, has_imports, has_symbols, is_body_head, is_hidden, is_known, is_outlined}
+use Rattle.wasm_dumper.specs.Hiding.{outlined_part}
+use Rattle.wasm_dumper.specs.declared.hidden.CustomOutline.{CustomOutline}
+use Rattle.wasm_dumper.specs.declared.hidden.Outline.TheVariants.{Custom, Hidden}
+use Rattle.wasm_frames.specs.SkipNext.{Skip, custom, report_with, skip_in}
+use Rattle.wasm_grammar.specs.Reading.{code_entry, custom_section, unknown_section}
+use Rattle.wasm_lines.specs.Listing.{skip_text}
+use Rattle.wasm_show.specs.Faults.{custom_faulty, features_faulty, known_faulty}
+use Rattle.wasm_tree.specs.Found.{Finds, FindsNone}
+use Rattle.wasm_dumper.proofs.Numbering.{no_bytes, shows_chosen, shows_unchosen}
+use Rattle.wasm_lines.proofs.ForCallers.{skipped_text}
+
+-- ---- a part by its first fields as by its report
+
+abbrev skip_or : Skip → Option Skip → Skip
+skip_or s (Some x) = x
+skip_or s None = s
+
+none_of : (a b c : Bool) → not a && (not b && not c) ≡ true → (a ≡ false) × (c ≡ false)
+none_of true b c e = cc
+none_of false true c e = cc
+none_of false false true e = cc
+none_of false false false e = (refl, refl)
+
+hidden_by : (only : List Only) (s : Skip) (x : Option Skip) → x ≡ Some s → is_hidden only s.head ≡ true
+    → (has_imports (skip_or s x).head ≡ false)
+    × (list_any (λ choice. is_chosen_by choice (report_with (skip_or s x).head)) only ≡ false)
+hidden_by only s x e h = none_of (has_imports (skip_or s x).head) (has_symbols (skip_or s x).head)
+    (list_any (λ choice. is_chosen_by choice (report_with (skip_or s x).head)) only)
+    (subst (λ (y : Option Skip). is_hidden only (skip_or s y).head ≡ true) (sym e) h)
+
+not_chosen : (only : List Only) (r : Report) (s : Skip) → skip_in r ≡ Some s → is_hidden only s.head ≡ true → is_chosen only r ≡ false
+not_chosen only (custom_section text at window) s e h = (hidden_by only s (skip_in (custom_section text at window)) e h).1
+not_chosen only (counted id count window) s e h = (hidden_by only s (skip_in (counted id count window)) e h).1
+not_chosen only (unknown_section id contents from to) s e h = (hidden_by only s (skip_in (unknown_section id contents from to)) e h).1
+not_chosen only (code_entry window) s e h = (hidden_by only s (skip_in (code_entry window)) e h).1
+not_chosen only _ s e h = cc
+
+counted_as : (only : List Only) (c : Counts) (r : Report) (s : Skip) → skip_in r ≡ Some s → is_hidden only s.head ≡ true
+    → after c r ≡ after_hidden c (is_body_head s.head)
+counted_as only c (custom_section text at window) s e h = ap (λ (x : Option Skip). after_hidden c (is_body_head (skip_or s x).head)) e
+counted_as only c (unknown_section id contents from to) s e h =
+    ap (λ (x : Option Skip). after_hidden c (is_body_head (skip_or s x).head)) e
+counted_as only c (code_entry window) s e h = ap (λ (x : Option Skip). after_hidden c (is_body_head (skip_or s x).head)) e
+counted_as only c (counted id count window) s e h =
+    let no : nat_eq id import_id ≡ false = (hidden_by only s (skip_in (counted id count window)) e h).0 in
+    rw no (ap (λ (x : Option Skip). after_hidden c (is_body_head (skip_or s x).head)) e)
+counted_as only c _ s e h = cc
+
+-- ---- a part of which nothing is shown
+
+module _ (only : List Only) (has_bytes is_body : Bool) (r : Report) (o : ReportsOutline only has_bytes (Hidden is_body) r) where
+  unchosen : is_chosen only r ≡ false
+  unchosen = not_chosen only r o.0 o.1 o.2.0
+
+  pub hidden_shown : (c : Counts) (bytes : List ℕ) (w : Writing) → ShowsReport only has_bytes c r bytes w w
+  hidden_shown c bytes w = shows_unchosen only has_bytes c r bytes w unchosen
+
+  pub hidden_counted : (c c' : Counts) → c' ≡ after_hidden c is_body → c' ≡ after c r
+  hidden_counted c c' e = e ∙ (ap (after_hidden c) o.2.1 ∙ sym (counted_as only c r o.0 o.1 o.2.0))
+
+  pub hidden_found : (x : Option Bool) → Finds (shown_faulty only r) x x
+  hidden_found x = subst (λ (b : Bool). Finds b x x)
+      (sym (ap (λ (b : Bool). if b then faulty_if (shows_items only) r else false) unchosen)) (λ is h. h)
+
+-- ---- the line of a custom section
+
+-- it is that of its first fields
+pub custom_line : (base : Base) (c : Counts) (text : List ℕ) (at : ℕ) (w : Window) (s : Skip) → skip_in (custom_section text at w) ≡ Some s
+    → numbered_line base c (custom_section text at w) ≡ skip_text base s ++ codes "\n"
+custom_line base c text at w s e = ap (λ (t : List ℕ). t ++ codes "\n") (skipped_text base (custom_section text at w) s e)
+
+-- whatever its content is, its items have no numbers
+items_alike : (has_items : Bool) (c : Counts) (text : List ℕ) (at : ℕ) (v w : Window) (old new : Writing)
+    → ShowsItemsIf has_items c (custom_section text at v) old new → ShowsItemsIf has_items c (custom_section text at w) old new
+items_alike true c text at v w old new s = s
+items_alike false c text at v w old new s = s
+
+-- ---- names that are not known
+
+either_false : (a b : Bool) → a || b ≡ false → (a ≡ false) × (b ≡ false)
+either_false true b e = cc
+either_false false b e = (refl, e)
+
+both_true : (a b : Bool) → a && b ≡ true → (a ≡ true) × (b ≡ true)
+both_true true b e = (refl, e)
+both_true false b e = cc
+
+unread : (rows : List (List ℕ × (Window → Known))) (name : List ℕ) (w : Window) → list_any (λ row. bytes_eq name row.0) rows ≡ false
+    → starts_with nat_eq name (codes "reloc.") ≡ false → read_by_name rows name w ≡ unknown
+unread [] name w e n = ap (λ (b : Bool). if b then relocations_in w else unknown) n
+unread (row ∷ rows) name w e n =
+    let (first, later) = either_false (bytes_eq name row.0) (list_any (λ row. bytes_eq name row.0) rows) e in
+    ap (λ (b : Bool). if b then row.1 w else read_by_name rows name w) first ∙ unread rows name w later n
+
+unknown_sound : (name : List ℕ) (at : ℕ) (w : Window) → is_known name ≡ false → custom_faulty (custom_of name at w) ≡ false
+unknown_sound name at w e =
+    let features = bytes_eq name (codes "target_features") in
+    let relocations = starts_with nat_eq name (codes "reloc.") in
+    let (rows, others) = either_false (list_any (λ row. bytes_eq name row.0) readings) (features || relocations) e in
+    let (no_features, no_relocations) = either_false features relocations others in
+    let section = custom_of name at w in
+    ap (λ (b : Bool). if b then features_faulty section else known_faulty (known_of section)) no_features
+    ∙ ap known_faulty (unread readings name (whole_window (place section.reader)) rows no_relocations)
+
+-- nothing is found of one whose items are not shown, or whose name is not known
+sound : (has_items : Bool) (name : List ℕ) (at : ℕ) (w : Window) → not (has_items && is_known name) ≡ true
+    → faulty_if has_items (custom_section name at w) ≡ false
+sound false name at w e = refl
+sound true name at w e = unknown_sound name at w (not_true (is_known name) e)
+  where
+    not_true : (b : Bool) → not b ≡ true → b ≡ false
+    not_true true e = cc
+    not_true false e = refl
+
+-- ---- a custom section of which the first fields are shown
+
+-- its report, but for its content
+reported : (r : Report) (s : Skip) (text : List ℕ) (at : ℕ) → skip_in r ≡ Some s → s.head ≡ custom text at
+    → (window : Window) × (r ≡ custom_section text at window)
+reported (custom_section name offset window) s text at e h =
+    let same : custom name offset ≡ custom text at = ap (λ (x : Option Skip). (skip_or s x).head) e ∙ h in
+    (window, cc)
+reported (counted id count window) s text at e h =
+    let same = ap (λ (x : Option Skip). (skip_or s x).head) e ∙ h in cc
+reported (unknown_section id contents from to) s text at e h =
+    let same = ap (λ (x : Option Skip). (skip_or s x).head) e ∙ h in cc
+reported (code_entry window) s text at e h =
+    let same = ap (λ (x : Option Skip). (skip_or s x).head) e ∙ h in cc
+reported _ s text at e h = cc
+
+module _ (only : List Only) (c : Counts) (text : List ℕ) (at : ℕ) (s : Skip) (v w : Window)
+    (e : skip_in (custom_section text at w) ≡ Some s) where
+  shown_so : (has_bytes : Bool) (bytes : List ℕ) (old mid new : Writing) → is_outlined only has_bytes text ≡ true
+      → AddsFirst (skip_text (base_of old.style) s ++ codes "\n") old mid
+      → ShowsItemsIf (shows_items only) c (custom_section text at v) mid new
+      → ShowsReport only has_bytes c (custom_section text at w) bytes old new
+  shown_so true bytes old mid new o a b = cc
+  shown_so false bytes old mid new o a b = shows_chosen only false c (custom_section text at w) bytes old old mid new
+      (both_true (not (shows_items only && is_known text)) (is_chosen only (custom_section text at w)) o).1 (λ o i. no_bytes o old i)
+      (rw (custom_line (base_of old.style) c text at w s e) a)
+      (items_alike (shows_items only) c text at v w mid new b)
+
+  found_so : (has_bytes : Bool) (old new : Option Bool) → is_outlined only has_bytes text ≡ true
+      → Finds (faulty_if (shows_items only) (custom_section text at v)) old new
+      → Finds (shown_faulty only (custom_section text at w)) old new
+  found_so true old new o f = cc
+  found_so false old new o f =
+      let unknown = (both_true (not (shows_items only && is_known text)) (is_chosen only (custom_section text at w)) o).0 in
+      let none : faulty_if (shows_items only) (custom_section text at v) ≡ faulty_if (shows_items only) (custom_section text at w) =
+      sound (shows_items only) text at v unknown ∙ sym (sound (shows_items only) text at w unknown) in
+      let chosen = (both_true (not (shows_items only && is_known text)) (is_chosen only (custom_section text at w)) o).1 in
+      subst (λ (b : Bool). Finds b old new)
+      (none ∙ sym (ap (λ (b : Bool). if b then faulty_if (shows_items only) (custom_section text at w) else false) chosen)) f
+
+module _ (only : List Only) (has_bytes : Bool) (section : CustomOutline) (r : Report)
+    (o : ReportsOutline only has_bytes (Custom section) r) (v : Window) where
+  abbrev name : List ℕ
+  name = string_bytes section.name
+
+  of_section : skip_in r ≡ Some (outlined_part section)
+  of_section = o.1 ∙ ap (λ (s : Skip). Some s) o.2.1
+
+  -- the report without data, whether items are shown, and the first fields, each as it was passed
+  pub custom_shown : (empty : Report) → empty ≡ custom_section name section.data_offset v → (has_items : Bool)
+      → has_items ≡ shows_items only → (s : Skip) → s ≡ outlined_part section → (c : Counts) (bytes : List ℕ) (old mid new : Writing)
+      → AddsFirst (skip_text (base_of old.style) s ++ codes "\n") old mid → ShowsItemsIf has_items c empty mid new
+      → ShowsReport only has_bytes c r bytes old new
+  custom_shown empty empty_is has_items items_are s is_part c bytes old mid new a b =
+      let (w, is) = reported r (outlined_part section) name section.data_offset of_section refl in
+      subst (λ (x : Report). ShowsReport only has_bytes c x bytes old new) (sym is)
+      (shown_so only c name section.data_offset (outlined_part section) v w (sym (ap skip_in is) ∙ of_section) has_bytes bytes old mid new
+      o.2.0 (subst (λ (x : Skip). AddsFirst (skip_text (base_of old.style) x ++ codes "\n") old mid) is_part a)
+      (subst₂ (λ (x : Bool) (y : Report). ShowsItemsIf x c y mid new) items_are empty_is b))
+
+  pub custom_counted : (c : Counts) → c ≡ after c r
+  custom_counted c =
+      let (w, is) = reported r (outlined_part section) name section.data_offset of_section refl in
+      ap (λ (x : Report). after c x) (sym is)
+
+  pub custom_found : (empty : Report) → empty ≡ custom_section name section.data_offset v → (has_items : Bool)
+      → has_items ≡ shows_items only → (old mid new : Option Bool) → FindsNone old mid → Finds (faulty_if has_items empty) mid new
+      → Finds (shown_faulty only r) old new
+  custom_found empty empty_is has_items items_are old mid new n f =
+      let (w, is) = reported r (outlined_part section) name section.data_offset of_section refl in
+      subst (λ (x : Report). Finds (shown_faulty only x) old new) (sym is)
+      (found_so only no_counts name section.data_offset (outlined_part section) v w (sym (ap skip_in is) ∙ of_section) has_bytes old new
+      o.2.0 (subst₂ (λ (x : Bool) (y : Report). Finds (faulty_if x y) old new) items_are empty_is (λ x h. f x (n x h))))
