@@ -11,7 +11,7 @@ use Rattle.wasm_parser.specs.ParseAnswer.{report_of}
 use Rattle.wasm_parser.specs.declared.payload.Payload.{Payload}
 use Rattle.wasm_parser.specs.declared.payload.Payload.TheVariants.{CustomSection}
 use Rattle.wasm_commands.specs.Finding.{ComesAfter, EndsBefore, HasFewer, has_name, named_count}
-use Rattle.wasm_commands.proofs.Walks as walks
+use Rattle.wasm_parser.proofs.ForCallers.{PayloadCame, WalkedTo, payload_came, walk_begins, walk_begun, walk_ends, walk_faults}
 
 head_counted : (name : List ℕ) (x : Event) (xs ys : List Event) (n : ℕ) → named_count name ys ≡ named_count name xs + n
     → (b : Bool) → has_name name x.report ≡ b → named_count name (x ∷ ys) ≡ named_count name (x ∷ xs) + n
@@ -34,18 +34,18 @@ none_more name (x ∷ events) e is =
 -- The parts so far are these, and with the sections that may still come there are as many as wanted.
 pub record Sought (name : List ℕ) (skips : ℕ) (stream : List ℕ) (it : Walk) (before : ℕ) : Type 0 where
   pub events : List Event
-  pub walked : walks.Walked stream it events
+  pub walked : WalkedTo stream it events
   pub counted : before + named_count name events ≡ skips
 
 pub begun : (name : List ℕ) (skips : ℕ) (stream : List ℕ) (it : Walk) → it ≡ walk_over (initial_state 0 all_features) stream
     → Sought name skips stream it skips
-begun name skips stream it e = record { events = []; walked = walks.walk_begun stream it e; counted = omega arith }
+begun name skips stream it e = record { events = []; walked = walk_begun stream it e; counted = omega arith }
 
 module _ (name : List ℕ) (skips : ℕ) (stream : List ℕ) (it next : Walk) (before : ℕ) (w : Sought name skips stream it before)
     (small : length stream < 2 ^ 64) where
   module _ (payload : Payload) (n : NextPayload it (Some (Ok payload)) next) where
-    came : walks.PayloadCame stream next w.events payload
-    came = walks.payload_came stream it next w.events w.walked small payload n
+    came : PayloadCame stream next w.events payload
+    came = payload_came stream it next w.events w.walked small payload n
 
     is_named : (b : Bool) → has_name name (report_of payload) ≡ b → has_name name came.event.report ≡ b
     is_named b h = ap (has_name name) came.report ∙ h
@@ -70,7 +70,7 @@ module _ (name : List ℕ) (skips : ℕ) (stream : List ℕ) (it next : Walk) (b
         record {
           first = w.events;
           event = came.event;
-          begins = walks.first_of stream next (w.events ++ came.event ∷ []) came.walked;
+          begins = walk_begins stream next (w.events ++ came.event ∷ []) came.walked;
           is = came.report ∙ same;
           named = is_named true h;
           before = omega (arith, counted, is);
@@ -81,7 +81,7 @@ module _ (name : List ℕ) (skips : ℕ) (stream : List ℕ) (it next : Walk) (b
       let counted = w.counted in
       record {
         events = w.events;
-        reading = walks.fault_came stream it next w.events w.walked small e n;
+        reading = walk_faults stream it next w.events w.walked small e n;
         few = omega (arith, counted);
       }
 
@@ -90,6 +90,6 @@ module _ (name : List ℕ) (skips : ℕ) (stream : List ℕ) (it next : Walk) (b
       let counted = w.counted in
       record {
         events = w.events;
-        reading = walks.nothing_came stream it next w.events w.walked small n;
+        reading = walk_ends stream it next w.events w.walked small n;
         few = omega (arith, counted);
       }

@@ -10,5 +10,4 @@ pub mod Refusing
 pub mod Showing
 pub mod Stopping
 pub mod Turns
-pub mod Walks
 pub mod Words

@@ -8,7 +8,7 @@ use Rattle.wasm_base.specs.declared.error.Error.{Error}
 use Rattle.wasm_custom.specs.Custom.{Custom}
 use Rattle.wasm_grammar.specs.Content.{fault}
 use Rattle.wasm_grammar.specs.Reading.{Event, Reading, Report, custom_section, last_event}
-use Rattle.wasm_parser.specs.Along.{ReadingBegins}
+use Rattle.wasm_frames.specs.Along.{ReadingBegins}
 use Rattle.wasm_parser.specs.ParseAnswer.{report_of}
 use Rattle.wasm_parser.specs.declared.payload.Payload.{Payload}
 use Rattle.wasm_parser.specs.declared.payload.Payload.TheVariants.{CustomSection}

@@ -31,7 +31,7 @@ use Rattle.wasm_commands.specs.Parsing.{texts}
 use Rattle.wasm_commands.specs.Rewrites.{CannotHold, CannotOpen, ChangesFile, EndsRun, Gave, IsOriginal, WritesBytesTo}
 use Rattle.wasm_commands.specs.Rewrites.{WritesTo}
 use Rattle.wasm_commands.specs.Rewrites.{target_in}
-use Rattle.wasm_commands.specs.Systems.{RefusesWith}
+use Rattle.wasm_commands.specs.Systems.{IfAllocated, RefusesWith}
 use Rattle.wasm_commands.specs.declared.add.Addition.{Addition}
 use Rattle.wasm_commands.specs.declared.add.Loaded.{Loaded}
 use Rattle.wasm_commands.specs.declared.add.Operands.{Operands}
@@ -54,16 +54,7 @@ wrong_value_text verb option value = command_text verb ++ (codes ": wrong value 
 abbrev pub too_large_text : Verb → (name : List ℕ) → List ℕ
 too_large_text verb name = command_text verb ++ (codes ": section '" ++ (name ++ codes "' is too large\n"))
 
--- An allocation failed before anything was read or written.
-abbrev pub LeavesAll : (output errors : Device) → Type 0
-LeavesAll output errors = IsUntouched output × IsUntouched errors
-
--- what a command does, unless an allocation failed before anything was written
-abbrev pub IfAllocated : (does : ℕ → Type 0) → (output errors : Device) → Result ℕ AllocError → Type 0
-IfAllocated does output errors (Ok status) = does status
-IfAllocated does output errors (Err e) = LeavesAll output errors
-
--- the same where nothing is said of the output
+-- what a command does, unless an allocation failed; nothing is said of the output then
 abbrev pub IfAdded : (does : ℕ → Type 0) → (errors : Device) → Result ℕ AllocError → Type 0
 IfAdded does errors (Ok status) = does status
 IfAdded does errors (Err e) = IsUntouched errors
@@ -263,8 +254,7 @@ module _ {S I O : Type 0} (calls : SystemOf S I O) (sources : SourceOf I) (sinks
   -- | the command `strip`: the file or standard input, the sections that stay by `--keep`, `--only` and `--keep-names`,
   --   and where the stream is written
   abbrev pub Strips : Result ℕ AllocError → Type 0
-  Strips (Ok status) = StripsOperands (operands_in reads) status
-  Strips (Err e) = LeavesAll output errors
+  Strips result = IfAllocated (StripsOperands (operands_in reads)) output errors result
 
   -- what was written of a section that was found, or said of one that was not
   abbrev pub EndsExtract : (wanted name : List ℕ) → Result (Option Custom) Error → (status : ℕ) → Type 0
@@ -311,16 +301,14 @@ module _ {S I O : Type 0} (calls : SystemOf S I O) (sources : SourceOf I) (sinks
   -- | the command `extract`: the file or standard input, the section that is found by its name and `--index`, and where
   --   its data are written
   abbrev pub Extracts : Result ℕ AllocError → Type 0
-  Extracts (Ok status) = ExtractsOperands (operands_in reads) status
-  Extracts (Err e) = LeavesAll output errors
+  Extracts result = IfAllocated (ExtractsOperands (operands_in reads)) output errors result
 
   -- The new section was written, or refused since it is too large.
   abbrev pub SetsNew : (is_there : Bool) (new : NewSection) (original : Original) (status : ℕ) → Type 0
   SetsNew is_there new original status =
       (¬ Fits new × RefusesWith (too_large_text verb.Producers new.name.now) output errors status)
       ⊎ WritesTo calls sources sinks system (edit_that_sets is_there new ∷ []) original (target_in reads) output
-      forwarded
-      errors status
+      forwarded errors status
 
   -- The section was set to new data.
   pub record SetsData (is_there : Bool) (original : Original) (status : ℕ) : Type 0 where
@@ -414,8 +402,7 @@ module _ {S I O : Type 0} (calls : SystemOf S I O) (sources : SourceOf I) (sinks
     pub checked : original.is_checked ≡ true
     pub held : original.held ≡ None
     pub adds : AddsBy calls sources sinks system reads (record output { before = middle; had_failed = failed })
-        forwarded
-        errors IsAdded loaded original status
+        forwarded errors IsAdded loaded original status
 
   -- The file was searched and written, or the search failed or found the fault of the stream.
   abbrev pub AddsSearched : (loaded : List (List ℕ × List ℕ)) (name : List ℕ) (status : ℕ) → Type 0

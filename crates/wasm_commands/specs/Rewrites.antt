@@ -7,7 +7,6 @@ use Rattle.std.specs.declared.alloc.Global.{Global}
 use Rattle.wasm_grammar.specs.Accepted.{IsAccepted}
 use Rattle.wasm_grammar.specs.Reading.{Stream}
 use Rattle.wasm_text.specs.Calls.{Change, Device, bytes_of, device_of, output_failed}
-use Rattle.wasm_text.specs.Messages.{Says}
 use Rattle.wasm_text.specs.declared.devices.ListError.{ListError}
 use Rattle.wasm_text.specs.declared.devices.ListError.TheVariants.{Input, Output, Memory}
 use Rattle.wasm_text.specs.declared.devices.sink.Sink.{Ghosts as SinkOf}
@@ -22,8 +21,9 @@ use Rattle.wasm_console.specs.Devices.{IsUntouched}
 use Rattle.wasm_console.specs.Strips.{ReadsAll, Refuses}
 use Rattle.wasm_commands.specs.ArgumentLists.{Read, last_value}
 use Rattle.wasm_commands.specs.EditsTwice.{EditsTwice}
-use Rattle.wasm_commands.specs.Messages.{failure_text, file_text, reason_if_any}
+use Rattle.wasm_commands.specs.Messages.{file_text, reason_if_any}
 use Rattle.wasm_commands.specs.Reasons.{reason_of}
+use Rattle.wasm_commands.specs.Systems.{FailsOn, GivesUp}
 use Rattle.wasm_commands.specs.declared.messages.Causes.{Causes}
 use Rattle.wasm_commands.specs.declared.options.Flag.TheVariants as option
 use Rattle.wasm_commands.specs.declared.reasons.Cause.{Cause}
@@ -31,16 +31,6 @@ use Rattle.wasm_commands.specs.declared.rewriting.Original.{Original}
 use Rattle.wasm_commands.specs.declared.system.System.{Ghosts as SystemOf}
 
 -- ---- how a run ends, and what it says
-
--- The status is 3, and this was said.
-pub record GivesUp (text : List ℕ) (errors : Device) (status : ℕ) : Type 0 where
-  pub answers : status ≡ 3
-  pub says : Says errors text
-
--- Reading the file, writing the output or an allocation failed. The system may have said why.
-pub record FailsRun (name : List ℕ) (why : ListError) (errors : Device) (status : ℕ) : Type 0 where
-  pub causes : Causes
-  pub gives_up : GivesUp (failure_text name why causes) errors status
 
 -- The file that is written failed. The system may have said why.
 pub record FailsTarget (target : List ℕ) (errors : Device) (status : ℕ) : Type 0 where
@@ -51,7 +41,7 @@ pub record FailsTarget (target : List ℕ) (errors : Device) (status : ℕ) : Ty
 abbrev pub EndsRun : (name : List ℕ) → Result Ended ListError → (errors : Device) (status : ℕ) → Type 0
 EndsRun name (Ok End) errors status = (status ≡ 0) × IsUntouched errors
 EndsRun name (Ok (Fault e)) errors status = Refuses e errors status
-EndsRun name (Err why) errors status = FailsRun name why errors status
+EndsRun name (Err why) errors status = FailsOn name why errors status
 
 -- At the end of a stream the output was flushed, or failed. After a fault or a failure nothing is done.
 abbrev pub FlushesAtEnd : Result Ended ListError → (output : Device) (forwarded : Bool) → Result Ended ListError
@@ -105,7 +95,7 @@ pub record ForwardsBytes (bytes : List ℕ) (output : Device) (forwarded : Bool)
 -- what is said of bytes that were written to the output
 abbrev pub EndsBytesOut : (is_complete : Bool) → (errors : Device) (status : ℕ) → Type 0
 EndsBytesOut true errors status = (status ≡ 0) × IsUntouched errors
-EndsBytesOut false errors status = FailsRun (codes "-") Output errors status
+EndsBytesOut false errors status = FailsOn (codes "-") Output errors status
 
 -- The bytes were written to the output and flushed, or the output failed, and this was said.
 pub record WritesBytesOut (bytes : List ℕ) (output : Device) (forwarded : Bool) (errors : Device) (status : ℕ) : Type 0
@@ -151,8 +141,8 @@ is_whole (Err cause) = false
 abbrev pub EndsFile : (name target : List ℕ) → Result (Result Ended ListError) Cause → (errors : Device)
     (status : ℕ) → Type 0
 EndsFile name target (Ok (Ok how)) errors status = EndsRun name (Ok how) errors status
-EndsFile name target (Ok (Err Input)) errors status = FailsRun name Input errors status
-EndsFile name target (Ok (Err Memory)) errors status = FailsRun name Memory errors status
+EndsFile name target (Ok (Err Input)) errors status = FailsOn name Input errors status
+EndsFile name target (Ok (Err Memory)) errors status = FailsOn name Memory errors status
 EndsFile name target (Ok (Err Output)) errors status = FailsTarget target errors status
 EndsFile name target (Err cause) errors status = GivesUp (file_text name (reason_of cause)) errors status
 
@@ -190,7 +180,7 @@ module _ {S I O : Type 0} (calls : SystemOf S I O) (sources : SourceOf I) (sinks
     pub why : ListError
     pub opens : calls.opens system name (Ok opened)
     pub reads : ReadsAll {A = Global} (sources.remaining opened) (sources.remaining rest) (Err why)
-    pub fails : FailsRun name why errors status
+    pub fails : FailsOn name why errors status
 
   abbrev pub CannotHold : (name : List ℕ) (errors : Device) (status : ℕ) → Type 0
   CannotHold name errors status = CannotOpen name errors status ⊎ CannotRead name errors status

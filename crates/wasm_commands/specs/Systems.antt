@@ -57,11 +57,15 @@ pub record RefusesFile (files : Files) (name : List ℕ) (output errors : Device
   pub says : Says errors (file_text name (reason_of cause))
   pub sink : IsUntouched output
 
--- A run over the file failed: the status is 3, and the message has the reason.
+-- The status is 3, and this was said.
+pub record GivesUp (text : List ℕ) (errors : Device) (status : ℕ) : Type 0 where
+  pub answers : status ≡ 3
+  pub says : Says errors text
+
+-- Reading the file, writing the output or an allocation failed. The system may have said why.
 pub record FailsOn (name : List ℕ) (why : ListError) (errors : Device) (status : ℕ) : Type 0 where
   pub causes : Causes
-  pub answers : status ≡ 3
-  pub says : Says errors (failure_text name why causes)
+  pub gives_up : GivesUp (failure_text name why causes) errors status
 
 -- The arguments were refused: the status is 2, this was said, and nothing was written.
 pub record RefusesWith (text : List ℕ) (output errors : Device) (status : ℕ) : Type 0 where
@@ -144,8 +148,12 @@ abbrev pub ForwardsIfMemory : Result ℕ AllocError → (forwarded : Bool) → T
 ForwardsIfMemory (Ok status) forwarded = IsForwarded status forwarded
 ForwardsIfMemory (Err refused) forwarded = Unit {0}
 
--- The command ran like this, or an allocation failed before it did anything.
+-- what a command does, unless an allocation failed before anything was written
+abbrev pub IfAllocated : (does : ℕ → Type 0) → (output errors : Device) → Result ℕ AllocError → Type 0
+IfAllocated does output errors (Ok status) = does status
+IfAllocated does output errors (Err refused) = IsUntouched output × IsUntouched errors
+
+-- the same of what it does with the devices
 abbrev pub RunsIfMemory : (runs : (output errors : Device) (status : ℕ) → Type 0) → (output errors : Device)
     → Result ℕ AllocError → Type 0
-RunsIfMemory runs output errors (Ok status) = runs output errors status
-RunsIfMemory runs output errors (Err refused) = IsUntouched output × IsUntouched errors
+RunsIfMemory runs output errors result = IfAllocated (runs output errors) output errors result

@@ -3,7 +3,8 @@ ghost use Rattle.std.specs.Prelude.{false, IfOk, map};
 ghost use Rattle.wasm_commands.specs.ArgumentLists.{has_option};
 ghost use Rattle.wasm_commands.specs.Parsing.{reads_of, texts};
 ghost use Rattle.wasm_commands.specs.declared.options.Flag.TheVariants.{Replace};
-ghost use Rattle.wasm_commands.specs.RewriteCommands.{Adds, AddsAll, AddsBy, AddsHeld, AddsLoaded, AddsRead, AddsSearched, AddsTo, AddsWords, AreAdditions, AreOperands, EachInTurn, IfAdded, IfAllocated, IsAdded, IsAddedBy, IsAddition, LoadsAll, Searches, WritesAdded, loaded_parts, no_addition, parts_of};
+ghost use Rattle.wasm_commands.specs.RewriteCommands.{Adds, AddsAll, AddsBy, AddsHeld, AddsLoaded, AddsRead, AddsSearched, AddsTo, AddsWords, AreAdditions, AreOperands, EachInTurn, IfAdded, IsAdded, IsAddedBy, IsAddition, LoadsAll, Searches, WritesAdded, loaded_parts, no_addition, parts_of};
+ghost use Rattle.wasm_commands.specs.Systems.{IfAllocated};
 ghost use Rattle.wasm_text.specs.Calls.{device_of, writer_device};
 
 use crate::arguments::Arguments;
@@ -133,6 +134,7 @@ fn edits_to<'a>(
     }
     Ok(Ok(edits))
 }
+
 // Returns whether the flag with this index is set.
 fn is_set(found: &[Cell<bool>], index: usize) -> bool {
     match found.get(index) {

@@ -3,8 +3,8 @@ ghost use Rattle.std.specs.Prelude.{◌≡◌, ◌<◌, ◌^◌, ◌++◌, IfOk,
 ghost use Rattle.wasm_commands.specs.ArgumentLists.{has_option, values_in};
 ghost use Rattle.wasm_commands.specs.Commands.{Produces, ProducersBy, ShowsProducers};
 ghost use Rattle.wasm_commands.specs.Parsing.{reads_of, texts};
-ghost use Rattle.wasm_commands.specs.RewriteCommands.{FindsChange, IfAllocated, SetsData, SetsFile, SetsNew, SetsProducers, edit_that_sets, is_setting, no_setting, wrong_setting};
-ghost use Rattle.wasm_commands.specs.Systems.{platform};
+ghost use Rattle.wasm_commands.specs.RewriteCommands.{FindsChange, SetsData, SetsFile, SetsNew, SetsProducers, edit_that_sets, is_setting, no_setting, wrong_setting};
+ghost use Rattle.wasm_commands.specs.Systems.{IfAllocated, platform};
 ghost use Rattle.wasm_commands.specs.declared.options.Flag.TheVariants as option;
 ghost use Rattle.wasm_feed.specs.Encoded.{encoded};
 ghost use Rattle.wasm_text.specs.Calls.{device_of, writer_device};

@@ -19,7 +19,10 @@ returns-in-Err-clause-shows g c =
       headed = c.write_heading-headed.result.0;
       heads = c.write_heading-headed.ensures;
       shows = rw c.in-Err.is (
-        record { causes = c.causes.result; answers = c.refuse_run.ensures.status; says = c.refuse_run.ensures.says },
+        record {
+          causes = c.causes.result;
+          gives_up = record { answers = c.refuse_run.ensures.status; says = c.refuse_run.ensures.says };
+        },
         record { bytes = refl; failed = refl },
       );
     }

@@ -1,4 +1,4 @@
-use Rattle.std.proofs.Common.{◌≡◌, length, map}
+use Rattle.std.proofs.Common.{◌≡◌, length}
 use Rattle.wasm_commands.specs.Parsing.{texts}
 use Rattle.wasm_commands.specs.RewriteCommands.{no_setting}
 use Rattle.wasm_commands.proofs.producers.parse_settings.Given as goal
