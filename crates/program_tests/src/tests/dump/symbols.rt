@@ -2,6 +2,8 @@
 use super::dumps::dumps;
 use super::named::{Form, dumped};
 use super::names::names_in;
+use std::alloc::Global;
+use std::process::Abort;
 use std::test::Fail;
 use wasm_dumper::Only;
 use wasm_feed::Ended;
@@ -11,7 +13,8 @@ use wasm_tree::Space;
 const OBJECT: &[u8] =
     b"\0asm\x01\0\0\0\x01\x04\x01`\0\0\x02\x0b\x01\x03env\x03log\0\0\x03\x02\x01\0\x0a\x0a\x01\x08\0\x10\x80\x80\x80\x80\0\x0b\0\x07\x06.debug\0$\x07linking\x02\x08\x12\x04\0\x10\0\0\0\x01\x03run\x01\x10\x01s\x03\x02\x04\x06\x05\x01\xff\xff\x03\x01\0\x1b\x0areloc.CODE\x03\x04\0\x04\0\x06\x04\0\x05\x14\x02\x08\x09\0\x03\0";
 
-const OBJECT_NAMED: &[u8] = b"version 0 8 1 module
+/// The lines of its dump before the relocations, with the names of items.
+const BEFORE: &[u8] = b"version 0 8 1 module
 section 1 10 14 1 type
   11 type[0] type=(func)
 section 2 16 27 1 import
@@ -31,77 +34,69 @@ custom 54 90 62
       80 symbol[3] \".debug\" section flags=BINDING_LOCAL section=4
     83 init_funcs=85..90 count=1
       86 priority=65535 symbol_index=1 \"run\"
-custom 92 119 103
-  section name=\"reloc.CODE\" section=3 range=103..119 entries=104..119 count=4
-    105 type=R_WASM_FUNCTION_INDEX_LEB offset=4 index=0 addend=0 \"log\"
-    108 type=R_WASM_TYPE_INDEX_LEB offset=4 index=0 addend=0
-    111 type=R_WASM_MEMORY_ADDR_I32 offset=20 index=2 addend=8 \"s\"
-    115 type=R_WASM_SECTION_OFFSET_I32 offset=0 index=3 addend=0 \".debug\"
-end 119
 ";
 
-#[test]
-fn symbols_name_items_and_relocations(rt: HostRuntime) -> Result<(), Fail> {
-    let text = dumped(rt.alloc(), OBJECT, Form::Named)?;
-    assert_eq!(rt; text.as_slice(), OBJECT_NAMED);
-    Ok(())
-}
-
+/// The relocations.
 const RELOCATIONS: &[u8] = b"custom 92 119 103
   section name=\"reloc.CODE\" section=3 range=103..119 entries=104..119 count=4
     105 type=R_WASM_FUNCTION_INDEX_LEB offset=4 index=0 addend=0 \"log\"
     108 type=R_WASM_TYPE_INDEX_LEB offset=4 index=0 addend=0
     111 type=R_WASM_MEMORY_ADDR_I32 offset=20 index=2 addend=8 \"s\"
-    115 type=R_WASM_SECTION_OFFSET_I32 offset=0 index=3 addend=0 \".debug\"
-end 119
-";
+    115 type=R_WASM_SECTION_OFFSET_I32 offset=0 index=3 addend=0";
+
+/// The name of the section in the last one, and the end.
+const NAMED: &[u8] = b" \".debug\"\nend 119\n";
+
+/// The end if that section has no name.
+const UNNAMED: &[u8] = b"\nend 119\n";
+
+#[test]
+fn symbols_name_items_and_relocations(rt: HostRuntime) -> Result<(), Fail> {
+    let text = dumped(rt.alloc(), OBJECT, Form::Named)?;
+    let wanted = [BEFORE, RELOCATIONS, NAMED].concat(rt.alloc())?;
+    assert_eq!(rt; text.as_slice(), wanted.as_slice());
+    Ok(())
+}
 
 // Items have no names in this form, but relocations do.
 #[test]
 fn relocations_always_have_the_names_of_symbols(rt: HostRuntime) -> Result<(), Fail> {
     let text = dumped(rt.alloc(), OBJECT, Form::Lines)?;
-    assert!(rt; text.as_slice().ends_with(RELOCATIONS));
+    let wanted = [RELOCATIONS, NAMED].concat(rt.alloc())?;
+    assert!(rt; text.as_slice().ends_with(wanted.as_slice()));
     Ok(())
+}
+
+// The dump of these sections of the object file has these parts.
+fn chosen(rt: &impl Abort, alloc: Global, only: &[Only<'_>], parts: &[&[u8]]) -> Result<(), Fail> {
+    let text = parts.concat(alloc)?;
+    dumps(rt, alloc, only, OBJECT, Ok(Ended::End), text.as_slice())
 }
 
 // The symbols are read though they are not shown. Of sections that are not shown no name is known, however they come.
 #[test]
 fn relocations_alone_have_names(rt: HostRuntime) -> Result<(), Fail> {
-    let wanted = b"custom 92 119 103
-  section name=\"reloc.CODE\" section=3 range=103..119 entries=104..119 count=4
-    105 type=R_WASM_FUNCTION_INDEX_LEB offset=4 index=0 addend=0 \"log\"
-    108 type=R_WASM_TYPE_INDEX_LEB offset=4 index=0 addend=0
-    111 type=R_WASM_MEMORY_ADDR_I32 offset=20 index=2 addend=8 \"s\"
-    115 type=R_WASM_SECTION_OFFSET_I32 offset=0 index=3 addend=0
-end 119
-"
-        .as_slice();
-    let alone = [Only::Name("reloc.CODE")];
-    dumps(&rt, rt.alloc(), &alone, OBJECT, Ok(Ended::End), wanted)
+    let only = [Only::Name("reloc.CODE")];
+    chosen(&rt, rt.alloc(), &only, &[RELOCATIONS, UNNAMED])
 }
 
 // The section of a symbol is counted among others, of which some are skipped.
 #[test]
 fn shown_sections_name_their_symbols(rt: HostRuntime) -> Result<(), Fail> {
+    let only = [Only::Name(".debug"), Only::Name("reloc.CODE")];
     let debug = b"custom 45 52 52\n  section name=\".debug\" unknown\n".as_slice();
-    let wanted = [debug, RELOCATIONS].concat(rt.alloc())?;
-    let both = [Only::Name(".debug"), Only::Name("reloc.CODE")];
-    dumps(
-        &rt,
-        rt.alloc(),
-        &both,
-        OBJECT,
-        Ok(Ended::End),
-        wanted.as_slice(),
-    )
+    chosen(&rt, rt.alloc(), &only, &[debug, RELOCATIONS, NAMED])
 }
 
-// A relocation before its symbol has no name yet.
-#[test]
-fn a_relocation_before_its_symbol_has_no_name(rt: HostRuntime) -> Result<(), Fail> {
-    let stream =
-        b"\0asm\x01\0\0\0\0\x10\x0areloc.CODE\x03\x01\0\x04\0\0\x11\x07linking\x02\x08\x06\x01\0\0\x05\x01f";
-    let wanted = b"version 0 8 1 module
+const HEADER: &[u8] = b"\0asm\x01\0\0\0";
+
+/// A relocation with the index 0.
+const RELOCATION: &[u8] = b"\0\x10\x0areloc.CODE\x03\x01\0\x04\0";
+
+/// A table of a symbol.
+const SYMBOL: &[u8] = b"\0\x11\x07linking\x02\x08\x06\x01\0\0\x05\x01f";
+
+const RELOCATION_FIRST: &[u8] = b"version 0 8 1 module
 custom 10 26 21
   section name=\"reloc.CODE\" section=3 range=21..26 entries=22..26 count=1
     23 type=R_WASM_FUNCTION_INDEX_LEB offset=4 index=0 addend=0
@@ -110,43 +105,50 @@ custom 28 45 36
     37 symbol_table=39..45 count=1
       40 symbol[0] func flags=0 index=5 name=\"f\"
 end 45
-"
-        .as_slice();
-    let text = dumped(rt.alloc(), stream, Form::Lines)?;
-    assert_eq!(rt; text.as_slice(), wanted);
+";
+
+// A relocation before its symbol has no name yet.
+#[test]
+fn a_relocation_before_its_symbol_has_no_name(rt: HostRuntime) -> Result<(), Fail> {
+    let stream = [HEADER, RELOCATION, SYMBOL].concat(rt.alloc())?;
+    let text = dumped(rt.alloc(), stream.as_slice(), Form::Lines)?;
+    assert_eq!(rt; text.as_slice(), RELOCATION_FIRST);
     Ok(())
 }
 
-// Only a section called `linking` has symbols, whatever is in another.
-#[test]
-fn other_sections_have_no_symbols(rt: HostRuntime) -> Result<(), Fail> {
-    let stream =
-        b"\0asm\x01\0\0\0\0\x11\x07lynking\x02\x08\x06\x01\0\0\x05\x01f\0\x10\x0areloc.CODE\x03\x01\0\x04\0";
-    let wanted = b"version 0 8 1 module
+/// The same table in a section with another name.
+const LYNKING: &[u8] = b"\0\x11\x07lynking\x02\x08\x06\x01\0\0\x05\x01f";
+
+const RELOCATION_LAST: &[u8] = b"version 0 8 1 module
 custom 10 27 18
   section name=\"lynking\" unknown
 custom 29 45 40
   section name=\"reloc.CODE\" section=3 range=40..45 entries=41..45 count=1
     42 type=R_WASM_FUNCTION_INDEX_LEB offset=4 index=0 addend=0
 end 45
-"
-        .as_slice();
-    let text = dumped(rt.alloc(), stream, Form::Lines)?;
-    assert_eq!(rt; text.as_slice(), wanted);
+";
+
+// Only a section called `linking` has symbols, whatever is in another.
+#[test]
+fn other_sections_have_no_symbols(rt: HostRuntime) -> Result<(), Fail> {
+    let stream = [HEADER, LYNKING, RELOCATION].concat(rt.alloc())?;
+    let text = dumped(rt.alloc(), stream.as_slice(), Form::Lines)?;
+    assert_eq!(rt; text.as_slice(), RELOCATION_LAST);
     Ok(())
 }
+
+/// The last lines of the objects of JSON, with the names of items.
+const OBJECTS: &[u8] =
+    b"{\"level\":2,\"at\":111,\"type\":\"R_WASM_MEMORY_ADDR_I32\",\"offset\":20,\"index\":2,\"addend\":8,\"item_name\":\"s\"}
+{\"level\":2,\"at\":115,\"type\":\"R_WASM_SECTION_OFFSET_I32\",\"offset\":0,\"index\":3,\"addend\":0,\"item_name\":\".debug\"}
+{\"event\":\"end\",\"offset\":119}
+";
 
 // A relocation has the name of its symbol as a member too.
 #[test]
 fn objects_have_the_names_of_symbols(rt: HostRuntime) -> Result<(), Fail> {
     let text = dumped(rt.alloc(), OBJECT, Form::NamedObjects)?;
-    let wanted =
-        b"{\"level\":2,\"at\":111,\"type\":\"R_WASM_MEMORY_ADDR_I32\",\"offset\":20,\"index\":2,\"addend\":8,\"item_name\":\"s\"}
-{\"level\":2,\"at\":115,\"type\":\"R_WASM_SECTION_OFFSET_I32\",\"offset\":0,\"index\":3,\"addend\":0,\"item_name\":\".debug\"}
-{\"event\":\"end\",\"offset\":119}
-"
-            .as_slice();
-    assert!(rt; text.as_slice().ends_with(wanted));
+    assert!(rt; text.as_slice().ends_with(OBJECTS));
     Ok(())
 }
 
