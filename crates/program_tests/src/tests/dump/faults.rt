@@ -114,9 +114,40 @@ fn finds_faults_in_sections(rt: HostRuntime) -> Result<(), Fail> {
     all_checked(&rt, rt.alloc(), &SECTIONS)
 }
 
+/// A section of names: two in each subsection that lists them, in the wrong order.
+const UNORDERED: &[u8] = b"\0asm\x01\0\0\0\0\x84\x01\x04name\
+\x01\x07\x02\x01\x01f\0\x01g\
+\x02\x09\x01\0\x02\x01\x01f\0\x01g\
+\x03\x09\x01\0\x02\x01\x01f\0\x01g\
+\x04\x07\x02\x01\x01f\0\x01g\
+\x05\x07\x02\x01\x01f\0\x01g\
+\x06\x07\x02\x01\x01f\0\x01g\
+\x07\x07\x02\x01\x01f\0\x01g\
+\x08\x07\x02\x01\x01f\0\x01g\
+\x09\x07\x02\x01\x01f\0\x01g\
+\x0a\x09\x01\0\x02\x01\x01f\0\x01g\
+\x0b\x07\x02\x01\x01f\0\x01g\
+\x0c\x09\x01\0\x02\x01\x01f\0\x01g\
+\x0d\x09\x01\0\x02\x01\x01f\0\x01g";
+
+const UNORDERED_FAULTS: &[u8] = b"0x16: names out of order, in custom section \"name\"
+0x21: names out of order, in custom section \"name\"
+0x2c: names out of order, in custom section \"name\"
+0x35: names out of order, in custom section \"name\"
+0x3e: names out of order, in custom section \"name\"
+0x47: names out of order, in custom section \"name\"
+0x50: names out of order, in custom section \"name\"
+0x59: names out of order, in custom section \"name\"
+0x62: names out of order, in custom section \"name\"
+0x6d: names out of order, in custom section \"name\"
+0x76: names out of order, in custom section \"name\"
+0x81: names out of order, in custom section \"name\"
+0x8c: names out of order, in custom section \"name\"
+";
+
 // The version of a tool is not UTF-8; a local's index is not above the one before; a symbol has another kind; a feature's name
 // is not UTF-8; features without a count; a relocation is missing, in a section whose name has a quote.
-const CUSTOMS: [Row; 7] = [
+const CUSTOMS: [Row; 8] = [
     (
         b"\0asm\x01\0\0\0\0\x14\x09producers\x01\x03sdk\x01\x01a\x01\xff",
         b"0x1d: malformed UTF-8 encoding, in custom section \"producers\"\n",
@@ -141,6 +172,7 @@ const CUSTOMS: [Row; 7] = [
         b"\0asm\x01\0\0\0\0\x0a\x07reloc.\"\0\x01",
         b"0x14: unexpected end-of-file, in custom section \"reloc.\\22\"\n",
     ),
+    (UNORDERED, UNORDERED_FAULTS),
     // A section `core` has to begin with the byte 0: this one is not known.
     (b"\0asm\x01\0\0\0\0\x06\x04core\x01", b""),
 ];
