@@ -40,6 +40,7 @@ fn within<'a>(payload: &Payload<'a>) -> Within<'a> {
 /// let wanted = b"  11 name=\"f\" kind=func index=5\n";
 /// assert_eq!(rt; out.into_output().written(), wanted.as_slice());
 /// ```
+#[inline(always)]
 pub fn show_payload<O: Tree>(alloc: Global, counts: &Counts, payload: &Payload<'_>, out: &mut O)
     // Proved: the numbers of the items of a payload whose reader is at them, and that of one item [`show_payload`
     //   (`ShowsItems`, `AreOfItems`), `Tree::item_number` (`AddsNumber`)]
@@ -53,6 +54,7 @@ pub fn show_payload<O: Tree>(alloc: Global, counts: &Counts, payload: &Payload<'
 }
 
 /// Writes the items of a payload, if items are shown.
+#[inline(always)]
 pub(crate) fn show_payload_if<O: Tree>(
     has_items: bool,
     alloc: Global,
@@ -71,6 +73,7 @@ pub(crate) fn show_payload_if<O: Tree>(
 }
 
 // Does what `show_payload` says, where the tree knows in which section the items are.
+#[inline(always)]
 fn show_items_of<O: Tree>(alloc: Global, counts: &Counts, payload: &Payload<'_>, out: &mut O)
     ensures shows { ItemsBegin payload.now
         → ShowsItems counts.now (report_of payload.now) (O.writing out.old) (O.writing out.new) }
