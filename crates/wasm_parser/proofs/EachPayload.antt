@@ -7,7 +7,7 @@ use Rattle.wasm_base.specs.declared.error.Error.{Error}
 use Rattle.wasm_frames.specs.Along.{Along, ReadingBegins, Came}
 use Rattle.wasm_frames.specs.Answer.{refuses, reports}
 use Rattle.wasm_grammar.specs.Content.{fault}
-use Rattle.wasm_parser.specs.ParseAll.{Walk, walk_over, consumed_between, GivesAnswer, NextPayload}
+use Rattle.wasm_parser.specs.ParseAll.{Walk, walk_over, consumed_between, YieldsAnswer, NextPayload}
 use Rattle.wasm_parser.specs.ParseAnswer.{report_of, ItemsBegin}
 use Rattle.wasm_frames.specs.ParserState.{initial_state}
 use Rattle.wasm_grammar.specs.Reading.{Event, last_event, Reading}
@@ -45,7 +45,7 @@ module _ (stream : List ℕ) (it next : Walk) (events : List Event) (w : WalkedT
     going : it.ended ≡ false
     going = is_going it.ended (Ok payload) refl n
 
-    gave : GivesAnswer it (Some (Ok payload)) next
+    gave : YieldsAnswer it (Some (Ok payload)) next
     gave = n.going going
 
     there : consumed_between it next ≤ length it.bytes
@@ -78,7 +78,7 @@ module _ (stream : List ℕ) (it next : Walk) (events : List Event) (w : WalkedT
       → Reading stream 0 all_features (events ++ last_event (fault (fault_at e)) ∷ [])
   walk_faults e n =
       let g : it.ended ≡ false = is_going it.ended (Err e) refl n in
-      let a : GivesAnswer it (Some (Err e)) next = n.going g in
+      let a : YieldsAnswer it (Some (Err e)) next = n.going g in
       (answers_go_along.answers 0 all_features stream it.state it.bytes events true (refuses (fault_at e)) [] next.state it.bytes
       (w.going g)
       (omega (arith, small))

@@ -34,19 +34,19 @@ abbrev pub consumed_between : Walk → Walk → ℕ
 consumed_between s t = length s.bytes - length t.bytes
 
 -- The parser's result is yielded, and the walk is after it; after the end and after a fault it is finished.
-abbrev pub GivesAnswer : Walk → Option (Result Payload Error) → Walk → Type 0
-GivesAnswer s None t = ⊥
-GivesAnswer s (Some (Ok payload)) t =
+abbrev pub YieldsAnswer : Walk → Option (Result Payload Error) → Walk → Type 0
+YieldsAnswer s None t = ⊥
+YieldsAnswer s (Some (Ok payload)) t =
     ParseAnswer s.state true s.bytes (Ok (Parsed (consumed_between s t) payload)) t.state
     × (t.bytes ≡ drop (consumed_between s t) s.bytes) × (t.ended ≡ is_end (report_of payload))
-GivesAnswer s (Some (Err e)) t =
+YieldsAnswer s (Some (Err e)) t =
     ParseAnswer s.state true s.bytes (Err e) t.state × (t.bytes ≡ s.bytes) × (t.ended ≡ true)
 
 -- | one step of a walk over all payloads
 -- one call of `next`
 pub record NextPayload (s : Walk) (given : Option (Result Payload Error)) (t : Walk) : Type 0 where
   pub over : s.ended ≡ true → (given ≡ None) × (t ≡ s)
-  pub going : s.ended ≡ false → GivesAnswer s given t
+  pub going : s.ended ≡ false → YieldsAnswer s given t
 
 -- what a payload reports, or a fault
 abbrev pub given_report : Result Payload Error → Report
