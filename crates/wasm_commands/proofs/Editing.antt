@@ -60,7 +60,7 @@ module _ (edits : List Edit) (input output : Device) (middle : Option (List ℕ)
       → EndsEdit edits parts (record output { before = middle; had_failed = failed }) (Ok End)
       → (stream : List ℕ) × Consumes input.before input.after stream × WritesAll edits stream output
   all_parts (Ok End) e ends =
-      let s = e.parts in (
+      let s = e.ends in (
         s.given,
         s.gave,
         record {

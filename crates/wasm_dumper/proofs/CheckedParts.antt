@@ -7,7 +7,8 @@ use Rattle.wasm_dumper.specs.declared.hidden.Skipped.{Skipped}
 use Rattle.wasm_feeder.specs.Passing.{held_by}
 use Rattle.wasm_frames.specs.SkipNext.{Head}
 use Rattle.wasm_tree.specs.Found.{Finds, FindsNone}
-use Rattle.wasm_dumper.proofs.Checking.{Finding, Seeking, any_more, finds_both}
+use Rattle.wasm_dumper.proofs.Checking.{any_more, finds_both}
+use Rattle.wasm_dumper.specs.Dumping.{Finding, Seeking}
 use Rattle.wasm_feeder.proofs.ForCallers.{arrived, past}
 
 -- what was found so far is known, and the parser has skipped a part

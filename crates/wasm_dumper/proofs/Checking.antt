@@ -1,22 +1,17 @@
 -- What a tree that keeps faults alone has found of a stream.
-use Rattle.wasm_dumper.proofs.Common.{◌≡◌, ℕ, ◌+◌, Bool, true, false, List, [], ◌∷◌, ◌++◌, Some, None, Result, Ok, Err, refl, sym, ap}
+use Rattle.wasm_dumper.proofs.Common.{◌≡◌, ℕ, ◌+◌, Bool, true, false, List, [], ◌∷◌, ◌++◌, Some, None, Ok, Err, refl, sym, ap}
 use Rattle.wasm_dumper.proofs.Common.{subst, ◌∙◌, arith, Option, Outcome, Place, ReadsAs}
 use Rattle.wasm_base.specs.Window.{place}
 use Rattle.wasm_custom.specs.Custom.{Custom}
-use Rattle.wasm_base.specs.Features.{all_features}
-use Rattle.wasm_dumper.proofs.Common.{drop, Error, seen, lending, beside, feed_of, Feed, Moves, turn_after, Cursor, Told}
+use Rattle.wasm_dumper.proofs.Common.{Feed, Moves, turn_after, Told}
 use Rattle.wasm_dumper.proofs.Common.{Request, Part, Stop, Ending, Event, last_event, report_of, Writing, Only}
+use Rattle.wasm_dumper.specs.Dumping.{Finding, Seeking}
 use Rattle.wasm_dumper.specs.Checks.{FindsIn, answer_faulty, any_faulty, custom_of, faulty_if, report_faulty, shown_faulty}
-use Rattle.wasm_feeder.specs.Beside.{FillsAlike, ReadsEnough}
-use Rattle.wasm_feeder.specs.Feed.{new_feed}
-use Rattle.wasm_feeder.specs.Progress.{Reached, Asks}
-use Rattle.wasm_feeder.specs.Step.{answer_of, is_request, shown}
+use Rattle.wasm_feeder.specs.Beside.{FillsAlike}
 use Rattle.wasm_feeder.specs.declared.turns.Ended.{Ended}
 use Rattle.wasm_feeder.specs.declared.turns.Turn.{Turn}
 use Rattle.wasm_feeder.proofs.ForCallers.{IsEnding, IsEvent, begins, next_asks, next_ends, next_event, reads_on, whole_input}
-use Rattle.wasm_feeder.proofs.ForCallers as progress
 use Rattle.wasm_feeder.specs.declared.turns.Turn.TheVariants as turn
-use Rattle.wasm_frames.specs.Answer.{GivesAnswer}
 use Rattle.wasm_parser.specs.declared.payload.Payload.{Payload}
 use Rattle.wasm_parser.specs.declared.payload.Payload.TheVariants.{End}
 use Rattle.wasm_grammar.specs.Reading.{Report, stream_end}
@@ -84,47 +79,12 @@ finds_both a b old mid new f g is h = subst (λ (x : Option Bool). HasFound x ne
 
 -- ---- how far a tree has come
 
--- where the feeder is along what the source gave, and what was found of its events
-pub record Finding (only : List Only) (full rest : Option (List ℕ)) (f : Feed) (old new : Option Bool) : Type 0 where
-  pub events : List Event
-  pub reached : Reached full rest f events
-  pub found : Finds (any_faulty only events) old new
-
--- the same where the feeder asks for more
-pub record Seeking (only : List Only) (full rest : Option (List ℕ)) (f : Feed) (old new : Option Bool) : Type 0 where
-  pub events : List Event
-  pub asks : Asks full rest f events
-  pub found : Finds (any_faulty only events) old new
-
 -- a step of the feeder, and what was found of it
 pub record FindsStep (only : List Only) (old new : Feed) (before after : Option Bool) (next : Turn) : Type 0 where
   pub answer : Told
   pub steps : Moves old answer new
   pub turns : next ≡ turn_after answer
   pub finds : Finds (answer_faulty only answer) before after
-
-pub finds_beside : (only : List Only) (full : Option (List ℕ)) (found : Option Bool) (stored piece : List ℕ) (cursor : Cursor)
-    → stored ≡ [] → piece ≡ [] → feed_of [] cursor ≡ new_feed 0 all_features
-    → Finding only full full (beside (feed_of stored cursor) piece) found found
-finds_beside only full found stored piece cursor none no_piece new = record {
-  events = [];
-  reached = progress.begun_beside full stored piece cursor none no_piece new;
-  found = λ is h. h;
-}
-
-pub finds_step : (only : List Only) (f : Feed) (stored piece items rest bytes : List ℕ) (old new : Cursor) (x : Told)
-    (now ready after : Option Bool) (next : Turn) → lending stored piece old ≡ f → ReadsEnough stored piece old → bytes ≡ seen items rest
-    → items ≡ stored → rest ≡ piece → GivesAnswer old.parser old.is_finished (drop old.mark bytes) (answer_of x) new.parser
-    → drop old.mark bytes ≡ shown x ++ drop new.mark bytes → new.is_finished ≡ old.is_finished → new.wants_more ≡ is_request x
-    → next ≡ turn_after x → ready ≡ now → Finds (answer_faulty only x) ready after
-    → FindsStep only f (lending stored piece new) now after next
-finds_step only f stored piece items rest bytes old new x now ready after next from sees read items_are rest_is parses shows finished wants
-    turns kept finds = record {
-      answer = x;
-      steps = progress.both f stored piece items rest bytes old new x from sees read items_are rest_is parses shows finished wants;
-      turns = turns;
-      finds = subst (λ (y : Option Bool). Finds (answer_faulty only x) y after) kept finds;
-    }
 
 event_faulty : (only : List Only) (x : Told) (e : Event) → IsEvent x e → answer_faulty only x ≡ shown_faulty only e.report
 event_faulty only (Part report bytes) e (n, says, is) = ap (shown_faulty only) says
@@ -194,10 +154,6 @@ module _ (only : List Only) (full rest : Option (List ℕ)) (f : Feed) (old now 
               (all_finds last (d.events ++ last_event end ∷ []) more same) h,
         );
       }
-
-pub finds_same : (only : List Only) (full rest : Option (List ℕ)) (f g : Feed) (old new : Option Bool) → g ≡ f
-    → Finding only full rest f old new → Finding only full rest g old new
-finds_same only full rest f g old new same p = subst (λ (x : Feed). Finding only full rest x old new) (sym same) p
 
 pub same_found : (only : List Only) (full rest : Option (List ℕ)) (f : Feed) (old now last : Option Bool) → last ≡ now
     → Finding only full rest f old now → Finding only full rest f old last

@@ -18,8 +18,9 @@ use Rattle.wasm_feeder.specs.Progress.{Reached}
 use Rattle.wasm_grammar.specs.Grammar.{final, verdict}
 use Rattle.wasm_frames.specs.ParserState.{grammar_of}
 use Rattle.wasm_frames.specs.SkipNext.{Head, skip_in}
-use Rattle.wasm_dumper.proofs.Dumping.{Dumping, HasWritten, IsFresh, ShowsStep, Wanting, WrittenWith, all, bytes_more, dumped, events_are}
-use Rattle.wasm_dumper.proofs.Dumping.{has_failed, not_whole, numbers_of, outline_of, source, stopped_after, whole}
+use Rattle.wasm_dumper.specs.Dumping.{Dumping, HasWritten, IsFresh, Wanting, WrittenWith, outline_of}
+use Rattle.wasm_dumper.proofs.Dumping.{ShowsStep, all, bytes_more, dumped, events_are}
+use Rattle.wasm_dumper.proofs.Dumping.{has_failed, not_whole, numbers_of, source, stopped_after, whole}
 use Rattle.wasm_dumper.proofs.Numbering.{all_more, events_more}
 use Rattle.wasm_feeder.proofs.ForCallers.{arrived, is_short, one_more, past, reads_short, same_held}
 use Rattle.wasm_feeder.specs.declared.turns.Turn.TheVariants as turn

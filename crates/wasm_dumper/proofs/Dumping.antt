@@ -1,8 +1,8 @@
 -- How far a dump has come. Its outline is what a listing by the lines that are shown would have written.
 use Rattle.wasm_dumper.proofs.Common.{◌≡◌, ℕ, ◌<◌, Bool, true, false, List, [], ◌∷◌, ◌++◌, Some, None, Result, Ok, Err, refl, sym, ap}
-use Rattle.wasm_dumper.proofs.Common.{subst, subst₂, ◌∙◌, append-nil, arith, length, Option, append_assoc, length-append, drop}
-use Rattle.wasm_dumper.proofs.Common.{Consumes-trans, if◌then◌else◌, Error, seen, lending, beside, feed_of, Feed, weight, Moves, turn_after}
-use Rattle.wasm_dumper.proofs.Common.{Cursor, Told, Request, Stop, Fault, End, Ending, Report, Event, last_event}
+use Rattle.wasm_dumper.proofs.Common.{subst, subst₂, ◌∙◌, append-nil, arith, length, Option, append_assoc, length-append}
+use Rattle.wasm_dumper.proofs.Common.{Consumes-trans, if◌then◌else◌, Feed, weight, Moves, turn_after}
+use Rattle.wasm_dumper.proofs.Common.{Told, Request, Stop, Fault, End, Ending, Report, Event, last_event}
 use Rattle.wasm_dumper.proofs.Common.{input_failed, ListError, Input, Base, Number, Writing, IsWritten, Adds, IsOut, Origin, chosen_line}
 use Rattle.wasm_dumper.proofs.Common.{is_chosen, after, after_all, no_counts, DumpsInto, ShowsAnswer, bytes_of_events, origin, shown_bytes}
 use Rattle.wasm_dumper.proofs.Common.{AreOf, AreOfEvents, Counts, Only}
@@ -13,10 +13,10 @@ use Rattle.std.specs.Prelude.{flat_map}
 use Rattle.wasm_base.specs.Features.{all_features}
 use Rattle.wasm_dumper.specs.Dump.{AreOfSource, bytes_of_answer, bytes_of_event, is_whole, WritesWhole, WritesSome, AreOfAnswer}
 use Rattle.wasm_dumper.specs.Dump.{after_answer, DumpsFrom, DumpsByTree, Writes, stopped_by}
-use Rattle.wasm_feeder.specs.Beside.{FillsAlike, ReadsEnough}
+use Rattle.wasm_feeder.specs.Beside.{FillsAlike}
 use Rattle.wasm_feeder.specs.Feed.{new_feed}
 use Rattle.wasm_feeder.specs.Lists.{IsHead, ListsBy, Refills, listing_by}
-use Rattle.wasm_feeder.specs.Progress.{Reached, Asks, Progress}
+use Rattle.wasm_feeder.specs.Progress.{Reached, Progress}
 use Rattle.wasm_feeder.specs.Step.{answer_of, is_request, shown}
 use Rattle.wasm_feeder.specs.Turns.{text_after}
 use Rattle.wasm_feeder.specs.Step as tells
@@ -24,7 +24,6 @@ use Rattle.wasm_feeder.specs.declared.turns.Ended.{Ended}
 use Rattle.wasm_feeder.specs.declared.turns.Turn.{Turn}
 use Rattle.wasm_grammar.specs.EventRanges.{consumed_by}
 use Rattle.wasm_grammar.specs.Reading.{Reading}
-use Rattle.wasm_frames.specs.Answer.{GivesAnswer}
 use Rattle.wasm_text.specs.Calls.{Change, Device, bytes_of, from_to, output_failed}
 use Rattle.wasm_text.specs.Page.{WritesHead, PutsBytes}
 use Rattle.wasm_text.specs.declared.devices.ListError.TheVariants.{Output, Memory}
@@ -33,6 +32,7 @@ use Rattle.wasm_tree.specs.Tree.{IsOutlined, Part, begun, begun_numbers, IsGoing
 use Rattle.wasm_tree.specs.declared.objects.Spot.{Spot}
 use Rattle.wasm_tree.specs.declared.tree.Style.{Style}
 use Rattle.wasm_tree.specs.declared.tree.Style.TheVariants.{Lines, Objects}
+use Rattle.wasm_dumper.specs.Dumping.{Dumping, HasWritten, IsFresh, Wanting, WrittenWith, outline_of}
 use Rattle.wasm_dumper.proofs.Numbering.{all_more, events_begin, events_more, end_none}
 use Rattle.wasm_feeder.proofs.ForCallers.{AtEnd, IsEnding, IsEvent, all_given, begins_with, consumed, next_asks, next_ends, next_event}
 use Rattle.wasm_feeder.proofs.ForCallers.{reads_on}
@@ -43,24 +43,9 @@ use Rattle.wasm_feeder.proofs.ForCallers as progress
 use Rattle.wasm_tree.specs.Tree as Tree
 use Rattle.wasm_tree.specs.Json as json
 
--- a writer that has written nothing since this was taken
-abbrev pub IsFresh : Writing → (taken : Option (List ℕ)) (failed : Bool) → Type 0
-IsFresh w taken failed = IsWritten (origin w.style taken failed [] [] []) w
-
 -- a source before and after, and whether it had failed and has
 abbrev pub source : (full rest : Option (List ℕ)) (had has : Bool) → Device
 source full rest had has = record { before = full; after = rest; had_failed = had; has_failed = has }
-
--- the lines of the first level of these events
-abbrev pub outline_of : Style → List Only → List Event → List ℕ
-outline_of style only events = listing_by (chosen_line style only) events
-
--- what was written with these events, and their numbers, where the tree has not stopped
-abbrev pub WrittenWith : (why : Option ListError) → List Only → (has_bytes : Bool) → List Event → Style
-    → (taken : Option (List ℕ)) (failed : Bool) (outline : List ℕ) → Writing → Type 0
-WrittenWith why only has_bytes events style taken failed outline now =
-    (numbers : List Number) × AreOfEvents why only no_counts events numbers
-    × IsWritten (origin style taken failed outline numbers (bytes_of_events has_bytes only events)) now
 
 -- what is shown of a result continues from what was shown of events to that of these
 abbrev pub Continues : List Only → (has_bytes : Bool) → Counts → Told → (old new : List Event) → Type 0
@@ -69,38 +54,16 @@ Continues only has_bytes c x old new = ((why : Option ListError) (numbers shown 
     → AreOfEvents why only no_counts new (numbers ++ shown))
     × (bytes_of_events has_bytes only new ≡ bytes_of_events has_bytes only old ++ bytes_of_answer has_bytes only x)
 
--- the tree has written these events since it was fresh
-abbrev pub HasWritten : List Only → (has_bytes : Bool) → (before : Writing) (events : List Event) (now : Writing) → Type 0
-HasWritten only has_bytes before events now = (taken : Option (List ℕ)) (failed : Bool) → IsFresh before taken failed
-    → WrittenWith None only has_bytes events before.style taken failed (outline_of before.style only events) now
-
--- where the feeder is along what the source gave, what is counted of its events, and what was written of them
-pub record Dumping (only : List Only) (has_bytes : Bool) (full rest : Option (List ℕ)) (before : Writing) (f : Feed) (c : Counts)
-    (now : Writing) : Type 0 where
-  pub events : List Event
-  pub reached : Reached full rest f events
-  pub counted : c ≡ after_all no_counts events
-  pub writing : HasWritten only has_bytes before events now
-
--- the same where the feeder asks for more
-pub record Wanting (only : List Only) (has_bytes : Bool) (full rest : Option (List ℕ)) (before : Writing) (f : Feed) (c : Counts)
-    (now : Writing) : Type 0 where
-  pub events : List Event
-  pub asks : Asks full rest f events
-  pub counted : c ≡ after_all no_counts events
-  pub writing : HasWritten only has_bytes before events now
-
 none_of_events : (has_bytes : Bool) (only : List Only) → [] ≡ bytes_of_events has_bytes only []
 none_of_events true only = refl
 none_of_events false only = refl
 
--- the dump begins with nothing stored, and nothing read
-pub starts_beside : (only : List Only) (has_bytes : Bool) (full : Option (List ℕ)) (w : Writing) (stored piece : List ℕ) (cursor : Cursor)
-    (c : Counts) → stored ≡ [] → piece ≡ [] → feed_of [] cursor ≡ new_feed 0 all_features → c ≡ no_counts
-    → Dumping only has_bytes full full w (beside (feed_of stored cursor) piece) c w
-starts_beside only has_bytes full w stored piece cursor c none no_piece new none_counted = record {
+-- nothing is shown yet
+pub starts : (only : List Only) (has_bytes : Bool) (full : Option (List ℕ)) (w : Writing) (c : Counts) → c ≡ no_counts
+    → Dumping only has_bytes full full w (new_feed 0 all_features) c w
+starts only has_bytes full w c none_counted = record {
   events = [];
-  reached = progress.begun_beside full stored piece cursor none no_piece new;
+  reached = progress.nothing_read full;
   counted = none_counted;
   writing = λ taken failed i. (
     [],
@@ -351,23 +314,6 @@ pub record ShowsStep (only : List Only) (has_bytes : Bool) (counts counts' : Cou
   pub shows : ShowsAnswer only has_bytes counts answer before after
   pub counted : counts' ≡ after_answer counts answer
 
--- a step of a parser beside a chunk, which was shown
-pub shows_step : (only : List Only) (has_bytes : Bool) (c c' : Counts) (f : Feed) (stored piece items rest bytes : List ℕ)
-    (old new : Cursor) (x : Told) (now ready after : Writing) (next : Turn) → lending stored piece old ≡ f
-    → ReadsEnough stored piece old → bytes ≡ seen items rest → items ≡ stored → rest ≡ piece
-    → GivesAnswer old.parser old.is_finished (drop old.mark bytes) (answer_of x) new.parser
-    → drop old.mark bytes ≡ shown x ++ drop new.mark bytes → new.is_finished ≡ old.is_finished → new.wants_more ≡ is_request x
-    → next ≡ turn_after x → ready ≡ now → ShowsAnswer only has_bytes c x ready after → c' ≡ after_answer c x
-    → ShowsStep only has_bytes c c' f (lending stored piece new) now after next
-shows_step only has_bytes c c' f stored piece items rest bytes old new x now ready after next from sees read items_are rest_is parses shows
-    finished wants turns kept answer counted = record {
-      answer = x;
-      steps = progress.both f stored piece items rest bytes old new x from sees read items_are rest_is parses shows finished wants;
-      turns = turns;
-      shows = rw (← kept) answer;
-      counted = counted;
-    }
-
 module _ (only : List Only) (has_bytes : Bool) (full rest : Option (List ℕ)) (before : Writing) (f : Feed) (c : Counts) (now : Writing)
     (d : Dumping only has_bytes full rest before f c now) (g : Feed) (c' : Counts) (new : Writing) (next : Turn)
     (s : ShowsStep only has_bytes c c' f g now new next) where
@@ -513,12 +459,6 @@ module _ (only : List Only) (has_bytes : Bool) (full rest : Option (List ℕ)) (
       (sym t ∙ s.turns) (Some outline) (Appends-nil (Some outline)))
       (subst (λ (why : Option ListError). AreOfSource why (is_whole (Ok how)) only has_bytes (from_to full rest) numbers bytes) went are)
       (whole o last going out all) h (has_failed o last going all)
-
--- where the feeder is afterwards
-pub same_going : (only : List Only) (has_bytes : Bool) (full rest : Option (List ℕ)) (before : Writing) (e f g : Feed) (c : Counts)
-    (now : Writing) → g ≡ f → Dumping only has_bytes full rest before f c now × (weight f < weight e)
-    → Dumping only has_bytes full rest before g c now × (weight g < weight e)
-same_going only has_bytes full rest before e f g c now same p = rw same p
 
 -- what the tree has written afterwards
 pub same_written : (only : List Only) (has_bytes : Bool) (full rest : Option (List ℕ)) (before : Writing) (f : Feed) (c : Counts)

@@ -3,6 +3,7 @@ pub mod Checking
 pub mod Common
 pub mod Counted
 pub mod DroppedParts
+pub mod DumpTurns
 pub mod Dumping
 pub mod Lines
 pub mod Numbering

@@ -8,6 +8,7 @@ ghost use Rattle.wasm_feeder.specs.Step.{StepBegins, told};
 ghost use Rattle.wasm_feeder.specs.Turns.{turn_after};
 ghost use Rattle.wasm_dumper.specs.Dump.{DumpsByTree, DumpsInto, ShowsAnswer, ShowsReport, after_answer};
 ghost use Rattle.wasm_dumper.specs.Checks.{FindsAt, answer_faulty, shown_faulty};
+ghost use Rattle.wasm_dumper.specs.Dumping.{dump_stages, dumper};
 ghost use Rattle.wasm_dumper.specs.Hiding.{CountsOutline, FindsOutline, ShowsOutline};
 ghost use Rattle.wasm_dumper.specs.declared.hidden.Outline.TheVariants.{Custom};
 ghost use Rattle.wasm_tree.specs.Found.{Finds, FindsNone};
@@ -21,8 +22,8 @@ use crate::hidden::{CustomOutline, Outline, Skipped, drop_part, skip_unread};
 use crate::linked::Linked;
 use crate::payload::{offsets_of_items, show_payload_if};
 use std::alloc::Global;
-use wasm_feeder::{Ahead, Cursor, Ended, Step, Turn, parse_next, seen};
-use wasm_parser::{Parser, Payload, Result as ParserResult};
+use wasm_feeder::{Ahead, Cursor, Ended, Step, Turn, Visitor, seen, visit};
+use wasm_parser::{Error, Payload, Result as ParserResult};
 use wasm_text::{ListError, Source};
 use wasm_tree::{ItemNames, Tree};
 
@@ -186,8 +187,7 @@ fn flush<O: Tree>(out: &mut O) -> Result<(), ListError>
     go_on(out)
 }
 
-// Adds the names of symbols that a step returned to those of the tree, if it shows items: relocations show them. The tree
-// stops if an allocation fails.
+// Adds the names of symbols that a step returned to those of the tree.
 fn learn<O: Tree>(
     alloc: Global,
     only: &[Only<'_>],
@@ -201,15 +201,16 @@ fn learn<O: Tree>(
     ensures stops { IfErr result (λ why. (O.writing out.new).why ≡ Some why) }
 {
     match answer {
-        Ok(Step::Parsed { bytes, payload }) if !O::ONLY_FAULTS && shows_items(only) => {
+        Ok(Step::Parsed { bytes, payload }) => {
             learn_payload(alloc, only, linked, bytes, payload, out)
         }
         _ => Ok(()),
     }
 }
 
-// Adds the names of symbols in a payload to those of the tree. The tree stops if an allocation fails. A section that is not
-// shown may be skipped before it has come as a whole, so its name is not kept in either case.
+// Adds the names of symbols in a payload to those of the tree, if it shows items: relocations show them. The tree stops if
+// an allocation fails. A section that is not shown may be skipped before it has come as a whole, so its name is not kept
+// in either case.
 fn learn_payload<O: Tree>(
     alloc: Global,
     only: &[Only<'_>],
@@ -223,7 +224,7 @@ fn learn_payload<O: Tree>(
     ensures adds { Adds (O.writing out.old) (O.writing out.new) }
     ensures stops { IfErr result (λ why. (O.writing out.new).why ≡ Some why) }
 {
-    if payload.as_section().is_none() {
+    if O::ONLY_FAULTS || !shows_items(only) || payload.as_section().is_none() {
         return Ok(());
     }
     let mut names = out.take_names().unwrap_or(ItemNames::new(alloc));
@@ -231,12 +232,12 @@ fn learn_payload<O: Tree>(
     out.set_names(names);
     match learned {
         Ok(()) => Ok(()),
-        Err(_) => stop(out),
+        Err(_) => Err(stop(out)),
     }
 }
 
-// Passes a part that was skipped. The name of a custom section that is shown is kept, if the tree shows items: symbols name
-// sections. The tree stops if an allocation fails.
+// Passes a part that was skipped. The name of a custom section that is shown is kept: symbols name sections. The tree stops
+// if an allocation fails.
 fn learn_skipped<O: Tree>(
     alloc: Global,
     only: &[Only<'_>],
@@ -255,104 +256,90 @@ fn learn_skipped<O: Tree>(
             Ok(())
         }
         Outline::Custom(section) => {
-            if !O::ONLY_FAULTS && shows_items(only) {
-                learn_payload(alloc, only, linked, &[], &section.without_data(), out)
-            } else {
-                Ok(())
-            }
+            learn_payload(alloc, only, linked, &[], &section.without_data(), out)
         }
     }
 }
 
-// Stops the tree because an allocation failed.
-fn stop<O: Tree>(out: &mut O) -> Result<(), ListError>
-    ensures fails { OnOk result ⊥ }
+// Stops the tree because an allocation failed, and returns why it has stopped.
+fn stop<O: Tree>(out: &mut O) -> ListError
     ensures adds { Adds (O.writing out.old) (O.writing out.new) }
-    ensures stops { IfErr result (λ why. (O.writing out.new).why ≡ Some why) }
+    ensures stops { (O.writing out.new).why ≡ Some result }
 {
     out.out_of_memory();
-    go_on(out)
-}
-
-// Makes enough bytes available for the next step. The tree stops if an allocation fails.
-fn make_ready<O: Tree>(
-    ahead: &mut Ahead<Global>,
-    cursor: &mut Cursor,
-    stored: &mut Vec<u8>,
-    out: &mut O,
-) -> Result<(), ListError>
-    ensures same { OnOk result (lending stored.new.items ahead.new cursor.new
-        ≡ beside (feed_of stored.old.items cursor.old) ahead.old) }
-    ensures enough { OnOk result (ReadsEnough stored.new.items ahead.new cursor.new) }
-    ensures room { OnOk result (vec_len stored.new + length ahead.new ≤ vec_capacity stored.new) }
-    ensures keeps { OnOk result (O.writing out.new ≡ O.writing out.old) }
-    ensures found { OnOk result (O.found out.new ≡ O.found out.old) }
-    ensures adds { Adds (O.writing out.old) (O.writing out.new) }
-    ensures stops { IfErr result (λ why. (O.writing out.new).why ≡ Some why) }
-{
-    match ahead.make_ready(cursor, stored) {
-        Ok(()) => Ok(()),
-        Err(_) => stop(out),
+    match out.stopped() {
+        Some(why) => why,
+        None => ListError::Memory,
     }
 }
 
-// Does what `dump` says, with a buffer to read into. The loop has the parts of a feeder as separate values, so that a payload can
-// borrow the bytes while the cursor moves on.
-fn dump_into<R: Source, O: Tree>(
+// What shows each part on a tree.
+#[derive(Drop)]
+struct Dumper<'a> {
     alloc: Global,
-    shown: Shown<'_>,
-    input: &mut R,
-    out: &mut O,
-    buffer: Vec<u8>,
-) -> Result<Ended, ListError>
-    requires { 0 < vec_len buffer }
-    ensures dumps { DumpsInto shown.entry.only.now shown.entry.has_bytes
-        (device_of R.remaining R.has_failed input.old input.new)
-        (O.writing out.old) result (O.writing out.new) }
-    ensures found { FindsAt shown.entry.only.now
-        (from_to (R.remaining input.old) (R.remaining input.new)) result
-        (O.found out.old) (O.writing out.new) (O.found out.new) }
-{
-    let mut counts = Counts::new();
-    let mut linked = Linked::new(alloc, false);
-    let mut offset = 0;
-    let mut ahead = Ahead::new(buffer);
-    let mut stored = Vec::new(alloc);
-    let mut cursor = Cursor::new(Parser::new(0));
-    'events: loop {
-        make_ready(&mut ahead, &mut cursor, &mut stored, out)?;
-        let answer = parse_next(&mut cursor, seen(&stored, ahead.bytes()));
-        learn(alloc, shown.only, &mut linked, &answer, out)?;
-        let turn = show_answer(alloc, shown, &mut counts, &mut offset, &answer, out);
-        drop(answer);
+    shown: Shown<'a>,
+    // The items and bodies so far.
+    counts: Counts,
+    // The names of symbols so far.
+    linked: Linked,
+    // The offset of the next part.
+    offset: u64,
+}
+
+impl<'a, O: Tree> Visitor<Global, O> for Dumper<'a> {
+    ghost stages = { dump_stages (dumper (λ d. d.shown.only.now) (λ d. d.shown.has_bytes)
+        (λ d. d.counts) O.writing O.found) };
+
+    ghost sound = { λ d. Unit {0} };
+
+    fn take(&mut self, answer: &ParserResult<Step<'_>>, out: &mut O) -> Result<Turn, ListError> {
+        learn(self.alloc, self.shown.only, &mut self.linked, answer, out)?;
+        let turn = show_answer(
+            self.alloc,
+            self.shown,
+            &mut self.counts,
+            &mut self.offset,
+            answer,
+            out,
+        );
         go_on(out)?;
-        match turn {
-            Turn::Advance => ahead.pass_borrowed(&mut cursor, &stored),
-            Turn::Read => {
-                flush(out)?;
-                let bytes = seen(&stored, ahead.bytes());
-                let part = skip_unread(alloc, shown, &mut cursor, bytes)?;
-                let Some(Skipped { passing, outline }) = part else {
-                    ahead.refill(&mut cursor, &mut stored, input)?;
-                    continue;
-                };
-                let cut = drop_part(alloc, passing, &mut cursor, &mut stored, &mut ahead, input)?;
-                if let Some(error) = cut {
-                    show_answer(alloc, shown, &mut counts, &mut offset, &Err(error), out);
-                    go_on(out)?;
-                    flush(out)?;
-                    return Ok(Ended::Fault(error));
-                }
-                show_skipped(alloc, shown, &mut counts, &outline, out);
-                go_on(out)?;
-                learn_skipped(alloc, shown.only, &mut linked, outline, out)?;
-                offset = cursor.offset();
-            }
-            Turn::End(ended) => {
-                flush(out)?;
-                return Ok(ended);
-            }
+        Ok(turn)
+    }
+
+    fn read_on<R: Source>(
+        &mut self,
+        cursor: &mut Cursor,
+        stored: &mut Vec<u8>,
+        ahead: &mut Ahead<Global>,
+        input: &mut R,
+        out: &mut O,
+    ) -> Result<Option<Error>, ListError> {
+        flush(out)?;
+        let bytes = seen(stored, ahead.bytes());
+        let part = skip_unread(self.alloc, self.shown, cursor, bytes)?;
+        let Some(Skipped { passing, outline }) = part else {
+            ahead.refill(cursor, stored, input)?;
+            return Ok(None);
+        };
+        if let Some(error) = drop_part(self.alloc, passing, cursor, stored, ahead, input)? {
+            show_last_fault(&error, out);
+            go_on(out)?;
+            flush(out)?;
+            return Ok(Some(error));
         }
+        show_skipped(self.alloc, self.shown, &mut self.counts, &outline, out);
+        go_on(out)?;
+        learn_skipped(self.alloc, self.shown.only, &mut self.linked, outline, out)?;
+        self.offset = cursor.offset();
+        Ok(None)
+    }
+
+    fn finish(&mut self, out: &mut O) -> Result<(), ListError> {
+        flush(out)
+    }
+
+    fn out_of_memory(&mut self, out: &mut O) -> ListError {
+        stop(out)
     }
 }
 
@@ -439,5 +426,12 @@ pub fn dump<R: Source, O: Tree>(
         (O.found out.old) (O.writing out.new) (O.found out.new) }
 {
     let buffer = vec![in alloc; 0u8; piece]?;
-    dump_into(alloc, shown, input, out, buffer)
+    let mut dumper = Dumper {
+        alloc,
+        shown,
+        counts: Counts::new(),
+        linked: Linked::new(alloc, false),
+        offset: 0,
+    };
+    visit(alloc, &mut dumper, input, out, buffer)
 }

@@ -28,8 +28,8 @@ pub use Rattle.wasm_text.specs.declared.devices.ListError.{ListError}
 pub use Rattle.wasm_feed.specs.EditStream.{StopsHere}
 pub use Rattle.wasm_feed.specs.Stripped.{frame_stays, event_stays, EndsWithFault, IsStripped}
 pub use Rattle.wasm_feed.specs.EditParts.{HasEdited, ReadsEdited}
-pub use Rattle.wasm_feeder.proofs.ForCallers.{AtEnd, arrived, cut, cut_within, is_short, past, puts_more, begun, begun_beside, both}
-pub use Rattle.wasm_feeder.proofs.ForCallers.{nothing_read, same_lighter}
+pub use Rattle.wasm_feeder.proofs.ForCallers.{AtEnd, arrived, cut, cut_within, is_short, past, puts_more, begun}
+pub use Rattle.wasm_feeder.proofs.ForCallers.{nothing_read}
 pub use Rattle.wasm_feeder.specs.Beside.{seen, lending, beside}
 pub use Rattle.wasm_feeder.specs.Cursors.{feed_of}
 pub use Rattle.wasm_feeder.specs.Fates.{head_stays, stays_by}

@@ -3,9 +3,11 @@ pub mod Common
 pub mod EditLaws
 pub mod EditProgress
 pub mod EditedSections
+pub mod EditTurns
 pub mod Encodings
 pub mod KeptFrames
 pub mod KeptInPlace
+pub mod ListTurns
 pub mod OnePass
 pub mod PartSteps
 pub mod SectionEvents

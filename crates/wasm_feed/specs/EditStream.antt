@@ -19,6 +19,7 @@ use Rattle.wasm_feeder.specs.Lists.{IsEndedBy, IsWhole, PassesTop}
 use Rattle.wasm_feeder.specs.Passing.{GivesUp, PassesPart, SkipsHere, SkipsNothing, held_by}
 use Rattle.wasm_feeder.specs.Turns.{turn_after}
 use Rattle.wasm_feeder.specs.declared.feeder.Cursor.{Cursor}
+use Rattle.wasm_feeder.specs.Writers.{Runs, Writer}
 use Rattle.wasm_feeder.specs.Step as tells
 use Rattle.wasm_feeder.specs.Step.{Told}
 use Rattle.wasm_feeder.specs.declared.turns.Ended.{Ended}
@@ -31,7 +32,7 @@ use Rattle.wasm_grammar.specs.Content.{Ending}
 use Rattle.wasm_grammar.specs.EventRanges.{consumed_by}
 use Rattle.wasm_grammar.specs.Reading.{Event, last_event, Stream}
 use Rattle.wasm_frames.specs.Along.{Along, ReadingBegins}
-use Rattle.wasm_text.specs.Calls.{Change, Device, bytes_of, input_failed, output_failed}
+use Rattle.wasm_text.specs.Calls.{Change, Device, output_failed}
 use Rattle.wasm_text.specs.Page.{IsCut, PutsBytes, WritesHead}
 use Rattle.wasm_text.specs.declared.devices.ListError.{ListError}
 
@@ -177,10 +178,20 @@ EditsPartsBy edits input output (Ok how) = IsStreamed edits input output how
 EditsPartsBy edits input output (Err e) = EditsHead edits input output
 
 -- what a call that edits a source does before it writes new sections at the end, and whether each device has failed
-pub record EditsParts (edits : List Edit) (input output : Device) (how : Result Ended ListError) : Type 0 where
-  pub parts : EditsPartsBy edits (bytes_of input) (bytes_of output) how
-  pub source : input.has_failed ≡ input_failed how input.had_failed
-  pub sink : output.has_failed ≡ output_failed how output.had_failed
+abbrev pub EditsParts : List Edit → (input output : Device) → Result Ended ListError → Type 0
+EditsParts edits input output how = Runs (λ i o result. EditsPartsBy edits i o result) input output how
+
+-- a visitor that writes parts after these edits
+abbrev pub editor : {V W : Type 0} → (edits : V → List Edit) (page : V → List ℕ) (taken : W → Option (List ℕ))
+    (failed : W → Bool) → Writer V W (List Edit)
+editor edits page taken failed = record {
+  by = edits;
+  page = page;
+  taken = taken;
+  failed = failed;
+  text = λ by events. edited_bytes by events;
+  ends = λ by input output how. EditsPartsBy by input output how;
+}
 
 -- The sections that edits append were written, or a prefix of them.
 pub record WritesNew (edits : List Edit) (output : Device) (result : Result (Unit {0}) ListError) : Type 0 where

@@ -1,12 +1,13 @@
 -- The listing of a stream while it is read.
-use Rattle.std.specs.Prelude.{◌≡◌, ℕ, List, Option, Result, Ok, Err}
-use Rattle.wasm_feeder.specs.Lists.{ListsBy}
+use Rattle.std.specs.Prelude.{◌≡◌, ℕ, Bool, List, Option, Result, Ok, Err}
+use Rattle.wasm_feeder.specs.Lists.{ListsBy, listing_by}
 use Rattle.wasm_feeder.specs.Turns.{text_after, turn_after}
 use Rattle.wasm_feeder.specs.Step.{Told}
+use Rattle.wasm_feeder.specs.Writers.{Runs, Writer}
 use Rattle.wasm_feeder.specs.declared.turns.Ended.{Ended}
 use Rattle.wasm_feeder.specs.declared.turns.Turn.{Turn}
 use Rattle.wasm_lines.specs.Listing.{line_of}
-use Rattle.wasm_text.specs.Calls.{Change, Device, bytes_of, input_failed, output_failed}
+use Rattle.wasm_text.specs.Calls.{Change, Device}
 use Rattle.wasm_text.specs.Page.{IsCut, PutsBytes}
 use Rattle.wasm_text.specs.declared.devices.ListError.{ListError}
 
@@ -31,7 +32,17 @@ Lists input output how = ListsBy line_of input output how
 --   input; all but the last if the source failed; otherwise a prefix. A listing by any text of what is reported
 --   [`Lists`; `Lists.ListsBy`, `IsListed`, `IsWhole`, `IsAllButLast`, `IsHead`; `listing_by`]
 -- A whole listing: what it wrote of what the source gave, and whether each device has failed.
-pub record ListsSource (input output : Device) (how : Result Ended ListError) : Type 0 where
-  pub lists : Lists (bytes_of input) (bytes_of output) how
-  pub source : input.has_failed ≡ input_failed how input.had_failed
-  pub sink : output.has_failed ≡ output_failed how output.had_failed
+abbrev pub ListsSource : (input output : Device) → Result Ended ListError → Type 0
+ListsSource input output how = Runs (λ i o result. Lists i o result) input output how
+
+-- a visitor that lists, with this page, over a sink that has taken this
+abbrev pub lister : {V W : Type 0} → (page : V → List ℕ) (taken : W → Option (List ℕ)) (failed : W → Bool)
+    → Writer V W (Unit {0})
+lister page taken failed = record {
+  by = λ v. tt;
+  page = page;
+  taken = taken;
+  failed = failed;
+  text = λ by events. listing_by line_of events;
+  ends = λ by input output how. Lists input output how;
+}

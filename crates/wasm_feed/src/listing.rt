@@ -9,13 +9,14 @@ ghost use Rattle.wasm_feeder.specs.Beside.{beside, lending};
 ghost use Rattle.wasm_feeder.specs.Cursors.{feed_of};
 ghost use Rattle.wasm_feeder.specs.Progress.{ReadsOn};
 ghost use Rattle.wasm_feeder.specs.Step.{told};
+ghost use Rattle.wasm_feeder.specs.Writers.{writer_stages};
 ghost use Rattle.wasm_feed.specs.Dropping.{DropsIfAny};
-ghost use Rattle.wasm_feed.specs.ListStream.{ListsSource, TakesTurn};
+ghost use Rattle.wasm_feed.specs.ListStream.{ListsSource, TakesTurn, lister};
 
 use std::alloc::{Allocator, Global};
-use wasm_feeder::{Ahead, Cursor, Ended, Passing, Step, Turn, parse_next, pass_part, seen};
+use wasm_feeder::{Ahead, Cursor, Ended, Passing, Step, Turn, Visitor, pass_part, seen, visit};
 use wasm_lines::{FaultLine, PayloadLine, SkippedLine};
-use wasm_parser::{Error, Parser, PartHead, Payload, Result as ParserResult, SkippedPart};
+use wasm_parser::{Error, PartHead, Payload, Result as ParserResult, SkippedPart};
 use wasm_text::{Base, ListError, Page, Sink, Source};
 
 // Puts the line of a result on the page, and returns what to do next.
@@ -126,7 +127,8 @@ fn read_on<A: Allocator, R: Source, W: Sink>(
     ensures reads { ReadsOn line_of (change_of R.remaining input.old input.new)
         (change_of W.taken output.old output.new)
         (lending stored.old.items ahead.old cursor.old) page.old
-        (beside (feed_of stored.new.items cursor.new) ahead.new) page.new result }
+        (beside (feed_of stored.new.items cursor.new) ahead.new)
+        page.new result }
     ensures source { R.has_failed input.new ≡ input_failed result (R.has_failed input.old) }
     ensures sink { W.has_failed output.new ≡ output_failed result (W.has_failed output.old) }
 {
@@ -159,6 +161,41 @@ fn read_on<A: Allocator, R: Source, W: Sink>(
     }
 }
 
+// Puts the line of each event on a page.
+#[derive(Drop)]
+struct Lister<A: Allocator> {
+    page: Page<A>,
+}
+
+impl<A: Allocator, W: Sink> Visitor<A, W> for Lister<A> {
+    ghost stages = { writer_stages (lister (λ l. l.page) W.taken W.has_failed) };
+
+    ghost sound = { λ lister. Unit {0} };
+
+    fn take(&mut self, answer: &ParserResult<Step<'_>>, output: &mut W) -> Result<Turn, ListError> {
+        put_answer(&mut self.page, output, answer)
+    }
+
+    fn read_on<R: Source>(
+        &mut self,
+        cursor: &mut Cursor,
+        stored: &mut Vec<u8, A>,
+        ahead: &mut Ahead<A>,
+        input: &mut R,
+        output: &mut W,
+    ) -> Result<Option<Error>, ListError> {
+        read_on(cursor, stored, ahead, &mut self.page, input, output)
+    }
+
+    fn finish(&mut self, output: &mut W) -> Result<(), ListError> {
+        self.page.write_out(output)
+    }
+
+    fn out_of_memory(&mut self, _output: &mut W) -> ListError {
+        ListError::Memory
+    }
+}
+
 /// Reads a stream and writes its listing like `list`, with any allocator.
 ///
 /// # Errors
@@ -174,37 +211,11 @@ pub fn list_in<A: Allocator + Copy, R: Source, W: Sink>(
     ensures { ListsSource (device_of R.remaining R.has_failed input.old input.new)
         (device_of W.taken W.has_failed output.old output.new) result }
 {
-    // Separate values and not a `Feeder`, so that the result of a step can borrow the bytes while the cursor moves on.
-    let mut ahead = Ahead::new(vec![in alloc; 0u8; piece]?);
-    let mut page = Page::new(alloc);
-    let mut stored = Vec::new(alloc);
-    let mut cursor = Cursor::new(Parser::new(0));
-    'events: loop {
-        ahead.make_ready(&mut cursor, &mut stored)?;
-        let answer = parse_next(&mut cursor, seen(&stored, ahead.bytes()));
-        let turn = put_answer(&mut page, output, &answer);
-        drop(answer);
-        match turn? {
-            Turn::Advance => ahead.pass_borrowed(&mut cursor, &stored),
-            Turn::Read => {
-                let fault = read_on(
-                    &mut cursor,
-                    &mut stored,
-                    &mut ahead,
-                    &mut page,
-                    input,
-                    output,
-                )?;
-                if let Some(error) = fault {
-                    return Ok(Ended::Fault(error));
-                }
-            }
-            Turn::End(ended) => {
-                page.write_out(output)?;
-                return Ok(ended);
-            }
-        }
-    }
+    let buffer = vec![in alloc; 0u8; piece]?;
+    let mut lister = Lister {
+        page: Page::new(alloc),
+    };
+    visit(alloc, &mut lister, input, output, buffer)
 }
 
 /// Reads a stream from a source and writes its listing to a sink: a line for each event.
@@ -247,7 +258,7 @@ pub fn list<R: Source, W: Sink>(
     // Proved: at any other error `list` has written a prefix of its listing, if what the source
     //   returned fits the offsets [the same (`IsHead`)]
     // Proved: a stream that passes the offset 2^64 - 1 ends with that fault at the parser's offset,
-    //   after the lines of what came before it [`lists` (`PassesTop`)]
+    //   after the lines of what came before it [the same (`PassesTop`)]
     // Proved: after `list` a device is known to have failed if it had failed before, and if the
     //   result names it (`Input`, `Output`) [the same (`input_failed`, `output_failed`)]
     ensures { ListsSource (device_of R.remaining R.has_failed input.old input.new)

@@ -5,18 +5,19 @@ ghost use Rattle.wasm_feeder.specs.Beside.{beside};
 ghost use Rattle.wasm_feeder.specs.Cursors.{feed_of};
 ghost use Rattle.wasm_feeder.specs.Passing.{PutsAll};
 ghost use Rattle.wasm_feeder.specs.Step.{told};
+ghost use Rattle.wasm_feeder.specs.Writers.{writer_stages};
 ghost use Rattle.wasm_feed.specs.Edits.{CanBeMade, CanBeWritten, bytes_as};
 ghost use Rattle.wasm_feed.specs.Encoded.{Fits, encoded_section};
-ghost use Rattle.wasm_feed.specs.EditStream.{CanBePassed, CanBeSkipped, EditsParts, EditsSource, ReadsOrPasses, SkipsIfAny, StopsHere, TakesPiece, WritesNew};
+ghost use Rattle.wasm_feed.specs.EditStream.{CanBePassed, CanBeSkipped, EditsParts, EditsSource, ReadsOrPasses, SkipsIfAny, StopsHere, TakesPiece, WritesNew, editor};
 ghost use Rattle.wasm_feed.specs.declared.edits.Edit.TheVariants as edit;
 
 use crate::edits::{Edit, Fate, added_by, head_fate, payload_fate};
 use crate::encoding::{NewSection, encode};
 use std::alloc::Allocator;
 use wasm_feeder::{
-    Ahead, Cursor, Ended, Keep, Passing, Step, Turn, parse_next, pass_part, put_all, seen,
+    Ahead, Cursor, Ended, Keep, Passing, Step, Turn, Visitor, pass_part, put_all, seen, visit,
 };
-use wasm_parser::{Error, Parser, Payload, Result as ParserResult};
+use wasm_parser::{Error, Payload, Result as ParserResult};
 use wasm_text::{ListError, Page, Sink, Source};
 
 // Puts a new section on the page.
@@ -138,8 +139,8 @@ fn read_or_pass<'a, A: Allocator, R: Source, W: Sink>(
     requires { vec_len stored.old + length ahead.old ≤ vec_capacity stored.old }
     ensures reads { IfOk result (λ passed. ReadsOrPasses edits.now
         (R.remaining input.old) (R.remaining input.new) (W.taken output.old) (W.taken output.new)
-        cursor.old stored.old.items ahead.old page.old
-        passed (beside (feed_of stored.new.items cursor.new) ahead.new) page.new) }
+        cursor.old stored.old.items ahead.old page.old passed
+        (beside (feed_of stored.new.items cursor.new) ahead.new) page.new) }
     ensures stops { IfErr result (λ e. StopsHere edits.now
         (R.remaining input.old) (R.remaining input.new) (W.taken output.old) (W.taken output.new)
         cursor.old stored.old.items ahead.old page.old e) }
@@ -161,6 +162,53 @@ fn read_or_pass<'a, A: Allocator, R: Source, W: Sink>(
     }
 }
 
+// Puts each part on a page, or what becomes of it.
+#[derive(Drop)]
+struct Editor<'a, A: Allocator> {
+    alloc: A,
+    edits: &'a [Edit<'a>],
+    page: Page<A>,
+}
+
+impl<'a, A: Allocator + Copy, W: Sink> Visitor<A, W> for Editor<'a, A> {
+    ghost stages = { writer_stages (editor (λ e. e.edits.now) (λ e. e.page) W.taken W.has_failed) };
+
+    ghost sound = { λ editor. All CanBeMade editor.edits.now };
+
+    fn take(&mut self, answer: &ParserResult<Step<'_>>, output: &mut W) -> Result<Turn, ListError> {
+        put_part(self.alloc, self.edits, answer, &mut self.page, output)
+    }
+
+    fn read_on<R: Source>(
+        &mut self,
+        cursor: &mut Cursor,
+        stored: &mut Vec<u8, A>,
+        ahead: &mut Ahead<A>,
+        input: &mut R,
+        output: &mut W,
+    ) -> Result<Option<Error>, ListError> {
+        let page = &mut self.page;
+        match read_or_pass(self.edits, cursor, stored, ahead, page, input, output)? {
+            Passed::Part(fate) => {
+                put_as(self.alloc, fate, b"", page, output)?;
+                Ok(None)
+            }
+            Passed::Cut(error) => {
+                page.write_out(output)?;
+                Ok(Some(error))
+            }
+        }
+    }
+
+    fn finish(&mut self, output: &mut W) -> Result<(), ListError> {
+        self.page.write_out(output)
+    }
+
+    fn out_of_memory(&mut self, _output: &mut W) -> ListError {
+        ListError::Memory
+    }
+}
+
 // Writes the parts of a stream, after edits, without the sections that are appended.
 fn edit_parts<A: Allocator + Copy, R: Source, W: Sink>(
     alloc: A,
@@ -175,41 +223,13 @@ fn edit_parts<A: Allocator + Copy, R: Source, W: Sink>(
         (device_of R.remaining R.has_failed input.old input.new)
         (device_of W.taken W.has_failed output.old output.new) result }
 {
-    let mut ahead = Ahead::new(vec![in alloc; 0u8; piece]?);
-    let mut page = Page::new(alloc);
-    let mut stored = Vec::new(alloc);
-    let mut cursor = Cursor::new(Parser::new(0));
-    'parts: loop {
-        ahead.make_ready(&mut cursor, &mut stored)?;
-        let answer = parse_next(&mut cursor, seen(&stored, ahead.bytes()));
-        let turn = put_part(alloc, edits, &answer, &mut page, output);
-        drop(answer);
-        match turn? {
-            Turn::Advance => ahead.pass_borrowed(&mut cursor, &stored),
-            Turn::Read => {
-                let passed = read_or_pass(
-                    edits,
-                    &mut cursor,
-                    &mut stored,
-                    &mut ahead,
-                    &mut page,
-                    input,
-                    output,
-                )?;
-                match passed {
-                    Passed::Part(fate) => put_as(alloc, fate, b"", &mut page, output)?,
-                    Passed::Cut(error) => {
-                        page.write_out(output)?;
-                        return Ok(Ended::Fault(error));
-                    }
-                }
-            }
-            Turn::End(ended) => {
-                page.write_out(output)?;
-                return Ok(ended);
-            }
-        }
-    }
+    let buffer = vec![in alloc; 0u8; piece]?;
+    let mut editor = Editor {
+        alloc,
+        edits,
+        page: Page::new(alloc),
+    };
+    visit(alloc, &mut editor, input, output, buffer)
 }
 
 // Writes the sections that edits append.

@@ -11,3 +11,4 @@ pub mod Resting
 pub mod Skipping
 pub mod Stepping
 pub mod Waits
+pub mod Writers

@@ -28,10 +28,6 @@ abbrev pub progress_of : {text : List Event → List ℕ} {input output : Change
     → Progress text input output f page
 progress_of w = record { events = w.events; reached = w.asks.reached; puts = w.puts }
 
-pub same_lighter : (text : List Event → List ℕ) (input output : Change) (e f g : Feed) (page : List ℕ) → g ≡ f
-    → Progress text input output f page × (weight f < weight e) → Progress text input output g page × (weight g < weight e)
-same_lighter text input output e f g page same p = rw same p
-
 module _ (text : List Event → List ℕ) (source rest taken written : Option (List ℕ)) (f : Feed) (page : List ℕ) where
   module _ (p : Progress text (from_to source rest) (from_to taken written) f page) (written' : Option (List ℕ)) where
     -- what was put after the text of these events is that of one more

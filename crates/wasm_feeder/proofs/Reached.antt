@@ -2,8 +2,8 @@
 use Rattle.wasm_feeder.proofs.Common.{◌≡◌, ℕ, ◌+◌, ◌^◌, ◌<◌, Bool, true, false, List, [], ◌∷◌, ◌++◌, length, refl, sym, ap}
 use Rattle.wasm_feeder.proofs.Common.{◌∙◌, arith, length-append, ◌≤◌, append-nil, Option, subst, inl, inr, Consumes-nil, Consumes-trans}
 use Rattle.wasm_feeder.proofs.Common.{Consumes, fault_at, at_offset, all_features, OffsetRange, fault, Ending, last_event, Event}
-use Rattle.wasm_feeder.proofs.Common.{answers_go_along, Came, ReadingBegins, is_end, beside, FillsAlike, feed_of, Feed}
-use Rattle.wasm_feeder.proofs.Common.{new_feed, pushed, weight, Reached, Asks, Moves, Stepped, turn_after, Cursor}
+use Rattle.wasm_feeder.proofs.Common.{answers_go_along, Came, ReadingBegins, is_end, FillsAlike, Feed}
+use Rattle.wasm_feeder.proofs.Common.{new_feed, pushed, weight, Reached, Asks, Moves, Stepped, turn_after}
 use Rattle.wasm_feeder.proofs.Common.{Told, Request, Part, Stop, answer_of, Ended, Fault}
 use Rattle.std.specs.Io.KnownBytes.{IsAtEnd}
 use Rattle.std.specs.Prelude.{if◌then◌else◌}
@@ -30,10 +30,6 @@ nothing_read source = record {
 pub alike : (source rest : Option (List ℕ)) (events : List Event) (f g : Feed) → IsAlike f g → Reached source rest f events
     → Reached source rest g events
 alike source rest events f g a r = grind arith
-
-pub begun_beside : (source : Option (List ℕ)) (stored piece : List ℕ) (c : Cursor) → stored ≡ [] → piece ≡ []
-    → feed_of [] c ≡ new_feed 0 all_features → Reached source source (beside (feed_of stored c) piece) []
-begun_beside source stored piece c none no_piece new = grind (arith, alike, append-nil, nothing_read)
 
 -- ---- results
 

@@ -13,3 +13,5 @@ pub mod Progress
 pub mod Rows
 pub mod Step
 pub mod Turns
+pub mod Visits
+pub mod Writers

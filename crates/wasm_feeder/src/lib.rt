@@ -2,6 +2,7 @@
 //!
 //! * `Feeder` buffers what a chunk boundary cuts, and returns the payloads of a stream that arrives in chunks.
 //! * `Ahead` with a `Cursor` does the same for a source, and parses each chunk in place.
+//! * `visit` reads a stream from a source, and passes each step over it to a `Visitor`.
 //! * `read_pieces` returns the events of a chunked stream as values that own their bytes.
 //!
 //! How the input is chunked never changes a result. Calls that allocate take an allocator and return `OutOfMemory`, at
@@ -41,6 +42,7 @@ pub mod laws;
 mod passing;
 mod pieces;
 mod turns;
+mod visits;
 
 pub use ahead::Ahead;
 pub use events::{Event, EventKind};
@@ -49,3 +51,4 @@ pub use feeder::{Cursor, Feeder, Opened, Step, parse_next, seen};
 pub use passing::{Passing, pass_part, put_all};
 pub use pieces::{fits_pieces, read_pieces, read_pieces_in};
 pub use turns::{Ended, Turn};
+pub use visits::{Visitor, visit};

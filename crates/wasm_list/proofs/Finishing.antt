@@ -82,7 +82,7 @@ listed_all : (input first second first_errors second_errors : Device) (forwarded
     → ListsAll forwarded input (over first second) (over first_errors second_errors) result
 listed_all input first second first_errors second_errors forwarded status result f fe (Ok how) r finish = record {
   how = Ok how;
-  lists = lists_kept _ _ _ _ _ how r.lists.lists (subst (λ (b : Option (List ℕ)). Keeps b second.after) f.bytes finish.keeps);
+  lists = lists_kept _ _ _ _ _ how r.lists.ends (subst (λ (b : Option (List ℕ)). Keeps b second.after) f.bytes finish.keeps);
   source = r.lists.source;
   ends = passes_on first second first_errors second_errors how forwarded status result f fe r.lists.sink r.reports r.answers
       (finish.ended (subst (λ (n : ℕ). n < 2) (sym r.answers) (below_two how)));
@@ -93,7 +93,7 @@ listed_all input first second first_errors second_errors forwarded status result
     record {
       how = Err why;
       lists = subst (λ (a : Option (List ℕ)). Lists (from_to input.before input.after) (from_to first.before a) (Err why)) (sym kept)
-          r.lists.lists;
+          r.lists.ends;
       source = r.lists.source;
       ends = record {
         answers = alone.answers ∙ r.answers;

@@ -1,0 +1,168 @@
+-- What a dump does at each turn of its run.
+use Rattle.wasm_dumper.proofs.Common.{◌≡◌, ℕ, ◌<◌, Bool, List, [], Ok, Err, Some, None, refl, ◌∙◌, Option, Error, Feed, Told, Moves, weight}
+use Rattle.wasm_dumper.proofs.Common.{Counts, Only, Writing, ListError, Fault, DumpsInto, ShowsAnswer, turn_after, Adds, IsOut}
+use Rattle.std.specs.Prelude.{IfErr, OnOk, Result}
+use Rattle.wasm_dumper.proofs.Checking.{FindsStep, finds_advanced, finds_asked, finds_ended}
+use Rattle.wasm_dumper.proofs.Dumping.{ShowsStep, advanced, asked, ended, starts, stopped, stopped_after, stopped_at_last, stopped_before}
+use Rattle.wasm_dumper.specs.Checks.{FindsAt, answer_faulty}
+use Rattle.wasm_dumper.specs.Counting.{no_counts}
+use Rattle.wasm_dumper.specs.Dump.{after_answer}
+use Rattle.wasm_dumper.specs.Dumping.{Dumper, Dumping, Finding, Going, Seeking, Wanting, dump_stages, dumper}
+use Rattle.wasm_feeder.specs.Visits.{Finishes, GivesOut, MayBegin, Met, MeetsRequest, Taken, TakesStep, since}
+use Rattle.wasm_feeder.specs.declared.turns.Turn.{Turn}
+use Rattle.wasm_feeder.specs.declared.turns.Turn.TheVariants as turn
+use Rattle.wasm_text.specs.Calls.{Device, bytes_of}
+use Rattle.wasm_tree.specs.Found.{Finds, FindsNone}
+use Rattle.wasm_feeder.proofs.ForCallers.{nothing_read}
+
+module _ {V W : Type 0} (only : V → List Only) (has_bytes : V → Bool) (counts : V → Counts) (writing : W → Writing)
+    (found : W → Option Bool) where
+  abbrev pub visitor : Dumper V W
+  visitor = dumper only has_bytes counts writing found
+
+  -- nothing was shown yet
+  pub may_begin : (first : V) (start : W) (full : Option (List ℕ)) (had : Bool) → counts first ≡ no_counts
+      → MayBegin (dump_stages visitor) first start full had
+  may_begin first start full had none = record {
+    dumping = starts (only first) (has_bytes first) full (writing start) (counts first) none;
+    finding = record { events = []; reached = nothing_read full; found = λ is h. h };
+    same = (refl, refl);
+  }
+
+  -- the tree stopped before anything of a step was shown
+  pub stops_before : (old new : V) (before after : W) (x : Told) (why : ListError) → Adds (writing before) (writing after)
+      → (writing after).why ≡ Some why → TakesStep (dump_stages visitor) old before x (Err why) new after
+  stops_before old new before after x why a w first start input f g same going moves = (
+    stopped_before (only first) (has_bytes first) input.before input.after (writing start) f (counts old) (writing before) going.dumping
+        input.had_failed input.has_failed same (writing after) why a w,
+    tt,
+  )
+
+  -- a step was shown
+  module _ (old new : V) (before after : W) (x : Told) (next : Turn) (turns : next ≡ turn_after x)
+      (shows : ShowsAnswer (only old) (has_bytes old) (counts old) x (writing before) (writing after))
+      (counted : counts new ≡ after_answer (counts old) x)
+      (finds : Finds (answer_faulty (only old) x) (found before) (found after)) where
+    module _ (first : V) (start : W) (input : Device) (f g : Feed) (going : Going visitor first start input f old before)
+        (moves : Moves f x g) where
+      step : ShowsStep (only first) (has_bytes first) (counts old) (counts new) f g (writing before) (writing after) next
+      step = record {
+        answer = x;
+        steps = moves;
+        turns = turns;
+        shows = rw (going.same.0, going.same.1) at shows;
+        counted = counted;
+      }
+
+      found_step : FindsStep (only first) f g (found before) (found after) next
+      found_step = record { answer = x; steps = moves; turns = turns; finds = rw going.same.0 at finds }
+
+    pub stops : (why : ListError) → (writing after).why ≡ Some why → TakesStep (dump_stages visitor) old before x (Err why) new after
+    stops why w first start input f g same going moves = (
+      stopped (only first) (has_bytes first) input.before input.after (writing start) f (counts old) (writing before) going.dumping g
+          (counts new) (writing after) next (step first start input f g going moves) input.had_failed input.has_failed same why w,
+      tt,
+    )
+
+    pub goes_on : (writing after).why ≡ None → only new ≡ only old → has_bytes new ≡ has_bytes old
+        → TakesStep (dump_stages visitor) old before x (Ok next) new after
+    goes_on on o b first start input f g same going moves = by next refl
+      where
+        s : ShowsStep (only first) (has_bytes first) (counts old) (counts new) f g (writing before) (writing after) next
+        s = step first start input f g going moves
+
+        k : FindsStep (only first) f g (found before) (found after) next
+        k = found_step first start input f g going moves
+
+        by : (t : Turn) → next ≡ t → Taken (dump_stages visitor) first start input f g (Ok t) new after
+        by turn.Advance t =
+            let (p, less) = advanced (only first) (has_bytes first) input.before input.after (writing start) f (counts old)
+            (writing before) going.dumping g (counts new) (writing after) next s on t in (
+              record {
+                dumping = p;
+                finding = finds_advanced (only first) input.before input.after f (found start) (found before) going.finding g (found after)
+                    next k t;
+                same = (o ∙ going.same.0, b ∙ going.same.1);
+              },
+              less,
+            )
+        by turn.Read t =
+            let (p, is) = asked (only first) (has_bytes first) input.before input.after (writing start) f (counts old)
+            (writing before) going.dumping g (counts new) (writing after) next s on t in (
+              record {
+                wanting = p;
+                seeking = finds_asked (only first) input.before input.after f (found start) (found before) going.finding g (found after)
+                    next k t;
+                same = (o ∙ going.same.0, b ∙ going.same.1);
+              },
+              is,
+            )
+        by (turn.End how) t = record {
+          whole = λ last a out went more. (
+            ended (only first) (has_bytes first) input.before input.after (writing start) f (counts old) (writing before) going.dumping g
+                (counts new) (writing after) next s input.had_failed input.has_failed same on how (writing last) t a out went,
+            finds_ended (only first) input.before input.after f (found start) (found before) going.finding g (found after) next k how t
+                (writing last) went (found last) more,
+          );
+          cut = λ last why a w. (
+            stopped_at_last (only first) (has_bytes first) input.before input.after (writing start) f (counts old) (writing before)
+                going.dumping g (counts new) (writing after) next s input.had_failed input.has_failed same (writing last) why a w,
+            tt,
+          );
+        }
+
+  -- what was done with a request, by what the visitor shows
+  abbrev pub MetBy : List Only → Bool → (start : W) (input : Device) (f g : Feed) → Result (Option Error) ListError → (now : V) (out : W)
+      → Type 0
+  MetBy chosen bytes start input f g (Ok None) now out =
+      Dumping chosen bytes input.before input.after (writing start) g (counts now) (writing out)
+      × Finding chosen input.before input.after g (found start) (found out) × (weight g < weight f)
+  MetBy chosen bytes start input f g (Ok (Some e)) now out =
+      DumpsInto chosen bytes input (writing start) (Ok (Fault e)) (writing out)
+      × FindsAt chosen (bytes_of input) (Ok (Fault e)) (found start) (writing out) (found out)
+  MetBy chosen bytes start input f g (Err e) now out = DumpsInto chosen bytes input (writing start) (Err e) (writing out)
+
+  pub requests : (old new : V) (before after : W) (input : Device) (f g : Feed) (result : Result (Option Error) ListError)
+      → only new ≡ only old → has_bytes new ≡ has_bytes old
+      → ((start : W) (full : Option (List ℕ)) (had : Bool) → input.had_failed ≡ had
+      → Wanting (only old) (has_bytes old) full input.before (writing start) f (counts old) (writing before)
+      → Seeking (only old) full input.before f (found start) (found before)
+      → MetBy (only old) (has_bytes old) start (since full had input) f g result new after)
+      → MeetsRequest (dump_stages visitor) old before input f result new after g
+  requests old new before after input f g result o b m first start full had mid asking =
+      let (own, bytes) = asking.same in
+      met result (rw (own, bytes) at (m start full had mid (rw (own, bytes) asking.wanting) (rw own asking.seeking)))
+    where
+      met : (result : Result (Option Error) ListError)
+          → MetBy (only first) (has_bytes first) start (since full had input) f g result new after
+          → Met (dump_stages visitor) first start (since full had input) f g result new after
+      met (Ok None) (p, k, less) =
+          (record { dumping = p; finding = k; same = (o ∙ asking.same.0, b ∙ asking.same.1) }, less)
+      met (Ok (Some e)) ends = ends
+      met (Err e) ends = (ends, tt)
+
+  -- the tree stopped where the feeder asks for more
+  pub stops_asking : (own : V) (bytes : Bool) (start : W) (full : Option (List ℕ)) (had : Bool) (input : Device) (f : Feed) (old : V)
+      (before after : W) (why : ListError) → input.has_failed ≡ had
+      → Wanting (only own) bytes full input.after (writing start) f (counts old) (writing before) → Adds (writing before) (writing after)
+      → (writing after).why ≡ Some why
+      → DumpsInto (only own) bytes (record input { before = full; had_failed = had }) (writing start) (Err why) (writing after)
+  stops_asking own bytes start full had input f old before after why same d a w =
+      stopped_after (only own) bytes full input.after (writing start) f d.events d.asks.reached had input.has_failed same None
+      (writing before) (writing after) why d.writing a w
+
+  -- all was to be written out
+  pub finishes : (old : V) (before after : W) (result : Result (Unit {0}) ListError) → Adds (writing before) (writing after)
+      → IsOut (writing after) → OnOk result ((writing after).why ≡ None) → IfErr result (λ why. (writing after).why ≡ Some why)
+      → FindsNone (found before) (found after) → Finishes (dump_stages visitor) old before result after
+  finishes old before after (Ok done) a out on w none first start input how same e = e.whole after a out on none
+  finishes old before after (Err why) a out on w none first start input how same e = e.cut after why a w
+
+  -- no memory was left
+  pub gives_out : (old : V) (before after : W) (why : ListError) → Adds (writing before) (writing after)
+      → (writing after).why ≡ Some why → GivesOut (dump_stages visitor) old before why after
+  gives_out old before after why a w first start input f same going = (
+    stopped_before (only first) (has_bytes first) input.before input.after (writing start) f (counts old) (writing before) going.dumping
+        input.had_failed input.has_failed same (writing after) why a w,
+    tt,
+  )
