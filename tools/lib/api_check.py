@@ -14,60 +14,48 @@ import common
 
 # What tidy says of attributes that it doesn't know yet.
 NEW = re.compile(r"proprietary attribute \"(?:enterkeyhint|autocapitalize|aria-current)\"")
-
-
-class Page:
-    """The ids and the links of a page."""
-
-    def __init__(self, name, text):
-        self.name, self.all_ids = name, re.findall(r'<\w[^>]*? id="([^"]*)"', text)
-        self.ids, self.links = set(self.all_ids), {(href, tag) for tag, href in re.findall(r'<(\w+)[^>]*? (?:href|src)="([^"]*)"', text)}
-
-
-def read_pages(folder):
-    return {name: Page(name, common.read(os.path.join(folder, name))) for name in sorted(os.listdir(folder)) if name.endswith(".html") and name != "inspector.html"}
-
-
-def invalid(folder, pages):
-    """Invalid HTML, as tidy finds it, and ids that are there twice."""
-    for page in pages.values():
-        yield from ("%s: the id %s is there twice" % (page.name, one) for one, count in collections.Counter(page.all_ids).items() if count > 1)
-    if common.found("tidy"):
-        for name in pages:
-            done = subprocess.run(["tidy", "-quiet", "-errors", "--drop-empty-elements", "no", os.path.join(folder, name)], stdout=subprocess.DEVNULL, stderr=subprocess.PIPE)
-            yield from ("%s: %s" % (name, line) for line in done.stderr.decode(errors="replace").splitlines() if not NEW.search(line))
-
-
-def wrong_links(folder, pages):
-    for page in pages.values():
-        for href, tag in sorted(page.links):
-            file, _, anchor = html.unescape(href).partition("#")
-            file = urllib.parse.unquote(file) or page.name
-            if re.match(r"\w+:", href):
-                if tag not in ("a", "img") and not href.startswith("data:"):
-                    yield "%s: it requests %s" % (page.name, href)
-            elif not os.path.exists(os.path.join(folder, file)):
-                yield "%s: no file %s" % (page.name, href)
-            elif anchor and file in pages and not {anchor, urllib.parse.unquote(anchor)} & pages[file].ids:
-                yield "%s: no place %s" % (page.name, href)
-
-
 # What begins a part of an item, by the kind of the item.
 PARTS = {"enum": re.compile(r"    ([A-Z]\w*)"), "struct": re.compile(r"    pub (\w+):")}
+# What is after the clauses of a function.
+END = re.compile(r"\s*(?:$|\{$|\}|///|(?:pub |final )?fn )")
+
+
+def invalid(folder, ids):
+    """Invalid HTML, as tidy finds it, and ids that are there twice."""
+    for name, all_ids in ids.items():
+        yield from ("%s: the id %s is there twice" % (name, one) for one, count in collections.Counter(all_ids).items() if count > 1)
+    for name in ids if common.found("tidy") else ():
+        words = ["tidy", "-quiet", "-errors", "--drop-empty-elements", "no", os.path.join(folder, name)]
+        done = subprocess.run(words, stdout=subprocess.DEVNULL, stderr=subprocess.PIPE)
+        yield from ("%s: %s" % (name, line) for line in done.stderr.decode(errors="replace").splitlines() if not NEW.search(line))
+
+
+def wrong_links(folder, texts, ids):
+    for name, text in texts.items():
+        for tag, href in sorted(set(re.findall(r'<(\w+)[^>]*? (?:href|src)="([^"]*)"', text))):
+            file, _, anchor = html.unescape(href).partition("#")
+            file = urllib.parse.unquote(file) or name
+            if re.match(r"\w+:", href):
+                if tag not in ("a", "img") and not href.startswith("data:"):
+                    yield "%s: it requests %s" % (name, href)
+            elif not os.path.exists(os.path.join(folder, file)):
+                yield "%s: no file %s" % (name, href)
+            elif anchor and file in ids and not {anchor, urllib.parse.unquote(anchor)}.intersection(ids[file]):
+                yield "%s: no place %s" % (name, href)
 
 
 def listed_items():
-    """The public items: of each its crate, its owner if it is a part or a member, its name, its source, and the line that declares it, or None of a part."""
-    for crate in api_source.LIBRARIES:
-        for module in api_source.modules(crate):
-            source = module.source
-            for item in module.items:
-                yield crate, "", item.name, source, item.at
-                for line in source.lines[item.at + 1 : api_source.end_of(source, item.at)] if item.kind in PARTS and source.lines[item.at].endswith("{") else ():
-                    part = PARTS[item.kind].match(line)
-                    yield from [(crate, item.name, part[1], source, None)] if part else []
-                for member in source.members.get(item.name, []):
-                    yield crate, item.name, api_pages.name_of(member.signature), source, member.at
+    """The public items, read without what the pages are written from: of each its crate, its names from the outermost, its source, and the
+    line that declares it, or None of a part."""
+    for crate, module in ((crate, module) for crate in api_source.LIBRARIES for module in api_source.modules(crate)):
+        source = module.source
+        for item in module.items:
+            yield crate, (item.name,), source, item.at
+            inside = source.lines[item.at + 1 : source.end_of(item.at)] if source.lines[item.at].endswith("{") else []
+            parts = filter(None, map(PARTS[item.kind].match, inside)) if item.kind in PARTS else ()
+            yield from ((crate, (item.name, part[1]), source, None) for part in parts)
+            for member in source.members.get(item.name, []):
+                yield crate, (item.name, member.name), source, member.at
 
 
 def cited(source, at):
@@ -79,55 +67,41 @@ def cited(source, at):
     return [word for word in re.findall(r"[\w◌+≡<≤^]+", "\n".join(lines)) if word in imported and word[0].isalpha()]
 
 
-# What is after the clauses of a function.
-END = re.compile(r"\s*(?:$|\{$|\}|///|(?:pub |final )?fn )")
-
-
-def without_clause(site):
-    """The definitions that an item's clauses name, and that its entry has no clause with."""
-    for crate, owner, name, source, at in listed_items():
-        key = (crate, owner, name) if owner else (crate, name)
-        words = {part for word in site.words.get(key, ()) for part in (word, word.split(".")[0])}
-        for missing in [one for one in (cited(source, at) if at is not None and "fn " in source.lines[at] else ()) if one not in words]:
-            yield "%s.html: no clause of %s with %s" % (crate, "::".join(key[1:]), missing)
-
-
-def without_entry(pages):
-    """The public items that have no entry on the page of their crate."""
-    ends = {name: {".".join(one.split(".")[1:]) for one in page.ids if "." in one} for name, page in pages.items()}
-    for crate, owner, name, _, _ in listed_items():
-        wanted = "%s.%s" % (owner, name) if owner else name
-        if wanted not in ends.get(crate + ".html", ()):
-            yield "%s.html: no entry of %s" % (crate, wanted)
+def missing_items(site, ids):
+    """The public items without an entry on the page of their crate, and the definitions that an item's clauses name and no clause of its entry."""
+    entries = {name: {one.partition(".")[2] for one in of_page} for name, of_page in ids.items()}
+    for crate, names, source, at in listed_items():
+        page, words = crate + ".html", site.words.get((crate, *names), ())
+        if ".".join(names) not in entries[page]:
+            yield "%s: no entry of %s" % (page, ".".join(names))
+        known = {part for word in words for part in (word, word.split(".")[0])}
+        for missing in cited(source, at) if at is not None and "fn " in source.lines[at] else ():
+            if missing not in known:
+                yield "%s: no clause of %s with %s" % (page, "::".join(names), missing)
 
 
 def wrong_uses():
     """The names that definitions, sources and the page on a first proof bring in of a file of definitions that has none of this name."""
     page = "docs/FIRST_PROOF.md"
-    yield from missing_names([(page, api_names.uses_of(common.read(*page.split("/")), 0)[0])])
+    places = [(page, api_names.uses_of(common.read(page), 0)[0])]
     for crate in api_source.LIBRARIES:
-        places = [("%s, %s" % (crate, name), specs.names) for name, specs in api_names.all_specs(crate).items()]
-        for name in api_source.source_names(crate):
-            text = "\n".join(api_source.source_of(crate, name).lines)
-            places += [("%s, %s" % (crate, name), api_names.uses_of(text, indent)[0]) for indent in (0, 4)]
-        yield from missing_names(places)
-
-
-def missing_names(places):
-    for place, names in places:
-        for target in names.values():
-            if target.kind == "definition" and not api_names.definition(target.crate, *target.path):
-                yield "%s: no definition %s of %s" % (place, ".".join(target.path), target.crate)
+        places += [("%s, %s" % (crate, name), specs.names) for name, specs in api_names.all_specs(crate).items()]
+        texts = {name: "\n".join(api_source.source_of(crate, name).lines) for name in api_source.source_names(crate)}
+        places += [("%s, %s" % (crate, name), api_names.uses_of(text, indent)[0]) for name, text in texts.items() for indent in (0, 4)]
+    for place, target in ((place, target) for place, names in places for target in names.values()):
+        if target.kind == "definition" and not api_names.definition(target.crate, *target.path):
+            yield "%s: no definition %s of %s" % (place, ".".join(target.path), target.crate)
 
 
 def faults(folder, site):
-    pages = read_pages(folder)
-    yield from invalid(folder, pages)
-    yield from wrong_links(folder, pages)
-    yield from without_entry(pages)
-    yield from without_clause(site)
+    names = [name for name in sorted(os.listdir(folder)) if name.endswith(".html") and name != "inspector.html"]
+    texts = {name: common.read(os.path.join(folder, name)) for name in names}
+    ids = {name: re.findall(r'<\w[^>]*? id="([^"]*)"', text) for name, text in texts.items()}
+    yield from invalid(folder, ids)
+    yield from wrong_links(folder, texts, ids)
+    yield from missing_items(site, ids)
     yield from sorted({*site.missing, *wrong_uses()})
-    yield from api_standard.faults(site, pages[api_pages.STANDARD].ids)
+    yield from api_standard.faults(site, ids[api_pages.STANDARD])
     yield from sorted("%s: nothing is known of %s in a clause" % pair for pair in site.unknown)
 
 

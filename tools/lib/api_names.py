@@ -1,6 +1,7 @@
 """What a name in a contract or a signature stands for: definitions of specs/, and items of the libraries."""
 import collections
 import functools
+import glob
 import os
 import re
 
@@ -13,26 +14,11 @@ Definition = collections.namedtuple("Definition", "crate module name comment tex
 # What a name stands for: ("definition", crate, module, name), ("item", crate, name) with ::VARIANT after it, or ("std", path).
 Target = collections.namedtuple("Target", "kind crate path")
 
-USE = re.compile(r"^(\s*)(?:ghost )?use Rattle\.(\w+)\.specs\.([^\s{};]+?)(?:\.\{([^}]*)\}| as (\w+))?;?$", re.M)
+USE = re.compile(r"^( *)(?:ghost )?use Rattle\.(\w+)\.specs\.([^\s{};]+?)(?:\.\{([^}]*)\}| as (\w+))?;?$", re.M)
 HEAD = re.compile(r"(?:(?:abbrev|unfoldable)(?: pub)?|pub(?: record| data)?) ([^\s:]+)")
+CRATES = frozenset(common.crates())
 # Words of a definition or a clause. A name is one word with its qualifiers; an operator is one too.
 WORD = re.compile(r'"(?:[^"\\]|\\.)*"|--[^\n]*|[^\W\d][\w-]*(?:\.\w+)*|\.?\d\w*|\.[^\W\d]\w*|[^\s\w(){}\[\],;"⟦⟧]+|.', re.S)
-
-
-@functools.lru_cache(maxsize=None)
-def all_crates():
-    return frozenset(common.crates())
-
-
-# ---- definitions
-
-
-def split_names(text):
-    """The names in the braces of a `use`, each with what it is called here."""
-    for name in text.replace("\n", " ").split(","):
-        name, _, other = name.strip().partition(" as ")
-        if name:
-            yield name, other.strip() or name
 
 
 def row_as_comment(row):
@@ -52,48 +38,36 @@ def definition_in(crate, module, block):
     head = next((found for found in map(HEAD.match, code) if found), None)
     if not head or code[0].startswith(("use ", "pub mod ")):
         return None
-    parts = []
-    if " data " in head[0]:
-        for line in code[1:]:
-            found = re.match(r"  ([^\s(:-]+(?: [^\s(:]+)*) :", line)
-            parts += found[1].split() if found else []
+    constructors = (re.match(r"  ([^\s(:-]+(?: [^\s(:]+)*) :", line) for line in code[1:] if " data " in head[0])
+    parts = [name for found in constructors if found for name in found[1].split()]
     return Definition(crate, module, head[1], comment_of(block), "\n".join(code), tuple(parts))
 
 
 def blocks_of(text):
     """The blocks of a file without blank lines, each as its lines. Those of a module without a name are as if they stood outside."""
     for block in re.split(r"\n\n+", text.rstrip("\n")):
-        lines = block.split("\n")
-        if lines[0].startswith("module "):
-            lines = lines[next(at for at, line in enumerate(lines) if line.endswith(" where")) + 1 :]
-        yield [line[2:] for line in lines] if lines and lines[0].startswith("  ") else lines
+        lines = re.sub(r"^module (?:.*\n)*?.* where\n", "", block).split("\n")
+        yield [line[2:] for line in lines] if lines[0].startswith("  ") else lines
 
 
 class Specs:
     """A file of definitions: its comment, what it defines, and what its names stand for."""
 
     def __init__(self, crate, module, text):
-        self.crate, self.module = crate, module
         blocks = list(blocks_of(text))
         self.comment = comment_of(blocks[0]) if any(line.startswith("use ") for line in blocks[0]) else ()
-        found = [definition_in(crate, module, block) for block in blocks]
-        self.definitions = [one for one in found if one]
+        self.definitions = list(filter(None, (definition_in(crate, module, block) for block in blocks)))
         names, self.aliases = uses_of(text, 0)
-        self.names = dict(names)
-        for one in self.definitions:
-            for name in (one.name, *one.parts):
-                self.names[name] = Target("definition", crate, (module, name))
+        own = (name for one in self.definitions for name in (one.name, *one.parts))
+        self.names = {**names, **{name: Target("definition", crate, (module, name)) for name in own}}
 
 
 @functools.lru_cache(maxsize=None)
 def all_specs(crate):
     """The files of definitions of a crate, by their names."""
-    folder, found = os.path.join(common.TOP, "crates", crate, "specs"), {}
-    for name in sorted(os.listdir(folder)) if os.path.isdir(folder) else ():
-        module, dot = os.path.splitext(name)
-        if dot == ".antt" and module != "Lib":
-            found[module] = Specs(crate, module, common.read("crates", crate, "specs", name))
-    return found
+    paths = glob.glob(os.path.join(common.TOP, "crates", crate, "specs", "*.antt"))
+    names = sorted(os.path.basename(path)[: -len(".antt")] for path in paths)
+    return {name: Specs(crate, name, common.read("crates", crate, "specs", name + ".antt")) for name in names if name != "Lib"}
 
 
 @functools.lru_cache(maxsize=None)
@@ -103,13 +77,18 @@ def definition(crate, module, name):
     return next((one for one in specs.definitions if name == one.name or name in one.parts), None) if specs else None
 
 
-# ---- what is imported
+def names_in(text):
+    """The names of a `use`, each with what it is called here."""
+    for part in text.split(","):
+        name, _, other = " ".join(part.split()).partition(" as ")
+        if name:
+            yield name, other or name
 
 
 def target_of(crate, path, name):
     """What a name of a module of definitions stands for."""
     parts = path.split(".")
-    if crate not in all_crates():
+    if crate not in CRATES:
         return Target("std", crate, ".".join((path, name)))
     if parts[0] == "declared":
         variant = (name,) if parts[-1] == "TheVariants" else ()
@@ -125,11 +104,10 @@ def uses_of(text, indent):
     """The names that `use` brings in with this indent, and the modules that it brings in under another name."""
     names, aliases = {}, {}
     for spaces, crate, path, many, other in USE.findall(text):
-        if len(spaces.lstrip("\n")) != indent:
+        if len(spaces) != indent:
             continue
         if many:
-            for name, here in split_names(many):
-                names[here] = target_of(crate, path, name)
+            names.update((here, target_of(crate, path, name)) for name, here in names_in(many))
         else:
             aliases[other or path.split(".")[-1]] = (crate, path)
     return names, aliases
@@ -155,58 +133,35 @@ class Scope:
         return found or self.code.get(first)
 
 
-# ---- what the code imports
-
-
-def use_paths(tree):
-    """The paths of a `use`, each with what it is called here."""
-    tree = tree.strip()
-    prefix, brace, rest = tree.partition("{")
-    if not brace:
-        path, _, other = tree.partition(" as ")
-        if path:
-            yield path.strip(), (other or path.split("::")[-1]).strip()
-        return
-    depth, part = 0, ""
-    for letter in rest.rstrip()[:-1] + ",":
-        depth += {"{": 1, "}": -1}.get(letter, 0)
-        if letter == "," and depth == 0:
-            for path, here in use_paths(part):
-                yield prefix + path, here
-            part = ""
-        else:
-            part += letter
+def code_uses(text, word):
+    """What the names stand for that each `use` brings in from another library, or from this crate, of which the library is None."""
+    for tree in re.findall(r"^%s ([^;]*);" % word, text, re.M):
+        prefix, _, names = tree.strip().rstrip("}").rpartition("{")
+        for path, here in names_in(names):
+            first, *_, name = (prefix + path).split("::")
+            if first in ("crate", "super", "self") or first in CRATES:
+                yield here.split("::")[-1], first if first in CRATES else None, name
 
 
 @functools.lru_cache(maxsize=None)
 def origins(crate):
     """The names that a crate re-exports of other libraries, and the libraries that define them."""
-    found = {}
-    for path, here in code_uses(common.read("crates", crate, "src", "lib.rt"), "pub use"):
-        first, *_, name = path.split("::")
-        if first in all_crates():
-            found[here] = origins(first).get(name, Target("item", first, (name,)))
-    return found
+    uses = code_uses(common.read("crates", crate, "src", "lib.rt"), "pub use")
+    return {here: item_of(other, name) for here, other, name in uses if other}
 
 
-def code_uses(text, word="use"):
-    for tree in re.findall(r"^%s ([^;]*);" % word, text, re.M):
-        yield from use_paths(tree)
+def item_of(crate, name):
+    """What a name stands for that a crate gives."""
+    return origins(crate).get(name, Target("item", crate, (name,)))
 
 
 @functools.lru_cache(maxsize=None)
 def code_names(crate, source):
     """What the names of the code of a source stand for, as far as they are items of the libraries."""
-    found, text = {}, "\n".join(source.lines)
-    for path, here in [*code_uses(text), *code_uses(text, "pub use")]:
-        first, *_, name = path.split("::")
-        if first in ("crate", "super", "self"):
-            found[here] = origins(crate).get(name, Target("item", crate, (name,)))
-        elif first in all_crates():
-            found[here] = origins(first).get(name, Target("item", first, (name,)))
-    for name in re.findall(r"^(?:pub(?:\([\w ]+\))? )?(?:struct|enum|trait|fn|const fn|const|type|unsafe fn) (\w+)", text, re.M):
-        found[name] = Target("item", crate, (name,))
-    return found
+    text = "\n".join(source.lines)
+    found = {here: item_of(other or crate, name) for here, other, name in [*code_uses(text, "use"), *code_uses(text, "pub use")]}
+    declared = re.findall(r"^(?:pub(?:\([\w ]+\))? )?(?:struct|enum|trait|fn|const fn|const|type|unsafe fn) (\w+)", text, re.M)
+    return {**found, **{name: Target("item", crate, (name,)) for name in declared}}
 
 
 def bound_in(text):

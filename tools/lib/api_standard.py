@@ -11,7 +11,7 @@ import api_pages
 import api_source
 import api_text
 import common
-from api_text import anchor, escaped, link, span
+from api_text import anchor, code, details, escaped, link
 
 TABLE = common.read("tools", "lib", "templates", "productions.txt")
 # Files of definitions that cite the chapter and define no production.
@@ -52,12 +52,11 @@ class Section:
 class Production:
     """A production, with its definitions as pairs of a crate and a name, or why nothing reads it."""
 
-    def __init__(self, text):
+    def __init__(self, section, text):
         self.name, self.text = (part.strip() for part in text.split("::=", 1))
-        self.cites, self.reason = [], ""
+        self.cites, self.reason, self.place = [], "", anchor(section.place, re.sub(r"\W+", "-", self.name).strip("-"))
 
 
-@functools.lru_cache(maxsize=None)
 def chapters():
     """The chapters of the table: of each its title, its page of the standard, and its sections."""
     found = []
@@ -75,19 +74,13 @@ def chapters():
         elif mark == "!":
             found[-1][2][-1].productions[-1].reason = rest
         else:
-            found[-1][2][-1].productions.append(Production(line))
+            section = found[-1][2][-1]
+            section.productions.append(Production(section, line))
     return found
 
 
-def sections():
-    return [section for _, _, several in chapters() for section in several]
-
-
-def place_of(section, production):
-    return anchor(section.place, re.sub(r"\W+", "-", production.name).strip("-"))
-
-
-# ---- definitions and what reads them
+CHAPTERS = chapters()
+ALL_SECTIONS = [section for _, _, sections in CHAPTERS for section in sections]
 
 
 def definition(crate, name):
@@ -122,7 +115,7 @@ def private_functions(site):
                 if not head or "pub fn" in line and (crate, head[2]) in site.places:
                     continue
                 shown = "<code>%s</code> (%s/src/%s.rt:%d)" % (head[2], crate, name, at + 1)
-                for _, text in api_source.clauses(module.source, at):
+                for _, text in module.source.clauses(at):
                     scope = writer.scope(at, writer.outer_of(at) if head[1] else None, text)
                     for target in api_text.cited(api_text.unlabeled(text), scope):
                         found.setdefault(api_names.definition(target.crate, *target.path), {})[shown] = None
@@ -144,25 +137,15 @@ def readers(site, one):
     return laws
 
 
-def readers_html(site, one):
-    out = []
-    for other, found in readers(site, one):
-        through = "" if other == one else " through %s" % link(api_pages.definition_link(other), "<code>%s</code>" % escaped(other.name))
-        out.append("<p>Cited%s by %s.</p>" % (through, ", ".join(found)))
-    return '<details class="cited"><summary>Code that reads it</summary>%s</details>' % "".join(out)
-
-
 def definition_html(site, crate, name):
-    one = definition(crate, name)
+    one, out = definition(crate, name), []
     if not one:
         return "<p>%s</p>" % escaped("%s %s" % (crate, name))
-    head = link(api_pages.definition_link(one), "<code>%s</code>" % escaped(one.name))
-    where = span("where", "%s/specs/%s.antt" % (one.crate, one.module))
-    return '<div class="def"><p class="head">%s %s</p>%s%s%s</div>' % (
-        head, where, api_pages.comment_html(one.comment), api_pages.definition_html(site, one), readers_html(site, one))
-
-
-# ---- rows
+    for other, found in readers(site, one):
+        through = "" if other == one else " through %s" % link(api_pages.definition_link(other), code(escaped(other.name)))
+        out.append("<p>Cited%s by %s.</p>" % (through, ", ".join(found)))
+    where = "%s/specs/%s.antt" % (one.crate, one.module)
+    return api_pages.framed_definition(site, one, where, details("Code that reads it", "".join(out), "cited"))
 
 
 @functools.lru_cache(maxsize=None)
@@ -187,47 +170,36 @@ def blocks_of(title):
 def rows_html(section):
     """The rows of a section, or links to the sections whose rows test it."""
     if section.tested_by != [section.title]:
-        others = [other for other in sections() if other.title in section.tested_by]
-        return "<p>Rows: see %s.</p>" % ", ".join(link("#" + other.place, escaped(other.title)) for other in others)
+        links = [link("#" + other.place, escaped(other.title)) for other in ALL_SECTIONS if other.title in section.tested_by]
+        return "<p>Rows: see %s.</p>" % ", ".join(links)
     out = []
     for number, _, lines in blocks_of(section.title):
         count = sum(bool(re.match(r"[a-z]", line)) for line in lines)
         head = "%d rows, %s:%d" % (count, "/".join(ROWS), number)
-        out.append("<details><summary>%s</summary><pre><code>%s</code></pre></details>" % (head, escaped("\n".join(lines).strip())))
+        out.append(details(head, "<pre>%s</pre>" % code(escaped("\n".join(lines).strip()))))
     return "".join(out)
 
 
-# ---- the page
-
-
-def production_html(site, section, production):
-    said = '<p>Not read: %s.</p>' % escaped(production.reason) if production.reason else ""
-    defined = "".join(definition_html(site, *cite) for cite in production.cites)
-    text = "%s ::= %s" % (production.name, production.text)
-    lines = re.sub(r" (\|) | (::=) ", lambda found: "\n  | " if found[1] else " ::=\n    ", text)
-    return '<div class="pair" id="%s"><pre><code>%s</code></pre><div>%s%s</div></div>' % (place_of(section, production), escaped(lines), said, defined)
-
-
 def section_html(site, section):
-    head = '<h3 id="%s"><a href="#%s">%s</a></h3>' % (section.place, section.place, escaped(section.title))
-    for production in section.productions:
-        site.index.append((production.name, "production", "%s#%s" % (api_pages.STANDARD, place_of(section, production)), section.title))
-    return head + "".join(production_html(site, section, one) for one in section.productions) + rows_html(section)
+    out = [api_pages.part(3, section.place, escaped(section.title))]
+    for one in section.productions:
+        site.index.append((one.name, "production", "%s#%s" % (api_pages.STANDARD, one.place), section.title))
+        said = "<p>Not read: %s.</p>" % escaped(one.reason) if one.reason else ""
+        text = re.sub(r" (\|) | (::=) ", lambda found: "\n  | " if found[1] else " ::=\n    ", "%s ::= %s" % (one.name, one.text))
+        right = said + "".join(definition_html(site, *cite) for cite in one.cites)
+        out.append('<div class="pair" id="%s"><pre>%s</pre><div>%s</div></div>' % (one.place, code(escaped(text)), right))
+    return "".join(out) + rows_html(section)
 
 
 def page(site):
     """The page of the standard. The pages of crates are written before it, since they note what cites each definition."""
     out, side = ["<h1>The standard</h1><p>%s</p>" % ABOUT], []
-    for title, address, several in chapters():
-        names = "".join("<li>%s</li>" % link("#" + one.place, escaped(one.title)) for one in several)
-        side.append("<details open><summary>%s</summary><ul>%s</ul></details>" % (title, names))
-        place = anchor("chapter", title.lower().replace(" ", "-"))
-        out.append('<h2 id="%s"><a href="#%s">%s</a></h2><p>%s</p>' % (place, place, title, link(SPEC + address, "The chapter in the standard")))
-        out += [section_html(site, section) for section in several]
+    for title, address, sections in CHAPTERS:
+        side.append(api_pages.side_list(title, [link("#" + one.place, escaped(one.title)) for one in sections]))
+        head = api_pages.part(2, anchor("chapter", title.lower().replace(" ", "-")), title)
+        out.append("%s<p>%s</p>" % (head, link(SPEC + address, "The chapter in the standard")))
+        out += [section_html(site, section) for section in sections]
     return api_pages.page("The standard - Pulleynavy", "\n".join(out), "\n".join(side), api_pages.STANDARD)
-
-
-# ---- checks
 
 
 @functools.lru_cache(maxsize=None)
@@ -242,48 +214,49 @@ def sources():
     return found
 
 
-def is_from(section, one):
-    """Whether DEFINITIONS, or a comment on a definition or its file, says that it is from this section, or from all of a chapter."""
-    about = (*api_names.all_specs(one.crate)[one.module].comment, *one.comment, sources().get((one.module, one.name), ""))
-    return any(words in " ".join(about) for words in (section.title, *section.tested_by, *WIDE))
+def wrong_citation(site, section, crate, name):
+    """What is wrong with a definition of a production, if something is."""
+    one = definition(crate, name)
+    if not one:
+        return "is no definition"
+    # DEFINITIONS, or a comment on a definition or its file, says that it is from this section, or from all of a chapter.
+    about = " ".join((*api_names.all_specs(one.crate)[one.module].comment, *one.comment, sources().get((one.module, one.name), "")))
+    if not any(words in about for words in (section.title, *section.tested_by, *WIDE)):
+        return "is of another section"
+    return "" if readers(site, one) else "is cited by no contract"
 
 
 def without_production():
     """The files of definitions that name a section of the binary chapter, and that no production has a definition of."""
-    shown = {(crate, name.split(".")[0]) for section in sections() for one in section.productions for crate, name in one.cites}
+    shown = {(crate, name.split(".")[0]) for section in ALL_SECTIONS for one in section.productions for crate, name in one.cites}
     for crate, module in sorted(OTHERS):
         if (crate, module) in shown or module not in api_names.all_specs(crate):
             yield "tools/lib/api_standard.py: %s, %s is no longer one of OTHERS" % (crate, module)
     for crate in api_source.LIBRARIES:
         for module, specs in api_names.all_specs(crate).items():
-            about = " ".join(specs.comment)
-            if re.search(r"Core specification, (Binary format|Appendix), ", about, re.I) and (crate, module) not in {*shown, *OTHERS}:
+            names_chapter = re.search(r"Core specification, (Binary format|Appendix), ", " ".join(specs.comment), re.I)
+            if names_chapter and (crate, module) not in {*shown, *OTHERS}:
                 yield "%s, %s: no production of tools/lib/api_standard.py has a definition of it" % (crate, module)
 
 
 def faults(site, ids):
     """What is wrong with the table: productions without definitions or readers, sections without rows, and rows without a section."""
-    titles = {section.title for section in sections()}
-    for section in sections():
+    titles = {section.title for section in ALL_SECTIONS}
+    for section in ALL_SECTIONS:
         place = "%s, %s" % (api_pages.STANDARD, section.title)
         if not section.productions:
             yield "%s: no production" % place
-        for title in section.tested_by:
-            if title not in titles or not blocks_of(title):
-                yield "%s: no rows of %s" % (place, title)
+        yield from ("%s: no rows of %s" % (place, title) for title in section.tested_by if title not in titles or not blocks_of(title))
         for one in section.productions:
-            if place_of(section, one) not in ids:
+            if one.place not in ids:
                 yield "%s: no entry of %s" % (place, one.name)
             if not one.cites and not one.reason:
                 yield "%s: %s needs a definition, or a reason why it is not read" % (place, one.name)
             for crate, name in one.cites:
-                found = definition(crate, name)
-                wrong = "is no definition" if not found else "is of another section" if not is_from(section, found) else ""
-                wrong = wrong or ("" if readers(site, found) else "is cited by no contract")
+                wrong = wrong_citation(site, section, crate, name)
                 if wrong:
                     yield "%s: %s: %s of %s %s" % (place, one.name, name, crate, wrong)
-    shown = {number for title in titles for number, _, _ in blocks_of(title)}
     for number, of_standard, _ in blocks():
-        if of_standard and number not in shown:
+        if of_standard and not titles.intersection(of_standard):
             yield "%s:%d: no section of %s shows these rows" % ("/".join(ROWS), number, api_pages.STANDARD)
     yield from without_production()

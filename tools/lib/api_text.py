@@ -15,20 +15,27 @@ def escaped(text):
 
 
 def link(href, text):
-    """A link; the text is HTML already."""
-    return '<a href="%s">%s</a>' % (escaped(href), text)
+    """A link if there is an address; the text is HTML already."""
+    return '<a href="%s">%s</a>' % (escaped(href), text) if href else text
 
 
 def span(kind, text):
     return '<span class="%s">%s</span>' % (kind, escaped(text))
 
 
+def code(text):
+    """Code; the text is HTML already."""
+    return "<code>%s</code>" % text
+
+
+def details(head, text, kind=""):
+    """A text that is folded below a head."""
+    return "<details%s><summary>%s</summary>%s</details>" % (' class="%s"' % kind if kind else "", head, text)
+
+
 def anchor(*words):
     """An id that a link can end with."""
     return urllib.parse.quote(".".join(words), safe=".-_")
-
-
-# ---- code
 
 
 def rust(text, target, link_of):
@@ -43,7 +50,7 @@ def rust(text, target, link_of):
             first = word.split("::")[0]
             found = target(first) if first[:1].isupper() else None
             href = link_of(found, word.split("::")[1:]) if found else None
-            out.append(link(href, escaped(word)) if href else escaped(word))
+            out.append(link(href, escaped(word)))
     return "".join(out)
 
 
@@ -57,38 +64,30 @@ def formula(text, scope, link_of):
             out.append(span("s" if word[0] == '"' else "c", word))
         elif word[0] == "." and last == "⟧" and trait:
             href = link_of(trait._replace(path=(*trait.path, word[1:])), [])
-            out.append("." + link(href, escaped(word[1:])) if href else escaped(word))
+            out.append("." + link(href, escaped(word[1:])))
         elif word[0] in "(){}[],;." or word.isspace():
             out.append(escaped(word))
         else:
             trait = scope.target(word) if last == "as" else trait
             trait = trait if trait and trait.kind == "item" else None
-            out.append(linked_word(word, scope, link_of))
+            target = scope.target(word)
+            href = link_of(target, []) if target else None
+            # Of `x.field` only `x` is a link, but of `module.name` the whole.
+            first, dot, rest = word.partition(".")
+            is_whole = first in scope.aliases or word in scope.names or not dot
+            out.append(link(href, escaped(word)) if is_whole else link(href, escaped(first)) + escaped(dot + rest))
         last = last if word.isspace() else word
     return "".join(out)
 
 
-def linked_word(word, scope, link_of):
-    """A word as a link. Of `x.field` only `x` is one, but of `module.name` the whole."""
-    target = scope.target(word)
-    href = link_of(target, []) if target else None
-    if not href:
-        return escaped(word)
-    first, dot, rest = word.partition(".")
-    if dot and first not in scope.aliases and word not in scope.names:
-        return link(href, escaped(first)) + escaped(dot + rest)
-    return link(href, escaped(word))
-
-
-# What a clause begins with, its label among it.
-LABELED = re.compile(r"(requires|ensures)(\*?)( \w+)?(?= )|(ghost)()( \w+)")
+# What a clause or a ghost member begins with, its label among it.
+LABELED = re.compile(r"(\w+\*?)( \w+)?")
 
 
 def clause(text, scope, link_of):
     """A clause, or what a ghost member is. Its label is no name of a definition."""
-    head = LABELED.match(text)
-    word, star, label = (one or "" for one in (head[1] or head[4], head[2] or head[5], head[3] or head[6]))
-    return span("k", word + star) + escaped(label) + formula(text[head.end() :], scope, link_of)
+    word, label = LABELED.match(text).groups("")
+    return span("k", word) + escaped(label) + formula(unlabeled(text), scope, link_of)
 
 
 def unlabeled(text):
@@ -97,9 +96,5 @@ def unlabeled(text):
 
 def cited(text, scope, kind="definition"):
     """The definitions that a clause names, in their order, or what else it names of another kind."""
-    found = {}
-    for word in api_names.WORD.findall(text):
-        target = scope.target(word) if word[:1] not in '".' else None
-        if target and target.kind == kind:
-            found[target] = None
-    return list(found)
+    targets = (scope.target(word) for word in api_names.WORD.findall(text) if word[:1] not in '".')
+    return list(dict.fromkeys(target for target in targets if target and target.kind == kind))

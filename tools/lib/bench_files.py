@@ -117,6 +117,10 @@ MADE = [("a linked module, with names and relocations", linked), ("as Go links i
 # ---- the programs
 
 
+def megabytes(path):
+    return "%.1f" % (os.path.getsize(path) / MEGABYTE)
+
+
 def program(name):
     """The program of the release, or the one that was built."""
     built, kept = programs.path_of(name), os.path.join(common.TOP, "prebuilt", name)
@@ -169,11 +173,9 @@ def row(path, task, commands, out, counts):
     return [task, ours, "%.1f" % (programs.peak_memory(commands[0], path) / 1024) if shutil.which("time") else "-", ", ".join(named)]
 
 
-def walked(words, path):
+def walked(program, path):
     """The milliseconds of the fastest walk over all items of a file."""
-    with open(path, "rb") as data:
-        done = subprocess.run(words + ["items"], stdin=data, stdout=subprocess.PIPE, check=True)
-    return "%.1f" % (int(done.stdout.split()[3]) / 1e6)
+    return "%.1f" % (tables.timed(program, ["items"], path)["items"][1] / 1e6)
 
 
 def rows(path, out, ruler, crate, counts):
@@ -181,7 +183,7 @@ def rows(path, out, ruler, crate, counts):
     for task, commands in tasks(path, out, ruler):
         yield row(path, task, commands, out, counts)
     if os.access(benches.PROGRAM, os.X_OK) and not counts:
-        yield ["all items", walked([benches.PROGRAM], path), "", "wasmparser " + walked([crate], path) if crate else ""]
+        yield ["all items", walked(benches.PROGRAM, path), "", "wasmparser " + walked(crate, path) if crate else ""]
 
 
 def arguments(doc, *more):
@@ -200,7 +202,7 @@ def main():
         ("--scale", {"metavar": "X", "type": float, "default": 1.0, "help": "how large the made files are (1 if left out)"}),
         ("--original", {"metavar": "FOLDER", "type": common.existing, "help": "walk over all items by this source of wasmparser too"}),
     )
-    print("| File | MB | Task | Ours, %s | Memory, MB | Others |\n|---|---|---|---|---|---|" % unit)
+    tables.print_head("File", "MB", "Task", "Ours, " + unit, "Memory, MB", "Others")
     with tempfile.TemporaryDirectory() as folder:
         files = [(os.path.basename(path), path) for path in given.files]
         for what, make in [] if files else MADE:
@@ -208,7 +210,7 @@ def main():
         crate = tables.built_original(given.original, folder) if given.original else None
         for what, path in files:
             for cells in rows(path, os.path.join(folder, "out"), tables.built_ruler(folder), crate, given.count):
-                print("| %s | %.1f | %s |" % (what, os.path.getsize(path) / MEGABYTE, " | ".join(cells)), flush=True)
+                tables.print_row([what, megabytes(path), *cells])
 
 
 # ---- scaling
@@ -219,7 +221,7 @@ KINDS = [("a linked module", linked), *((what, lambda scale, make=make, usual=us
 
 def growth(given, unit, folder):
     """A table of time and memory by the size of a file. Returns the rows whose memory grows although it may not."""
-    print("| File | MB | Task | Ours, %s | Memory, KiB |\n|---|---|---|---|---|" % unit)
+    tables.print_head("File", "MB", "Task", "Ours, " + unit, "Memory, KiB")
     path, growing = os.path.join(folder, "scaled.wasm"), []
     for what, make in KINDS:
         held = {task: [] for task in SCALED}
@@ -228,7 +230,7 @@ def growth(given, unit, folder):
             for task, words in [(task, words) for task, [words, *_] in tasks(path) if task in SCALED]:
                 [figure] = measured([words], path, path, given.count)
                 held[task].append(programs.peak_memory(words, path) if shutil.which("time") else 0)
-                print("| %s | %.1f | %s | %s | %d |" % (what, os.path.getsize(path) / MEGABYTE, task, figure, held[task][-1]), flush=True)
+                tables.print_row([what, megabytes(path), task, figure, "%d" % held[task][-1]])
         growing += ["%s, %s: %s KiB" % (what, task, held[task]) for task in SCALED[:FREE] if max(held[task]) > min(held[task]) + MORE]
     return growing
 
@@ -237,14 +239,15 @@ def gain(folder):
     """A table of how long 1 to 4 processes take for many files."""
     paths = [common.write(os.path.join(folder, "%05d.wasm" % number), linked(0.001)) for number in range(FILES)]
     listed = common.write(os.path.join(folder, "paths"), "\0".join(paths))
-    print("\n| Processes | Wall time, s | Efficiency |\n|---|---|---|")
+    print()
+    tables.print_head("Processes", "Wall time, s", "Efficiency")
     least = {}
     for jobs in RUNS * tuple(range(1, 5)):
         words = ["xargs", "-0", "-a", listed, "-P", str(jobs), "-n", str(AT_ONCE), program("pulleynavy"), "dump"]
         _, took, _ = timed(words, os.devnull, os.path.join(folder, "out"))
         least[jobs] = min(took, least.get(jobs, took))
     for jobs, took in least.items():
-        print("| %d | %.2f | %.2f |" % (jobs, took / 1000, least[1] / took / jobs), flush=True)
+        tables.print_row(["%d" % jobs, "%.2f" % (took / 1000), "%.2f" % (least[1] / took / jobs)])
 
 
 def scaling():

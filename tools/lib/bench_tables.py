@@ -119,35 +119,44 @@ WORDS = {
 
 # ---- instructions
 
-
+PARSE = "wasm_parser::parser::Parser::parse"
 # The function of the benchmark that goes a way; any other way is the size of a feeder's chunks.
 READERS = {"parse": "events::parse", "parse_all": "events::parse_all", "items": "items::walk_items", "indices": "items::walk_items"}
-PARSE = "wasm_parser::parser::Parser::parse"
+
+
+def called_by_us(way):
+    """The word for a way, and the function whose calls are counted. Of a way that a program lacks there is neither."""
+    return way, "wasm_bench::" + READERS.get(way, "events::feed")
+
+
+def called_in_c(way):
+    """Many events by one call are next to the walk over all of them."""
+    return {"items": None, "indices": None, "parse": ("parse", "whole"), "parse_all": ("batch", "in_batches")}.get(way, (way, "in_pieces"))
+
+
+def called_at_limit(way):
+    return {"parse": ("parse", "limit_parse"), "items": ("items", "limit_items"), "indices": ("indices", "limit_items")}.get(way)
+
+
+def called_in_original(way):
+    return (way, "original_" + way.replace("indices", "items")) if way in READERS else None
 
 
 def calls_in(profile):
     """The calls that a file of callgrind has, each as its caller, what is called, how often, and the instructions under it."""
-    names = {}
+    names, caller, called = {}, None, None
 
     def name(word):
         number, _, text = word.partition(" ")
-        if text:
-            names[number] = re.sub(r"('\d+)?( \[.*\])?$", "", text)
-        return names[number]
+        return names.setdefault(number, re.sub(r"('\d+)?( \[.*\])?$", "", text))
 
-    caller = called = count = None
-    with open(profile, encoding="utf-8", errors="replace") as lines:
-        for line in lines:
-            line = line.rstrip("\n")
-            if line.startswith("fn="):
-                caller = name(line[3:])
-            elif line.startswith("cfn="):
-                called = name(line[4:])
-            elif line.startswith("calls="):
-                count = int(line[6:].split()[0])
-            elif count is not None:
-                yield caller, called, count, int(line.split()[1])
-                count = None
+    for fn, cfn, count, under in re.findall(r"^(?:fn=(.*)|cfn=(.*)|calls=(\d+) .*\n\S+ (\d+))$", common.read(profile), re.M):
+        if fn:
+            caller = name(fn)
+        elif cfn:
+            called = name(cfn)
+        else:
+            yield caller, called, int(count), int(under)
 
 
 def profiled(command, path, folder):
@@ -168,67 +177,45 @@ def of_a_unit(wrote, calls, reader, units):
     return "%.1f" % (sum(under for _, under in rounds) / sum(count for count, _ in rounds) / units)
 
 
-def counted(path, way, units, folder):
-    """The instructions of a unit, the functions that call `parse`, and what the program wrote but the time."""
-    wrote, calls = profiled([PROGRAM, way], path, folder)
-    callers = {caller for caller, called, _, _ in calls if called == PARSE}
-    return of_a_unit(wrote, calls, "wasm_bench::" + READERS.get(way, "events::feed"), units), callers, wrote.split()[:3]
+def of_process(calls):
+    """The instructions of a whole process."""
+    return max((under for _, _, _, under in calls), default=0)
 
 
-def counted_in_c(program, path, way, folder):
-    """The instructions of an event from C. Many by one call are next to the walk over all of them."""
-    if not program:
-        return "-"
-    word, reader = {"parse": ("parse", "whole"), "parse_all": ("batch", "in_batches")}.get(way, (way, "in_pieces"))
-    return of_a_unit(*profiled([program, word], path, folder), reader, 0)
-
-
-def counted_at_limit(program, path, way, units, folder):
-    """The instructions of a unit by the ruler, which checks bounds alone."""
-    if not program or way not in READERS or way == "parse_all":
-        return "-"
-    return of_a_unit(*profiled([program, way], path, folder), "limit_parse" if way == "parse" else "limit_items", units)
-
-
-def counted_in_original(program, path, way, wanted, units, folder):
-    """The instructions of a unit by the original crate, whose count and checksum have to be ours."""
-    if not program or way not in READERS:
-        return "-"
-    wrote, calls = profiled([program, way], path, folder)
-    if wrote.split()[:3] != wanted:
-        common.stop(common.DIFFERS, "%s: the original reads %r, and we read %r" % (way, wrote.split()[:3], wanted))
-    return of_a_unit(wrote, calls, {"indices": "original_items"}.get(way, "original_" + way), units)
-
-
-def listed_instructions(path, units, folder):
-    """The instructions of wasm_list for each event of a file, all of the process among them."""
-    _, calls = profiled([LISTER], path, folder)
-    return "%.1f" % (max((under for _, _, _, under in calls), default=0) / units)
+def counted(program, called, path, units, folder):
+    """The instructions of a unit, what a program wrote but the time, and its calls. Without a program, or a word for it, nothing."""
+    if not program or not called:
+        return "-", None, []
+    wrote, calls = profiled([program, called[0]], path, folder)
+    return of_a_unit(wrote, calls, called[1], units), wrote.split()[:3], calls
 
 
 def print_instructions(given, folder):
     """A row for each made file that is asked for and each way through it."""
-    rows, callers, program, ruler = [], set(), c_caller(folder, given.archive), built_ruler(folder)
+    rows, callers, c_program, ruler = [], set(), c_caller(folder, given.archive), built_ruler(folder)
     crate = built_original(given.original, folder) if given.original else None
+    others = [("from C", c_program), ("limit", ruler)] + [("original", crate)] * bool(crate)
     path = os.path.join(folder, "made.wasm")
     for what, usual, make, ways, by_made in MADE:
         if given.only not in what:
             continue
         count = usual // 10
         common.write(path, make(count))
-        for way in ways:
-            if way in ("16", "1"):
-                continue
+        for way in [way for way in ways if way not in ("16", "1")]:
             units = count if by_made else 0
-            figure, found, wrote = counted(path, way, units, folder)
-            callers |= found
-            others = [counted_in_c(program if way in EVENT_WAYS else None, path, way, folder)]
-            others += [counted_at_limit(None if by_made and way == "items" else ruler, path, way, units, folder)]
-            others += [counted_in_original(crate, path, way, wrote, units, folder)] if crate else []
-            rows.append([what, words_of(way, by_made), figure] + others)
+            figure, wrote, calls = counted(PROGRAM, called_by_us(way), path, units, folder)
+            callers |= {caller for caller, called, _, _ in calls if called == PARSE}
+            in_c = counted(c_program, called_in_c(way), path, 0, folder)[0]
+            # The ruler walks all indices, so it has no limit of skipping them.
+            limit = counted(ruler, None if by_made and way == "items" else called_at_limit(way), path, units, folder)[0]
+            original, read, _ = counted(crate, called_in_original(way), path, units, folder)
+            if read not in (None, wrote):
+                common.stop(common.DIFFERS, "%s: the original reads %r, and we read %r" % (way, read, wrote))
+            rows.append([what, words_of(way, by_made), figure, *[in_c, limit, original][: len(others)]])
         if ways is EVENT_WAYS:
-            rows.append([what, "an event, listed by wasm_list", listed_instructions(path, count, folder)] + ["-"] * len(others))
-    print_table(["file", "what", "instructions", "from C", "limit"] + (["original"] if crate else []), rows)
+            listed_by_us = "%.1f" % (of_process(profiled([LISTER], path, folder)[1]) / count)
+            rows.append([what, "an event, listed by wasm_list", listed_by_us] + ["-"] * len(others))
+    print_table(["file", "what", "instructions"] + [name for name, _ in others], rows)
     print("`parse` has %d callers in the benchmark: %s.\n" % (len(callers), ", ".join(sorted(callers))), flush=True)
 
 
@@ -240,8 +227,7 @@ def print_dumps(only, folder):
     common.write(path, items_of_each_kind(4000))
     for options in ([], ["--bytes"], ["--json"], ["--color"]):
         wrote, calls = profiled([DUMPER, "dump", *options], path, folder)
-        under = max((under for _, _, _, under in calls), default=0)
-        rows.append([" ".join(["pulleynavy dump", *options]), "%.1f" % (len(wrote) / 1e6), "%.1f" % (under / 1e6)])
+        rows.append([" ".join(["pulleynavy dump", *options]), "%.1f" % (len(wrote) / 1e6), "%.1f" % (of_process(calls) / 1e6)])
     print_table(["of %d kB, as many items of each kind" % (os.path.getsize(path) // 1000), "MB written", "million instructions"], rows)
 
 
@@ -321,68 +307,30 @@ def rust_caller(folder):
     return os.path.join(target, "release", "examples", "bench")
 
 
-def callers(folder, archive):
-    """The programs that time the same events from C and from Rust, where there are compilers for them."""
-    program = c_caller(folder, archive)
-    if not program:
-        return {}
-    other = rust_caller(folder)
-    return {"C": program, "Rust": other} if other else {"C": program}
+# ---- times
 
 
-def timed_by(program, path, ways):
+def timed(program, ways, path):
+    """How much a program reads each way, and the nanoseconds of its fastest round."""
     with open(path, "rb") as data:
-        done = subprocess.run([program] + ways, stdin=data, stdout=subprocess.PIPE)
-    rows = (line.split() for line in done.stdout.decode().splitlines())
-    return {way: nanoseconds(int(count), int(took)) for way, count, _, took in rows}
-
-
-def print_callers(only, archive, folder):
-    """Nanoseconds of an event from Rattle, from C and from Rust."""
-    others, rows = callers(folder, archive), []
-    for what, usual, make, ways, _ in MADE:
-        if ways is not EVENT_WAYS or only not in what:
-            continue
-        path = os.path.join(folder, "made.wasm")
-        common.write(path, make(usual))
-        ours = timed_in_memory(path, ways)
-        # The crate for Rust has no feeder.
-        takes = {"C": [way for way in ways if way != "parse_all"], "Rust": ["parse", "parse_all"]}
-        theirs = {name: timed_by(program, path, takes[name]) for name, program in others.items()}
-        for way in ways:
-            rows.append([what, WORDS[way], nanoseconds(*ours.get(way, (0, 0)))] + [theirs[name].get(way, "-") for name in others])
-    print_table(["file", "time of", "Rattle ns"] + [name + " ns" for name in others], rows)
+        done = subprocess.run([program, *ways], stdin=data, stdout=subprocess.PIPE)
+    times = {}
+    for line in done.stdout.decode().splitlines():
+        way, count, _, took = line.split()
+        times[way] = int(count), min(int(took), times.get(way, (0, int(took)))[1])
+    return times
 
 
 def timed_in_memory(path, ways):
-    """How much each way reads, and its nanoseconds; of items what they take beyond the walk over the payloads.
+    """The times of the benchmark; of items what they take beyond the walk over the payloads.
 
     That is a difference, so these ways and the walk are timed twice, in turn.
     """
     items = [way for way in ways if way in ("items", "indices")]
     asked = [way for way in ways if way not in items and way != "parse_all"] + (["parse_all"] + items) * (2 if items else 1)
-    with open(path, "rb") as data:
-        done = subprocess.run([PROGRAM] + asked, stdin=data, stdout=subprocess.PIPE)
-    times = {}
-    for line in done.stdout.decode().splitlines():
-        way, count, _, took = line.split()
-        times[way] = (int(count), min(int(took), times.get(way, (0, int(took)))[1]))
+    times = timed(PROGRAM, asked, path)
     walk = times.get("parse_all", (0, 0))[1]
-    for way in ["items", "indices"]:
-        if way in times:
-            times[way] = (times[way][0], max(0, times[way][1] - walk))
-    return times
-
-
-# ---- the tables
-
-
-def print_table(head, rows):
-    print("| " + " | ".join(head) + " |")
-    print("|" + "---|" * len(head))
-    for row in rows:
-        print("| " + " | ".join(row) + " |")
-    print(flush=True)
+    return {way: (count, max(0, took - walk) if way in items else took) for way, (count, took) in times.items()}
 
 
 def nanoseconds(count, took):
@@ -390,6 +338,20 @@ def nanoseconds(count, took):
         return "-"
     each = took / count
     return "%.2f" % each if each < 10 else "%.1f" % each if each < 100 else "%.0f" % each
+
+
+def print_callers(only, archive, folder):
+    """Nanoseconds of an event from Rattle, and from C and from Rust where there are compilers for them. The crate for Rust has no feeder."""
+    program, rows = c_caller(folder, archive), []
+    others = {"C": (program, [way for way in EVENT_WAYS if way != "parse_all"])} if program else {}
+    other = program and rust_caller(folder)
+    others.update({"Rust": (other, ["parse", "parse_all"])} if other else {})
+    for what, usual, make, ways, _ in MADE:
+        if ways is EVENT_WAYS and only in what:
+            path = common.write(os.path.join(folder, "made.wasm"), make(usual))
+            times = [timed_in_memory(path, ways), *(timed(program, known, path) for program, known in others.values())]
+            rows += [[what, WORDS[way], *(nanoseconds(*of.get(way, (0, 0))) for of in times)] for way in ways]
+    print_table(["file", "time of", "Rattle ns"] + [name + " ns" for name in others], rows)
 
 
 def of_made_files(sizes, only, folder):
@@ -402,8 +364,8 @@ def of_made_files(sizes, only, folder):
             count = int(usual * size)
             times = timed_in_memory(common.write(os.path.join(folder, "made.wasm"), make(count)), ways)
             for way in ways:
-                counted, took = times.get(way, (0, 0))
-                of_way[way].append(nanoseconds(count if by_made else counted, took))
+                counted_by_it, took = times.get(way, (0, 0))
+                of_way[way].append(nanoseconds(count if by_made else counted_by_it, took))
         yield from (["%d %s" % (usual, what), words_of(way, by_made)] + of_way[way] for way in ways)
 
 
@@ -412,6 +374,25 @@ def of_given_files(files):
     for path in files:
         times = timed_in_memory(path, ways)
         yield from ([os.path.basename(path), words[way], nanoseconds(*times.get(way, (0, 0)))] for way in ways)
+
+
+# ---- the tables
+
+
+def print_row(cells):
+    print("| " + " | ".join(cells) + " |", flush=True)
+
+
+def print_head(*names):
+    print_row(names)
+    print("|" + "---|" * len(names))
+
+
+def print_table(head, rows):
+    print_head(*head)
+    for row in rows:
+        print_row(row)
+    print(flush=True)
 
 
 def sizes_of(word):

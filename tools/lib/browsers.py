@@ -1,8 +1,7 @@
 """Drives headless browsers: Chromium by its driver, and Firefox by Marionette, which geckodriver translates to, so that it isn't needed.
 
-`started` yields the browsers that the machine has. Each runs scripts in the page, presses keys and takes pictures.
+`started` yields the browsers that the machine has. Each runs scripts in the page and presses keys.
 """
-import base64
 import contextlib
 import json
 import os
@@ -28,15 +27,6 @@ class BrowserError(Exception):
     """A browser refused a command, or did not respond."""
 
 
-def pressed(keys):
-    """The actions of keys that are pressed one after the other. A word as Shift+Tab holds a key."""
-    actions = []
-    for word in keys:
-        held = [KEYS.get(key, key) for key in word.split("+")] if len(word) > 1 else [word]
-        actions += [{"type": "keyDown", "value": key} for key in held] + [{"type": "keyUp", "value": key} for key in reversed(held)]
-    return [{"type": "key", "id": "keys", "actions": actions}]
-
-
 def waited(find, what):
     """What `find` returns once it is not None."""
     end = time.time() + WAIT
@@ -49,7 +39,7 @@ def waited(find, what):
 
 
 class Browser:
-    """What the browsers have in common. `send` takes a command of WebDriver and its parameters."""
+    """What the browsers have in common. `send` takes a command of WebDriver and its parameters, and `send_to` sends one to an element."""
 
     def open(self, url):
         self.send("url", {"url": url})
@@ -61,21 +51,17 @@ class Browser:
     def element(self, selector):
         return self.send("element", {"using": "css selector", "value": selector})[ELEMENT]
 
-    def press(self, *keys):
-        self.send("actions", {"actions": pressed(keys)})
+    def press(self, *words):
+        """Presses keys one after the other. A word as Shift+Tab holds a key."""
+        actions = []
+        for word in words:
+            keys = [KEYS.get(key, key) for key in word.split("+")]
+            actions += [{"type": "keyDown", "value": key} for key in keys] + [{"type": "keyUp", "value": key} for key in reversed(keys)]
+        self.send("actions", {"actions": [{"type": "key", "id": "keys", "actions": actions}]})
 
     def choose(self, path, selector="#file"):
         """Gives a file to an input of the page."""
         self.send_to(self.element(selector), "value", {"text": path})
-
-    def label(self, element):
-        return self.send_to(element, "computedlabel")
-
-    def role(self, element):
-        return self.send_to(element, "computedrole")
-
-    def picture(self, path):
-        common.write(path, base64.b64decode(self.send("screenshot")))
 
 
 class Chromium(Browser):
@@ -137,7 +123,7 @@ MESSAGES = """return Services.console.getMessageArray().filter(one => one instan
 # The commands of Marionette whose names differ from those of WebDriver.
 MARIONETTE = {
     "url": "Navigate", "execute/sync": "ExecuteScript", "element": "FindElement", "elements": "FindElements", "actions": "PerformActions",
-    "screenshot": "TakeScreenshot", "value": "ElementSendKeys", "computedlabel": "GetComputedLabel", "computedrole": "GetComputedRole",
+    "value": "ElementSendKeys", "computedlabel": "GetComputedLabel", "computedrole": "GetComputedRole",
     "frame": "SwitchToFrame", "window/rect": "SetWindowRect",
 }
 
@@ -176,7 +162,7 @@ class Firefox(Browser):
     def send(self, command, given=None):
         self.count += 1
         name = command if ":" in command else "WebDriver:" + MARIONETTE.get(command, command)
-        data = json.dumps([0, self.count, name, {**(given or {}), **({"full": False} if command == "screenshot" else {})}]).encode()
+        data = json.dumps([0, self.count, name, given or {}]).encode()
         self.socket.sendall(b"%d:%s" % (len(data), data))
         _, _, error, value = self.receive()
         if error:

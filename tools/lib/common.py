@@ -5,6 +5,7 @@ import functools
 import hashlib
 import importlib.machinery
 import importlib.util
+import itertools
 import json
 import os
 import platform
@@ -371,6 +372,19 @@ def leb(value):
     return bytes(out)
 
 
+def number_at(data, place):
+    """A u32 in LEB128, and the place after it; an IndexError where there is none."""
+    value = shift = 0
+    while True:
+        byte = data[place]
+        value |= (byte & 127) << shift
+        place, shift = place + 1, shift + 7
+        if value >= 2**32 or shift == 35 and byte >= 128:
+            raise IndexError
+        if byte < 128:
+            return value, place
+
+
 # ---- differences
 
 
@@ -381,11 +395,9 @@ def agrees(line, expected):
 
 def first_difference(given, expected):
     """The first line that isn't what the model says, as a text, if there is one."""
-    for place in range(max(len(given), len(expected))):
-        said = given[place] if place < len(given) else "nothing"
-        wanted = expected[place] if place < len(expected) else "nothing"
+    for number, (said, wanted) in enumerate(itertools.zip_longest(given, expected, fillvalue="nothing"), 1):
         if not agrees(said, wanted):
-            return "line %d\n  program %s\n  model   %s" % (place + 1, said[:300], wanted[:300])
+            return "line %d\n  program %s\n  model   %s" % (number, said[:300], wanted[:300])
     return None
 
 

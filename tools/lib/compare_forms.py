@@ -15,7 +15,6 @@ import json
 import random
 import re
 import tempfile
-from collections import Counter
 from itertools import zip_longest
 
 import common
@@ -25,34 +24,22 @@ import standard
 from made import module, named_module, other_names
 from modules import section, stream_of
 from streams import COMPONENT, some_stream
-from texts import SEGMENT_FLAGS, SYMBOL_FLAGS, flags_text, in_decimal, value_end
+from texts import dumps, in_hex
 
+MODEL = common.load(common.MODEL_OF_ITEMS)
 # The line of an object of the first level. A section has the form of its name, if that is here.
 EVENTS = {
     "version": "version {range} {num} {encoding}", "body": "body {range} {number}", "end": "end {offset}", "fault": "fault {offset} {fault}",
     "start": "start {range} {func}", "datacount": "datacount {range} {count}", "code": "code {range} {count} {size}",
     "custom": "custom {range} {data_offset}", "section": "section {id} {range} {count} {name}", "unknown": "unknown {id} {range}",
 }
-# The members of an object that are the start of its line, and the fields that a line has as a word, without a name.
-START, WORDS = {"level", "at", "line", "space", "number", "item_name"}, {"kind", "known", "prefix", "symbol", "value"}
+# The members of an object that are not among the fields of its line, the fields that are words there, without a name, and those in quotes.
+APART = {"level", "at", "line", "space", "number", "item_name", "flag_words"}
+WORDS = {"known", "symbol", "value"}
+QUOTED = {"module", "name", "field", "version", "process", "thread", "target_arch"}
 ROW = re.compile(r"(\d+) \|((?: [0-9a-f]{2}){1,16})\Z")
 # What sets a color. No dump has such bytes of its own: texts in quotes escape them.
 COLOR = re.compile(rb"\x1b\[[0-9;]*m")
-# The number of an item in its line.
-NUMBER = re.compile(r"((?:  \d+|   |body \d+ \d+) (type|func|table|memory|tag|global|elem|data)\[(\d+)\])(.*)\Z")
-# A symbol, with its name after its number or not.
-SYMBOL = re.compile(r'(?P<start>      \d+ symbol\[(?P<index>\d+)\])(?P<name> "[^"]*")?(?P<rest> .*)(?P<function>)\Z')
-# The index spaces that subsections of names are for, and what a model writes of such a section: subsections in braces, and lists in them.
-SPACES = {1: "func", 4: "type", 5: "table", 6: "memory", 7: "global", 8: "elem", 9: "data", 11: "tag"}
-NAME = re.compile(r"(\d*)([{}])|name\((\d+) x([0-9a-f]*) |(fault)")
-# What a model writes of imports, of the lists of a section `linking`, and of symbols and segments in them. The index space of each.
-IMPORT = re.compile(r"  \d+ import\(x[0-9a-f]* (x[0-9a-f]*) ([a-z]+)")
-LIST = re.compile(r"(\d+) \d+\.\.\d+ #\d+\[|\[|\]")
-LINKED = re.compile(r"\d+:(?:(func|global|event|table|section) \d+ (\d+)(?: (x[0-9a-f]*))?|data \d+ (x[0-9a-f]*)|segment\((x[0-9a-f]*))|(fault)")
-IMPORTED = {"func": "func", "funcexact": "func", "global": "global", "tag": "tag", "event": "tag", "table": "table", "memory": "memory"}
-# The lines that name a symbol or a type at their end, by its index.
-REFERS = re.compile(r'(?P<start> +\d+ (?:type=R_WASM_\w+ offset=\d+ index=(?P<index>\d+) addend=-?\d+|priority=\d+ symbol_index=(?P<function>\d+)))'
-                    r'(?P<name> "[^"]*")?(?P<rest>)\Z')
 
 
 def once(pairs):
@@ -63,14 +50,7 @@ def once(pairs):
 
 def quoted(text):
     """A text as lines have it."""
-    return '"%s"' % "".join(chr(byte) if 32 <= byte < 127 and chr(byte) not in '"\\' else "\\%02x" % byte for byte in text.encode())
-
-
-def plain(value):
-    """A value as lines have it without quotes."""
-    if isinstance(value, list):
-        return "%d..%d" % tuple(value)
-    return str(value).lower() if isinstance(value, bool) else str(value)
+    return MODEL.quoted(text.encode())
 
 
 # ---- objects
@@ -100,55 +80,41 @@ def fault_of(said):
     return said["fault"] + ("" if said["number"] is None else ": %d" % said["number"])
 
 
-def check_event(line, said):
-    """An object of the first level has what its line has, and no more."""
+def event_line(said):
+    """The line of an object of the first level, which has no other members."""
     form, known = EVENTS[kind_of(said)], {"event", "name", "id", "space", "number", "item_name", "custom_name"}
+    assert set(said) - known == set(re.findall(r"\w+(?=\})", form)) - known, said
     values = {**said, "range": " ".join(map(str, said.get("range", ())))}
     values["number"] = numbered(said) if said["event"] == "body" else None
     values["fault"] = said["event"] == "fault" and fault_of(said)
-    assert form.format(**values).strip() == line, line
-    assert set(said) - known == set(re.findall(r"\w+(?=\})", form)) - known, line
+    return form.format(**values).strip()
 
 
-def fields_of(text):
-    """The fields of a line, in order. An expression is several parentheses."""
-    place = 0
-    while place < len(text):
-        start = place + len(re.match(r"(?:\w+=)?", text[place:])[0])
-        end = value_end(text, start)
-        while text.startswith("(", start) and text.startswith(" (", end):
-            end = value_end(text, end + 1)
-        yield text[place:end]
-        place = end + 1
+def field(name, value, said):
+    """A field of a line. What is false or null has none."""
+    if value is None or value is False:
+        return ""
+    is_subsection_or_symbol = said["level"] == 2 or said.get("space") == "symbol"
+    if name in WORDS or name == "prefix" and isinstance(value, str) or name == "kind" and is_subsection_or_symbol:
+        return value
+    if name == "flags" and "flag_words" in said:
+        value = MODEL.flags_text(value, MODEL.SEGMENT_FLAGS if "alignment" in said else MODEL.SYMBOL_FLAGS)
+        assert value == said["flag_words"], said
+    if isinstance(value, list):
+        return "%s=%d..%d" % (name, *value)
+    text = quoted(value) if name in QUOTED and isinstance(value, str) else str(value)
+    return "%s=%s" % (name, "true" if value is True else text)
 
 
-def check_item(line, said):
-    """An object of another level has the fields of its line in their order, and those that are left out as false or null."""
-    indent = "  " * said["level"]
+def item_line(said):
+    """The line of an object of another level."""
     if "fault" in said:
-        assert line == "%sfault %d %s" % (indent, said["offset"], fault_of(said)), line
-        return
-    words = [str(said["at"])] if "at" in said else []
-    start = indent + " ".join(filter(None, words + [said.get("line", ""), numbered(said)]))
-    assert line.startswith(start) and line[len(start) :][:1] in ("", " ") or start == indent, line
-    shown = list(fields_of(line[len(start) :].lstrip(" ")))
-    if "item_name" in said and "space" not in said:
-        assert shown.pop() == quoted(said["item_name"]), line
-    for name, value in said.items():
-        if name in START:
-            continue
-        if "flag_words" in said and name == "flags":
-            value = flags_text(value, SEGMENT_FLAGS if "alignment" in said else SYMBOL_FLAGS)
-            assert value == said["flag_words"], line
-        elif name == "flag_words":
-            continue
-        texts = {plain(value), quoted(value)} if isinstance(value, str) else {plain(value)}
-        forms = {"%s=%s" % (name, text) for text in texts} | (texts if name in WORDS else set())
-        if value is not None and shown and shown[0] in forms:
-            shown.pop(0)
-        else:
-            assert value is None or value is False, "%s is %s in the object of %s" % (name, value, line)
-    assert not shown, "%s is not in the object of %s" % (shown, line)
+        words = ["fault %d %s" % (said["offset"], fault_of(said))]
+    else:
+        words = [str(said.get("at", "")), said.get("line", ""), numbered(said)]
+        words += [field(name, value, said) for name, value in said.items() if name not in APART]
+        words += [quoted(said["item_name"])] if "item_name" in said and "space" not in said else []
+    return "  " * said["level"] + " ".join(filter(None, words))
 
 
 def objects_in(output):
@@ -159,164 +125,10 @@ def check_objects(lines, objects):
     assert len(objects) == len(lines), "%d objects of %d lines" % (len(objects), len(lines))
     custom = None
     for line, said in zip(lines, objects):
-        if "event" in said:
-            check_event(line, said)
-            custom = said.get("custom_name")
-        else:
-            assert said["level"] > 1 or custom is None or said["name"] == custom, "%s is custom_name of %s" % (custom, line)
-            check_item(line, said)
-
-
-# ---- names
-
-
-def add_names(names, section):
-    """Adds the names of a section `name`, up to the first fault of it, or of a list of names of items: faults of others, as of locals, don't
-    matter. Returns whether there is none."""
-    space, depth = None, 0
-    for ident, brace, number, name, fault in NAME.findall(section):
-        if fault and (space or depth == 0):
-            return False
-        if brace:
-            space = SPACES.get(int(ident)) if ident else space if depth > 1 else None
-            depth += 1 if brace == "{" else -1
-        elif space and not fault:
-            names.setdefault((space, int(number)), bytes.fromhex(name).decode())
-    return True
-
-
-def lists_of(section):
-    """The lists in the subsections of a section `linking`, each with the id of its subsection."""
-    depth = 0
-    for found in LIST.finditer(section):
-        if found[0] != "]":
-            if depth == 0 and found[1]:
-                ident, start = int(found[1]), found.end()
-            depth += 1
-        else:
-            depth -= 1
-            if depth == 0:
-                yield ident, section[start : found.start()]
-
-
-class Linked:
-    """The names of symbols, by their indices, and those that symbols and segments give to items."""
-
-    def __init__(self):
-        self.symbols, self.items, self.imports, self.counts, self.sections = {}, {}, {}, Counter(), []
-
-    def add_import(self, name, kind):
-        space = IMPORTED[kind]
-        self.imports[space, self.counts[space]] = name
-        self.counts[space] += 1
-
-    def add_list(self, ident, text):
-        for index, (kind, item, name, data, segment, fault) in enumerate(LINKED.findall(text)):
-            if fault:
-                break
-            if ident == 5:
-                self.items.setdefault(("data", index), segment)
-            elif ident == 8:
-                self.add_symbol(index, kind, int(item or 0), name or data)
-
-    def add_symbol(self, index, kind, item, name):
-        space = IMPORTED.get(kind)
-        if kind == "section":
-            name = self.sections[item] if item < len(self.sections) and self.sections[item] != "x" else ""
-        name = name or self.imports.get((space, item), "")
-        if name:
-            self.symbols.setdefault(("symbol", index), name)
-            if space:
-                self.items.setdefault((space, item), name)
-
-
-class Names:
-    """The names that the lines of a listing of items give, up to the first fault of a section `name`."""
-
-    def __init__(self):
-        self.items, self.linked, self.has_section, self.has_fault = {}, Linked(), False, False
-
-    def add(self, line):
-        found = IMPORT.match(line)
-        if found:
-            self.linked.add_import(found[1], found[2])
-        elif line.split(" ")[0] in ("section", "code", "start", "datacount", "unknown", "custom"):
-            self.linked.sections.append("x")
-        elif line.startswith("  x"):
-            self.add_custom(line, line.split(" ")[2])
-
-    def add_custom(self, line, title):
-        self.linked.sections[-1] = title
-        if title == "x6c696e6b696e67":
-            for ident, text in lists_of(line):
-                self.linked.add_list(ident, text)
-        elif title == "x6e616d65" and not self.has_fault:
-            self.has_section = True
-            self.has_fault = not add_names(self.items, line)
-
-
-def decoded(names):
-    return {item: bytes.fromhex(name[1:]).decode() for item, name in names.items()}
-
-
-def names_in(stream):
-    """The names of items and symbols, each by its index space and its number: the first of each."""
-    names = Names()
-    for line in common.load(common.MODEL_OF_ITEMS).listing(stream):
-        names.add(line)
-        if names.has_fault:
-            break
-    others = names.linked.symbols if names.has_section else {**names.linked.symbols, **names.linked.items}
-    return {**names.items, **decoded(others)}
-
-
-def symbols_by_event(stream):
-    """For each event, the names of the symbols that come in it or before it: those that a dump shows without --names."""
-    names, known = Names(), []
-    for line in common.load(common.MODEL_OF_ITEMS).listing(stream):
-        names.add(line)
-        if not line.startswith(" "):
-            known.append({})
-        known[-1] = decoded(names.linked.symbols)
-    return known
-
-
-def without_symbol(line, symbols):
-    """A line without the name of its symbol, which must be this one. A symbol has none before its fields if it has a field `name`."""
-    found = SYMBOL.match(line) or REFERS.match(line)
-    if not found:
-        return line
-    start, index, name, rest = found["start"], found["index"] or found["function"], found["name"], found["rest"]
-    is_shown = not ("R_WASM_TYPE_INDEX_LEB" in start or ' name="' in rest)
-    wanted = symbols.get(("symbol", int(index))) if is_shown else None
-    assert name == (wanted if wanted is None else " " + quoted(wanted)), "%s, of which the symbol is called %s" % (line, wanted)
-    return start + rest
-
-
-def without_symbols(lines, known):
-    """The lines of a dump without names. Those of symbols must be the ones that are known where they are shown."""
-    event = -1
-    for line in lines:
-        event += not line.startswith(" ")
-        yield without_symbol(line, known[event])
-
-
-def with_names(lines, names):
-    """The lines of a dump, with the name of each numbered item, and of what a relocation or a function for the start refers to."""
-    for line in lines:
-        found, symbol, refers = NUMBER.match(line), SYMBOL.match(line), REFERS.match(line)
-        if found:
-            line = with_name(found[1], names.get((found[2], int(found[3]))), found[4])
-        elif symbol and ' name="' not in line:
-            line = with_name(symbol["start"], names.get(("symbol", int(symbol["index"]))), symbol["rest"])
-        elif refers:
-            space = "type" if "R_WASM_TYPE_INDEX_LEB" in line else "symbol"
-            line = with_name(line, names.get((space, int(refers["index"] or refers["function"]))), "")
-        yield line
-
-
-def with_name(start, name, rest):
-    return start + ("" if name is None else " " + quoted(name)) + rest
+        custom = said.get("custom_name") if "event" in said else custom
+        assert "event" in said or said["level"] > 1 or custom is None or said["name"] == custom, "%s is custom_name of %s" % (custom, line)
+        wanted = event_line(said) if "event" in said else item_line(said)
+        assert wanted == line, "the object of the line %s in place of %s" % (wanted, line)
 
 
 # ---- bytes, offsets and files
@@ -345,7 +157,7 @@ def check_bytes(lines, output, stream):
 
 def check_hexadecimal(output, hexadecimal):
     for line, other in zip_longest(output.decode().splitlines(), hexadecimal.decode().splitlines(), fillvalue=""):
-        assert in_decimal(other) == line, "%s in place of %s" % (other, line)
+        assert other == in_hex(line), "%s in place of %s" % (other, in_hex(line))
 
 
 class Dumps:
@@ -361,12 +173,11 @@ class Dumps:
 
     def check(self, stream):
         text, rows, hexadecimal = self.run(), self.run("--bytes"), self.run("--hex")
-        lines, named = text.decode().splitlines(), self.run("--names").decode().splitlines()
+        lines, with_names = text.decode().splitlines(), self.run("--names").decode().splitlines()
         check_objects(lines, objects_in(self.run("--json")))
-        plain = without_symbols(lines, symbols_by_event(stream))
-        for line, wanted in zip_longest(named, with_names(plain, names_in(stream)), fillvalue=""):
-            assert line == wanted, "%s in place of %s" % (line, wanted)
-        check_objects(named, objects_in(self.run("--names", "--json")))
+        for found in map(common.first_difference, (lines, with_names), dumps(MODEL, stream)):
+            assert not found, found
+        check_objects(with_names, objects_in(self.run("--names", "--json")))
         check_bytes(lines, rows, stream)
         check_hexadecimal(text, hexadecimal)
         check_hexadecimal(rows, self.run("--hex", "--bytes"))
@@ -390,8 +201,8 @@ def forms_differ(words, stream):
             dumps.check(stream)
             if sum(stream) % 10 == 0:
                 dumps.check_files()
-        except (AssertionError, LookupError, ValueError) as error:
-            return str(error)[:400]
+        except (AssertionError, AttributeError, LookupError, TypeError, ValueError) as error:
+            return "%s: %s" % (type(error).__name__, str(error)[:400])
     return None
 
 

@@ -155,7 +155,4 @@ def main():
     with tempfile.TemporaryDirectory() as folder:
         paths = [some_file(rng, folder, "p%d" % number) for number in range(given.count)] + given.files
         found = [text for text in comparing.one_by_one(lambda path: file_differs(given.command, checks, path))(paths) if text]
-    for text in found[: given.show]:
-        print("DIFFERS " + text)
-    print("%d compared, %d differ (seed %d)" % (len(paths), len(found), given.seed))
-    return common.DIFFERS if found else 0
+    return common.tell(found, given.show, "%d compared, %d differ (seed %d)" % (len(paths), len(found), given.seed))

@@ -12,11 +12,8 @@ import common
 import comparing
 import pieces
 import programs
-from standard import CUSTOM_SECTION
+from common import number_at
 from streams import some_large_stream, some_stream
-from texts import number_at
-
-NUMBERS = [("seed", 1), ("count", 10000)]
 
 
 def differing(said, wanted):
@@ -38,9 +35,8 @@ def listings():
     tools/compare listings            10,000 streams, from seed 1
     tools/compare listings 7 200      200 streams, from seed 7
     """
-    given = comparing.arguments(listings.__doc__, "list", common.MODEL, numbers=NUMBERS)
-    streams = comparing.drawn(given, some_stream, some_large_stream)
-    return comparing.compare(given, streams, comparing.one_by_one(lambda data: listing_differs(given.command, given.known, data)))
+    differs = lambda given, data: listing_differs(given.command, given.known, data)
+    return comparing.random_streams(listings.__doc__, "list", common.MODEL, differs, some_stream, some_large_stream, 10000, False)
 
 
 # ---- through a pipe
@@ -48,15 +44,8 @@ def listings():
 
 def decided(model, stream):
     """The lines of the events that these bytes decide, and whether the last is among them."""
-    state, place, out = model.State(0, True), 0, []
-    while model.short(state, stream, place) is None:
-        try:
-            line, used, state = model.next_event(state, stream, place)
-        except model.Fault as fault:
-            return out + [fault.line()], True
-        out.append(line)
-        place += used
-    return out, False
+    *lines, last = [line.rsplit(" ", 1)[0] for line in model.prefix(stream, 0, True)]
+    return (lines, False) if last.startswith("need") else (lines + [last], True)
 
 
 def text(lines):
@@ -109,19 +98,6 @@ def pipe():
 
 # ---- chunks
 
-# Beginnings of modules, and bytes that may come after them.
-BEGINNINGS = ["", "0061736d01000000", "0061736d0d000100"] + ["0061736d01000000" + rest for rest in [
-    "010100", "03020100", "0c0101", "0c0100", "0a0100", "030201000a0401", "030202000a0802", "030202000a08020100",
-    "030201000a0101", "030201000a020100", "030201000a030100", "030201000affffffff0f01", "0b0100"]]
-ALPHABET = [0x00, 0x01, 0x02, 0x03, 0x05, 0x0A, 0x0B, 0x0C, 0x61, 0x73, 0x6D, 0x7F, 0x80, 0xFF]
-
-
-def short_streams(depth):
-    """All streams that continue some beginnings by up to this many bytes."""
-    for beginning in BEGINNINGS:
-        for length in range(depth + 1):
-            yield from (bytes.fromhex(beginning) + bytes(more) for more in itertools.product(ALPHABET, repeat=length))
-
 
 def cuttings(stream, has_random):
     """An offset, and the stream in chunks: byte by byte, and if that is wanted in others, also empty ones, which the stream decides."""
@@ -158,41 +134,22 @@ def chunks():
     are compared, what is then held, and what is stored.
     """
     more = [("--short", {"metavar": "DEPTH", "type": common.whole, "help": "short streams instead of random ones"})]
-    given = comparing.arguments(chunks.__doc__, "rows", common.MODEL, numbers=NUMBERS, show=5, more=more)
-    streams = comparing.drawn(given, some_stream) if given.short is None else short_streams(given.short)
+    given = comparing.arguments(chunks.__doc__, "rows", common.MODEL, numbers=[("seed", 1), ("count", 10000)], show=5, more=more)
+    shorts = (front + more for front, more in given.known.short_streams(given.short or 0))
+    streams = comparing.drawn(given, some_stream) if given.short is None else shorts
     return comparing.compare(given, streams, lambda many: chunks_differ(given.command, given.known, many, given.short is None))
 
 
 # ---- stripping
 
 
-def sections(data):
-    """The sections of a stream without a fault: of each its id, its bytes and its content."""
-    place = 8
-    while place < len(data):
-        size, start = number_at(data, place + 1)
-        yield data[place], data[place : start + size], data[start : start + size]
-        place = start + size
-
-
-def name_of(content):
-    """The name that a custom section begins with."""
-    size, start = number_at(content, 0)
-    return content[start : start + size].decode()
-
-
-def stripped(data, stays=lambda name: False):
-    """A stripped stream, if it has no fault; custom sections with some names may stay."""
-    return data[:8] + b"".join(whole for ident, whole, content in sections(data) if ident != CUSTOM_SECTION or stays(name_of(content)))
-
-
 # Options of strip, and whether a custom section with a name stays.
 CHOICES = [
     ([], lambda name: False),
-    (["--keep-names"], lambda name: name == "name"),
-    (["--keep", "name", "--keep", "a"], lambda name: name in ("name", "a")),
-    (["--only", "name"], lambda name: name != "name"),
-    (["--only", "name", "--only", "a", "--keep-names"], lambda name: name != "a"),
+    (["--keep-names"], lambda name: name == b"name"),
+    (["--keep", "name", "--keep", "a"], lambda name: name in (b"name", b"a")),
+    (["--only", "name"], lambda name: name != b"name"),
+    (["--only", "name", "--only", "a", "--keep-names"], lambda name: name != b"a"),
 ]
 
 
@@ -202,33 +159,40 @@ def message(line):
     return ("%s (at offset 0x%x)\n" % (said, int(offset))).encode()
 
 
-def strip_differs(words, lister, model, data):
+def strip_differs(given, data):
     """What differs of a stream that is stripped from its input and from a file, which is read twice; the result must list and strip the same."""
+    words, model = given.command, given.known
     lines = model.reading(data, 0, True)
     with tempfile.NamedTemporaryFile(suffix=".wasm") as file:
         common.write(file.name, data)
         for options, stays in CHOICES:
-            wanted = (b"", 1, message(lines[-1])) if programs.status(lines) else (stripped(data, stays), 0, b"")
+            left = model.changed(data, lambda part, name: part if name is None or stays(name) else b"")
+            wanted = (b"", 1, message(lines[-1])) if programs.status(lines) else (left, 0, b"")
             for way, stream in (([], data), ([file.name], b"")):
                 text = differing(programs.run([*words, *options, *way], stream), wanted)
                 if text:
                     return "strip %s %s: %s" % (" ".join(options), "FILE" if way else "", text)
     if programs.status(lines):
         return None
-    left = stripped(data)
-    return (differing(model.strip(data), left) or differing(programs.run(words, left), (left, 0, b""))
-            or differing(programs.lines_of(lister, left), (model.reading(left, 0, True), 0, b"")))
+    left = model.strip(data)
+    text = differing(programs.run(words, left), (left, 0, b"")) or listing_differs(programs.command("list"), model, left)
+    return text or (wabt_differs(words, model, data) if data in given.modules and shutil.which("wasm-strip") else None)
 
 
-def wabt_differs(words, data):
+def contents(model, data):
+    """The id and the content of each section of a stream without a fault."""
+    return [(part[0], part[number_at(part, 1)[1] :]) for part, _ in model.parts(data)]
+
+
+def wabt_differs(words, model, data):
     """Whether a stripped stream has other sections than wasm-strip leaves, which writes their lengths anew."""
     with tempfile.NamedTemporaryFile(suffix=".wasm") as file:
         common.write(file.name, data)
         done = subprocess.run(["wasm-strip", file.name], stderr=subprocess.PIPE)
         others = common.read_bytes(file.name)
     left = programs.run(words, data)[0]
-    same = others[:8] == left[:8] and [(i, c) for i, _, c in sections(others)] == [(i, c) for i, _, c in sections(left)]
-    return None if same and not done.returncode else "wasm-strip leaves other sections, or refuses it: %r" % done.stderr[:200]
+    is_same = others[:8] == left[:8] and contents(model, others) == contents(model, left)
+    return None if is_same and not done.returncode else "wasm-strip leaves other sections, or refuses it: %r" % done.stderr[:200]
 
 
 def strip():
@@ -240,14 +204,7 @@ def strip():
     What is left of a stream is its header and its sections but the custom ones, byte for byte, and those that options keep; of a stream
     with a fault nothing is left, and the fault is reported. What is left must list without a fault, and be left by stripping it again.
     """
-    given = comparing.arguments(strip.__doc__, "strip", common.MODEL, numbers=[("seed", 1), ("count", 2000)], files=True)
-    others, is_same = set(common.modules_of(given.files)) if shutil.which("wasm-strip") else (), programs.WORDS["list"][0] == programs.WORDS["strip"][0]
-    lister = programs.command("list", given.program if is_same else None)
-
-    def differs(data):
-        return strip_differs(given.command, lister, given.known, data) or (wabt_differs(given.command, data) if data in others else None)
-
-    return comparing.compare(given, comparing.drawn(given, some_stream), comparing.one_by_one(differs))
+    return comparing.random_streams(strip.__doc__, "strip", common.MODEL, strip_differs, some_stream)
 
 
 # ---- editing
@@ -256,57 +213,49 @@ def strip():
 NEW = [("c", b"xyz"), ("", b""), ("name", b"\0\2\1x"), ("a", bytes(124)), ("a", bytes(125)), ("d", bytes(16_380)), ("\u03b1", bytes(range(256)))]
 
 
-def new_section(name, data):
-    """A custom section as the standard has it, with lengths in as few bytes as possible."""
-    content = common.leb(len(name.encode())) + name.encode() + data
-    return b"\0" + common.leb(len(content)) + content
-
-
-def custom_sections(data):
-    """The names and data of the custom sections of a stream without a fault."""
-    found = [(name_of(content), content) for ident, _, content in sections(data) if ident == CUSTOM_SECTION]
-    return [(name, content[number_at(content, 0)[1] + len(name.encode()) :]) for name, content in found]
-
-
-def edited(data, added, replaces):
+def edited(model, data, added, replaces):
     """A stream without a fault, in which sections are replaced where it has their names, and the others appended."""
-    there = {name for name, _ in custom_sections(data)} if replaces else set()
-    new = {name: content for name, content in added if name in there}
-    parts = [data[:8]]
-    for ident, whole, content in sections(data):
-        name = name_of(content) if ident == CUSTOM_SECTION else None
-        parts.append(new_section(name, new[name]) if name in new else whole)
-    return b"".join(parts + [new_section(name, content) for name, content in added if name not in there])
+    there = {name for _, name in model.parts(data)} if replaces else set()
+    new = {name: model.custom(name, content) for name, content in added if name in there}
+    appended = [model.custom(name, content) for name, content in added if name not in there]
+    return model.changed(data, lambda part, name: new.get(name, part)) + b"".join(appended)
 
 
-def extracts_differ(words, names, data):
+def data_of(part, name):
+    """The data of a custom section, which has this name."""
+    content = part[number_at(part, 1)[1] :]
+    return content[number_at(content, 0)[1] + len(name) :]
+
+
+def extracts_differ(words, model, names, data):
     """What differs of the data of sections with these names."""
     for name in set(names):
-        for index, content in enumerate([content for other, content in custom_sections(data) if other == name], 1):
-            text = differing(programs.run([*words, "--index=%d" % index, name], data), (content, 0, b""))
+        for index, part in enumerate([part for part, other in model.parts(data) if other == name], 1):
+            text = differing(programs.run([*words, "--index=%d" % index, name], data), (data_of(part, name), 0, b""))
             if text:
                 return text
     return None
 
 
-def edit_differs(adds, extracts, model, data):
+def edit_differs(given, data):
     """What differs of a stream to which sections are added, and of each section that is extracted again."""
+    adds, model = given.command, given.known
     lines, rng = model.reading(data, 0, True), random.Random(len(data) + sum(data))
-    added, replaces = rng.choices(NEW, k=rng.randrange(1, 4)), rng.random() < 0.5
-    names = [name for name, _ in added]
-    wanted = edited(data, added, replaces) if programs.status(lines) == 0 else b""
+    added, replaces = [(name.encode(), content) for name, content in rng.choices(NEW, k=rng.randrange(1, 4))], rng.random() < 0.5
+    wanted = edited(model, data, added, replaces) if programs.status(lines) == 0 else b""
     told = (wanted, programs.status(lines), b"" if wanted else message(lines[-1]))
     with tempfile.TemporaryDirectory() as folder:
         words = ["--replace"] * replaces
         for number, (name, content) in enumerate(added):
-            words.append("%s=%s" % (name, common.write(os.path.join(folder, str(number)), content)))
+            words.append("%s=%s" % (name.decode(), common.write(os.path.join(folder, str(number)), content)))
         path = common.write(os.path.join(folder, "a.wasm"), data)
         text = differing(programs.run([*adds, *words, path]), told) or differing(programs.run([*adds, *words, "-"], data), told)
     if text or not wanted:
         return text
     if programs.status(model.reading(wanted, 0, True)):
         return "the edited stream has a fault by the model"
-    return extracts_differ(extracts, names, wanted)
+    text = extracts_differ([adds[0], "extract"], model, [name for name, _ in added], wanted)
+    return text or (others_differ(adds, data) if data in given.modules else None)
 
 
 # What must take a module after an edit if it took it before.
@@ -334,10 +283,4 @@ def edits():
     An edited stream is its header, its sections, byte for byte except for those that are replaced in their places, and the new sections as
     the standard encodes them. It must have no fault. Of a stream with a fault nothing is written, and the fault is reported.
     """
-    given = comparing.arguments(edits.__doc__, "add", common.MODEL, numbers=[("seed", 1), ("count", 1000)], files=True)
-    others, extracts = set(common.modules_of(given.files)), [given.command[0], "extract"]
-
-    def differs(data):
-        return edit_differs(given.command, extracts, given.known, data) or (others_differ(given.command, data) if data in others else None)
-
-    return comparing.compare(given, comparing.drawn(given, some_stream), comparing.one_by_one(differs))
+    return comparing.random_streams(edits.__doc__, "add", common.MODEL, edit_differs, some_stream, count=1000)

@@ -1,4 +1,5 @@
 """What the subcommands of tools/compare share: their arguments, random streams, and the smallest stream that fails."""
+import argparse
 import itertools
 import os
 import random
@@ -6,7 +7,7 @@ from concurrent.futures import ThreadPoolExecutor
 
 import common
 import programs
-from texts import number_at
+from common import number_at
 
 # How often a failing stream is made smaller and tried, and how many streams are looked at together.
 TRIES, BATCH = 3000, 4000
@@ -41,17 +42,21 @@ def smallest(data, fails):
     return data
 
 
+def executable(path):
+    """The whole path of a program."""
+    if not os.access(common.existing(path), os.X_OK) or os.path.isdir(path):
+        raise argparse.ArgumentTypeError("%s is no program" % path)
+    return os.path.abspath(path)
+
+
 def arguments(about, task, model=None, show=10, more=(), **others):
     """The arguments of a comparison; `command` is that of its program, and `known` its model."""
-    options = [("--program", {"metavar": "FILE", "help": "the program, instead of the built one"})] if task else []
+    options = [("--program", {"metavar": "FILE", "type": executable, "help": "the program, instead of the built one"})] if task else []
     if model:
-        options.append(("--model", {"metavar": "FILE", "default": model, "help": "a model, instead of tools/model/%s" % os.path.basename(model)}))
+        about_it = "a model, instead of tools/model/%s" % os.path.basename(model)
+        options.append(("--model", {"metavar": "FILE", "type": common.existing, "default": model, "help": about_it}))
     given = common.arguments(about, show=show, more=[*options, *more], **others)
-    path = getattr(given, "program", None)
-    for file in filter(None, [path, getattr(given, "model", None)]):
-        if not os.path.isfile(file) or file == path and not os.access(file, os.X_OK):
-            common.stop(common.WRONG_USE, "there is no such file or program: %s" % file)
-    given.command = programs.command(task, path and os.path.abspath(path)) if task else None
+    given.command = programs.command(task, given.program) if task else None
     given.known = common.load(given.model) if model else None
     return given
 
@@ -82,6 +87,13 @@ def compare(given, streams, differences, data_of=lambda one: one, with_data=lamb
         print("DIFFERS %s\n  %s" % (data.hex()[:4000], differences([with_data(one, data)])[0]))
     print("%d compared, %d differ%s" % (count, len(found), " (seed %d)" % given.seed if hasattr(given, "seed") else ""))
     return common.DIFFERS if found else 0
+
+
+def random_streams(about, task, model, differs, draw, large=None, count=2000, files=True):
+    """The main part of a comparison of random streams and of files. `differs` returns what differs of a stream, by the arguments."""
+    given = arguments(about, task, model, numbers=[("seed", 1), ("count", count)], files=files)
+    given.modules = set(common.modules_of(given.files))
+    return compare(given, drawn(given, draw, large), one_by_one(lambda data: differs(given, data)))
 
 
 def drawn(given, draw, large=None):

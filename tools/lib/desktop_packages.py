@@ -62,8 +62,8 @@ def make(targets, folder):
     os.environ.setdefault("SOURCE_DATE_EPOCH", "1")
     packages.targets = targets
     try:
-        packages.zips(folder, folder)
-        packages.desktop_tarballs(folder)
+        packages.zips(folder, os.path.join(folder, "zips"))
+        packages.desktop_tarballs(folder, os.path.join(folder, "tarballs"))
         packages.desktop_wheels(folder, os.path.join(folder, "wheels"))
     except packages.Missing as program:
         common.skip("missing: %s, so there are no wheels for Windows and macOS" % program)
@@ -71,28 +71,11 @@ def make(targets, folder):
     return True
 
 
-# ---- wheels
-
-
 def machine_of(data):
     """The number of the processor in the header of a library for Windows or macOS."""
     if data[:2] == b"MZ":
         return struct.unpack_from("<H", data, struct.unpack_from("<I", data, 60)[0] + 4)[0]
     return struct.unpack_from("<II", data)[1] if data[:4] == b"\xcf\xfa\xed\xfe" else None
-
-
-def wrong_wheel(path, tag, system, machine):
-    """What is wrong in a wheel: its tags, its library or the processor of that."""
-    with zipfile.ZipFile(path) as wheel:
-        files = {name: wheel.read(name) for name in wheel.namelist()}
-    [described] = [text.decode().splitlines() for name, text in files.items() if name.endswith(".dist-info/WHEEL")]
-    if [line for line in described if line.startswith(("Tag: ", "Root-Is-Purelib: "))] != ["Root-Is-Purelib: false", "Tag: py3-none-" + tag]:
-        yield "%s: its file WHEEL says %s" % (path, described)
-    libraries = [name for name in files if not name.endswith((".py", "/py.typed")) and name.startswith("pulleynavy/")]
-    if libraries != ["pulleynavy/" + _library.name_on(system)]:
-        yield "%s has %s" % (path, libraries)
-    elif machine_of(files[libraries[0]]) != machine:
-        yield "%s: the library is for the processor %s" % (path, machine_of(files[libraries[0]]))
 
 
 def chosen(folder, platform):
@@ -104,7 +87,7 @@ def chosen(folder, platform):
 
 
 def wrong_wheels(folder, targets):
-    """What is wrong in the wheels of these targets, and in what pip and twine say of them."""
+    """What is wrong in the wheels of these targets: their tags, the library and its processor, and what pip and twine say of them."""
     names = {target: "pulleynavy-%s-py3-none-%s.whl" % (common.version(), WHEELS[target][0]) for target in targets}
     made = sorted(os.path.basename(path) for path in glob.glob(folder + "/*.whl"))
     if made != sorted(names.values()):
@@ -112,7 +95,16 @@ def wrong_wheels(folder, targets):
         return
     for target, name in names.items():
         tag, systems, other, system, machine = WHEELS[target]
-        yield from wrong_wheel(os.path.join(folder, name), tag, system, machine)
+        with zipfile.ZipFile(os.path.join(folder, name)) as wheel:
+            files = {file: wheel.read(file) for file in wheel.namelist()}
+        [described] = [text.decode().splitlines() for file, text in files.items() if file.endswith(".dist-info/WHEEL")]
+        if [line for line in described if line.startswith(("Tag: ", "Root-Is-Purelib: "))] != ["Root-Is-Purelib: false", "Tag: py3-none-" + tag]:
+            yield "%s: its file WHEEL says %s" % (name, described)
+        libraries = [file for file in files if not file.endswith((".py", "/py.typed")) and file.startswith("pulleynavy/")]
+        if libraries != ["pulleynavy/" + _library.name_on(system)]:
+            yield "%s has %s" % (name, libraries)
+        elif machine_of(files[libraries[0]]) != machine:
+            yield "%s: the library is for the processor %s" % (name, machine_of(files[libraries[0]]))
         if common.found("pip3"):
             yield from ("pip chooses %s on %s" % (chosen(folder, one), one) for one in systems if chosen(folder, one) != name)
             if chosen(folder, other) == name:
@@ -130,15 +122,6 @@ def loader(folder, wheel):
     return common.write(os.path.join(folder, "loader.c"), text), "Z:" + library.replace("/", "\\")
 
 
-# ---- Rust
-
-
-def target_of(triple):
-    """What cargo passes to a build script for a target."""
-    said = dict(re.findall(r'^target_(arch|os|env)="(.*)"$', must(["rustc", "--print", "cfg", "--target", triple]), re.M))
-    return {"CARGO_CFG_TARGET_" + name.upper(): said.get(name, "") for name in ("arch", "os", "env")}
-
-
 def wrong_crate(targets, folder):
     """The targets for which the build script of the crate links another library than that of the target."""
     if not cargo.found() or not common.found("rustc"):
@@ -150,7 +133,10 @@ def wrong_crate(targets, folder):
     package = made[: -len(".crate")]
     must(["rustc", "--edition", "2024", package + "/build.rs", "-o", folder + "/build"])
     for triple in [*CRATE, NO_TARGET]:
-        said = must([folder + "/build"], package, CARGO_MANIFEST_DIR=package, HOST="x86_64-unknown-linux-gnu", **target_of(triple))
+        # What cargo passes to a build script for a target.
+        target = dict(re.findall(r'^target_(arch|os|env)="(.*)"$', must(["rustc", "--print", "cfg", "--target", triple]), re.M))
+        settings = {"CARGO_CFG_TARGET_" + name.upper(): target.get(name, "") for name in ("arch", "os", "env")}
+        said = must([folder + "/build"], package, CARGO_MANIFEST_DIR=package, HOST="x86_64-unknown-linux-gnu", **settings)
         found = dict(re.findall(r"^cargo::(rustc-link-search|rustc-link-lib|error)=(?:native=|static:\+verbatim=)?(.*)$", said, re.M))
         if triple == NO_TARGET:
             if "pulleynavy has no library for powerpc64 and linux" not in found.get("error", ""):
@@ -162,11 +148,7 @@ def wrong_crate(targets, folder):
             yield "the crate links %s on %s: %s" % (linked, triple, found)
 
 
-# ---- CMake
-
-
 def unpacked(folder, target):
-    """The folder of a package for C, unpacked anywhere."""
     top = "pulleynavy-%s-%s" % (common.version(), target)
     place = os.path.join(folder, "unpacked here")
     shutil.unpack_archive(os.path.join(folder, top + (".zip" if target.endswith("-windows") else ".tar.gz")), place)
@@ -189,25 +171,19 @@ def under_wine(folder, system):
     return [system.running(os.path.join(out, name)) for name in ("names_pulleynavy.exe", "names_static.exe")]
 
 
-def options(target, stub):
-    """How CMake builds for a system without its headers and libraries."""
-    linked = "-fuse-ld=lld -nostdlib " + ("-Wl,--entry=main" if target.endswith("-windows") else stub)
-    words = {"C_COMPILER": "clang", "C_COMPILER_TARGET": desktops.TARGETS[target][1], "C_FLAGS": "-ffreestanding", "C_STANDARD_LIBRARIES": ""}
-    words |= {"TRY_COMPILE_TARGET_TYPE": "STATIC_LIBRARY", "EXE_LINKER_FLAGS": linked, "OSX_SYSROOT": ""}
-    words |= {"SYSTEM_NAME": "Windows" if target.endswith("-windows") else "Darwin"}
-    words |= {"AR": shutil.which("llvm-ar"), "RANLIB": shutil.which("llvm-ranlib"), "INSTALL_NAME_TOOL": shutil.which("llvm-install-name-tool")}
-    return ["-DCMAKE_%s=%s" % pair for pair in words.items()]
-
-
 def wrongly_linked(folder, target):
-    """What is wrong in the two programs that CMake links with clang and lld for a system that can't run here."""
+    """What is wrong in the two programs that CMake links with clang and lld for a system that can't run here, without its headers and libraries."""
     if not common.all_found(["cmake", "clang", "lld", "llvm-ar", "llvm-readobj"]):
         return
-    place = os.path.join(folder, "cmake-" + target)
+    is_windows, place = target.endswith("-windows"), os.path.join(folder, "cmake-" + target)
     os.chmod(common.write(os.path.join(place, "bin", "sw_vers"), SW_VERS), 0o755)
     source, stub = common.write(os.path.join(place, "alone.c"), ALONE), common.write(os.path.join(place, "libSystem.tbd"), desktops.STUB)
+    words = {"C_COMPILER": "clang", "C_COMPILER_TARGET": desktops.TARGETS[target][1], "C_FLAGS": "-ffreestanding", "C_STANDARD_LIBRARIES": ""}
+    words |= {"TRY_COMPILE_TARGET_TYPE": "STATIC_LIBRARY", "OSX_SYSROOT": "", "SYSTEM_NAME": "Windows" if is_windows else "Darwin"}
+    words |= {"EXE_LINKER_FLAGS": "-fuse-ld=lld -nostdlib " + ("-Wl,--entry=main" if is_windows else stub)}
+    words |= {"AR": shutil.which("llvm-ar"), "RANLIB": shutil.which("llvm-ranlib"), "INSTALL_NAME_TOOL": shutil.which("llvm-install-name-tool")}
     path = os.path.join(place, "bin") + os.pathsep + os.environ["PATH"]
-    out = built(place, unpacked(folder, target), [source], options(target, stub), PATH=path)
+    out = built(place, unpacked(folder, target), [source], ["-DCMAKE_%s=%s" % pair for pair in words.items()], PATH=path)
     for name in ("pulleynavy", "static"):
         [program] = [path for path in glob.glob("%s/names_%s*" % (out, name)) if path.endswith((name, ".exe"))]
         needed = NEEDED[target.partition("-")[2]] in must(["llvm-readobj", "--needed-libs", program]).split()

@@ -40,18 +40,10 @@ def exports():
     return sorted(re.findall(r"^\w[^\n(]*?\b(pulleynavy_\w+)\(", common.read_bytes(HEADER).decode(), re.M))
 
 
-# ---- the module
-
-
-def lines_of(triple):
-    """The data layout and the triple of a system, as clang writes them for it."""
-    words = ["--target=" + triple, "--no-default-config", "-S", "-emit-llvm", "-x", "c", os.devnull, "-o", "-"]
-    return {found[1]: found[0] for found in LINES.finditer(common.must([toolchain.clang(), *words]))}
-
-
 def retargeted(text, triple):
-    """The text of a module with the data layout and triple of another system. Nothing else may change, and the triple has to."""
-    lines = lines_of(triple)
+    """The text of a module with the data layout and triple of another system, as clang writes them for it. Nothing else may change, and the triple has to."""
+    words = ["--target=" + triple, "--no-default-config", "-S", "-emit-llvm", "-x", "c", os.devnull, "-o", "-"]
+    lines = {found[1]: found[0] for found in LINES.finditer(common.must([toolchain.clang(), *words]))}
     made = LINES.sub(lambda found: lines[found[1]], text)
     differing = [pair for pair in itertools.zip_longest(text.split("\n"), made.split("\n")) if pair[0] != pair[1]]
     kinds = [LINES.fullmatch(line or "") and LINES.fullmatch(line)[1] for line, _ in differing]
@@ -83,26 +75,17 @@ def compiled(kept, text, triple, made):
     common.must([re.sub(r"^--target=.*", "--target=" + triple, word) for word in words], kept)
 
 
-# ---- archives and shared libraries
-
-
 def archive(kind, path, made):
     """An archive of one object in this format, in which names and dates don't depend on the machine."""
     common.must([os.path.join(toolchain.llvm(), "bin", "llvm-ar"), "--format=" + kind, "rcsD", path, made])
 
 
-def import_library(folder, name, called, machine):
-    """An import library of a DLL with these functions."""
-    names = common.write(os.path.join(folder, name + ".def"), "LIBRARY %s\nEXPORTS\n%s\n" % (name, "\n".join(called)))
-    path = os.path.join(folder, name + ".lib")
-    common.must(["llvm-dlltool", "-m", machine, "-d", names, "-l", path])
-    return path
-
-
 def dll(folder, machine, place):
     """The DLL, and its import library under the names that MSVC and MinGW look for. Both functions are those of msvcrt.dll, which every Windows has."""
     linker, flavor = MACHINES[machine]
-    system = import_library(place, "msvcrt.dll", CALLED, flavor)
+    names = common.write(os.path.join(place, "msvcrt.dll.def"), "LIBRARY msvcrt.dll\nEXPORTS\n%s\n" % "\n".join(CALLED))
+    system = os.path.join(place, "msvcrt.dll.lib")
+    common.must(["llvm-dlltool", "-m", flavor, "-d", names, "-l", system])
     words = ["/dll", "/noentry", "/nodefaultlib", "/Brepro", "/opt:noref", "/machine:" + linker, *("/export:" + name for name in exports())]
     made = os.path.join(folder, "pulleynavy.dll")
     common.must(["lld", "-flavor", "link", *words, "/out:" + made, "/implib:" + made + ".lib", os.path.join(folder, "libpulleynavy.a"), system])

@@ -61,7 +61,7 @@ def written(name, comment, arguments, result):
 
 def pages():
     """The pages by their names. The sources have each call, and each has a comment."""
-    known = {name: rest for of in header.SOURCES for name, *rest in header.calls_of(header.source(of))}
+    known = {name: rest for name, *rest in header.all_calls()}
     lacking = [name for name in CALLS if name not in known]
     if lacking:
         common.stop(common.DIFFERS, "the sources do not document %s" % ", ".join(lacking))

@@ -14,6 +14,11 @@ ALIGNMENT = 16384
 REBASED = re.compile(r"^__\w+\s+__\w+\s+(0x[0-9A-F]+)\s+pointer", re.M)
 BOUND = re.compile(r"^__\w+\s+__\w+\s+(0x[0-9A-F]+)\s+(?:pointer\s+-?\d+\s+)?\S+\s+_(\w+)$", re.M)
 EXPORTED = re.compile(r"^(0x[0-9A-F]+)\s+_(\w+)$", re.M)
+# The same in what llvm-readobj says of a DLL: its sections, pointers into it, the slots of functions of a DLL, and its exports.
+SECTION = re.compile(r"VirtualSize: (\w+)\s+VirtualAddress: (\w+)\s+RawDataSize: (\w+)\s+PointerToRawData: (\w+)")
+RELOCATED = re.compile(r"Type: DIR64\s+Address: (\w+)")
+IMPORTED = re.compile(r"ImportAddressTableRVA: (\w+)((?:\s+Symbol: .*)*)")
+NAMED = re.compile(r"Name: (\w+)\s+RVA: (\w+)")
 
 
 class Image:
@@ -72,58 +77,13 @@ def macho(path):
     return Image(memory, exports, pointers)
 
 
-def text_at(memory, at):
-    return memory[at : memory.index(0, at)].decode("ascii")
-
-
-def based(memory, at, size, base):
-    """The pointers into a DLL, from the blocks of its table of relocations."""
-    end, pointers = at + size, {}
-    while at < end:
-        page, length = struct.unpack_from("<II", memory, at)
-        for place in range(at + 8, at + length, 2):
-            kind, offset = divmod(struct.unpack_from("<H", memory, place)[0], 4096)
-            if kind == 10:
-                pointers[page + offset] = number(memory, page + offset) - base
-        at += length
-    return pointers
-
-
-def imported(memory, at):
-    """The pointers to functions of other DLLs, from the table of imports."""
-    pointers = {}
-    while number(memory, at):
-        names, slots = (struct.unpack_from("<I", memory, at + part)[0] for part in (0, 16))
-        while number(memory, names):
-            pointers[slots] = text_at(memory, number(memory, names) + 2)
-            names, slots = names + 8, slots + 8
-        at += 20
-    return pointers
-
-
-def exported(memory, at):
-    """The address of each export, from the table of exports."""
-    count, functions, names, ordinals = struct.unpack_from("<IIII", memory, at + 24)
-    found = {}
-    for place in range(count):
-        name, ordinal = struct.unpack_from("<I", memory, names + 4 * place)[0], struct.unpack_from("<H", memory, ordinals + 2 * place)[0]
-        found[text_at(memory, name)] = struct.unpack_from("<I", memory, functions + 4 * ordinal)[0]
-    return found
-
-
 def pe(path):
     """The image of a DLL."""
-    data = common.read_bytes(path)
-    header = struct.unpack_from("<I", data, 60)[0]
-    count, optional = struct.unpack_from("<H", data, header + 6)[0], header + 24
-    base = number(data, optional + 24)
-    table = optional + struct.unpack_from("<H", data, header + 20)[0]
-    parts = []
-    for place in range(table, table + 40 * count, 40):
-        size, address, in_file, offset = struct.unpack_from("<IIII", data, place + 8)
-        parts.append((address, size, offset, min(size, in_file)))
-    memory = loaded(data, parts)
-    directory = [struct.unpack_from("<II", data, optional + 112 + 8 * kind) for kind in range(6)]
-    pointers = based(memory, *directory[5], base)
-    pointers.update(imported(memory, directory[1][0]))
-    return Image(memory, exported(memory, directory[0][0]), pointers)
+    listed = said("llvm-readobj", "--file-headers", "--sections", "--coff-exports", "--coff-imports", "--coff-basereloc", path)
+    sections = [[int(word, 0) for word in row] for row in SECTION.findall(listed)]
+    memory = loaded(common.read_bytes(path), [(address, size, offset, min(size, in_file)) for size, address, in_file, offset in sections])
+    base = int(re.search(r"ImageBase: (\w+)", listed)[1], 0)
+    pointers = {int(place, 16): number(memory, int(place, 16)) - base for place in RELOCATED.findall(listed)}
+    for slots, symbols in IMPORTED.findall(listed):
+        pointers.update((int(slots, 16) + 8 * place, name) for place, name in enumerate(re.findall(r"Symbol: (\w+)", symbols)))
+    return Image(memory, {name: int(place, 16) for name, place in NAMED.findall(listed)}, pointers)

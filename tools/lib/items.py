@@ -5,7 +5,6 @@ a source of random numbers.
 """
 import standard as S
 from streams import random_bytes, some_leb
-from texts import KNOWN
 
 
 def seq(*parts):
@@ -233,7 +232,9 @@ SECTIONS = {
 }
 
 # The row that makes the data of each custom section that is known, by its name.
-CUSTOM = {**KNOWN, "reloc.CODE": "reloc", "reloc.DATA": "reloc", "reloc.": "reloc"}
+CUSTOM = {"name": "names", "target_features": "features", "metadata.code.branch_hint": "hints", "producers": "producers", "dylink.0": "dylink", "core": "core",
+          "coremodules": "coremodules", "coreinstances": "coreinstances", "corestack": "corestack", "linking": "linking", "reloc.CODE": "reloc",
+          "reloc.DATA": "reloc", "reloc.": "reloc"}
 
 
 def mutated(rng, item):

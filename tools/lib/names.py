@@ -54,7 +54,6 @@ def other_words():
 
 @functools.lru_cache(maxsize=None)
 def all_names():
-    """All names that a document may have."""
     crates = [declared.crate(name) for name in common.crates()]
     parameters = {parameter for one in crates for function in one.functions for parameter in function.parameters}
     return other_words().union(parameters, KNOWN_ELSEWHERE, common.crates(), *(one.names() | one.proofs | one.for_callers for one in crates))
@@ -72,43 +71,22 @@ def prose(path):
 
 def rows_of(path, count):
     """The rows of a document's tables with `count` cells: the number of the line, the crates of the heading, and the cells."""
-    heading, is_head = "", True
+    crates, is_row = [], False
     for number, line in prose(path):
         if line.startswith("#"):
-            heading = line
-        cells = [cell.strip() for cell in line.strip("|").split(" | ")] if line.startswith("|") else []
-        if not line.startswith("|---"):
-            if len(cells) == count and not is_head:
-                yield number, [name for name in re.findall(r"`(wasm_\w+)`", heading) if name in common.crates()], cells
-            is_head = not cells
-        else:
-            is_head = False
-
-
-def with_libraries(crates):
-    """These crates and those below them."""
-    return {one for crate in crates for one in common.crates_of(crate)}
-
-
-# ---- any document
-
-
-def parts_missing(quoted):
-    """The names in quoted code that nothing declares."""
-    for word in WORD.findall(quoted):
-        for part in re.split(r"::|\.", word):
-            if IS_NAME.fullmatch(part) and part not in all_names():
-                yield part
+            crates = [name for name in re.findall(r"`(wasm_\w+)`", line) if name in common.crates()]
+        cells = [cell.strip() for cell in line.strip("|").split(" | ")]
+        if is_row and line.startswith("|") and len(cells) == count:
+            yield number, crates, cells
+        # What is before the line of dashes is the head of a table.
+        is_row = line.startswith("|---") or is_row and line.startswith("|")
 
 
 def has_member(crates, owner, member):
-    """Whether a type, a trait or a module of these crates has this member."""
-    functions = [function for crate in crates for function in declared.crate(crate).functions if function.name == member]
-    if not owner[0].isupper():
-        return bool(functions)
-    ghosts = (declared.crate(crate).ghosts.get(member, ()) for crate in crates)
-    cases = (declared.crate(crate).members for crate in crates)
-    return any(owner in one for one in (*(function.owners for function in functions), *ghosts)) or any((owner, member) in one for one in cases)
+    """Whether a type, a trait or a module of these crates has this member. Of a module any function counts."""
+    if owner[0].isupper():
+        return any((owner, member) in declared.crate(crate).members for crate in crates)
+    return any(function.name == member for crate in crates for function in declared.crate(crate).functions)
 
 
 def is_declared(name, crates):
@@ -155,48 +133,31 @@ def wrong_places(line):
 
 def wrong_lines(path):
     """What a document says in code type that the sources don't have."""
+    is_ours = os.path.dirname(path) == os.path.join(common.TOP, "docs") and os.path.basename(path) not in OF_ORIGINAL
     for number, line in prose(path):
         for quoted in QUOTED.findall(line):
-            for name in parts_missing(quoted):
-                yield number, "no %s in the sources" % name
-            if os.path.dirname(path) == os.path.join(common.TOP, "docs") and os.path.basename(path) not in OF_ORIGINAL:
-                yield from ((number, text) for text in (*wrong_members(quoted), *wrong_calls(quoted)))
-        for text in wrong_places(line):
-            yield number, text
-
-
-# ---- definitions
-
-
-def named_definitions(cell, crates):
-    """The definitions that a cell names, each with its file of specs and the crates that may have it; a file alone has no name."""
-    module = None
-    for part in cell.split(";"):
-        own = re.match(r"\s*`(wasm_\w+)`:", part)
-        where = [own[1]] if own else crates
-        names, _, modules = part.partition("` of `")
-        if modules:
-            yield from ((file, name, where) for file in QUOTED.findall("`" + modules) for name in QUOTED.findall(names + "`"))
-            continue
-        for quoted in QUOTED.findall(part[own.end() :] if own else part):
-            file, _, name = quoted.rpartition(".")
-            module = file or module
-            is_file = not file and any(name in declared.crate(crate).specs for crate in where)
-            yield (name, "", where) if is_file else (module, name, where)
+            parts = (part for word in WORD.findall(quoted) for part in re.split(r"::|\.", word))
+            yield from ((number, "no %s in the sources" % part) for part in parts if IS_NAME.fullmatch(part) and part not in all_names())
+            yield from ((number, text) for text in (*wrong_members(quoted), *wrong_calls(quoted)) if is_ours)
+        yield from ((number, text) for text in wrong_places(line))
 
 
 def wrong_definitions(path):
-    """Definitions that are not in the file of specs that the table says."""
-    for number, crates, cells in rows_of(path, 3):
-        for module, name, where in named_definitions(cells[1], crates) if crates else ():
-            files = [declared.crate(crate).specs[module] for crate in where if module in declared.crate(crate).specs]
-            if not files:
-                yield number, "no file of specs %s in %s" % (module, ", ".join(where))
-            elif name and not any(name in names for names in files):
-                yield number, "no %s in %s of %s" % (name, module, ", ".join(where))
-
-
-# ---- clauses
+    """Definitions that are not in the file of specs that the table says. A name without a file is in the one before it, or is a file."""
+    for number, heading, cells in rows_of(path, 3):
+        module = None
+        for part in cells[1].split(";") if heading else ():
+            own = re.match(r"\s*`(wasm_\w+)`:", part)
+            crates = [own[1]] if own else heading
+            for file, _, name in (quoted.rpartition(".") for quoted in QUOTED.findall(part[own.end() :] if own else part)):
+                module = file or module
+                files = [declared.crate(crate).specs[module] for crate in crates if module in declared.crate(crate).specs]
+                if not file and any(name in declared.crate(crate).specs for crate in crates):
+                    continue
+                if not files:
+                    yield number, "no file of specs %s in %s" % (module, ", ".join(crates))
+                elif not any(name in names for names in files):
+                    yield number, "no %s in %s of %s" % (name, module, ", ".join(crates))
 
 
 def has_clause(crates, target, clause):
@@ -217,28 +178,23 @@ def has_clause(crates, target, clause):
     )
 
 
-def clauses_in(text, crates):
-    """The names of clauses and ghost members in a text, without what parentheses have."""
-    known = set().union(*(declared.crate(crate).clauses | set(declared.crate(crate).ghosts) for crate in crates))
-    return [name for name in QUOTED.findall(re.sub(r"\([^)]*\)", "", text)) if name in known]
-
-
 def pairs_in(cells, crates):
     """Each function or type with a clause that a row says it has."""
     said = ON.findall(cells[1])
     if not said and not re.search(r"\b(?:on|of|the)\b", cells[1]):
         subject = re.match(r"(?:`[^`]+`(?:, | and |,)?)+", cells[0])
         said = [(cells[1], subject[0])] if subject else []
+    known = set().union(*({*declared.crate(crate).clauses, *declared.crate(crate).ghosts} for crate in crates))
     for clauses, targets in said:
-        for target in QUOTED.findall(targets):
-            for clause in clauses_in(clauses, crates):
-                yield target, clause
+        # Parentheses have what a clause cites.
+        names = [name for name in QUOTED.findall(re.sub(r"\([^)]*\)", "", clauses)) if name in known]
+        yield from ((target, name) for target in QUOTED.findall(targets) for name in names)
 
 
 def wrong_clauses(path):
     """Clauses and definitions that the crates of the heading don't have, and functions without the clause that a row says."""
     for number, heading, cells in rows_of(path, 2):
-        crates = with_libraries(heading + ["wasm_plain"] * ("wasm_c" in heading))
+        crates = {one for crate in heading + ["wasm_plain"] * ("wasm_c" in heading) for one in common.crates_of(crate)}
         if not heading:
             continue
         for name in [quoted for quoted in QUOTED.findall(cells[1]) if re.fullmatch(r"\w+(?:::\w+)*", quoted)]:
@@ -252,11 +208,8 @@ def wrong_clauses(path):
 
 def wrong_statements(path):
     """Statements for callers that the modules ForCallers don't pass on, and those that no row has."""
-    listed = {}
-    for number, crates, cells in rows_of(path, 2):
-        if crates and cells[0].startswith("`"):
-            for name in QUOTED.findall(cells[0]):
-                listed[name] = number
+    rows = [(number, cells[0]) for number, crates, cells in rows_of(path, 2) if crates and cells[0].startswith("`")]
+    listed = {name: number for number, cell in rows for name in QUOTED.findall(cell)}
     passed_on = declared.crate("wasm_parser").for_callers | declared.crate("wasm_feeder").for_callers
     for name in sorted(set(listed) - passed_on):
         yield listed[name], "no %s in ForCallers" % name
@@ -268,13 +221,8 @@ def wrong_statements(path):
 def wrong_names():
     """What documents name that is not there, as texts with the file and the line."""
     paths = [path for pattern in DOCUMENTS for path in sorted(glob.glob(os.path.join(common.TOP, pattern)))]
+    tables = {"DEFINITIONS.md": wrong_definitions, "PROVED.md": wrong_clauses, "PROOFS.md": wrong_statements}
     for path in paths:
-        found = list(wrong_lines(path))
-        if path.endswith("DEFINITIONS.md"):
-            found += wrong_definitions(path)
-        if path.endswith("PROVED.md"):
-            found += wrong_clauses(path)
-        if path.endswith("PROOFS.md"):
-            found += wrong_statements(path)
-        for number, text in sorted(set(found)):
+        of_tables = tables.get(os.path.basename(path), lambda path: ())
+        for number, text in sorted({*wrong_lines(path), *of_tables(path)}):
             yield "%s:%d: %s" % (os.path.relpath(path, common.TOP), number, text)

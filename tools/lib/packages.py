@@ -3,7 +3,6 @@ import base64
 import glob
 import gzip
 import hashlib
-import io
 import json
 import os
 import re
@@ -20,6 +19,7 @@ import desktops
 
 MACHINES = {"x86_64": {"compiler": "gcc", "debian": "amd64"}, "aarch64": {"compiler": "aarch64-linux-gnu-gcc", "debian": "arm64"}}
 LICENSES = ("LICENSE-APACHE", "LICENSE-MIT", "NOTICE")
+DOCUMENTS = (*LICENSES, "README.md", "CHANGELOG.md")
 # The library calls memcpy and memmove of libc, and nothing else: glibc has had both since 2.17, and musl takes its own for what is asked of glibc.
 WHEEL_TAGS = "manylinux_2_17_{0}.manylinux2014_{0}.musllinux_1_1_{0}"
 # The tag of the wheel for each other target, and the library in it.
@@ -50,8 +50,6 @@ class Tagged(bdist_wheel):
 setup(distclass=Binary, cmdclass={"bdist_wheel": Tagged})
 """
 
-HEADER = os.path.join(common.TOP, "crates", "wasm_c", "include", "pulleynavy.h")
-
 
 class Missing(Exception):
     """What a package needs is not there."""
@@ -65,16 +63,16 @@ def archive(machine):
     return prebuilt("libpulleynavy-%s.a" % machine)
 
 
-LINKER = os.path.join(common.TOP, "tools", "shared_library")
+def source(*parts):
+    return os.path.join(common.TOP, *parts)
+
+
+LINKER = source("tools", "shared_library")
 
 
 def soname():
     """The name by which programs load the shared library."""
-    return run([LINKER, "--soname"]).strip()
-
-
-def source(*parts):
-    return os.path.join(common.TOP, *parts)
+    return common.must([LINKER, "--soname"]).strip()
 
 
 def needed(program):
@@ -88,43 +86,29 @@ def epoch():
     return int(os.environ["SOURCE_DATE_EPOCH"])
 
 
-def run(words, folder=None, **more):
-    """What a command prints. More names are variables of its environment."""
-    return common.must(words, folder, env=more)
+def copy_to(path, *names):
+    """Copies a file to a path, and makes its folder."""
+    to = os.path.join(*names)
+    os.makedirs(os.path.dirname(to), exist_ok=True)
+    shutil.copy(path, to)
 
 
-def copy_all(names, folder):
-    os.makedirs(folder, exist_ok=True)
-    for name in names:
-        shutil.copy(source(name), folder)
+# What tools make in the repository, and what of a binding no package has.
+MADE = ("target", "__pycache__", "node_modules", "out", "dist", "*.lock", "*.tgz", "*.wasm", "*.pyc")
+UNPACKED = shutil.ignore_patterns(*MADE, "tests")
 
 
-# Folders of bindings that no package has.
-UNPACKED = {"target", "__pycache__", "node_modules", "tests", "out"}
-
-
-def tracked(folder, without=UNPACKED):
-    """The files of a folder that are in the repository, without what tools made there."""
-    for place, folders, names in os.walk(source(folder)):
-        folders[:] = sorted(name for name in folders if name not in without)
-        for name in sorted(names):
-            if not name.endswith((".lock", ".tgz", ".wasm", ".pyc")):
-                yield os.path.relpath(os.path.join(place, name), source(folder))
-
-
-def copy_tracked(folder, to):
-    for name in tracked(folder):
-        os.makedirs(os.path.dirname(os.path.join(to, name)), exist_ok=True)
-        shutil.copy(source(folder, name), os.path.join(to, name))
+def copy_binding(name, place):
+    """Copies a binding, with the licenses."""
+    shutil.copytree(source("bindings", name), place, ignore=UNPACKED, dirs_exist_ok=True)
+    for path in LICENSES:
+        copy_to(source(path), place, path)
 
 
 def shared_library(machine, path):
     """Makes the shared library of a machine from its archive."""
-    run([LINKER, archive(machine), path], CC=needed(MACHINES[machine]["compiler"]))
+    common.must([LINKER, archive(machine), path], env={"CC": needed(MACHINES[machine]["compiler"])})
     os.chmod(path, 0o644)
-
-
-# ---- Rust
 
 
 def built(target, *names):
@@ -133,21 +117,21 @@ def built(target, *names):
     return [path for path in paths if os.path.exists(path)]
 
 
+# ---- Rust
+
+
 def crate(folder, place):
     """The crate, with the archives of both machines in lib/, and those for Windows and macOS if they are given."""
-    copy_tracked("bindings/rust", place)
-    copy_all(LICENSES, place)
+    copy_binding("rust", place)
     for machine in MACHINES:
-        os.makedirs(os.path.join(place, "lib", machine))
-        shutil.copy(archive(machine), os.path.join(place, "lib", machine, "libwasm_c.a"))
+        copy_to(archive(machine), place, "lib", machine, "libwasm_c.a")
     for target in desktops.TARGETS:
         for path in built(target, "libpulleynavy.a", "pulleynavy.lib"):
-            os.makedirs(os.path.join(place, "lib", target), exist_ok=True)
-            shutil.copy(path, os.path.join(place, "lib", target))
+            copy_to(path, place, "lib", target, os.path.basename(path))
     if cargo.version() is None or cargo.version() < cargo.oldest():
         raise Missing("cargo %d.%d or later" % cargo.oldest())
     cargo.offline(os.path.dirname(place))
-    run(["cargo", "package", "--offline", "--allow-dirty", "--no-verify", "--target-dir", os.path.join(place, "target")], place)
+    common.must(["cargo", "package", "--offline", "--allow-dirty", "--no-verify", "--target-dir", os.path.join(place, "target")], place)
     for path in glob.glob(os.path.join(place, "target", "package", "*.crate")):
         shutil.copy(path, folder)
 
@@ -155,23 +139,21 @@ def crate(folder, place):
 # ---- Python
 
 
-def python():
-    """The Python that has the packaging tools: the one that runs this, or Debian's."""
+def python_package(place, kind):
+    """The path of a Python package that is made from a folder, by the Python that has the tools: the one that runs this, or Debian's."""
     for path in (sys.executable, "/usr/bin/python3"):
         if os.path.exists(path) and not subprocess.run([path, "-c", "import setuptools, wheel, build"], stderr=subprocess.DEVNULL).returncode:
-            return path
+            common.must([path, "-m", "build", "--" + kind, "--no-isolation", "--outdir", place + "/made", place])
+            return glob.glob(place + "/made/*")[0]
     raise Missing("python3-build, python3-setuptools or python3-wheel")
 
 
 def wheel(folder, place, library, name, tag):
     """A wheel that has this library, by this name, for the machines of this tag."""
-    tool = python()
-    copy_tracked("bindings/python", place)
-    copy_all(LICENSES, place)
+    copy_binding("python", place)
     shutil.copyfile(library, os.path.join(place, "pulleynavy", name))
     common.write(os.path.join(place, "setup.py"), SETUP % tag)
-    run([tool, "-m", "build", "--wheel", "--no-isolation", "--outdir", place + "/made", place])
-    shutil.copy(glob.glob(place + "/made/*.whl")[0], folder)
+    shutil.copy(python_package(place, "wheel"), folder)
 
 
 def wheels(folder, place):
@@ -184,20 +166,17 @@ def wheels(folder, place):
 
 
 def desktop_wheels(folder, place):
-    """A wheel for each target whose shared library is given."""
     for target, (tag, name) in DESKTOP_WHEELS.items():
         for library in built(target, name):
             wheel(folder, os.path.join(place, target), library, name, tag)
 
 
 def sdist(folder, place):
-    """The sources of the Python package, which uses a library that the system has."""
-    copy_tracked("bindings/python", place)
-    copy_all(LICENSES, place)
-    run([python(), "-m", "build", "--sdist", "--no-isolation", "--outdir", place + "/made", place])
-    with tarfile.open(glob.glob(place + "/made/*.tar.gz")[0]) as made:
-        files = [(member.name, made.extractfile(member).read(), 0o644) for member in made if member.isfile()]
-    write_tarball(os.path.join(folder, "pulleynavy-%s.tar.gz" % common.version()), files)
+    """The sources of the Python package, which uses a library that the system has. It is packed again for its dates."""
+    copy_binding("python", place)
+    shutil.unpack_archive(python_package(place, "sdist"), place + "/unpacked")
+    top = "pulleynavy-" + common.version()
+    write_tarball(os.path.join(folder, top + ".tar.gz"), place + "/unpacked/" + top)
 
 
 # ---- JavaScript
@@ -210,52 +189,41 @@ def add_module(wasm, place):
 
 
 def npm(folder, place):
-    """The package for npm, with the module in it."""
-    copy_tracked("bindings/js", place)
-    copy_all(LICENSES, place)
+    copy_binding("js", place)
     add_module(prebuilt("pulleynavy.wasm"), place)
-    run([needed("npm"), "pack", "--offline", "--pack-destination", folder], place)
+    common.must([needed("npm"), "pack", "--offline", "--pack-destination", folder], place)
 
 
 # ---- tarballs
 
 
-def write_tarball(path, files, links=()):
-    """Writes a tarball of (name, bytes, mode) and of links (name, target)."""
-    buffer = io.BytesIO()
-    with tarfile.open(fileobj=buffer, mode="w", format=tarfile.PAX_FORMAT) as made:
-        for name, data, mode in sorted(files):
-            entry = tarfile.TarInfo(name)
-            entry.size, entry.mode, entry.mtime = len(data), mode, epoch()
-            made.addfile(entry, io.BytesIO(data))
-        for name, target in sorted(links):
-            entry = tarfile.TarInfo(name)
-            entry.type, entry.linkname, entry.mtime, entry.mode = tarfile.SYMTYPE, target, epoch(), 0o777
-            made.addfile(entry)
-    with open(path, "wb") as file, gzip.GzipFile(filename="", mode="wb", fileobj=file, mtime=epoch()) as packed:
-        packed.write(buffer.getvalue())
+def write_tarball(path, folder):
+    """Writes a tarball of a folder, in which nothing depends on the machine, the user or the day."""
+
+    def plain(entry):
+        entry.mtime, entry.uid, entry.gid, entry.uname, entry.gname = epoch(), 0, 0, "", ""
+        return entry
+
+    with open(path, "wb") as file, gzip.GzipFile("", "wb", fileobj=file, mtime=epoch()) as packed, tarfile.open(fileobj=packed, mode="w") as made:
+        made.add(folder, os.path.basename(folder), filter=plain)
 
 
 def tarball(machine, folder, place):
     """What ./install installs, to be unpacked anywhere."""
-    top = "pulleynavy-%s-%s-linux" % (common.version(), machine)
-    place = os.path.join(place, machine)
-    run([source("install"), "--prebuilt", "/"], DESTDIR=place, MACHINE=machine, CC=needed(MACHINES[machine]["compiler"]))
+    place = os.path.join(place, "pulleynavy-%s-%s-linux" % (common.version(), machine))
+    common.must([source("install"), "--prebuilt", "/"], env={"DESTDIR": place, "MACHINE": machine, "CC": needed(MACHINES[machine]["compiler"])})
     shutil.rmtree(os.path.join(place, "share", "pulleynavy"))
     path = os.path.join(place, "lib", "pkgconfig", "pulleynavy.pc")
     common.write(path, re.sub("^prefix=.*", "prefix=${pcfiledir}/../..", common.read(path), flags=re.M))
-    copy_all((*LICENSES, "README.md", "CHANGELOG.md"), os.path.join(place, "share", "doc", "pulleynavy"))
-    paths = sorted(os.path.join(at, name) for at, _, names in os.walk(place) for name in names)
-    named = [("%s/%s" % (top, os.path.relpath(path, place)), path) for path in paths]
-    files = [(name, common.read_bytes(path), os.stat(path).st_mode & 0o777) for name, path in named if not os.path.islink(path)]
-    links = [(name, os.readlink(path)) for name, path in named if os.path.islink(path)]
-    write_tarball(os.path.join(folder, top + ".tar.gz"), files, links)
+    for name in DOCUMENTS:
+        copy_to(source(name), place, "share", "doc", "pulleynavy", name)
+    write_tarball(os.path.join(folder, os.path.basename(place) + ".tar.gz"), place)
 
 
 def tarballs(folder, place):
     for machine in MACHINES:
         tarball(machine, folder, place)
-    desktop_tarballs(folder)
+    desktop_tarballs(folder, place)
 
 
 # ---- Debian
@@ -266,21 +234,23 @@ def repository():
     if os.path.exists(source(".git")) and shutil.which("git"):
         listed = subprocess.run(["git", "ls-files", "-z"], cwd=common.TOP, stdout=subprocess.PIPE, check=True).stdout.decode().split("\0")
         return sorted(name for name in listed if os.path.isfile(source(name)))
-    return sorted(name for name in tracked(".", {"out", "target", "dist", "node_modules", "__pycache__"}))
+    found, is_made = [], shutil.ignore_patterns(*MADE)
+    for place, folders, names in os.walk(common.TOP):
+        folders[:] = {*folders} - is_made(place, folders)
+        found += [os.path.relpath(os.path.join(place, name), common.TOP) for name in {*names} - is_made(place, names)]
+    return sorted(found)
 
 
 def source_package(place):
     """Writes the source package: the repository, and debian/ separately. Returns the path of the file that describes it."""
-    top, names = "pulleynavy-" + common.version(), repository()
-    files = [("%s/%s" % (top, name), common.read_bytes(source(name)), os.stat(source(name)).st_mode & 0o755) for name in names if not name.startswith("debian/")]
-    original = os.path.join(place, "pulleynavy_%s.orig.tar.gz" % common.version())
-    write_tarball(original, files)
-    shutil.unpack_archive(original, place)
-    for name in names:
-        if name.startswith("debian/"):
-            os.makedirs(os.path.dirname(os.path.join(place, top, name)), exist_ok=True)
-            shutil.copy(source(name), os.path.join(place, top, name))
-    run(["dpkg-source", "--build", top], place)
+    top, names = os.path.join(place, "pulleynavy-" + common.version()), repository()
+    for is_debian in (False, True):
+        for name in names:
+            if name.startswith("debian/") == is_debian:
+                copy_to(source(name), top, name)
+        if not is_debian:
+            write_tarball(os.path.join(place, "pulleynavy_%s.orig.tar.gz" % common.version()), top)
+    common.must(["dpkg-source", "--build", top], place)
     return glob.glob(os.path.join(place, "*.dsc"))[0]
 
 
@@ -292,55 +262,51 @@ def debs(folder, place):
     for machine, names in MACHINES.items():
         os.mkdir(os.path.join(place, machine))
         at = os.path.join(place, machine, "pulleynavy")
-        run(["dpkg-source", "--no-check", "--extract", described, at], place)
-        run(["dpkg-buildpackage", "--build=binary", "--no-sign", "--no-check-builddeps", "--host-arch=" + names["debian"]], at)
-    for pattern in ("*.dsc", "*.tar.*", "*/*.deb"):
-        for path in glob.glob(os.path.join(place, pattern)):
-            shutil.copy(path, folder)
+        common.must(["dpkg-source", "--no-check", "--extract", described, at], place)
+        common.must(["dpkg-buildpackage", "--build=binary", "--no-sign", "--no-check-builddeps", "--host-arch=" + names["debian"]], at)
+    for path in (path for pattern in ("*.dsc", "*.tar.*", "*/*.deb") for path in glob.glob(os.path.join(place, pattern))):
+        shutil.copy(path, folder)
 
 
 # ---- Windows and macOS
 
 
-def write_zip(path, files):
-    """Writes a zip of (name, bytes)."""
+def write_zip(path, folder):
     date = tuple(time.gmtime(max(epoch(), 315532800)))[:6]
     with zipfile.ZipFile(path, "w", zipfile.ZIP_DEFLATED) as made:
-        for name, data in sorted(files):
-            entry = zipfile.ZipInfo(name, date)
+        for file in sorted(glob.glob(os.path.join(folder, "**"), recursive=True)):
+            entry = zipfile.ZipInfo(os.path.relpath(file, os.path.dirname(folder)), date)
             entry.compress_type, entry.external_attr, entry.create_system = zipfile.ZIP_DEFLATED, 0o644 << 16, 3
-            made.writestr(entry, data)
+            if os.path.isfile(file):
+                made.writestr(entry, common.read_bytes(file))
 
 
-def for_c(target):
-    """What a package for C has, below a folder with its name: the libraries of a target, the header, and what CMake needs to find them."""
-    cmake = "lib/cmake/pulleynavy/pulleynavy-config"
-    files = [("bin/pulleynavy.dll", "pulleynavy.dll"), *(("lib/" + name, name) for name in (*desktops.LIBRARIES, "libpulleynavy.dylib"))]
-    files = [(name, common.read_bytes(path)) for name, file in files for path in built(target, file)]
-    files += [("include/pulleynavy.h", common.read_bytes(HEADER)), (cmake + ".cmake", common.read_bytes(source("crates", "wasm_c", "pulleynavy-config.cmake")))]
-    version = common.read("crates", "wasm_c", "pulleynavyConfigVersion.cmake").replace("@VERSION@", common.version())
-    files += [(cmake + "-version.cmake", version.encode())]
-    files += [("doc/" + name, common.read_bytes(source(name))) for name in (*LICENSES, "README.md", "CHANGELOG.md")]
-    top = "pulleynavy-%s-%s" % (common.version(), target)
-    return top, [("%s/%s" % (top, name), data) for name, data in files]
+def desktop_archives(folder, place, library, write, ending):
+    """A package for C for each target that there is this library for: the libraries, the header, and what CMake needs to find them."""
+    for target in [target for target in desktops.TARGETS if built(target, library)]:
+        top = os.path.join(place, "pulleynavy-%s-%s" % (common.version(), target))
+        files = {"bin/pulleynavy.dll": "pulleynavy.dll", **{"lib/" + name: name for name in (*desktops.LIBRARIES, "libpulleynavy.dylib")}}
+        for name, file in files.items():
+            for path in built(target, file):
+                copy_to(path, top, name)
+        copy_to(desktops.HEADER, top, "include", "pulleynavy.h")
+        cmake = os.path.join(top, "lib", "cmake", "pulleynavy", "pulleynavy-config")
+        copy_to(source("crates", "wasm_c", "pulleynavy-config.cmake"), cmake + ".cmake")
+        version = common.read("crates", "wasm_c", "pulleynavyConfigVersion.cmake")
+        common.write(cmake + "-version.cmake", version.replace("@VERSION@", common.version()))
+        for name in DOCUMENTS:
+            copy_to(source(name), top, "doc", name)
+        write(os.path.join(folder, os.path.basename(top) + ending), top)
 
 
 def zips(folder, place):
-    """A zip for each processor that there is a DLL for."""
     if not any(built(target, "pulleynavy.dll") for target in desktops.TARGETS):
         raise Missing("--targets with a folder that has a DLL")
-    for target in desktops.TARGETS:
-        if built(target, "pulleynavy.dll"):
-            top, files = for_c(target)
-            write_zip(os.path.join(folder, top + ".zip"), files)
+    desktop_archives(folder, place, "pulleynavy.dll", write_zip, ".zip")
 
 
-def desktop_tarballs(folder):
-    """A tarball for each processor that there is a dylib for."""
-    for target in desktops.TARGETS:
-        if built(target, "libpulleynavy.dylib"):
-            top, files = for_c(target)
-            write_tarball(os.path.join(folder, top + ".tar.gz"), [(name, data, 0o644) for name, data in files])
+def desktop_tarballs(folder, place):
+    desktop_archives(folder, place, "libpulleynavy.dylib", write_tarball, ".tar.gz")
 
 
 # ---- what comes with them

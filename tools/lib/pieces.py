@@ -1,7 +1,6 @@
 """Streams in chunks: the cases that the program wasm_rows reads, and what a model says of them."""
 import rows
-from common import leb
-from texts import number_at
+from common import leb, number_at
 
 
 def joined(pieces):
@@ -29,47 +28,17 @@ def event_text(line, data):
 
 
 def expected_events(model, stream, offset):
-    state, place, out = model.State(offset, True), 0, []
-    while True:
-        try:
-            line, used, state = model.next_event(state, stream, place)
-        except model.Fault as fault:
-            return out + [event_text(fault.line(), "")]
-        out.append(event_text(line, "x" + stream[place : place + used].hex()))
-        if line.startswith("end"):
-            return out
-        place += used
-
-
-def steps(model, pieces, offset):
-    """Each step of a feeder: its request or the line of what it reads, how many bytes it consumes, how many are then held, and how many stored."""
-    state, place, given, stored, eof, lasts = model.State(offset, True), 0, b"", 0, False, 0
-    later = iter(pieces)
-    while lasts < 2:
-        request = None if eof else model.short(state, given, place)
-        used = 0
-        if request is not None:
-            line = "need %d" % request[0]
-        else:
-            try:
-                line, used, state = model.next_event(state, given, place)
-                lasts += line.startswith("end")
-            except model.Fault as fault:
-                line = fault.line()
-                lasts += 1
-        place += used
-        yield line, used, len(given) - place, stored
-        if request is not None:
-            piece = next(later, None)
-            if piece is None:
-                eof = True
-            else:
-                given += piece
-                stored = len(given) - place
+    out = []
+    try:
+        for line, part, _ in model.events(stream, offset, True):
+            out.append(event_text(line, "x" + part.hex()))
+    except model.Fault as fault:
+        out.append(event_text(fault.line(), ""))
+    return out
 
 
 def expected_steps(model, pieces, offset):
-    found = steps(model, pieces, offset)
+    found = model.steps(pieces, offset)
     return ["%s %d %d" % (line if line.startswith(("need", "fault")) else "part %d" % used, held, stored) for line, used, held, stored in found]
 
 

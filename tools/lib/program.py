@@ -16,9 +16,10 @@ HELP = ("-h, --help", None, "print a summary", "Prints a summary.")
 VERSION = ("-V, --version", None, "print the version", "Prints the version, and that of the wasmparser crate whose names it follows.")
 PROGRESS = ("--no-progress", None, "show no progress of large files", "Shows no progress. For files above 64 MiB it is otherwise a line on standard error, if that is a terminal.")
 END = ("--", None, None, "Ends the options: all arguments after it are files.")
+# Those of each command.
 COMMON = (PROGRESS, END, HELP, VERSION)
 
-# Of each command: its summary, its call, what it does, its options, the statuses 0 and 1, and examples.
+# Of each command: its summary, its call, what it does, its own options, the statuses 0 and 1, and examples.
 COMMANDS = {
     "list": {
         "summary": "list the parts of binaries",
@@ -27,7 +28,7 @@ COMMANDS = {
             "Writes a line for each part of each FILE: the header, each section with its offsets and its number of items, each function body, and the end. A fault of the file is the last line, with its offset.",
             "Lines for sections end with their names in the standard, those for custom sections with their own names, in quotes. With several files, each listing follows the name of its file.",
         ),
-        "options": (("--json", None, "write a JSON object per line", "Each line is a JSON object, for programs."), *COMMON),
+        "options": (("--json", None, "write a JSON object per line", "Each line is a JSON object, for programs."),),
         "good": "All files were read to their ends. Headers, and the order, sizes and counts of sections and bodies, are checked. A malformed item does not change the status.",
         "bad": "A file has a fault at which reading stops.",
         "examples": (("List the parts of a module:", "pulleynavy list a.wasm"),),
@@ -47,7 +48,6 @@ COMMANDS = {
             ("--color", "[=WHEN]", "write colors for a terminal", "The text has colors for a terminal: 'always', which is also meant without WHEN, 'never', or 'auto' if the output is a terminal."),
             ("--json", None, "write a JSON object per line", "Each line is a JSON object, for programs. Excludes --bytes, --hex and --color."),
             ("--section", "ID|NAME", "show only this section", "Only sections with this id, with this name in the standard, or custom sections with this name are shown. The option may be repeated. If a file has none of them, a warning says so."),
-            *COMMON,
         ),
         "good": "All files were read to their ends, and each --section chose something of each. A malformed item does not change the status.",
         "bad": "A file has a fault at which reading stops, or lacks a section that was asked for.",
@@ -65,7 +65,7 @@ COMMANDS = {
             "Reads every item of every section that it knows, and writes a line for each malformed one: the file, the offset, what is wrong, and the section. It writes nothing of a well-formed file.",
             "It knows the sections of the core standard, and of the custom sections name, producers, target_features, linking, reloc.*, dylink.0, branch hints and core dumps. It does not look at the instructions of function bodies, and it does not validate.",
         ),
-        "options": (("-q, --quiet", None, "write nothing", "Writes nothing. The exit status alone says whether there is a fault."), *COMMON),
+        "options": (("-q, --quiet", None, "write nothing", "Writes nothing. The exit status alone says whether there is a fault."),),
         "good": "No file has a fault.",
         "bad": "A file has a fault.",
         "examples": (("Check all modules of a folder:", "pulleynavy check *.wasm"),),
@@ -82,7 +82,6 @@ COMMANDS = {
             ("--keep", "NAME", "keep the custom sections with a name", "Keeps the custom sections with this name. The option may be repeated."),
             ("--only", "NAME", "remove only the custom sections with a name", "Removes only the custom sections with this name, and those that other such options name. A section that another option keeps is not removed."),
             ("-o, --output", "OUT", "write to this file", "Writes to OUT instead of standard output. OUT is replaced once all of it is written, and may be FILE itself. It keeps its permissions, or gets those of FILE if it is new."),
-            *COMMON,
         ),
         "good": "The file was stripped.",
         "bad": "The file has a fault, which is printed to standard error.",
@@ -101,7 +100,6 @@ COMMANDS = {
         "options": (
             ("--index", "N", "write the section with this number", "Writes the N-th section of this name, counted from 1, if there are several."),
             ("-o, --output", "OUT", "write to this file", "Writes to OUT instead of standard output. OUT is replaced once all of it is written."),
-            *COMMON,
         ),
         "good": "The data was written.",
         "bad": "The file has no such section before its first fault, or none at all. Nothing is written.",
@@ -117,7 +115,6 @@ COMMANDS = {
         "options": (
             ("--replace", None, "replace sections with these names", "Replaces each custom section of FILE that has one of these names, in its place. A section that FILE does not have is appended."),
             ("-o, --output", "OUT", "write to this file", "Writes to OUT instead of standard output. OUT is replaced once all of it is written, and may be FILE itself. It keeps its permissions, or gets those of FILE if it is new."),
-            *COMMON,
         ),
         "good": "The sections were added.",
         "bad": "The file has a fault, which is printed to standard error.",
@@ -133,7 +130,6 @@ COMMANDS = {
         "options": (
             ("--set", "FIELD=NAME[:VERSION]", "set a language or tool", "Sets the version of the language or tool NAME, or adds it. FIELD is 'language', 'processed-by' or 'sdk'. The option may be repeated. The section keeps its place, or is appended."),
             ("-o, --output", "OUT", "write to this file", "With --set, writes to OUT instead of standard output. OUT is replaced once all of it is written, and may be FILE itself. It keeps its permissions, or gets those of FILE if it is new."),
-            *COMMON,
         ),
         "good": "The section was shown, or the file was written.",
         "bad": "The file has a fault, which is printed to standard error, or no such section.",

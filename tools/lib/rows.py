@@ -56,7 +56,7 @@ def model_lines(model, case):
     if reader == "stream":
         lines = model.model.reading(data, offset, True, True)
     elif reader == "prefix":
-        lines = model.model.prefix(data, offset, True, True)
+        lines = model.model.prefix(data, offset, True)
     elif reader in model.CALLS or reader in model.LISTS or reader == "subsections":
         lines = model.call_lines(reader, data, offset, features)
     else:

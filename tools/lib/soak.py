@@ -126,13 +126,12 @@ def said(driver, cases):
 
 
 def modelled(model, stream, way):
-    """What the models say: the lines and items of a stream, its bytes when it is stripped and edited, and each step of a feeder."""
+    """What the models say: the lines and items of a stream, its bytes when it is stripped and edited, or its fault again, and each step of a feeder."""
     lines = try_c.without_ranges(try_c.modelled(stream, features_of(way)))
-    for keeps_names in (False, True):
-        lines.append(lines[-1] if lines[-1].startswith("fault") else model.strip(stream, keeps_names).hex())
-    lines.append(lines[-1] if lines[-1].startswith("fault") else model.edit(stream, *edit_of(way), stream[:MOST_DATA]).hex())
+    changed = [model.strip(stream), model.strip(stream, True), model.edit(stream, *edit_of(way), stream[:MOST_DATA])]
+    lines += [lines[-1] if lines[-1].startswith("fault") else data.hex() for data in changed]
     for offset, chunks in cuttings(stream, way):
-        for line, _, held, _ in pieces.steps(model, chunks, offset):
+        for line, _, held, _ in model.steps(chunks, offset):
             lines += [line, "%d" % held]
     return "\n".join(lines)
 

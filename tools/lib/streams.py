@@ -1,5 +1,6 @@
 """Random streams: modules and components whose sections are mostly in order, and whose counts mostly agree."""
 import standard as S
+from common import leb
 from standard import ORDER
 
 MODULE = b"\0asm\x01\0\0\0"
@@ -14,11 +15,7 @@ def some_leb(rng, value):
     """A u32 in LEB128, now and then with more bytes than it needs, and seldom with more than it may have."""
     if rng.random() < 0.01:
         return rng.choice([b"\x80\x80\x80\x80\x10", b"\xff\xff\xff\xff\x7f", b"\x80\x80\x80\x80\x80", b"\x80\x80"])
-    out = bytearray()
-    while value >= 128:
-        out.append(value & 127 | 128)
-        value >>= 7
-    out.append(value)
+    out = bytearray(leb(value))
     while len(out) < 5 and rng.random() < 0.08:
         out[-1] |= 128
         out.append(0)
@@ -79,23 +76,22 @@ def some_section(rng, ident, functions, segments):
 def some_ids(rng):
     """Ids of sections: a module's mostly in their order, with custom and unknown ones among them."""
     often = rng.choice([0.3, 0.6, 1.0])
-    ids = [ident for ident in ORDER if rng.random() < often]
+    chosen = {ident for ident in ORDER if rng.random() < often}
     if rng.random() < 0.6:
-        # The sections whose counts must match come and go together.
-        for first, second in ((S.FUNCTION_SECTION, S.CODE_SECTION), (S.DATA_COUNT_SECTION, S.DATA_SECTION)):
-            if first in ids and second not in ids:
-                ids = [ident for ident in ORDER if ident in ids or ident == second]
-            if second == S.CODE_SECTION and second in ids and first not in ids:
-                ids = [ident for ident in ORDER if ident in ids or ident == first]
+        # The sections whose counts must match come and go together. A data section may come alone.
+        if chosen & {S.FUNCTION_SECTION, S.CODE_SECTION}:
+            chosen |= {S.FUNCTION_SECTION, S.CODE_SECTION}
+        if S.DATA_COUNT_SECTION in chosen:
+            chosen.add(S.DATA_SECTION)
+    ids = [ident for ident in ORDER if ident in chosen]
     if len(ids) > 1 and rng.random() < 0.08:
         first, second = rng.randrange(len(ids)), rng.randrange(len(ids))
         ids[first], ids[second] = ids[second], ids[first]
-    if ids and rng.random() < 0.05:
-        ids.insert(rng.randrange(len(ids) + 1), rng.choice(ids))
-    for _ in range(rng.choice([0, 0, 1, 2, 3])):
-        ids.insert(rng.randrange(len(ids) + 1), rng.choice([S.CUSTOM_SECTION] * 3 + [14, 50, 127]))
-    if rng.random() < 0.02:
-        ids.insert(rng.randrange(len(ids) + 1), rng.choice([128, 200, 255]))
+    others = [rng.choice(ids)] * (rng.random() < 0.05) if ids else []
+    others += [rng.choice([S.CUSTOM_SECTION] * 3 + [14, 50, 127]) for _ in range(rng.choice([0, 0, 1, 2, 3]))]
+    others += [rng.choice([128, 200, 255])] * (rng.random() < 0.02)
+    for ident in others:
+        ids.insert(rng.randrange(len(ids) + 1), ident)
     return ids
 
 
@@ -139,15 +135,10 @@ def some_large_content(rng, ident, functions, segments):
 
 def some_large_stream(rng):
     """A stream with a part that is larger than a chunk of the programs, and perhaps cut."""
-    data, functions, segments = bytearray(some_header(rng)), rng.choice([1, 1, 2]), rng.choice([0, 1])
-    ids = some_ids(rng) or [S.CUSTOM_SECTION]
+    functions, segments, ids = rng.choice([1, 1, 2]), rng.choice([0, 1]), some_ids(rng) or [S.CUSTOM_SECTION]
+    parts = [some_section(rng, ident, functions, segments) for ident in ids]
     large = rng.randrange(len(ids))
-    for place, ident in enumerate(ids):
-        if place == large:
-            content = some_large_content(rng, ident, functions, segments)
-            data += bytes([ident]) + some_leb(rng, len(content)) + content
-        else:
-            data += some_section(rng, ident, functions, segments)
-    if rng.random() < 0.3:
-        del data[rng.randrange(len(data) + 1) :]
-    return bytes(data)
+    content = some_large_content(rng, ids[large], functions, segments)
+    parts[large] = bytes([ids[large]]) + some_leb(rng, len(content)) + content
+    data = some_header(rng) + b"".join(parts)
+    return data[: rng.randrange(len(data) + 1)] if rng.random() < 0.3 else data

@@ -25,39 +25,33 @@ def folder():
 
 @functools.lru_cache(maxsize=None)
 def version():
-    """What the toolchain calls itself."""
     return subprocess.run(["rt", "version"], stdout=subprocess.PIPE, check=True).stdout.decode().strip()
 
 
-def rlib(crate, built=common.TOP):
-    """Where a checkout has a library that was proved."""
-    return os.path.join(built, "crates", crate, "out", "rlib", crate + ".rlib")
+def rlib(crate):
+    """Where a library is once it is proved."""
+    return os.path.join(common.TOP, "crates", crate, "out", "rlib", crate + ".rlib")
 
 
-def libraries(names, built):
-    """The options that name libraries of a crate: those of the checkout, and those of the toolchain."""
+def command(crate, root, names):
+    """The command that proves and builds a crate over these libraries, those of the checkout and of the toolchain, for its folder. What it is
+    built for and where to is still missing."""
     of_kit = os.path.join(folder(), "rlibs")
-    words = ["--extern", "std=%s/std.rlib" % of_kit, "-L", "dependency=" + of_kit]
+    words = [folder() + "/bin/rattle", "build", "--crate-name", crate, root, "--extern", "std=%s/std.rlib" % of_kit, "-L", "dependency=" + of_kit]
     for name in names:
         path = os.path.join(of_kit, name + ".rlib")
+        path = path if os.path.isdir(path) else rlib(name)
         if not os.path.isdir(path):
-            path = rlib(name, built)
-        if not os.path.isdir(path):
-            common.stop(common.NO_PROGRAM, "%s is not proved in %s" % (name, built))
+            common.stop(common.NO_PROGRAM, "%s is not proved in %s" % (name, common.TOP))
         words += ["--extern", "%s=%s" % (name, path), "-L", "dependency=" + os.path.dirname(path)]
-    return words
+    words += ["--links", crate + "=", "--antt-project", folder() + "/rattle/logic/antt-project.json"]
+    return [*words, "--logic-built", folder() + "/logic_built"]
 
 
-def command(crate, root, names, built=common.TOP):
-    """The command that proves and builds a crate over these libraries, for its folder. What it is built for and where to is still missing."""
-    words = [folder() + "/bin/rattle", "build", "--crate-name", crate, root, *libraries(names, built), "--links", crate + "="]
-    return words + ["--antt-project", folder() + "/rattle/logic/antt-project.json", "--logic-built", folder() + "/logic_built"]
-
-
-def build_command(crate, built=common.TOP):
+def build_command(crate):
     """The command for a crate of crates.txt."""
     root = "src/main.rt" if common.is_program(crate) else "src/lib.rt"
-    return command(crate, root, common.crates()[crate], built)
+    return command(crate, root, common.crates()[crate])
 
 
 def link_program(path, made):
@@ -69,9 +63,6 @@ def link_command(triple, path, *objects, stack=None):
     """The command that links what was built into the file at this path."""
     words = [folder() + "/bin/rattle-link", "--target", triple, "--toolchain", folder() + "/toolchain"]
     return words + (["--stack", str(stack)] if stack else []) + ["-o", path, *objects]
-
-
-# ---- the module that LLVM is given
 
 
 def llvm():

@@ -10,6 +10,7 @@ The package for Python also reads 20,000 streams with changed bytes, and must no
 The examples of the header run too, and Doxygen reads it without a warning. What a machine lacks (a compiler, valgrind, cargo) is said in one line, and the rest is done.
 """
 import contextlib
+import itertools
 import json
 import os
 import random
@@ -92,12 +93,10 @@ def built_examples(folder, made):
     for c, cpp in compilers():
         kinds = list(kinds_of_flags(folder, c))
         for example, standards in PROGRAMS.items():
-            for standard in standards:
-                for kind, archive in made.items():
-                    for flags in kinds:
-                        name = kind + ("" if flags is not CHECKED else "_checked")
-                        path = compiled(folder, cpp if example.endswith("pp") else c, example, standard, flags, archive, name)
-                        built.setdefault(example.partition(".")[0], []).append(path)
+            for standard, (kind, archive), flags in itertools.product(standards, made.items(), kinds):
+                compiler, name = cpp if example.endswith("pp") else c, kind + "_checked" * (flags is CHECKED)
+                path = compiled(folder, compiler, example, standard, flags, archive, name)
+                built.setdefault(example.partition(".")[0], []).append(path)
     return built
 
 
@@ -111,8 +110,7 @@ def without_ranges(lines):
 
 def modelled(stream, features=3):
     """The lines of the models, where a body that passes its section is refused as soon as its size has been read."""
-    reading, listing = common.load(common.MODEL).reading, common.load(common.MODEL_OF_ITEMS).listing
-    return listing(stream, features)[:-1] + reading(stream, 0, True)[-1:]
+    return common.load(common.MODEL_OF_ITEMS).listing(stream, features, True)
 
 
 def drawn(seed, count):
@@ -121,69 +119,62 @@ def drawn(seed, count):
     return [(stream, modelled(stream)) for stream in [(stream_of if number % 2 else some_stream)(rng) for number in range(count)]]
 
 
-def difference(command, stream, expected):
-    done = run(command, stream, timeout=600)
-    lines = programs.lines_in(done.stdout)
-    found = common.first_difference(lines, expected)
-    if not found and done.returncode == programs.status(expected):
+def status_of(lines):
+    return programs.status([line for line in lines if not line.startswith("  ")])
+
+
+def difference(command, stream, wanted, status):
+    """How what a program writes of a stream, and its status, differ from what is wanted: bytes, or the lines of a model."""
+    done = subprocess.run(command, input=stream, stdout=subprocess.PIPE, timeout=600)
+    if isinstance(wanted, bytes):
+        found = done.stdout != wanted and "program %r\n  wanted  %r" % (done.stdout, wanted)
+    else:
+        found = common.first_difference(programs.lines_in(done.stdout), wanted)
+    if not found and done.returncode == status:
         return None
     return "%s on %s\n  status %d, %s" % (" ".join(command), stream.hex()[:400], done.returncode, found or "and no line differs")
 
 
-def turns(paths, number):
-    """The builds of an example that have their turn with this stream, each with its number among all turns."""
-    return [(number + place, path) for place, path in enumerate(paths) if (number + place) % min(TURNS, len(paths)) == 0]
+def differences(rows):
+    """The differences of these rows, each with the arguments of `difference`, four at a time."""
+    with ThreadPoolExecutor(4) as pool:
+        return [text for text in pool.map(lambda row: difference(*row), rows) if text]
 
 
-def cases(built, streams):
-    """Each command with its stream and the lines that it is to write."""
+def each(paths, streams, wanted_of, more=lambda number, turn: [], every=None, stride=1):
+    """How what an example writes of each stream, and its status, differ from what is wanted.
+
+    Its builds take turns, each with `stride` streams: one of all builds at a time, or one of every few. `more` has other arguments.
+    """
+    every, rows = min(every or len(paths), len(paths)), []
     for number, (stream, lines) in enumerate(streams):
-        events = [line for line in lines if not line.startswith("  ")]
-        for turn, path in turns(built["list"], number):
-            yield [path, str(PIECES[turn % len(PIECES)])], stream, events
-        for _, path in turns(built["whole"], number):
-            yield [path], stream, events
-        for turn, path in turns(built["items"], number):
-            yield [path, str(BATCHES[turn // TURNS % len(BATCHES)])], stream, without_ranges(lines)
+        for turn, path in enumerate(paths, number // stride):
+            if turn % every == 0:
+                rows.append(([path, *more(number, turn)], stream, wanted_of(number, stream, lines), status_of(lines)))
+    return differences(rows)
+
+
+def events_of(_number, _stream, lines):
+    return [line for line in lines if not line.startswith("  ")]
+
+
+def items_of(_number, _stream, lines):
+    return without_ranges(lines)
 
 
 def compared(built, streams):
-    given = list(cases(built, streams))
-    for name in ("list", "whole", "items"):
-        listed = sum(command[0] in built[name] for command, _, _ in given)
-        if built[name] and listed < len(streams):
-            raise common.Failed("%s lists %d of %d streams" % (name, listed, len(streams)))
-    return in_parallel(lambda one: difference(*one), given)
-
-
-def in_parallel(differing, rows):
-    """The texts that a function returns for some of these rows, four at a time."""
-    with ThreadPoolExecutor(4) as pool:
-        return [text for text in pool.map(differing, rows) if text]
-
-
-def each(paths, streams, wanted_of, more=lambda number: []):
-    """How what an example writes of each stream, and its status, differs from what is wanted. Its builds take turns."""
-
-    def differing(row):
-        number, (stream, lines) = row
-        words, (text, status) = [paths[number % len(paths)], *more(number)], wanted_of(stream, lines)
-        done = subprocess.run(words, input=stream, stdout=subprocess.PIPE, timeout=600)
-        if done.stdout == text and done.returncode == status:
-            return None
-        return "%s on %s\n  program %r\n  wanted  %r" % (" ".join(words), stream.hex()[:400], (done.stdout, done.returncode), (text, status))
-
-    return in_parallel(differing, enumerate(streams))
-
-
-def status_of(lines):
-    return programs.status([line for line in lines if not line.startswith("  ")])
+    """The events of each stream, in chunks and whole, and its items, some by a call."""
+    return [
+        *each(built["list"], streams, events_of, lambda _, turn: [str(PIECES[turn % len(PIECES)])], TURNS),
+        *each(built["whole"], streams, events_of, every=TURNS),
+        *each(built["items"], streams, items_of, lambda _, turn: [str(BATCHES[turn // TURNS % len(BATCHES)])], TURNS),
+    ]
 
 
 def stripped(built, streams):
     """Each stream stripped, as the model has it, or nothing if it has a fault."""
     strip = common.load(common.MODEL).strip
-    return each(built["strip"], streams, lambda stream, lines: (b"", 1) if status_of(lines) else (strip(stream), 0))
+    return each(built["strip"], streams, lambda _, stream, lines: b"" if status_of(lines) else strip(stream))
 
 
 # Edits, each with a name that streams have or lack.
@@ -191,38 +182,32 @@ EDITS = [("append", "a", "xyz"), ("replace", "name", ""), ("remove", "", ""), ("
 EDITS += [("replace", "x", "z" * 126), ("remove", "name", ""), ("keep", "x", "")]
 
 
+def edit_of(number, _turn=0):
+    return EDITS[number % len(EDITS)]
+
+
 def modelled_edit(number, stream, lines):
-    """An edit of a stream with this number, and the edited stream in hexadecimal, or none of a malformed one."""
-    kind, name, data = EDITS[number % len(EDITS)]
-    found = None if status_of(lines) else common.load(common.MODEL).edit(stream, kind, name.encode(), data.encode()).hex()
-    return {"edit": [kind, name, data], "edited": found}
+    """A stream after the edit with this number, as the model has it, or nothing if it has a fault."""
+    kind, name, data = edit_of(number)
+    return b"" if status_of(lines) else common.load(common.MODEL).edit(stream, kind, name.encode(), data.encode())
 
 
 def row(number, stream, lines):
-    """A stream as the tests of the bindings read it."""
-    return {"hex": stream.hex(), "lines": lines, **modelled_edit(number, stream, lines)}
-
-
-def edited_by(built, streams, kind, name, data):
-    """Streams after an edit, as the model has them, or nothing if they have a fault."""
-    edit = common.load(common.MODEL).edit
-
-    def wanted_of(stream, lines):
-        return (b"", 1) if status_of(lines) else (edit(stream, kind, name.encode(), data.encode()), 0)
-
-    return each(built["edit"], streams, wanted_of, lambda number: [kind, name, data])
+    """A stream as the tests of the bindings read it: its lines, an edit, and the edited stream, or none of a malformed one."""
+    edited_hex = None if status_of(lines) else modelled_edit(number, stream, lines).hex()
+    return {"hex": stream.hex(), "lines": lines, "edit": edit_of(number), "edited": edited_hex}
 
 
 def edited(built, streams):
-    """Each stream after one of the edits."""
-    return [text for turn, edit in enumerate(EDITS) for text in edited_by(built, streams[turn :: len(EDITS)], *edit)]
+    """Each stream after one of the edits, each of which each build makes."""
+    return each(built["edit"], streams, modelled_edit, edit_of, stride=len(EDITS))
 
 
 def named_in(data):
     """The functions that a section of names names, up to the first subsection or name that is malformed or out of order."""
     model = common.load(common.MODEL_OF_ITEMS)
     rest, last = model.R(data), -1
-    with contextlib.suppress(model.Bad):
+    with contextlib.suppress(model.Fault):
         while rest.left() and rest.peek() > last:
             last, size = rest.u7(), rest.u32()
             part, before = rest.window(rest.p, rest.p + len(rest.raw(size))), -1
@@ -237,9 +222,9 @@ def named_in(data):
 def names(built, streams):
     """The names of functions, as `names.c` and as a few lines of Python have them."""
 
-    def wanted_of(stream, lines):
+    def wanted_of(_, stream, lines):
         sections = [line.split() for line, under in zip(lines, lines[1:]) if line.startswith("custom ") and under.startswith("  x6e616d65 ")]
-        return b"".join(name for _, _, end, data in sections for name in named_in(stream[int(data) : int(end)])), status_of(lines)
+        return b"".join(name for _, _, end, data in sections for name in named_in(stream[int(data) : int(end)]))
 
     return each(built["names"], streams, wanted_of)
 
@@ -247,11 +232,11 @@ def names(built, streams):
 def imports(built, streams):
     """The imports one by one, as `imports.c` has them, and as the model has them among all items."""
 
-    def wanted_of(_, lines):
-        rows = [re.match(r"  \d+ import\((x\w*) (x\w*) (\w+)", line) for line in lines]
-        return "".join("%s %s %s\n" % row.groups() for row in rows if row).encode(), status_of(lines)
+    def wanted_of(_number, _stream, lines):
+        rows = re.findall(r"^  \d+ import\((x\w*) (x\w*) (\w+)", "\n".join(lines), re.M)
+        return "".join("%s %s %s\n" % row for row in rows).encode()
 
-    return each(built["imports"], streams, wanted_of, lambda number: [str(BATCHES[number % len(BATCHES)])])
+    return each(built["imports"], streams, wanted_of, lambda number, _: [str(BATCHES[number % len(BATCHES)])])
 
 
 def patterns(built, streams):
@@ -261,7 +246,8 @@ def patterns(built, streams):
     for path in built["patterns"]:
         for stream, _ in streams[:: max(1, len(streams) // 20)]:
             common.must([path], stream=stream)
-    in_parallel(lambda row: common.must([built["fuzz"][-1]], stream=row[0]) and None, streams)
+    with ThreadPoolExecutor(4) as pool:
+        list(pool.map(lambda row: common.must([built["fuzz"][-1]], stream=row[0]), streams))
 
 
 def documented():
@@ -303,13 +289,12 @@ def under_valgrind(built, streams):
         common.skip("missing: a valgrind that runs")
         return []
     words = ["valgrind", "--quiet", "--error-exitcode=99", "--leak-check=full"]
-    plain = {name: [path for path in paths if not path.endswith("_checked")][0] for name, paths in built.items()}
-    texts = []
+    path_of = lambda name: next(path for path in built[name] if not path.endswith("_checked"))
+    rows = []
     for stream, lines in streams[:: max(1, len(streams) // 12)]:
-        events = [line for line in lines if not line.startswith("  ")]
-        texts.append(difference(words + [plain["list"], "7"], stream, events))
-        texts.append(difference(words + [plain["items"]], stream, without_ranges(lines)))
-    return [text for text in texts if text]
+        rows.append(([*words, path_of("list"), "7"], stream, events_of(0, stream, lines), status_of(lines)))
+        rows.append(([*words, path_of("items")], stream, without_ranges(lines), status_of(lines)))
+    return differences(rows)
 
 
 # The standards by which the header compiles, and those whose compilers check its assertions.

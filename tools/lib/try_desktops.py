@@ -20,7 +20,6 @@ import tempfile
 from concurrent.futures import ThreadPoolExecutor
 
 import common
-import crate_on_windows
 import desktop_packages
 import desktops
 import images
@@ -48,23 +47,21 @@ SAMPLE = 5
 
 def examples(folder, compilers, options, library, name, suffix=""):
     """The path of each example, compiled with these options and a library."""
-
-    def built(row):
-        example, standards = row
-        compiler = compilers[example.endswith("pp")]
-        return example.partition(".")[0], try_c.compiled(folder, compiler, example, standards[0], options, library, name) + suffix
-
+    made = {}
     with ThreadPoolExecutor(4) as pool:
-        return dict(pool.map(built, try_c.PROGRAMS.items()))
+        for example, standards in try_c.PROGRAMS.items():
+            words = folder, compilers[example.endswith("pp")], example, standards[0], options, library, name
+            made[example.partition(".")[0]] = pool.submit(try_c.compiled, *words)
+    return {example: path.result() + suffix for example, path in made.items()}
 
 
-def emulated(path, runner):
-    """A program that runs this one under an emulator, or itself if there is none."""
-    if not runner:
-        return path
-    script = common.write(path + ".sh", '#!/bin/sh\nexec %s %s "$@"\n' % (runner, path))
-    os.chmod(script, 0o755)
-    return script
+def emulated(built, runner):
+    """Programs that run these under an emulator, or themselves if there is none."""
+    found = {}
+    for example, path in built.items():
+        found[example] = [common.write(path + ".sh", '#!/bin/sh\nexec %s %s "$@"\n' % (runner, path)) if runner else path]
+        os.chmod(found[example][0], 0o755)
+    return found
 
 
 def differences(built, streams):
@@ -92,7 +89,7 @@ def cross():
         archive = given.archive or os.path.join(programs.build_targets(folder, "aarch64"), "libwasm_c-aarch64.a")
         for number, level in enumerate(("-O2", "-O0")):
             built = examples(folder, compilers, [level, "-static"], archive, level.strip("-"))
-            differ += differences({name: [emulated(path, runner)] for name, path in built.items()}, streams[number::2])
+            differ += differences(emulated(built, runner), streams[number::2])
     return common.tell(differ, given.show, "aarch64: %d streams, %d differ (seed %d)" % (len(streams), len(differ), given.seed))
 
 
@@ -102,17 +99,16 @@ def cross():
 def windows_programs(library, folder, system):
     """Scripts that run each example under wine, linked with each file of the library."""
     shutil.copy(os.path.join(library, "pulleynavy.dll"), folder)
-    built = {}
+    built = collections.defaultdict(list)
     for name, (file, options) in WINDOWS.items():
         for example, path in examples(folder, wine.COMPILERS, [*options, wine.WITNESS], os.path.join(library, file), name, ".exe").items():
-            built.setdefault(example, []).append(system.running(path))
+            built[example].append(system.running(path))
     return built
 
 
 def from_wheel(made, folder, system):
     """Scripts that run each example under wine, over the library of a wheel, which is loaded as Python does."""
-    source, path = desktop_packages.loader(folder, made)
-    os.environ["PULLEYNAVY_LIB"] = path
+    source, os.environ["PULLEYNAVY_LIB"] = desktop_packages.loader(folder, made)
     built = examples(folder, wine.COMPILERS, ["-O1", "-static", wine.WITNESS], source, "wheel", ".exe")
     return {example: [system.running(path)] for example, path in built.items()}
 
@@ -148,7 +144,7 @@ def on_windows(library, archive, made, streams):
             differ += documented(library, archive, folder, system)
         for wheel in glob.glob(made + "/*-win_amd64.whl"):
             differ += differences(from_wheel(wheel, folder, system), streams[::SAMPLE])
-        differ += crate_on_windows.differences(library, system)
+        differ += wine.wrong_crate(library, system)
         if len(system.repeated()) > wine.MOST_REPEATED:
             differ.append("wine lost %d runs" % len(system.repeated()))
     print("x86_64-windows, run by wine: %d streams, %d differ" % (len(streams), len(differ)), flush=True)
@@ -160,9 +156,8 @@ def on_windows(library, archive, made, streams):
 
 def shared_library(target, library):
     """The shared library of a target, as its system loads it."""
-    if target.endswith("-windows"):
-        return images.pe(os.path.join(library, "pulleynavy.dll"))
-    return images.macho(os.path.join(library, "libpulleynavy.dylib"))
+    is_dll = target.endswith("-windows")
+    return images.pe(os.path.join(library, "pulleynavy.dll")) if is_dll else images.macho(os.path.join(library, "libpulleynavy.dylib"))
 
 
 def symbols(path):
@@ -185,19 +180,16 @@ def wrong_symbols(target, library, archive):
             yield "%s, %s: its symbols differ by %s" % (target, name, [sorted(one ^ other) for one, other in zip(found, wanted)])
 
 
-def first_function(path):
-    """The first function of an archive. The assembler for macOS on arm64 adds a symbol of its own at its address."""
-    rows = [line.split() for line in images.said("llvm-nm", "--format=posix", path).splitlines()]
-    return next((row[0].lstrip("_") for row in rows if row[1:3] == ["t", "0"] and row[0] != ADDED), None)
-
-
 def callees(path):
     """How often each function of an archive refers to each other function, by the relocations in its disassembly."""
+    # The assembler for macOS on arm64 adds a symbol of its own at the address of the first function.
+    rows = [line.split() for line in images.said("llvm-nm", "--format=posix", path).splitlines()]
+    first = next((row[0].lstrip("_") for row in rows if row[1:3] == ["t", "0"] and row[0] != ADDED), None)
     found, name = {}, None
     for line in images.said("llvm-objdump", "-d", "-r", "--no-show-raw-insn", "--no-leading-addr", path).split("\n"):
         label, relocation = LABEL.match(line), RELOCATION.match(line)
         if label:
-            name = first_function(path) if label[1] == ADDED else label[1]
+            name = first if label[1] == ADDED else label[1]
             found[name] = []
         elif relocation:
             found[name].append(relocation[1])
@@ -208,9 +200,8 @@ def callees(path):
 def wrong_calls(target, library, archive):
     """The functions of a target that refer to other functions than on Linux, or more often, or less."""
     there, here = callees(archive), callees(os.path.join(library, "libpulleynavy.a"))
-    for name in sorted(set(there) | set(here)):
-        if here.get(name) != there.get(name):
-            yield "%s, %s\n  here  %s\n  Linux %s" % (target, name, here.get(name), there.get(name))
+    for name in sorted(name for name in {*there, *here} if here.get(name) != there.get(name)):
+        yield "%s, %s\n  here  %s\n  Linux %s" % (target, name, here.get(name), there.get(name))
 
 
 def on_linux(target, library, streams):
@@ -222,9 +213,7 @@ def on_linux(target, library, streams):
         return []
     with tempfile.TemporaryDirectory() as folder:
         code = os.path.join(library, "libpulleynavy.a") if is_elf else shared_library(target, library).assembly(folder, "image")
-        paths = examples(folder, compilers, ["-O2", "-static"], code, target)
-        built = {example: [emulated(path, emulator)] for example, path in paths.items()}
-        differ = differences(built, streams)
+        differ = differences(emulated(examples(folder, compilers, ["-O2", "-static"], code, target), emulator), streams)
     print("%s, its code on Linux: %d streams, %d differ" % (target, len(streams), len(differ)), flush=True)
     return differ
 
@@ -232,7 +221,7 @@ def on_linux(target, library, streams):
 def main():
     more = [("--built", {"metavar": "TARGETS", "type": common.existing, "help": "a folder that tools/build_targets wrote, instead of one that is built here"})]
     given = common.arguments(__doc__, [("seed", 1), ("count", 300)], show=5, more=more)
-    if not common.all_found(["llvm-nm", "llvm-objdump"]):
+    if not common.all_found(["llvm-nm", "llvm-objdump", "llvm-readobj"]):
         return 0
     streams = [(BINARY, try_c.modelled(BINARY)), *common.golden(), *try_c.drawn(given.seed, given.count)]
     with tempfile.TemporaryDirectory() as folder, tempfile.TemporaryDirectory() as made:

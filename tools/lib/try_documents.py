@@ -17,6 +17,9 @@ import cargo
 import common
 import trial
 
+sys.path.insert(0, os.path.join(common.TOP, "bindings", "python"))
+from pulleynavy.declared import RelocationKind
+
 PAGE = os.path.join(common.TOP, "docs", "CALLING.md")
 # How the line of a section of relocations begins.
 RELOCATIONS = "  x72656c6f632e"
@@ -86,18 +89,12 @@ def with_rattle(folder, code, streams):
     return {stream: (outputs[b"%d" % number], statuses.get(b"%d" % number) == b"0") for number, stream in enumerate(streams)}
 
 
-def with_js(folder, number, code, wasm):
-    """A program in JavaScript, in a folder that has the package with this module."""
-    package = os.path.join(folder, "node_modules", "pulleynavy")
-    if not os.path.isdir(package):
-        shutil.copytree(os.path.join(common.TOP, "bindings", "js"), package)
-        shutil.copy(wasm, os.path.join(package, "pulleynavy.wasm"))
-    return ["node", common.write(os.path.join(folder, "j%d.mjs" % number), code)]
-
-
 def built(folder, archive, wasm):
     """How each program is run, by the number of its task and its language."""
-    commands, rust, node = {}, {}, common.found("node")
+    commands, rust, node, package = {}, {}, common.found("node"), os.path.join(folder, "node_modules", "pulleynavy")
+    if node:
+        shutil.copytree(os.path.join(common.TOP, "bindings", "js"), package)
+        shutil.copy(wasm, os.path.join(package, "pulleynavy.wasm"))
     for number, blocks in sources():
         commands[number, "c"] = with_c(folder, number, blocks["c"], archive)
         if "cpp" in blocks and common.found("c++"):
@@ -105,37 +102,30 @@ def built(folder, archive, wasm):
         commands[number, "python"] = [sys.executable, "-B", common.write(os.path.join(folder, "p%d.py" % number), blocks["python"])]
         rust[number] = blocks["rust"]
         if node:
-            commands[number, "js"] = with_js(folder, number, blocks["js"], wasm)
+            commands[number, "js"] = ["node", common.write(os.path.join(folder, "j%d.mjs" % number), blocks["js"])]
     if cargo.found():
-        for number, command in with_rust(folder, rust, archive).items():
-            commands[number, "rust"] = command
+        commands.update(((number, "rust"), command) for number, command in with_rust(folder, rust, archive).items())
     return commands
 
 
 def run(command, way, path):
-    """What a program writes of a module, and whether it ends with status 0."""
-    words = command + {"stdin": [], "url": ["file://" + path]}.get(way, [path])
-    settings = {**os.environ, "PYTHONPATH": os.path.join(common.TOP, "bindings", "python")}
-    with open(path, "rb") as file:
-        done = subprocess.run(words, stdin=file, stdout=subprocess.PIPE, stderr=subprocess.DEVNULL, env=settings, timeout=600)
-    return without_cases(done.stdout), done.returncode == 0
+    """What a program writes of a module, with the kinds of relocations in one form, and whether it ends with status 0."""
 
-
-def without_cases(output):
-    """The output with the kinds of relocations in one form: C has numbers, Rust and Python have names."""
-    from pulleynavy.declared import RelocationKind
-
-    def name(match):
+    def kind(match):
         word = match[2].decode()
         word = RelocationKind(int(word)).name if word.isdecimal() else word
         return match[1] + word.replace("_", "").lower().encode() + b" "
 
-    return re.sub(rb"(?m)^(\d+\.\.\d+ )(\w+) ", name, output)
+    words = command + {"stdin": [], "url": ["file://" + path]}.get(way, [path])
+    settings = {**os.environ, "PYTHONPATH": os.path.join(common.TOP, "bindings", "python")}
+    with open(path, "rb") as file:
+        done = subprocess.run(words, stdin=file, stdout=subprocess.PIPE, stderr=subprocess.DEVNULL, env=settings, timeout=600)
+    # C has numbers, Rust and Python have names.
+    return re.sub(rb"(?m)^(\d+\.\.\d+ )(\w+) ", kind, done.stdout), done.returncode == 0
 
 
 def differences(folder, archive, wasm, streams, malformed):
     """What the programs of a task write of each module, where that isn't the same."""
-    sys.path.insert(0, os.path.join(common.TOP, "bindings", "python"))
     library = os.environ["PULLEYNAVY_LIB"] = os.path.join(folder, "libpulleynavy.so")
     subprocess.run([os.path.join(common.TOP, "tools", "shared_library"), archive, library], check=True)
     commands, path = built(folder, archive, wasm), os.path.join(folder, "module.wasm")

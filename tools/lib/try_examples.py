@@ -29,31 +29,17 @@ fn %s(rt: HostRuntime) -> std::result::Result<(), Fail> {
 """
 # Names that every test has from the language.
 OF_THE_LANGUAGE = {"Result"}
-DOC = re.compile(r"\s*//[/!] ?(.*)")
-
-
-def blocks(path):
-    """The examples of a file, each with the number of its first line."""
-    found, begins = [], None
-    with open(path, encoding="utf-8") as file:
-        for number, line in enumerate(file, 1):
-            doc = DOC.match(line)
-            text = doc[1].rstrip() if doc else None
-            if begins is not None and (text is None or text.startswith("```")):
-                yield begins, found
-                found, begins = [], None
-            elif begins is not None:
-                found.append(text)
-            elif text == "```rattle":
-                begins = number + 1
+# An example in a doc comment, and a line of it.
+EXAMPLE = re.compile(r"^[ \t]*//[/!] ?```rattle[ \t]*\n((?:[ \t]*//[/!].*\n)*?)[ \t]*//[/!] ?```", re.M)
+DOC = re.compile(r"[ \t]*//[/!] ?(.*)")
 
 
 def examples(crate):
     """The examples of a crate: the path, the number of the first line, and the lines."""
     for path in common.files_of(crate):
-        if path.endswith(".rt"):
-            for number, lines in blocks(path):
-                yield path, number, lines
+        text = common.read(path) if path.endswith(".rt") else ""
+        for found in EXAMPLE.finditer(text):
+            yield path, text.count("\n", 0, found.start(1)) + 1, [DOC.match(line)[1].rstrip() for line in found[1].splitlines()]
 
 
 def root_of(crate):
@@ -71,7 +57,7 @@ def exported(crate):
     """The public names of a crate, each with the crate that it is imported from, and those that are traits."""
     names, traits = {}, set()
     text = root_of(crate)
-    for _, several, one in re.findall(r"^pub use ([\w:]+)::(?:\{([^}]*)\}|(\w+));", text, re.M):
+    for several, one in re.findall(r"^pub use [\w:]+::(?:\{([^}]*)\}|(\w+));", text, re.M):
         names.update({name: crate for name in re.findall(r"\w+", several or one)})
     names.update({name: crate for name in re.findall(r"^pub (?:fn|struct|enum|trait|const|type|mod) (\w+)", text, re.M)})
     for path in common.files_of(crate):

@@ -27,17 +27,14 @@ OLDEST_NODE = 18
 MUTANTS = 20_000
 
 
-def stripped(stream, lines):
-    """The stripped stream in hexadecimal, or none of a malformed one."""
-    return None if try_c.status_of(lines) else common.load(common.MODEL).strip(stream).hex()
-
-
 def write_streams(path, seed, count, mutant_count=0):
-    """Writes the golden streams and random ones, with the lines of the models. Returns how many there are."""
-    changed = mutants(random.Random(seed), [stream for stream, _ in common.golden()], mutant_count)
+    """Writes the golden streams and random ones, each with the lines of the models and, if it is well-formed, stripped. Returns how many there are."""
+    model, changed = common.load(common.MODEL), mutants(random.Random(seed), [stream for stream, _ in common.golden()], mutant_count)
     rows = common.golden() + try_c.drawn(seed, count) + [(stream, try_c.modelled(stream)) for stream in changed]
-    objects = ({**try_c.row(number, *one), "stripped": stripped(*one)} for number, one in enumerate(rows))
-    common.write(path, "".join(json.dumps(one) + "\n" for one in objects))
+    with open(path, "w", encoding="utf-8") as file:
+        for number, (stream, lines) in enumerate(rows):
+            stripped = None if try_c.status_of(lines) else model.strip(stream).hex()
+            file.write(json.dumps({**try_c.row(number, stream, lines), "stripped": stripped}) + "\n")
     return len(rows)
 
 
@@ -47,20 +44,6 @@ def installed(folder, name, wasm):
     shutil.copytree(PACKAGE, place, ignore=shutil.ignore_patterns("*.wasm", "*.wasm.js", "*.tgz"))
     packages.add_module(wasm, place)
     return place
-
-
-def in_node(node, place, streams):
-    """The tests of the package. Returns how many passed."""
-    text = common.must([node, "--test"], folder=place, env={"PULLEYNAVY_STREAMS": streams})
-    return sum(int(line.split()[-1]) for line in text.splitlines() if line.startswith(("# pass ", "ℹ pass ")))
-
-
-def with_wide_memory(node, place, streams):
-    """The comparisons with streams, over the module whose memory has 64-bit addresses."""
-    flags = ["--experimental-wasm-memory64"]
-    if subprocess.run([node, *flags, "-e", "0"], stdout=subprocess.DEVNULL, stderr=subprocess.DEVNULL).returncode:
-        flags = []
-    common.must([node, *flags, "tests/streams.test.js"], folder=place, env={"PULLEYNAVY_STREAMS": streams})
 
 
 # The entry of the package, the platform of a bundle, and whether the bundle needs the module beside it.
@@ -106,33 +89,25 @@ def packed(npm, node, place, folder):
     return os.path.getsize(archive)
 
 
-def built(folder):
-    """The modules that tools/build_targets builds: that of 32 bits, and that of 64."""
-    return [os.path.join(programs.build_targets(folder, "wasm32"), name) for name in ("pulleynavy32.wasm", "pulleynavy64.wasm")]
-
-
-def is_old(node):
-    version = common.must([node, "--version"]).strip()
-    if int(version[1:].split(".")[0]) >= OLDEST_NODE:
-        return False
-    common.skip("missing: node %d or later, not %s" % (OLDEST_NODE, version))
-    return True
-
-
 def tried(given, folder, node):
     """Runs everything. Returns what to say of it."""
-    wasm, wasm64 = (given.wasm, given.wasm64) if given.wasm else built(folder)
+    wasm, wasm64 = given.wasm, given.wasm64
+    if not wasm:
+        # That of 64 bits is built on the way to that of 32.
+        wasm, wasm64 = (os.path.join(programs.build_targets(folder, "wasm32"), name) for name in ("pulleynavy32.wasm", "pulleynavy64.wasm"))
     if not os.path.exists(wasm):
         common.stop(common.NO_PROGRAM, "there is no module with 32-bit memory")
-    streams = os.path.join(folder, "streams.jsonl")
-    count = write_streams(streams, given.seed, given.count)
-    place = installed(folder, "pulleynavy", wasm)
-    said = "%d tests, %d streams (seed %d)" % (in_node(node, place, streams), count, given.seed)
-    mutated = os.path.join(folder, "mutated.jsonl")
-    said += ", %d with changed bytes" % write_streams(mutated, given.seed, 0, MUTANTS)
+    streams, mutated, place = os.path.join(folder, "streams.jsonl"), os.path.join(folder, "mutated.jsonl"), installed(folder, "pulleynavy", wasm)
+    count, changed = write_streams(streams, given.seed, given.count), write_streams(mutated, given.seed, 0, MUTANTS)
+    text = common.must([node, "--test"], folder=place, env={"PULLEYNAVY_STREAMS": streams})
+    passed = sum(int(line.split()[-1]) for line in text.splitlines() if line.startswith(("# pass ", "ℹ pass ")))
+    said = "%d tests, %d streams (seed %d), %d with changed bytes" % (passed, count, given.seed, changed)
     common.must([node, "--expose-gc", "tests/streams.test.js"], folder=place, env={"PULLEYNAVY_STREAMS": mutated})
     if wasm64:
-        with_wide_memory(node, installed(folder, "wide", wasm64), streams)
+        flags = ["--experimental-wasm-memory64"]
+        if subprocess.run([node, *flags, "-e", "0"], stdout=subprocess.DEVNULL, stderr=subprocess.DEVNULL).returncode:
+            flags = []
+        common.must([node, *flags, "tests/streams.test.js"], folder=installed(folder, "wide", wasm64), env={"PULLEYNAVY_STREAMS": streams})
         said += ", also with 64-bit memory"
     for name, program in (("Chromium", "chromium"), ("Firefox", "firefox-esr")):
         browser = common.found(program)
@@ -146,9 +121,7 @@ def tried(given, folder, node):
     if common.found("esbuild"):
         said += ", %d bundles" % bundled(node, place, folder)
     npm = common.found("npm")
-    if npm:
-        said += ", a package of %d bytes" % packed(npm, node, place, folder)
-    return said
+    return said + (", a package of %d bytes" % packed(npm, node, place, folder) if npm else "")
 
 
 def main():
@@ -156,8 +129,10 @@ def main():
     more += [("--wasm64", {"metavar": "FILE", "type": common.existing, "help": "the module with 64-bit memory"})]
     given = common.arguments(__doc__, [("seed", 1), ("count", 1000)], more=more)
     node = common.found("node")
-    if not node or is_old(node):
-        return 0
-    with tempfile.TemporaryDirectory() as folder:
-        print(tried(given, folder, node))
+    version = common.must([node, "--version"]).strip() if node else ""
+    if node and int(version[1:].split(".")[0]) < OLDEST_NODE:
+        common.skip("missing: node %d or later, not %s" % (OLDEST_NODE, version))
+    elif node:
+        with tempfile.TemporaryDirectory() as folder:
+            print(tried(given, folder, node))
     return 0

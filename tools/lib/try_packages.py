@@ -25,7 +25,6 @@ import generate_manuals
 import packages
 import try_js
 from common import Failed, require, write
-from systems import System, one, run, this_release
 
 RUST = common.read("tools", "lib", "templates", "package.rs")
 PYTHON = common.read("tools", "lib", "templates", "package.py")
@@ -58,6 +57,39 @@ FILES = 10_000
 # What the systems of Debian have, in which packages are tried. The second has the oldest Rust that the crate needs.
 SYSTEM = ["python3", "python3-venv", "gcc", "libc6-dev", "pkgconf", "man-db", "groff-base", "git", "nodejs", "cargo"]
 OLDEST_RUST = ("trixie", ["cargo", "libc6-dev"])
+SERIES = packages.soname().partition(".so.")[2]
+
+
+def one(pattern):
+    """The one file of this pattern."""
+    found = sorted(glob.glob(pattern))
+    require(len(found) == 1, "there are %d files %s" % (len(found), pattern))
+    return found[0]
+
+
+class System:
+    """A system of a release of Debian that debootstrap makes with these packages, without network and with nothing of this machine."""
+
+    CLEAN = ["PATH=/usr/sbin:/usr/bin:/sbin:/bin", "HOME=/root", "LC_ALL=C.UTF-8"]
+
+    def __init__(self, place, release, packages):
+        self.root = os.path.join(place, release)
+        common.must(["debootstrap", "--variant=minbase", "--include=" + ",".join(packages), release, self.root], place)
+        write(os.path.join(self.root, "etc", "hosts"), "127.0.0.1 localhost\n")
+
+    def put(self, path, name):
+        """Copies a file or a folder to this name in the home of root."""
+        to = os.path.join(self.root, "root", name)
+        os.makedirs(os.path.dirname(to), exist_ok=True)
+        return shutil.copytree(path, to) if os.path.isdir(path) else shutil.copy(path, to)
+
+    def write(self, name, text):
+        write(os.path.join(self.root, "root", name), text)
+
+    def inside(self, command):
+        """What a command prints in the system, in the home of root."""
+        words = ["unshare", "-n", "sh", "-ec", 'ip link set lo up; exec "$@"', "sh", "chroot", self.root, "/usr/bin/env", "-i", *self.CLEAN]
+        return common.must([*words, "/bin/sh", "-ec", "cd; " + command])
 
 
 def example():
@@ -75,8 +107,14 @@ class Trial:
     def __init__(self, dist, place):
         self.dist, self.place = dist, place
         self.stream, self.wanted, self.end = example()
-        self.file = os.path.join(place, "a.wasm")
-        common.write(self.file, self.stream)
+        self.file = write(os.path.join(place, "a.wasm"), self.stream)
+
+    def package(self, pattern):
+        return one("%s/%s" % (self.dist, pattern))
+
+    def run(self, *words, folder=None, more=None, stream=b""):
+        """What a command prints that runs in a folder, that of the user unless another is named. No library is named to it."""
+        return common.must(words, folder or self.place, stream, {"PULLEYNAVY_LIB": None, **(more or {})})
 
     def expect(self, output, what):
         if [line for line in output.split("\n") if line.startswith("section ")] != self.wanted:
@@ -88,151 +126,127 @@ class Trial:
         """A local registry in place of crates.io, with this package and what crates.io says of its dependency. Returns its folder."""
         digest = next(line.split()[0] for line in open(self.dist + "/SHA256SUMS") if line.endswith(".crate\n"))
         cargo.write_registry(folder, digest)
-        shutil.copy(one(self.dist + "/*.crate"), folder)
+        shutil.copy(self.package("*.crate"), folder)
         return folder
-
-    def index(self):
-        """An empty index of crates, to which a crate can be published as far as that needs no network. Returns its address."""
-        folder = self.place + "/index"
-        write(folder + "/config.json", json.dumps({"dl": "file://" + folder, "api": "http://localhost"}))
-        run(["git", "init", "--quiet"], folder)
-        run(["git", "add", "config.json"], folder)
-        run(["git", "-c", "user.name=index", "-c", "user.email=index@localhost", "commit", "--quiet", "--message", "An empty index"], folder)
-        return "file://" + folder
 
     def crate(self):
         project = self.place + "/project"
-        run(["cargo", "new", "--quiet", "--vcs", "none", project], self.place)
+        self.run("cargo", "new", "--quiet", "--vcs", "none", project)
         cargo.offline(self.place, self.registry(self.place + "/registry"))
         write(project + "/src/main.rs", RUST)
-        run(["cargo", "add", "--offline", "--quiet", "pulleynavy"], project)
-        self.expect(run(["cargo", "run", "--offline", "--quiet", "--", self.file], project), "the crate")
-        shutil.unpack_archive(shutil.copy(one(self.dist + "/*.crate"), self.place + "/crate.tar.gz"), self.place)
+        self.run("cargo", "add", "--offline", "--quiet", "pulleynavy", folder=project)
+        self.expect(self.run("cargo", "run", "--offline", "--quiet", "--", self.file, folder=project), "the crate")
+        shutil.unpack_archive(shutil.copy(self.package("*.crate"), self.place + "/crate.tar.gz"), self.place)
         unpacked = one(self.place + "/pulleynavy-[0-9]*")
-        run(["cargo", "package", "--offline", "--quiet", "--allow-dirty"], unpacked)
-        run(["cargo", "publish", "--dry-run", "--quiet", "--allow-dirty", "--index", self.index()], unpacked)
+        self.run("cargo", "package", "--offline", "--quiet", "--allow-dirty", folder=unpacked)
+        # An empty index of crates, to which a crate can be published as far as that needs no network.
+        index = self.place + "/index"
+        write(index + "/config.json", json.dumps({"dl": "file://" + index, "api": "http://localhost"}))
+        for words in (["init"], ["add", "config.json"], ["commit", "--message", "An empty index"]):
+            self.run("git", "-c", "user.name=index", "-c", "user.email=index@localhost", *words, folder=index)
+        self.run("cargo", "publish", "--dry-run", "--quiet", "--allow-dirty", "--index", "file://" + index, folder=unpacked)
         other = {"CARGO_CFG_TARGET_ARCH": "powerpc64", "CARGO_CFG_TARGET_OS": "linux", "CARGO_MANIFEST_DIR": unpacked}
-        run(["rustc", "--edition", "2024", "build.rs", "-o", self.place + "/build"], unpacked)
-        said = run([self.place + "/build"], unpacked, other)
-        if "cargo::error=pulleynavy has no library for powerpc64" not in said:
-            raise Failed("build.rs says %r of a processor without a library" % said)
+        self.run("rustc", "--edition", "2024", "build.rs", "-o", self.place + "/build", folder=unpacked)
+        said = self.run(self.place + "/build", folder=unpacked, more=other)
+        require("cargo::error=pulleynavy has no library for powerpc64" in said, "build.rs says %r of a processor without a library" % said)
 
     # ---- Python
 
-    def venv(self, name, *options):
+    def venv(self, name, package, *options):
+        """The Python of a new environment with a package."""
         path = os.path.join(self.place, name)
-        run(["/usr/bin/python3", "-m", "venv", *options, path], self.place)
+        self.run("/usr/bin/python3", "-m", "venv", *options, path)
+        more = ["--no-build-isolation", "--no-deps"] if package.endswith(".tar.gz") else []
+        self.run(path + "/bin/python", "-m", "pip", "install", "--quiet", "--no-index", "--disable-pip-version-check", *more, package)
         return path + "/bin/python"
 
-    def installed(self, python, package, *options):
-        """Installs a package, and runs its tests in a folder that has nothing else."""
-        run([python, "-m", "pip", "install", "--quiet", "--no-index", "--disable-pip-version-check", *options, package], self.place)
-        write(self.place + "/t.py", PYTHON)
-        shutil.copytree(packages.source("bindings", "python", "tests"), self.place + "/suite/tests", dirs_exist_ok=True)
-        return self.place + "/suite"
-
     def wheels(self):
+        wheel, sources = self.package("*manylinux*x86_64.whl"), self.package("pulleynavy-[0-9]*[0-9].tar.gz")
+        program = write(self.place + "/t.py", PYTHON)
         if common.found("twine"):
-            made = [*glob.glob(self.dist + "/*.whl"), one(self.dist + "/pulleynavy-[0-9]*[0-9].tar.gz")]
-            run(["twine", "--no-color", "check", "--strict", *made], self.place)
-        python = self.venv("of_wheel")
-        folder = self.installed(python, one(self.dist + "/*manylinux*x86_64.whl"))
-        self.expect(run([python, self.place + "/t.py", self.file], self.place), "the wheel")
-        run([python, "-m", "unittest", "discover", "-s", "tests", "-t", "."], folder)
-        program = os.path.join(os.path.dirname(python), "pulleynavy")
-        require("import (1)" in run([program, "list", self.file], self.place), "pulleynavy list does not list the sections")
-        self.under_musl()
-        python = self.venv("of_sdist", "--system-site-packages")
-        self.installed(python, one(self.dist + "/pulleynavy-[0-9]*[0-9].tar.gz"), "--no-build-isolation", "--no-deps")
-        packages.shared_library("x86_64", os.path.join(self.place, packages.soname()))
-        library = {"LD_LIBRARY_PATH": self.place}
-        self.expect(run([python, self.place + "/t.py", self.file], self.place, library), "the sdist")
-
-    def under_musl(self):
-        """The wheel says that it is for musl too, so its library is loaded there."""
+            self.run("twine", "--no-color", "check", "--strict", *glob.glob(self.dist + "/*.whl"), sources)
+        python = self.venv("of_wheel", wheel)
+        self.expect(self.run(python, program, self.file), "the wheel")
+        # The tests run in a folder that has nothing else.
+        shutil.copytree(packages.source("bindings", "python", "tests"), self.place + "/suite/tests")
+        self.run(python, "-m", "unittest", "discover", "-s", "tests", "-t", ".", folder=self.place + "/suite")
+        said = self.run(os.path.join(os.path.dirname(python), "pulleynavy"), "list", self.file)
+        require("import (1)" in said, "pulleynavy list does not list the sections")
+        # The wheel says that it is for musl too, so its library is loaded there.
         if common.found("musl-gcc"):
-            shutil.unpack_archive(one(self.dist + "/*manylinux*x86_64.whl"), self.place + "/wheel", "zip")
-            write(self.place + "/loader.c", LOADER)
-            run(["musl-gcc", "loader.c", "-o", "loader"], self.place)
-            run([self.place + "/loader", one(self.place + "/wheel/pulleynavy/libpulleynavy.so.*")], self.place)
+            shutil.unpack_archive(wheel, self.place + "/wheel", "zip")
+            self.run("musl-gcc", write(self.place + "/loader.c", LOADER), "-o", "loader")
+            self.run(self.place + "/loader", one(self.place + "/wheel/pulleynavy/libpulleynavy.so.*"))
+        python = self.venv("of_sdist", sources, "--system-site-packages")
+        packages.shared_library("x86_64", os.path.join(self.place, packages.soname()))
+        self.expect(self.run(python, program, self.file, more={"LD_LIBRARY_PATH": self.place}), "the sdist")
 
     def scan(self):
         """The example that scans a registry, with two workers, on 10,000 files: a row for each, and the faults of those that have one."""
-        python = self.venv("of_scan", "--system-site-packages")
-        run([python, "-m", "pip", "install", "--quiet", "--no-index", "--disable-pip-version-check", one(self.dist + "/*manylinux*x86_64.whl")], self.place)
+        python = self.venv("of_scan", self.package("*manylinux*x86_64.whl"), "--system-site-packages")
         streams = common.golden()
-        os.mkdir(self.place + "/registry")
         for number in range(FILES):
-            common.write("%s/registry/%05d.wasm" % (self.place, number), streams[number % len(streams)][0])
-        example, out = packages.source("bindings", "python", "examples", "scan.py"), self.place + "/out.csv"
-        said = run([python, example, out, self.place + "/registry", "--workers", "2"], self.place)
-        require(said.startswith("%d files" % FILES), "scan.py says %r" % said)
+            write("%s/registry/%05d.wasm" % (self.place, number), streams[number % len(streams)][0])
+        program, out = packages.source("bindings", "python", "examples", "scan.py"), self.place + "/out.csv"
+        said = self.run(python, program, out, self.place + "/registry", "--workers", "2")
+        require(re.search("^%d files" % FILES, said, re.M), "scan.py says %r" % said)
         with open(out, newline="", encoding="utf-8") as file:
             for number, row in enumerate(csv.DictReader(file)):
                 last = streams[number % len(streams)][1][-1]
                 wanted = last.startswith("fault ") and not last.startswith("fault %s %s" % (row["offset"], row["fault"]))
                 if not row["file"].endswith("%05d.wasm" % number) or wanted or row["fault"] and not row["offset"]:
                     raise Failed("scan.py has the row %r for a file that ends with %r" % (row, last))
-        self.parquet(python, example)
+        self.parquet(python, program)
 
-    def parquet(self, python, example):
+    def parquet(self, python, program):
         """The rows that it has pandas write as Parquet are those of a CSV. Debian has no pyarrow, so a module stands in for pandas."""
-        common.write(self.place + "/few", "".join("%s/registry/%05d.wasm\n" % (self.place, number) for number in range(100)))
-        words = ["--list", self.place + "/few", "--workers", "2"]
-        alone = subprocess.run([python, "-c", "import pandas, pyarrow"], stderr=subprocess.DEVNULL)
-        if alone.returncode:
-            tried = subprocess.run([python, example, self.place + "/few.parquet", *words], stderr=subprocess.PIPE, text=True)
+        listed = write(self.place + "/few", "".join("%s/registry/%05d.wasm\n" % (self.place, number) for number in range(100)))
+        made = {ending: [python, program, "%s/few.%s" % (self.place, ending), "--list", listed, "--workers", "2"] for ending in ("parquet", "csv")}
+        if subprocess.run([python, "-c", "import pandas, pyarrow"], stderr=subprocess.DEVNULL).returncode:
+            tried = subprocess.run(made["parquet"], stderr=subprocess.PIPE, text=True)
             if tried.returncode != 2 or "Parquet needs pandas with pyarrow" not in tried.stderr:
                 raise Failed("without pyarrow, scan.py ends with %d and %r" % (tried.returncode, tried.stderr))
         write(self.place + "/stand_in/pyarrow.py", "")
         write(self.place + "/stand_in/pandas.py", PANDAS)
-        run([python, example, self.place + "/few.parquet", *words], self.place, {"PYTHONPATH": self.place + "/stand_in"})
-        run([python, example, self.place + "/few.csv", *words], self.place)
-        if open(self.place + "/few.parquet", encoding="utf-8").read() != open(self.place + "/few.csv", encoding="utf-8").read():
-            raise Failed("scan.py passes other rows to pandas than it writes as CSV")
+        for words in made.values():
+            self.run(*words, more={"PYTHONPATH": self.place + "/stand_in"})
+        parquet, table = (common.read("%s/few.%s" % (self.place, ending)) for ending in made)
+        require(parquet == table, "scan.py passes other rows to pandas than it writes as CSV")
 
     # ---- JavaScript
 
     def npm(self):
         project = self.place + "/empty"
         write(project + "/package.json", '{ "private": true, "type": "module" }\n')
-        run(["npm", "install", "--silent", "--offline", "--no-audit", "--no-fund", one(self.dist + "/*.tgz")], project)
+        self.run("npm", "install", "--silent", "--offline", "--no-audit", "--no-fund", self.package("*.tgz"), folder=project)
         write(project + "/t.js", JAVASCRIPT)
-        self.expect(run(["node", "t.js", self.file], project), "the npm package")
-        require("import (1)" in run(["npx", "--offline", "pulleynavy", self.file], project), "npx pulleynavy does not list the sections")
+        self.expect(self.run("node", "t.js", self.file, folder=project), "the npm package")
+        require("import (1)" in self.run("npx", "--offline", "pulleynavy", self.file, folder=project), "npx pulleynavy does not list the sections")
         write(project + "/exports.js", EXPORTS)
-        run(["node", "exports.js"], project)
+        self.run("node", "exports.js", folder=project)
         if common.found("tsc"):
             write(project + "/t.ts", TYPESCRIPT)
             flags = ["--strict", "--noEmit", "--target", "es2022", "--module", "node16", "--moduleResolution", "node16"]
             for library in ("es2022", "es2022,dom"):
-                run(["tsc", *flags, "--lib", library, "t.ts"], project)
+                self.run("tsc", *flags, "--lib", library, "t.ts", folder=project)
 
     # ---- C
 
-    def c_program(self, folder, words, environment=None):
-        """Builds the C program with pkg-config and runs it."""
-        write(folder + "/t.c", C)
-        flags = run(["pkg-config", "--cflags", "--libs", "pulleynavy"], folder, environment).split()
-        run(["cc", "-Wall", "-Werror", "t.c", *flags, *words, "-o", "t"], folder)
-        return run([folder + "/t"], folder, environment, input=self.stream)
-
     def tarballs(self):
-        shutil.unpack_archive(one(self.dist + "/pulleynavy-*-x86_64-linux.tar.gz"), self.place)
-        shutil.unpack_archive(one(self.dist + "/pulleynavy-*-aarch64-linux.tar.gz"), self.place)
-        top = one(self.place + "/pulleynavy-*-x86_64-linux")
-        moved = self.place + "/anywhere else"
-        os.rename(top, moved)
-        found = {"PKG_CONFIG_PATH": "anywhere else/lib/pkgconfig", "LD_LIBRARY_PATH": moved + "/lib"}
-        where = run(["pkg-config", "--variable=libdir", "pulleynavy"], self.place, found).strip()
+        for machine in packages.MACHINES:
+            shutil.unpack_archive(self.package("pulleynavy-*-%s-linux.tar.gz" % machine), self.place)
+        moved, prefix = self.place + "/anywhere else", self.place + "/anywhere"
+        os.rename(one(self.place + "/pulleynavy-*-x86_64-linux"), moved)
+        where = self.run("pkg-config", "--variable=libdir", "pulleynavy", more={"PKG_CONFIG_PATH": "anywhere else/lib/pkgconfig"}).strip()
         require(os.path.samefile(os.path.join(self.place, where.replace("\\", "")), moved + "/lib"), "pkg-config finds %r" % where)
-        os.rename(moved, self.place + "/anywhere")
-        found = {"PKG_CONFIG_PATH": self.place + "/anywhere/lib/pkgconfig", "LD_LIBRARY_PATH": self.place + "/anywhere/lib"}
-        self.expect(self.c_program(self.place + "/of_tarball", [], found), "the C program of the tarball")
+        os.rename(moved, prefix)
+        found = {"PKG_CONFIG_PATH": prefix + "/lib/pkgconfig", "LD_LIBRARY_PATH": prefix + "/lib"}
+        flags = self.run("pkg-config", "--cflags", "--libs", "pulleynavy", more=found).split()
+        self.run("cc", "-Wall", "-Werror", write(self.place + "/t.c", C), *flags, "-o", "t")
+        self.expect(self.run(self.place + "/t", more=found, stream=self.stream), "the C program of the tarball")
         if common.found("cmake"):
-            self.found_by_cmake(self.place + "/anywhere")
-        if self.end not in run([self.place + "/anywhere/bin/wasm_list"], self.place, input=self.stream):
-            raise Failed("wasm_list of the tarball does not list the stream")
+            self.found_by_cmake(prefix)
+        require(self.end in self.run(prefix + "/bin/wasm_list", stream=self.stream), "wasm_list of the tarball does not list the stream")
 
     def found_by_cmake(self, prefix):
         """Builds the C program as CMake finds the library below a prefix: the shared one and the static one. A wrong version is not found."""
@@ -243,48 +257,47 @@ class Trial:
             write(project + "/CMakeLists.txt", CMAKE % (wanted, target))
             words = ["cmake", "-S", project, "-B", project + "/build", "-DCMAKE_PREFIX_PATH=" + prefix]
             if name == "old":
-                if "compatible" not in subprocess.run(words, cwd=self.place, stdout=subprocess.DEVNULL, stderr=subprocess.PIPE, text=True).stderr:
-                    raise Failed("CMake does not say that version %s is another one" % wanted)
+                said = subprocess.run(words, cwd=self.place, stdout=subprocess.DEVNULL, stderr=subprocess.PIPE, text=True).stderr
+                require("compatible" in said, "CMake does not say that version %s is another one" % wanted)
                 continue
-            run(words, self.place)
-            run(["cmake", "--build", project + "/build"], self.place)
-            if (packages.soname() in run(["readelf", "-dW", project + "/build/t"], project)) != (name == "shared"):
-                raise Failed("CMake links the %s library otherwise" % name)
-            self.expect(run([project + "/build/t"], project, input=self.stream), "the C program that CMake built with the %s library" % name)
+            self.run(*words)
+            self.run("cmake", "--build", project + "/build")
+            is_shared = packages.soname() in self.run("readelf", "-dW", project + "/build/t")
+            require(is_shared == (name == "shared"), "CMake links the %s library otherwise" % name)
+            self.expect(self.run(project + "/build/t", stream=self.stream), "the C program that CMake built with the %s library" % name)
 
     # ---- Debian
 
     def deb(self):
         """What lintian and dpkg-gensymbols say of the packages for Debian, the name and calls of the library, its pages, and CMake."""
-        made = glob.glob(self.dist + "/*.deb")
         if common.found("lintian"):
-            run(["lintian", "--allow-root", "--display-info", "--fail-on", "error,warning,info", *made, one(self.dist + "/*.dsc")], self.place)
+            made = [*glob.glob(self.dist + "/*.deb"), self.package("*.dsc")]
+            self.run("lintian", "--allow-root", "--display-info", "--fail-on", "error,warning,info", *made)
         for path in glob.glob(self.dist + "/*_amd64.deb"):
-            run(["dpkg-deb", "--raw-extract", path, self.place + "/" + os.path.basename(path).split("_")[0]], self.place)
-        series = packages.soname().partition(".so.")[2]
-        library, development = self.place + "/libpulleynavy" + series, self.place + "/libpulleynavy-dev"
-        listed = re.findall(r"^ (\w+)@Base", open(library + "/DEBIAN/symbols", encoding="ascii").read(), re.M)
-        shared = one(library + "/usr/lib/*/libpulleynavy.so.*.*.*")
-        exported = re.findall(r" T (\w+)$", run(["nm", "-D", "--defined-only", shared], self.place), re.M)
+            self.run("dpkg-deb", "--raw-extract", path, self.place + "/" + os.path.basename(path).split("_")[0])
+        library, development, calls = self.place + "/libpulleynavy" + SERIES, self.place + "/libpulleynavy-dev", desktops.exports()
+        shared, link = one(library + "/usr/lib/*/libpulleynavy.so.*.*.*"), os.readlink(one(library + "/usr/lib/*/" + packages.soname()))
+        listed = re.findall(r"^ (\w+)@Base", common.read(library + "/DEBIAN/symbols"), re.M)
+        exported = re.findall(r" T (\w+)$", self.run("nm", "-D", "--defined-only", shared), re.M)
         for what, names in (("the list of symbols", listed), ("the shared library", exported)):
-            require(sorted(names) == desktops.exports(), "%s and the header differ in %s" % (what, ", ".join(sorted({*names} ^ {*desktops.exports()}))))
-        named = run(["readelf", "-dW", shared], self.place)
-        if "[%s]" % packages.soname() not in named or "[libc.so.6]" not in named or os.readlink(one(library + "/usr/lib/*/" + packages.soname())) != os.path.basename(shared):
-            raise Failed("the shared library is not %s over libc" % packages.soname())
+            require(sorted(names) == calls, "%s and the header differ in %s" % (what, ", ".join(sorted({*names} ^ {*calls}))))
+        named = self.run("readelf", "-dW", shared)
+        is_named = "[%s]" % packages.soname() in named and "[libc.so.6]" in named and link == os.path.basename(shared)
+        require(is_named, "the shared library is not %s over libc" % packages.soname())
         pages = {os.path.basename(path).split(".")[0] for path in glob.glob(development + "/usr/share/man/man3/*")}
         require(pages == set(generate_manuals.CALLS), "the manual pages are those of %s" % sorted(pages))
-        reference = open(development + "/usr/share/doc/libpulleynavy-dev/html/pulleynavy_8h.html", encoding="utf-8").read()
+        reference = common.read(development + "/usr/share/doc/libpulleynavy-dev/html/pulleynavy_8h.html")
         documented = set(re.findall(r'<td class="memname">.*\b(\w+) </td>\n +<td>\(</td>', reference))
-        require(documented.issuperset(desktops.exports()), "the reference lacks %s" % ", ".join({*desktops.exports()} - documented))
+        require(documented.issuperset(calls), "the reference lacks %s" % ", ".join({*calls} - documented))
         shutil.copytree(library + "/usr", development + "/usr", dirs_exist_ok=True, symlinks=True)
         if common.found("cmake"):
             self.found_by_cmake(development + "/usr")
 
     # ---- a clean system
 
-    def clone(self, system):
+    def clone_inside(self, system):
         """A clone runs its programs at once, and installs the library."""
-        run(["git", "clone", "--quiet", common.TOP, system.root + "/root/pulleynavy"], self.place)
+        self.run("git", "clone", "--quiet", common.TOP, system.root + "/root/pulleynavy")
         require(not system.inside("command -v rt rattle || true"), "the clean system has a toolchain")
         start = time.time()
         require(self.end in system.inside("cd /; ~/pulleynavy/pulleynavy dump ~/a.wasm"), "./pulleynavy does not dump the stream")
@@ -293,19 +306,20 @@ class Trial:
         build = "export PKG_CONFIG_PATH=/opt/pulleynavy/lib/pkgconfig; cc -Wall -Werror t.c $(pkg-config --cflags --libs pulleynavy) -o t"
         self.expect(system.inside(build + "; LD_LIBRARY_PATH=/opt/pulleynavy/lib ./t < a.wasm; rm t"), "the C program after ./install")
 
-    def debs(self, system):
+    def debs_inside(self, system):
         for path in glob.glob(self.dist + "/*_amd64.deb"):
             system.put(path, os.path.basename(path))
         system.inside("dpkg -i *.deb")
         self.expect(system.inside("cc -Wall -Werror t.c $(pkg-config --cflags --libs pulleynavy) -o t; ./t < a.wasm"), "the C program of the packages for Debian")
-        if self.end not in system.inside("cd /; pulleynavy list ~/a.wasm; wasm_list strip < ~/a.wasm | wasm_dump"):
-            raise Failed("pulleynavy of the package does not list the stream")
+        said = system.inside("cd /; pulleynavy list ~/a.wasm; wasm_list strip < ~/a.wasm | wasm_dump")
+        require(self.end in said, "pulleynavy of the package does not list the stream")
         for page, heading in (("wasm_list", "EXIT STATUS"), ("pulleynavy", "EXIT STATUS"), ("wasm_dump", "EXIT STATUS"), ("pulleynavy_parse", "ERRORS")):
             require(heading in system.inside("man %s | cat" % page), "there is no manual page %s" % page)
-        system.inside("dpkg -r pulleynavy libpulleynavy-dev libpulleynavy" + packages.soname().partition(".so.")[2])
+        system.inside("dpkg -r pulleynavy libpulleynavy-dev libpulleynavy" + SERIES)
 
     def wheel_inside(self, system):
-        system.put(one(self.dist + "/*manylinux*x86_64.whl"), "wheels/" + os.path.basename(one(self.dist + "/*manylinux*x86_64.whl")))
+        wheel = self.package("*manylinux*x86_64.whl")
+        system.put(wheel, "wheels/" + os.path.basename(wheel))
         system.write("t.py", PYTHON)
         system.inside("python3 -m venv env; env/bin/pip install --quiet --no-index wheels/*")
         self.expect(system.inside("env/bin/python t.py a.wasm"), "the wheel in a clean system")
@@ -313,7 +327,7 @@ class Trial:
 
     def npm_inside(self, system):
         """The package in Debian's Node, which comes without npm: it is unpacked where npm would. Its tests run there too."""
-        system.put(one(self.dist + "/*.tgz"), "pulleynavy.tgz")
+        system.put(self.package("*.tgz"), "pulleynavy.tgz")
         system.write("project/t.mjs", JAVASCRIPT)
         system.inside("mkdir -p project/node_modules; tar -xzf pulleynavy.tgz; mv package project/node_modules/pulleynavy")
         self.expect(system.inside("node project/t.mjs a.wasm"), "the npm package in a clean system")
@@ -326,24 +340,23 @@ class Trial:
     def crate_inside(self, system):
         """The crate with Debian's Rust, or what that says if it is too old."""
         version = system.inside("cargo --version").split()[1]
-        for name, text in (("Cargo.toml", MANIFEST), ("src/main.rs", RUST)):
+        files = {"Cargo.toml": MANIFEST, "src/main.rs": RUST, ".cargo/config.toml": cargo.settings("local-registry", "/root/registry")}
+        for name, text in files.items():
             system.write("crate/" + name, text)
-        shutil.copytree(self.registry(self.place + "/registry"), system.root + "/root/registry")
-        system.write("crate/.cargo/config.toml", cargo.settings("local-registry", "/root/registry"))
+        system.put(self.registry(self.place + "/registry"), "registry")
         if tuple(map(int, version.split(".")[:2])) < cargo.oldest():
             said = system.inside("cd crate; cargo run --offline -- ~/a.wasm 2>&1 || true")
-            if "edition2024" not in said and "rustc" not in said:
-                raise Failed("cargo %s says %r of the crate" % (version, said))
+            require("edition2024" in said or "rustc" in said, "cargo %s says %r of the crate" % (version, said))
             print("chroot: Debian's cargo %s is older than the crate needs, and refuses it" % version)
-            return
-        self.expect(system.inside("cd crate; cargo run --offline --quiet -- ~/a.wasm"), "the crate with cargo %s" % version)
-        print("chroot: the crate builds with cargo %s" % version)
+        else:
+            self.expect(system.inside("cd crate; cargo run --offline --quiet -- ~/a.wasm"), "the crate with cargo %s" % version)
+            print("chroot: the crate builds with cargo %s" % version)
 
     def chroot(self):
-        system = System(self.place, this_release(), SYSTEM)
+        system = System(self.place, self.run("sh", "-c", ". /etc/os-release; echo $VERSION_CODENAME").strip(), SYSTEM)
         system.put(self.file, "a.wasm")
         system.write("t.c", C)
-        for trial in (self.clone, self.debs, self.wheel_inside, self.npm_inside, self.crate_inside):
+        for trial in (self.clone_inside, self.debs_inside, self.wheel_inside, self.npm_inside, self.crate_inside):
             trial(system)
 
     def oldest(self):
@@ -354,35 +367,33 @@ class Trial:
 
 
 # The programs that each kind needs, and the kinds of packages that it tries.
+IN_CHROOT = ["debootstrap", "unshare", "ip"]
 KINDS = {
-    "crate": ["cargo", "git"],
-    "wheels": ["pip3"],
-    "npm": ["npm", "node"],
-    "scan": ["dask-scheduler"],
-    "tarballs": ["cc", "pkg-config", "readelf"],
-    "deb": ["dpkg-deb", "nm", "readelf"],
-    "chroot": ["debootstrap", "unshare", "ip", "git"],
-    "oldest": ["debootstrap", "unshare", "ip"],
+    "crate": (["cargo", "git"], ["crate"]),
+    "wheels": (["pip3"], ["wheels", "sdist"]),
+    "npm": (["npm", "node"], ["npm"]),
+    "scan": (["dask-scheduler"], ["wheels"]),
+    "tarballs": (["cc", "pkg-config", "readelf"], ["tarballs"]),
+    "deb": (["dpkg-deb", "nm", "readelf"], ["deb"]),
+    "chroot": ([*IN_CHROOT, "git"], ["deb", "wheels", "npm", "crate"]),
+    "oldest": (IN_CHROOT, ["crate"]),
 }
-PACKAGES = {kind: [kind] for kind in KINDS}
-PACKAGES |= {"wheels": ["wheels", "sdist"], "scan": ["wheels"], "chroot": ["deb", "wheels", "npm", "crate"], "oldest": ["crate"]}
 
 
 def made(dist, targets):
-    """Makes all packages, with those of a folder of targets if it is given. Returns the kinds for which a program is missing, which tools/package reports; None if it fails."""
-    tool = os.path.join(common.TOP, "tools", "package")
-    more = ["--targets", targets] if targets else []
-    done = subprocess.run([tool, "--out", dist, "--twice", *more], stdout=subprocess.PIPE, stderr=subprocess.PIPE, text=True)
+    """Makes all packages, with those of a folder of targets if it is given. Returns the kinds for which tools/package lacks a program."""
+    words = [os.path.join(common.TOP, "tools", "package"), "--out", dist, "--twice", *(["--targets", targets] if targets else [])]
+    done = subprocess.run(words, stdout=subprocess.PIPE, stderr=subprocess.PIPE, text=True)
     print(done.stderr, end="", flush=True)
-    return None if done.returncode not in (0, common.NO_PROGRAM) else re.findall(r"^missing: .* of the kind (\w+)$", done.stderr, re.M)
+    require(done.returncode in (0, common.NO_PROGRAM), "tools/package")
+    return re.findall(r"^missing: .* of the kind (\w+)$", done.stderr, re.M)
 
 
 def attempt(kind, dist, absent):
     """Tries a kind. Returns whether it works, or is skipped."""
-    lacking = [name for name in KINDS[kind] if not shutil.which(name)]
-    lacking += ["a package of the kind %s" % name for name in PACKAGES[kind] if name in absent]
-    if "debootstrap" in KINDS[kind] and os.geteuid() != 0:
-        lacking.append("root")
+    programs, kinds = KINDS[kind]
+    lacking = [name for name in programs if not shutil.which(name)] + ["a package of the kind %s" % name for name in kinds if name in absent]
+    lacking += ["root"] if "debootstrap" in programs and os.geteuid() else []
     if lacking:
         common.skip("missing: %s, so %s is not tried" % (", ".join(lacking), kind))
         return True
@@ -390,7 +401,7 @@ def attempt(kind, dist, absent):
     with tempfile.TemporaryDirectory() as place:
         try:
             getattr(Trial(dist, place), kind)()
-        except (Failed, common.Failed) as failed:
+        except Failed as failed:
             print("FAILED %s: %s" % (kind, failed))
             return False
     print("%s: works, %.0f s" % (kind, time.time() - start), flush=True)
@@ -408,8 +419,5 @@ def main():
     os.umask(0o022)
     with tempfile.TemporaryDirectory() as dist:
         absent = made(dist, given.targets)
-        if absent is None:
-            print("FAILED tools/package")
-            return common.DIFFERS
         works = [attempt(kind, dist, absent) for kind in given.kinds or KINDS]
     return 0 if all(works) else common.DIFFERS

@@ -3,11 +3,11 @@
     tools/try page                   everything, with 20 random streams from seed 1
     tools/try page 7 100             100 random streams, from seed 7
     tools/try page --wasm FILE       the module FILE, instead of one that tools/build_targets builds
-    tools/try page --pictures DIR    also writes pictures of the page into DIR
 
 What the page shows of a stream is compared with the lines of a model or of tools/golden.jsonl. What a machine lacks (Chromium and its
 driver, Firefox, esbuild, wasm-opt) is reported in one line, and the rest is done.
 """
+import contextlib
 import functools
 import http.server
 import os
@@ -22,7 +22,7 @@ import browsers
 import common
 import programs
 from browsers import waited
-from common import leb
+from common import leb, require
 from made import NAMES, custom, module, named_module, other_names, text, vector
 from modules import section, stream_of
 
@@ -36,28 +36,29 @@ BIG, LONGEST_PAUSE = 40 * 10**6, 0.5
 # For how long, in seconds, a test waits for what the page should show.
 LONGEST_WAIT = 10
 MODULE = b"\0asm\1\0\0\0"
+TYPES = section(1, vector([b"\x60\0\0"]))
 
 
 def same(found, wanted, what):
-    common.require(found == wanted, "%s\n  page   %s\n  wanted %s" % (what, str(found)[:600], str(wanted)[:600]))
+    require(found == wanted, "%s\n  page   %s\n  wanted %s" % (what, str(found)[:600], str(wanted)[:600]))
 
 
 def becomes(find, wanted, what):
-    """Waits until `find` returns what is wanted. Returns that."""
+    """Waits until `find` returns what is wanted."""
     end = time.time() + LONGEST_WAIT
     found = find()
     while found != wanted and time.time() < end:
         time.sleep(0.05)
         found = find()
     same(found, wanted, what)
-    return found
 
 
-# ---- scripts in the page
+# ---- the page
 
 HELPERS = common.read("tools", "lib", "templates", "page.js")
 # The lowest contrast of a visible text with what is behind it, and its place.
 CONTRAST = common.read("tools", "lib", "templates", "contrast.js")
+FOCUS_TREE = "$('tree').querySelector('[tabindex=\"0\"]').focus()"
 # What is shown if there is no chosen row.
 NO_ROW = {"row": -1, "level": 0, "size": 0, "place": 0, "offset": -1, "isOpen": None, "isBad": False, "texts": []}
 
@@ -71,34 +72,34 @@ class Page:
     def run(self, script, *args):
         return self.browser.run("return (async () => {%s%s})()" % (HELPERS, script), *args)
 
-    def start(self, anchor=""):
+    def start(self, path=None, anchor=""):
+        """Starts anew, perhaps with a file. Returns what the page says of it."""
         self.browser.open("about:blank")
         self.browser.open(self.url + anchor)
-
-    def opened(self, folder, name, stream):
-        """Starts anew with a file of these bytes. Returns what the page says of it."""
-        path = common.write(os.path.join(folder, name), stream)
-        self.start()
-        return self.load(path)
+        return self.load(path) if path else ""
 
     def said(self):
         return self.run("return $('said').textContent")
 
     def load(self, path):
         """Opens a file, and returns what the page says once it has been read."""
-        self.browser.choose(path)
         name = os.path.basename(path)
-        return waited(lambda: self.heard(name), "answer for %s" % name)
-
-    def heard(self, name):
-        said = self.run("return $('progress').hidden && rows().some(row => row.isChosen) ? $('said').textContent : ''")
-        return said if said.startswith(name + ":") else None
+        is_done = "return $('progress').hidden && rows().some(row => row.isChosen) && $('said').textContent.startsWith(arguments[0]) || null"
+        self.browser.choose(path)
+        waited(lambda: self.run(is_done, name + ":"), "answer for %s" % name)
+        return self.said()
 
     def rows(self):
         return self.run("await pause(60); return rows();")
 
-    def chosen(self):
-        return next((row for row in self.rows() if row["isChosen"]), NO_ROW)
+    def first_texts(self):
+        """The first two texts of each row, after all have been opened."""
+        return [first_texts(row) for row in self.run("return openAll()")]
+
+    def chosen(self, *names):
+        """What the row that is chosen has by these names."""
+        row = next((row for row in self.rows() if row["isChosen"]), NO_ROW)
+        return [row[name] for name in names]
 
     def search(self, word):
         """Types a word into the search field, and returns the rows that are found."""
@@ -106,6 +107,22 @@ class Page:
         if not word.startswith("0x"):
             waited(lambda: "of “%s”" % word in self.said() or None, "answer of the search")
         return self.rows()
+
+    def press(self, key, focus):
+        """Presses a key after this script."""
+        self.run(focus)
+        self.browser.press(key)
+
+    @contextlib.contextmanager
+    def tall(self):
+        """Has a window that all rows are in sight in."""
+        self.browser.resize(1280, TALL)
+        yield
+        self.browser.resize(1280, USUAL)
+
+
+def first_texts(row):
+    return " ".join(filter(None, row["texts"][:2]))
 
 
 # ---- what the page shows of a stream
@@ -127,14 +144,14 @@ def expected_rows(lines):
 
 
 def shown_rows(rows):
-    """The rows of the page in the same form, without those inside custom sections, and the rows inside of those."""
-    found, inside, is_custom = [], [], False
+    """The rows of the page in the same form, without those inside custom sections, and the offsets of those."""
+    found, inside, is_custom = [], set(), False
     for row in rows:
         is_custom = row["texts"][0] == "custom" if row["level"] == 1 else is_custom
         if row["level"] == 1 or row["level"] == 2 and not is_custom:
             found.append((row["level"], row["offset"], row["texts"][0].replace("fault: ", "") if row["isBad"] else ""))
         elif is_custom:
-            inside.append(row)
+            inside.add(row["offset"])
     return found, inside
 
 
@@ -143,34 +160,24 @@ def escaped(name):
     return "".join("\\u{%x}" % ord(one) if unicodedata.category(one) in ("Cc", "Cf", "Cs", "Zl", "Zp") else one for one in name)
 
 
-def names_of_customs(lines):
-    return [escaped(bytes.fromhex(line.split()[0][1:]).decode()) for line in lines if re.match("  x", line)]
-
-
-def count_faults(said, lines, stream):
-    """The page says how many faults there are. Of a malformed section of a core dump the model only says that it is unknown."""
-    faults = re.findall(r"\bfault \d+", " ".join(re.sub(r"\bx[0-9a-f]+", "", line) for line in lines))
-    more, unknown = re.search(r"and ([\d,]+) more faults?\.", said), sum(bool(re.match("  x[0-9a-f]* unknown", line)) for line in lines)
-    shown = 0 if said.endswith("No faults.") else 1 + int(more[1] if more else 0)
-    if not len(faults) <= shown <= len(faults) + unknown:
-        raise common.Failed("%d faults, not %d: %s: %s" % (shown, len(faults), said, stream.hex()[:400]))
-
-
 def compare(page, path, stream, lines):
     """Compares what the page shows of a stream with the lines of a model. Returns how many rows it has."""
-    common.write(path, stream)
-    said = page.load(path)
+    what, customs = stream.hex()[:400], [line for line in lines if re.match("  x", line)]
+    said = page.load(common.write(path, stream))
     rows = page.run("return openAll()") if len(stream) else page.rows()
     found, inside = shown_rows(rows)
-    wanted = expected_rows(lines)
-    same(found, wanted, stream.hex()[:400])
+    same(found, expected_rows(lines), what)
     names = [row["texts"][1] for row in rows if row["level"] == 1 and row["texts"][0] == "custom"]
-    same(names, names_of_customs(lines), stream.hex()[:400])
-    custom = " ".join(line for line in lines if re.match("  x", line))
-    offsets = {int(number) for number in re.findall(r"[\[ ](\d+):(?=[a-z])", custom)}
-    same(offsets - {row["offset"] for row in inside}, set(), "items of custom sections: %s" % stream.hex()[:400])
-    if "*" not in custom:
-        count_faults(said, lines, stream)
+    same(names, [escaped(bytes.fromhex(line.split()[0][1:]).decode()) for line in customs], what)
+    offsets = {int(number) for number in re.findall(r"[\[ ](\d+):(?=[a-z])", " ".join(customs))}
+    same(offsets - inside, set(), "items of custom sections: %s" % what)
+    if "*" not in " ".join(customs):
+        # Of a malformed section of a core dump the model only says that it is unknown.
+        faults = len(re.findall(r"\bfault \d+", " ".join(re.sub(r"\bx[0-9a-f]+", "", line) for line in lines)))
+        unknown = sum(bool(re.match("  x[0-9a-f]* unknown", line)) for line in customs)
+        more = re.search(r"and ([\d,]+) more faults?\.", said)
+        shown = 0 if said.endswith("No faults.") else 1 + int(more[1] if more else 0)
+        require(faults <= shown <= faults + unknown, "%d faults, not %d: %s: %s" % (shown, faults, said, what))
     return len(rows)
 
 
@@ -180,49 +187,58 @@ def streams(page, folder, given):
     drawn = [stream_of(rng) for _ in range(given.count)]
     rows = common.golden()[::STRIDE] + [(stream, modelled(stream)) for stream in [b"", MODULE[:4], MODULE] + drawn]
     rows = [(stream, lines) for stream, lines in rows if len(lines) + sum(line.count(":") for line in lines) < MOST_ROWS]
-    page.browser.resize(1280, TALL)
-    page.start()
-    total = sum(compare(page, os.path.join(folder, "stream%d.wasm" % number), *row) for number, row in enumerate(rows))
-    page.browser.resize(1280, USUAL)
+    with page.tall():
+        page.start()
+        total = sum(compare(page, os.path.join(folder, "stream%d.wasm" % number), *row) for number, row in enumerate(rows))
     return "%d streams, %d rows" % (len(rows), total)
 
 
-# ---- a module with names
+# ---- names and bytes
 
 
-def names(page, folder):
-    """The names of the name section are on every index."""
-    page.browser.resize(1280, TALL)
-    page.opened(folder, "named.wasm", named_module())
-    found = [" ".join(filter(None, row["texts"][:2])) for row in page.run("return openAll()")]
+def names(page, folder, path):
+    """The names of the name section are on every index. Of two names of an item the first is shown: of two exports, and of two name sections."""
+    with page.tall():
+        page.start(path)
+        found = page.first_texts()
+        said = page.run("return rows().map(row => row.texts.slice(0, 3).filter(Boolean).join(' '))")
     for space, (_, words) in NAMES.items():
         for index, word in enumerate(words):
-            common.require("%s %d %s" % (space, index, word) in found, "%s %d has no name %s: %s" % (space, index, word, found))
-    said = page.run("return rows().map(row => row.texts.slice(0, 3).filter(Boolean).join(' '))")
-    rows = ("export dice func 2 roll", "export mem memory 0 heap", "start func 1 next", "local 0 sides name", "func 1 next body, 2 bytes")
-    for wanted in rows:
-        common.require(wanted in said, "no row %r: %s" % (wanted, said))
-    page.browser.resize(1280, USUAL)
-
-
-def first_names(page, folder):
-    """Of two names of an item the first is shown: of two exports, and of two name sections."""
+            require("%s %d %s" % (space, index, word) in found, "%s %d has no name %s: %s" % (space, index, word, found))
+    for wanted in ("export dice func 2 roll", "export mem memory 0 heap", "start func 1 next", "local 0 sides name", "func 1 next body, 2 bytes"):
+        require(wanted in said, "no row %r: %s" % (wanted, said))
     exports = section(7, vector([text(name) + b"\0\0" for name in ("first", "second")]))
-    exported = module(section(1, vector([b"\x60\0\0"])), section(3, vector([b"\0"])), exports, section(10, vector([b"\2\0\x0b"])))
+    exported = module(TYPES, section(3, vector([b"\0"])), exports, section(10, vector([b"\2\0\x0b"])))
     for stream, wanted in ((exported, "func 0 first"), (named_module() + other_names(), "func 1 next")):
-        page.opened(folder, "names.wasm", stream)
-        said = [" ".join(filter(None, row["texts"][:2])) for row in page.run("return openAll()")]
-        common.require(wanted in said, "no row %r: %s" % (wanted, said))
+        page.start(common.write(os.path.join(folder, "names.wasm"), stream))
+        said = page.first_texts()
+        require(wanted in said, "no row %r: %s" % (wanted, said))
 
 
 def letters(page, folder):
     """Each byte is shown in hexadecimal and, if it is a visible character of ASCII, as that."""
     stream = module(custom("all bytes", bytes(range(256))))
-    page.browser.resize(1280, TALL)
-    page.opened(folder, "letters.wasm", stream)
     wanted = [["%02x" % byte, chr(byte) if 0x21 <= byte <= 0x7E else "·"] for byte in stream]
-    same([pair for pair in zip(page.run("return letters(arguments[0])", len(stream)), wanted) if pair[0] != pair[1]], [], "the letters of bytes")
-    page.browser.resize(1280, USUAL)
+    with page.tall():
+        page.start(common.write(os.path.join(folder, "letters.wasm"), stream))
+        found = page.run("return letters(arguments[0])", len(stream))
+    same([pair for pair in zip(found, wanted) if pair[0] != pair[1]], [], "the letters of bytes")
+
+
+def highlighted(page, path):
+    """The bytes of the chosen row are highlighted, and no others. Returns how many rows were looked at."""
+    stream = common.read_bytes(path)
+    with page.tall():
+        page.start(path)
+        rows = [row for row in page.run("return openAll()") if row["level"] > 1]
+        for row in rows:
+            title = page.run("return clicked(...arguments)", row["row"], row["offset"])
+            start, end = (int(number, 16) for number in re.findall(r"0x([0-9a-f]+)", title))
+            cells = page.run("return highlighted()")
+            same(sorted({at for at, _ in cells}), list(range(start, end)), title)
+            same({at for at, word in cells if "%02x" % stream[at] == word}, set(range(start, end)), title)
+            same(start, row["offset"], title)
+    return "%d highlights" % len(rows)
 
 
 # ---- keys, names and roles
@@ -230,31 +246,30 @@ def letters(page, folder):
 
 def keys(page, path):
     """The tree follows the keys of the ARIA pattern, with one row that the tab key stops at."""
-    page.start()
-    page.load(path)
-    page.run("$('tree').querySelector('[tabindex=\"0\"]').focus()")
+    page.start(path)
+    page.run(FOCUS_TREE)
+    focused = "return Number(document.activeElement.dataset.row)"
+    last = int(page.run("return $('tree').querySelector('[aria-level=\"1\"]').ariaSetSize")) - 1
     steps = [("Home", 0), ("ArrowDown", 1), ("ArrowRight", 1), ("ArrowRight", 2), ("ArrowDown", 3), ("ArrowUp", 2), ("ArrowLeft", 1),
-             ("ArrowLeft", 1), ("ArrowDown", 2), ("End", None), ("ArrowDown", None), ("Home", 0), ("ArrowUp", 0)]
+             ("ArrowLeft", 1), ("ArrowDown", 2), ("End", last), ("ArrowDown", last), ("Home", 0), ("ArrowUp", 0)]
     for key, wanted in steps:
         page.browser.press(key)
-        wanted = page.run("return $('tree').querySelector('[aria-level=\"1\"]').ariaSetSize - 1") if wanted is None else wanted
-        becomes(lambda: page.chosen()["row"], int(wanted), "the row after %s" % key)
-        becomes(lambda: page.run("return Number(document.activeElement.dataset.row)"), int(wanted), "the focus after %s" % key)
-        same([row["row"] for row in page.rows() if row["stops"]], [int(wanted)], "where the tab key stops")
+        becomes(lambda: page.chosen("row"), [wanted], "the row after %s" % key)
+        becomes(lambda: page.run(focused), wanted, "the focus after %s" % key)
+        same([row["row"] for row in page.rows() if row["stops"]], [wanted], "where the tab key stops")
     for key, is_open in (("ArrowDown", "false"), ("Enter", "true"), (" ", "false")):
         page.browser.press(key)
-        becomes(lambda: [page.chosen()[name] for name in ("row", "isOpen")], [1, is_open], "the row after %s" % key)
+        becomes(lambda: page.chosen("row", "isOpen"), [1, is_open], "the row after %s" % key)
     rows = page.rows()
     places = [(row["level"], row["size"], row["place"]) for row in rows]
     same(places, [(1, len(rows), i + 1) for i in range(len(rows))], "places in the tree")
     page.browser.press("ArrowRight", "ArrowRight")
-    becomes(lambda: page.chosen()["row"], 2, "the first item")
-    inner, count = page.chosen(), sum(row["level"] == 2 for row in page.rows())
-    same((inner["level"], inner["place"]), (2, 1), "the first item")
-    same(min(inner["size"], count), count, "the number of items")
+    becomes(lambda: page.chosen("row", "level", "place"), [2, 2, 1], "the first item")
+    [size], count = page.chosen("size"), sum(row["level"] == 2 for row in page.rows())
+    same(min(size, count), count, "the number of items")
     page.browser.press("Tab")
     page.browser.press("Shift+Tab")
-    same(page.run("return Number(document.activeElement.dataset.row)"), inner["row"], "the focus after Tab and Shift+Tab")
+    same(page.run(focused), 2, "the focus after Tab and Shift+Tab")
 
 
 CONTROLS = "button, input, select, [role], [tabindex], progress, dl"
@@ -268,73 +283,52 @@ def labels(page):
     seen = "return [...document.querySelectorAll(arguments[0])].filter(it => it.checkVisibility() && it.role !== 'none')"
     found = [one[browsers.ELEMENT] for one in page.run(seen, CONTROLS)]
     for element in found:
-        if page.browser.role(element) != "status" and not page.browser.label(element).strip():
+        if page.browser.send_to(element, "computedrole") != "status" and not page.browser.send_to(element, "computedlabel").strip():
             html = page.browser.run("return arguments[0].outerHTML.slice(0, 200)", {browsers.ELEMENT: element})
             raise common.Failed("no accessible name: %s" % html)
     for selector, role in ROLES.items():
-        same(page.browser.role(page.browser.element(selector)), role, selector)
-    return len(found)
+        same(page.browser.send_to(page.browser.element(selector), "computedrole"), role, selector)
+    return "%d names of controls" % len(found)
 
 
 def contrast(page, paths):
     """The lowest contrast in both themes, with each file."""
     lowest = [99, ""]
     for path in [None, *paths]:
-        page.start()
-        said = path and page.load(path)
+        said = page.start(path)
         page.run("$('section').hidden = false")
         for theme in ("light", "dark"):
             page.run("$('theme').value = arguments[0]; $('theme').dispatchEvent(new Event('change')); await pause(50);", theme)
             lowest = min(lowest, page.run(CONTRAST))
-            common.require(lowest[0] >= LEAST_CONTRAST, "contrast %.2f (%s, %s): %s" % (lowest[0], theme, said, lowest[1]))
-    return lowest[0]
+            require(lowest[0] >= LEAST_CONTRAST, "contrast %.2f (%s, %s): %s" % (lowest[0], theme, said, lowest[1]))
+    return "contrast %.2f" % lowest[0]
 
 
-def narrow(page, folder, path, picture):
+def narrow(page, folder, path):
     """Nothing is cut off in a frame of 400 pixels."""
-    outer = os.path.join(folder, "narrow.html")
+    browser, outer = page.browser, os.path.join(folder, "narrow.html")
     style = "width: %dpx; height: 850px; border: 0" % NARROW
     common.write(outer, "<!doctype html><body style='margin: 0'><iframe src='%s' style='%s'></iframe>" % (page.url, style))
-    page.browser.open("file://" + outer)
-    page.browser.send("frame", {"id": {browsers.ELEMENT: page.browser.element("iframe")}} if page.browser.name == "Chromium" else
-                      {"element": page.browser.element("iframe")})
+    browser.open("file://" + outer)
+    frame = browser.element("iframe")
+    browser.send("frame", {"id": {browsers.ELEMENT: frame}} if browser.name == "Chromium" else {"element": frame})
     page.load(path)
     page.run("$('section').hidden = false")
     excess = page.run("const it = document.documentElement; return [innerWidth, it.scrollWidth - it.clientWidth]")
     same(excess, [NARROW, 0], "the width of the page")
     same(page.run("return cutOff()"), [], "what is cut off")
     same(page.run("const it = $('hex').querySelector('.list > div'); return it.scrollWidth <= it.clientWidth"), True, "a row of bytes fits")
-    if picture:
-        page.browser.picture(picture)
 
 
-# ---- bytes, links, search and saving
-
-
-def highlighted(page, stream):
-    """The bytes of the chosen row are highlighted, and no others. Returns how many rows were looked at."""
-    count = 0
-    for row in page.run("return openAll()"):
-        if row["level"] == 1:
-            continue
-        title = page.run("return clicked(...arguments)", row["row"], row["offset"])
-        start, end = (int(number, 16) for number in re.findall(r"0x([0-9a-f]+)", title))
-        cells = page.run("return highlighted()")
-        same(sorted({at for at, _ in cells}), list(range(start, end)), title)
-        same({at for at, word in cells if "%02x" % stream[at] == word}, set(range(start, end)), title)
-        same(start, row["offset"], title)
-        count += 1
-    return count
+# ---- faults, links, search and saving
 
 
 def faults(page, path):
     """Each fault is red where it occurs, in the tree and in the bytes, which then are in sight."""
-    page.start()
-    page.load(path)
+    page.start(path)
     lines = common.load(common.MODEL_OF_ITEMS).listing(common.read_bytes(path))
     for _, offset, said in [row for row in expected_rows(lines) if row[2]]:
-        chosen = lambda: [page.chosen()[name] for name in ("offset", "isBad")] + page.chosen()["texts"][:1]
-        becomes(chosen, [offset, True, "fault: " + said], "the fault that is chosen")
+        becomes(lambda: [*page.chosen("offset", "isBad"), *page.chosen("texts")[0][:1]], [offset, True, "fault: " + said], "the fault that is chosen")
         becomes(lambda: page.run("return isFaultInSight(arguments[0])", offset), True, "the byte of the fault at %d" % offset)
         page.run("$('next').click()")
 
@@ -342,38 +336,31 @@ def faults(page, path):
 def links(page, path):
     """A link to an offset chooses the item that has it, and the address follows what is chosen."""
     function = named_module().index(b"\2\0\x0b\4\0\x20\0\x0b")
-    for offset in (function, function + 4):
-        page.start("#0x%x" % offset)
-        page.load(path)
-        wanted = ["func 1", "next"] if offset == function else ["func 2", "roll"]
-        becomes(lambda: page.chosen()["texts"][:2], wanted, "the link to %d" % offset)
+    for offset, wanted in ((function, ["func 1", "next"]), (function + 4, ["func 2", "roll"])):
+        page.start(path, "#0x%x" % offset)
+        becomes(lambda: page.chosen("texts")[0][:2], wanted, "the link to %d" % offset)
     page.run("location.hash = '#0'")
-    becomes(lambda: page.chosen()["row"], 0, "the link to 0")
-    page.run("$('tree').querySelector('[tabindex=\"0\"]').focus()")
-    page.browser.press("ArrowDown")
+    becomes(lambda: page.chosen("row"), [0], "the link to 0")
+    page.press("ArrowDown", FOCUS_TREE)
     becomes(lambda: page.run("return location.hash"), "#0x8", "the address after a key")
 
 
 def search(page, path):
-    page.start()
-    page.load(path)
-    same([" ".join(filter(None, row["texts"][:2])) for row in page.search("ROLL")][:2], ["func 2 roll", "func 2 roll"], "a search")
-    same(page.run("return $('said').textContent"), "3 matches of “ROLL”", "what a search says")
+    page.start(path)
+    same([first_texts(row) for row in page.search("ROLL")][:2], ["func 2 roll", "func 2 roll"], "a search")
+    same(page.said(), "3 matches of “ROLL”", "what a search says")
     same(page.search("no such name"), [], "a search without a match")
     same(page.run("return $('none').checkVisibility()"), True, "what says that there is no match")
-    page.run("$('search').focus()")
-    page.browser.press("Escape")
+    page.press("Escape", "$('search').focus()")
     becomes(lambda: sum(row["level"] == 1 for row in page.rows()), 16, "the rows after Escape")
     page.search("0x9")
-    page.run("$('search').focus()")
-    page.browser.press("Enter")
-    becomes(lambda: page.chosen()["offset"], 8, "the row of an offset")
+    page.press("Enter", "$('search').focus()")
+    becomes(lambda: page.chosen("offset"), [8], "the row of an offset")
 
 
 def saved_by(page, button, path):
     """The bytes that a button saves to a file. Chromium saves a second file only after a key or a click of the user."""
-    page.run("$(arguments[0]).focus()", button)
-    page.browser.press("Enter")
+    page.press("Enter", "$('%s').focus()" % button)
     waited(lambda: os.path.exists(path) and os.path.getsize(path) > 0 or None, "saved file")
     found = common.read_bytes(path)
     os.remove(path)
@@ -382,8 +369,7 @@ def saved_by(page, button, path):
 
 def saving(page, folder, path):
     """What is saved is what the model strips: without names, and with them if that is ticked."""
-    page.start()
-    page.load(path)
+    page.start(path)
     model, saved = common.load(common.MODEL), os.path.join(folder, "named.stripped.wasm")
     for keeps_names in (False, True, False):
         page.run("if ($('keep').checked !== arguments[0]) $('keep').click()", keeps_names)
@@ -393,24 +379,20 @@ def saving(page, folder, path):
 
 # ---- custom sections
 
-TYPES, NEW = section(1, vector([b"\x60\0\0"])), bytes(range(256))
-
 
 class Edited:
     """The page with a module of which custom sections are edited."""
 
+    NEW = bytes(range(256))
+
     def __init__(self, page, folder, stream):
-        self.page, self.folder = page, folder
-        self.data = common.write(os.path.join(folder, "new data"), NEW)
-        page.opened(folder, "edits.wasm", stream)
+        self.page, self.folder, self.data = page, folder, common.write(os.path.join(folder, "new data"), self.NEW)
+        page.start(common.write(os.path.join(folder, "edits.wasm"), stream))
 
     def choose(self, name):
         """Gives the data to an input, which may have it already."""
         self.page.run("$(arguments[0]).value = ''", name)
         self.page.browser.choose(self.data, "#" + name)
-
-    def saved(self, button, ending):
-        return saved_by(self.page, button, os.path.join(self.folder, "edits" + ending))
 
     def select(self, row):
         """Selects a custom section by the number of its row."""
@@ -421,8 +403,8 @@ class Edited:
         """The module is this one now, and the row at an offset is selected. It can be saved."""
         said = "edits.wasm, edited: %d bytes" % len(stream)
         becomes(lambda: self.page.said()[: len(said)], said, what)
-        becomes(lambda: self.page.chosen()["offset"], offset, what)
-        same(self.saved("save", ".edited.wasm"), stream, what)
+        becomes(lambda: self.page.chosen("offset"), [offset], what)
+        same(saved_by(self.page, "save", os.path.join(self.folder, "edits.edited.wasm")), stream, what)
 
 
 def editing(page, folder):
@@ -431,57 +413,44 @@ def editing(page, folder):
     it = Edited(page, folder, module(first, TYPES, custom("", b""), last))
     same(page.run("return [$('save').disabled, $('section').hidden]"), [True, True], "the buttons before an edit")
     it.select(1)
-    same(it.saved("data", ".a_b.bin"), b"xyz", "the data of a section")
+    same(saved_by(page, "data", os.path.join(folder, "edits.a_b.bin")), b"xyz", "the data of a section")
     it.choose("replace")
-    first = custom("a/b", NEW)
+    first = custom("a/b", it.NEW)
     it.becomes(module(first, TYPES, custom("", b""), last), 8, "a section that is replaced")
     it.select(4)
-    page.run("$('remove').focus()")
-    page.browser.press("Enter")
+    page.press("Enter", "$('remove').focus()")
     kept = module(first, TYPES, custom("", b""))
     it.becomes(kept, len(kept) - 3, "a section that is removed")
     for name, wanted in (("\u03b1", "\u03b1"), ("", os.path.basename(it.data))):
         page.run("$('name').value = arguments[0]", name)
         it.choose("add")
-        kept += custom(wanted, NEW)
-        it.becomes(kept, len(kept) - len(custom(wanted, NEW)), "a section that is added")
+        kept += custom(wanted, it.NEW)
+        it.becomes(kept, len(kept) - len(custom(wanted, it.NEW)), "a section that is added")
     page.run("$('name').value = 'a'.repeat(100_001)")
     it.choose("add")
     becomes(lambda: page.said()[:11], "Not added: ", "a section that is too large")
-    dropped(it)
+    # A file that is dropped on the input of a new section is added, and one that is dropped elsewhere is opened.
+    page.run("$('name').value = ''; drop($('add').parentElement, 'b', [7])")
+    becomes(lambda: page.rows()[-1]["texts"][1], "b", "a section that is dropped")
+    page.run("drop(document.body, 'b.wasm', [0, 97, 115, 109, 1, 0, 0, 0])")
+    becomes(lambda: page.said()[:16], "b.wasm: 8 bytes,", "a module that is dropped")
     Edited(page, folder, MODULE + b"\xff")
     same(page.run("return ['add', 'name', 'strip', 'save'].map(id => $(id).disabled)"), [True] * 4, "what is disabled")
-
-
-def dropped(it):
-    """A file that is dropped on the input of a new section is added, and one that is dropped elsewhere is opened."""
-    it.page.run("$('name').value = ''; drop($('add').parentElement, 'b', [7])")
-    becomes(lambda: it.page.rows()[-1]["texts"][1], "b", "a section that is dropped")
-    it.page.run("drop(document.body, 'b.wasm', [0, 97, 115, 109, 1, 0, 0, 0])")
-    becomes(lambda: it.page.said()[:16], "b.wasm: 8 bytes,", "a module that is dropped")
 
 
 # ---- big files
 
 
-def big_module():
-    """A module of 40 MB with 40,000 bodies and names. It counts what the page should show."""
+def big(page, folder):
+    """A module of 40 MB with 40,000 bodies and names is shown soon, and the page reacts meanwhile. Returns the times."""
     count = 40_000
     body = b"\0" + b"\1" * (BIG // count - 30)
     bodies = vector([leb(len(body) + 1) + body + b"\x0b"] * count)
     exports = vector([text("export%d" % i) + b"\0" + leb(i) for i in range(count)])
-    names = vector([leb(i) + text("function%d" % i) for i in range(count)])
-    return count, MODULE + b"".join([
-        section(1, vector([b"\x60\0\0"])), section(3, vector([b"\0"] * count)), section(7, exports), section(10, bodies),
-        section(0, text("name") + section(1, names)),
-    ])
-
-
-def big(page, folder):
-    """A file of 40 MB is shown soon, and the page reacts meanwhile. Returns the times."""
-    count, stream = big_module()
-    path = os.path.join(folder, "big.wasm")
-    common.write(path, stream)
+    function_names = vector([leb(i) + text("function%d" % i) for i in range(count)])
+    code = section(3, vector([b"\0"] * count)), section(7, exports), section(10, bodies)
+    stream = module(TYPES, *code, custom("name", section(1, function_names)))
+    path = common.write(os.path.join(folder, "big.wasm"), stream)
     page.start()
     page.run("measure()")
     began = time.time()
@@ -489,38 +458,29 @@ def big(page, folder):
     took = time.time() - began
     longest = page.run("return window.longest") / 1000
     same(said.endswith("No faults."), True, said)
-    common.require(longest <= LONGEST_PAUSE, "the page did not react for %.2f s" % longest)
-    found = page.search("function%d" % (count - 1))
-    same([row["texts"][:2] for row in found], [["func %d" % (count - 1), "function%d" % (count - 1)]] * 3, "a search in 40 MB")
+    require(longest <= LONGEST_PAUSE, "the page did not react for %.2f s" % longest)
+    last = ["func %d" % (count - 1), "function%d" % (count - 1)]
+    same([row["texts"][:2] for row in page.search(last[1])], [last] * 3, "a search in 40 MB")
     reach(page, len(stream), lambda at: stream[at])
     # The last byte of the last body is before the name section.
     page.run("location.hash = '#' + arguments[0]; await pause(300);", stream.rindex(b"\x0b\0"))
-    wanted = [2, count, count, "func %d" % (count - 1), "function%d" % (count - 1)]
-    becomes(lambda: [page.chosen()[name] for name in ("level", "place", "size")] + page.chosen()["texts"][:2], wanted, "the last body")
-    page.run("$('tree').querySelector('[tabindex=\"0\"]').focus()")
-    page.browser.press("End")
-    becomes(lambda: page.chosen()["texts"][:3], wanted[3:] + ["name"], "the last row, which is its name")
+    becomes(lambda: [*page.chosen("level", "place", "size"), *page.chosen("texts")[0][:2]], [2, count, count, *last], "the last body")
+    page.press("End", FOCUS_TREE)
+    becomes(lambda: page.chosen("texts")[0][:3], [*last, "name"], "the last row, which is its name")
     return "%.1f MB in %.2f s (pause %.0f ms)" % (len(stream) / 1e6, took, 1000 * longest)
 
 
 def reach(page, size, byte_at):
     """The hex view reaches its first and last bytes, and those of some offsets, exactly."""
-    page.run("await pause(300); $('hex').scrollTop = $('hex').scrollHeight; await pause(300);")
-    looked(page, size - 1, byte_at)
-    page.run("$('hex').scrollTop = 0; await pause(300);")
-    looked(page, 0, byte_at)
-    for offset in (size // 3, size - 5000, size // 2 + 12345):
-        page.run("location.hash = '#' + arguments[0]; await pause(300);", offset)
-        looked(page, offset, byte_at)
-    page.run("""$('hex').dispatchEvent(new WheelEvent('wheel', { deltaY: 40, cancelable: true })); await pause(100);
-        if ($('hex').scrollHeight < 7e6) $('hex').scrollTop += 40; await pause(200);""")
-    looked(page, offset, byte_at)
-
-
-def looked(page, offset, byte_at):
-    """A byte is in sight, as it is in the file."""
-    cell = page.run("return byteInSight(arguments[0])", offset)
-    same(cell, ["%02x" % byte_at(offset), True], "the byte at %d" % offset)
+    to_offset = "location.hash = '#' + %d; await pause(300);"
+    to_end = "await pause(300); $('hex').scrollTop = $('hex').scrollHeight; await pause(300);"
+    places = [(size - 1, to_end), (0, "$('hex').scrollTop = 0; await pause(300);")]
+    places += [(offset, to_offset % offset) for offset in (size // 3, size - 5000, size // 2 + 12345)]
+    places.append((size // 2 + 12345, """$('hex').dispatchEvent(new WheelEvent('wheel', { deltaY: 40, cancelable: true })); await pause(100);
+        if ($('hex').scrollHeight < 7e6) $('hex').scrollTop += 40; await pause(200);"""))
+    for offset, script in places:
+        page.run(script)
+        same(page.run("return byteInSight(arguments[0])", offset), ["%02x" % byte_at(offset), True], "the byte at %d" % offset)
 
 
 def huge(page, folder):
@@ -543,16 +503,9 @@ def huge(page, folder):
 # ---- requests
 
 
-class Server(http.server.ThreadingHTTPServer):
+class Handler(http.server.SimpleHTTPRequestHandler):
     """Serves a folder, and keeps what was requested."""
 
-    def __init__(self, folder):
-        self.requested = []
-        super().__init__(("127.0.0.1", 0), functools.partial(Handler, directory=folder))
-        threading.Thread(target=self.serve_forever, daemon=True).start()
-
-
-class Handler(http.server.SimpleHTTPRequestHandler):
     extensions_map = {".js": "text/javascript", ".wasm": "application/wasm", ".css": "text/css", ".html": "text/html", "": "text/plain"}
 
     def log_request(self, code="-", size="-"):
@@ -564,16 +517,15 @@ class Handler(http.server.SimpleHTTPRequestHandler):
 
 def served(browser, folder, path):
     """Over HTTP the page requests its own files, and nothing while it is used."""
-    server = Server(folder)
+    server = http.server.ThreadingHTTPServer(("127.0.0.1", 0), functools.partial(Handler, directory=folder))
+    server.requested = []
+    threading.Thread(target=server.serve_forever, daemon=True).start()
     try:
         page = Page(browser, "http://127.0.0.1:%d/index.html" % server.server_port)
-        page.start()
-        page.load(path)
         search(page, path)
-        requested = {path for path, code in server.requested}
+        requested, count = {path for path, _ in server.requested}, len(server.requested)
         same({code for _, code in server.requested} - {200, 304}, set(), "statuses")
         same(requested, {"/" + name for name in os.listdir(folder)}, "what is requested")
-        count = len(server.requested)
         page.load(path)
         page.run("$('strip').click(); await pause(200);")
         # The worker is started again for each file.
@@ -593,37 +545,22 @@ def quiet(page):
 # ---- everything
 
 
-def pictures(page, folder, paths):
-    for theme, path in zip(("light", "dark"), paths):
-        page.start()
-        page.load(path)
-        page.run("$('theme').value = arguments[0]; $('theme').dispatchEvent(new Event('change')); await pause(100);", theme)
-        page.browser.picture(os.path.join(folder, "%s-%s.png" % (page.browser.name, theme)))
-
-
 def tried(browser, given, made, folder):
     """Runs everything in a browser. Returns what to say of it."""
     place, files = made
     page = Page(browser, "file://" + place)
-    named, broken = os.path.join(folder, "named.wasm"), os.path.join(folder, "broken.wasm")
     stream = bytearray(common.read_bytes(given.wasm))
     stream[stream.index(b"\6memory") + 7] = 9
-    common.write(broken, stream[:-3000])
+    broken = common.write(os.path.join(folder, "broken.wasm"), stream[:-3000])
+    named = common.write(os.path.join(folder, "named.wasm"), named_module())
     browser.resize(1280, USUAL)
     said = [streams(page, folder, given)]
     quiet(page)
-    names(page, folder)
-    first_names(page, folder)
+    names(page, folder, named)
     letters(page, folder)
     for path in (named, given.wasm):
         keys(page, path)
-    said.append("%d names of controls" % labels(page))
-    said.append("contrast %.2f" % contrast(page, [named, given.wasm, broken]))
-    page.browser.resize(1280, TALL)
-    page.start()
-    page.load(named)
-    said.append("%d highlights" % highlighted(page, named_module()))
-    page.browser.resize(1280, USUAL)
+    said += [labels(page), contrast(page, [named, given.wasm, broken]), highlighted(page, named)]
     faults(page, broken)
     links(page, named)
     search(page, named)
@@ -631,9 +568,7 @@ def tried(browser, given, made, folder):
     editing(page, folder)
     said += [big(page, folder), huge(page, folder)]
     quiet(page)
-    if given.pictures:
-        pictures(page, given.pictures, [given.wasm, broken])
-    narrow(page, folder, broken, given.pictures and os.path.join(given.pictures, browser.name + "-narrow.png"))
+    narrow(page, folder, broken)
     served(browser, files, named)
     same(browser.errors(), [], "errors")
     return "%s %s: %s" % (browser.name, browser.version, ", ".join(said))
@@ -641,23 +576,18 @@ def tried(browser, given, made, folder):
 
 def main():
     more = [("--wasm", {"metavar": "FILE", "type": common.existing, "help": "the module with 32-bit memory"})]
-    more += [("--pictures", {"metavar": "DIR", "help": "where pictures of the page go"})]
-    given = common.arguments(__doc__, [("seed", 1), ("count", 20)], more=more)
-    if given.pictures:
-        os.makedirs(given.pictures, exist_ok=True)
+    given, status = common.arguments(__doc__, [("seed", 1), ("count", 20)], more=more), 0
     if not common.found("esbuild"):
         return 0
-    status = 0
     with tempfile.TemporaryDirectory() as folder:
         given.wasm = given.wasm or os.path.join(programs.build_targets(folder, "wasm32"), "pulleynavy32.wasm")
         made = common.load(os.path.join(common.TOP, "page", "pack"), "pack").pack(folder, given.wasm)
         for kind in (browsers.Chromium, browsers.Firefox):
             own = os.path.join(folder, kind.name)
             with browsers.started(kind, own) as browser:
-                if not browser:
-                    continue
                 try:
-                    print(tried(browser, given, made, own))
+                    if browser:
+                        print(tried(browser, given, made, own))
                 except (common.Failed, browsers.BrowserError) as failed:
                     print("FAILED %s: %s" % (kind.name, failed))
                     status = common.DIFFERS

@@ -51,36 +51,33 @@ class Reader:
 
     # ---- commands
 
+    def program(self, *words):
+        return self.run([self.clone + "/pulleynavy", *words])
+
     def list(self):
         events = [line for line in self.lines if not line.startswith("  ")]
-        said = self.run([self.clone + "/pulleynavy", "list", self.file]).decode().splitlines()
+        said = self.program("list", self.file).decode().splitlines()
         assert len(said) == len(events) and all(map(str.startswith, said, events)), "pulleynavy list does not list the module"
 
     def strip(self):
         other = os.path.join(self.place, "other.wasm")
-        self.run([self.clone + "/pulleynavy", "strip", self.file, "-o", other])
+        self.program("strip", self.file, "-o", other)
         assert common.read_bytes(other) == common.load(common.MODEL).strip(self.stream), "pulleynavy strip writes something else"
 
     def add(self):
-        data, program = self.write("data", b"by hand"), self.clone + "/pulleynavy"
-        added = self.run([program, "add", "note=" + data, self.file])
+        added = self.program("add", "note=" + self.write("data", b"by hand"), self.file)
         assert added == self.stream + b"\0\x0c\4noteby hand", "pulleynavy add writes something else"
-        assert self.run([program, "extract", "note", self.write("added.wasm", added)]) == b"by hand", "pulleynavy extract writes something else"
+        assert self.program("extract", "note", self.write("added.wasm", added)) == b"by hand", "pulleynavy extract writes something else"
 
     def dump(self):
         for words in OPTIONS:
-            assert self.run([self.clone + "/pulleynavy", "dump", *words, self.file]), "pulleynavy dump %s writes nothing" % words
+            assert self.program("dump", *words, self.file), "pulleynavy dump %s writes nothing" % words
 
     def check(self):
-        empty = self.write("empty.wasm", self.stream[:8])
-        assert self.run([self.clone + "/pulleynavy", "check", empty]) == b"", "pulleynavy check reports items of an empty module"
-
-    def install(self):
-        self.run([self.clone + "/install", self.prefix])
+        assert self.program("check", self.write("empty.wasm", self.stream[:8])) == b"", "pulleynavy check reports items of an empty module"
 
     def package(self):
-        words = [self.clone + "/tools/package"]
-        done = subprocess.run(words, cwd=self.place, stdout=subprocess.PIPE, stderr=subprocess.PIPE, text=True)
+        done = subprocess.run([self.clone + "/tools/package"], cwd=self.place, stdout=subprocess.PIPE, stderr=subprocess.PIPE, text=True)
         for line in done.stderr.splitlines() if done.returncode == common.NO_PROGRAM else []:
             common.skip(line)
         assert done.returncode in (0, common.NO_PROGRAM), "tools/package: status %d, %s" % (done.returncode, done.stderr[-400:])
@@ -88,7 +85,7 @@ class Reader:
     # ---- programs
 
     def c(self, code):
-        self.write("reader.c", (C % code).encode())
+        self.write("reader.c", C % code)
         flags = self.run(["pkg-config", "--cflags", "--libs", "pulleynavy"], env={"PKG_CONFIG_PATH": self.prefix + "/lib/pkgconfig"})
         self.run(["cc", "-Wall", "-Werror", "reader.c", *flags.decode().split(), "-o", "reader"])
         self.run(["./reader"], env={"LD_LIBRARY_PATH": self.prefix + "/lib"})
@@ -101,7 +98,7 @@ class Reader:
         package = os.path.join(self.place, "node_modules", "pulleynavy")
         shutil.copytree(self.clone + "/bindings/js", package)
         shutil.copy(self.clone + "/prebuilt/pulleynavy.wasm", package)
-        self.write("reader.mjs", (JS % code).encode())
+        self.write("reader.mjs", JS % code)
         assert self.run(["node", "reader.mjs"]), "the program in JavaScript prints nothing"
 
     def rust(self, code):
@@ -109,8 +106,8 @@ class Reader:
             lines = {line.strip() for path in glob.glob(common.TOP + "/crates/wasm_examples/src/*.rt") for line in open(path, encoding="utf-8")}
             assert {line.strip() for line in code.splitlines()} <= lines, "the program in Rattle is in no crate"
             return
-        self.write("rust/src/main.rs", (RUST % code).encode())
-        self.write("rust/Cargo.toml", (MANIFEST % (self.clone + "/bindings/rust")).encode())
+        self.write("rust/src/main.rs", RUST % code)
+        self.write("rust/Cargo.toml", MANIFEST % (self.clone + "/bindings/rust"))
         cargo.offline(self.place)
         words = ["cargo", "run", "--offline", "--quiet", "--manifest-path", self.place + "/rust/Cargo.toml"]
         environment = {name: value for name, value in os.environ.items() if name != "PULLEYNAVY_LIB"}
@@ -118,9 +115,16 @@ class Reader:
         assert done.stdout and not done.returncode, "the program in Rust: %s" % done.stderr.decode()[-400:]
 
 
-COMMANDS = {"./pulleynavy list FILE...": Reader.list, "./pulleynavy dump FILE...": Reader.dump, "./pulleynavy check FILE...": Reader.check}
-COMMANDS |= {"./pulleynavy strip FILE -o OTHER": Reader.strip, "./pulleynavy help dump": lambda reader: reader.run([reader.clone + "/pulleynavy", "help", "dump"])}
-COMMANDS |= {"./pulleynavy add NAME=DATA FILE": Reader.add, "./install PREFIX": Reader.install, "tools/package": Reader.package}
+COMMANDS = {
+    "./pulleynavy list FILE...": Reader.list,
+    "./pulleynavy dump FILE...": Reader.dump,
+    "./pulleynavy check FILE...": Reader.check,
+    "./pulleynavy strip FILE -o OTHER": Reader.strip,
+    "./pulleynavy add NAME=DATA FILE": Reader.add,
+    "./pulleynavy help dump": lambda reader: reader.program("help", "dump"),
+    "./install PREFIX": lambda reader: reader.run([reader.clone + "/install", reader.prefix]),
+    "tools/package": Reader.package,
+}
 PROGRAMS = {"c": Reader.c, "js": Reader.js, "python": Reader.python, "rust": Reader.rust}
 # What the machine needs for a program. `./install` makes the library for Python with a C compiler.
 NEEDED = {"c": ["cc", "pkg-config"], "js": ["node"], "python": ["cc"], "rust": ["cargo"]}

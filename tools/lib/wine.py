@@ -4,9 +4,13 @@ A program is linked with tools/lib/witness.c, which writes to a file that it beg
 not arrive, says nothing about the program: it is repeated, at most twice, and listed. Every other run counts, also one that crashes, writes nothing or lacks a DLL.
 """
 import contextlib
+import glob
 import os
+import re
+import shutil
 import subprocess
 
+import cargo
 import common
 
 COMPILERS = ("x86_64-w64-mingw32-gcc", "x86_64-w64-mingw32-g++")
@@ -15,6 +19,11 @@ WITNESS = os.path.join(common.LIB, "witness.c")
 # The exit status where no run was one of the program, and how many runs may be repeated.
 LOST, MOST_REPEATED = 99, 10
 SCRIPT = common.read("tools", "lib", "templates", "wine.sh")
+# What Rust calls Windows, and the DLL from which it takes random numbers and that wine 8 lacks.
+TARGET = "x86_64-pc-windows-gnu"
+RANDOM = common.read("tools", "lib", "templates", "random.c")
+# Runs the tests of a file, which begin with a line that says how many there are. A run without it is one that wine lost.
+RUNNER = common.read("tools", "lib", "templates", "runner.sh")
 
 
 class Wine:
@@ -57,3 +66,49 @@ def windows(folder):
         wine.call("wineserver", "--kill", "--wait")
         for line in wine.repeated():
             print("wine lost a run: %s" % line, flush=True)
+
+
+def compiler():
+    """A compiler, and the sources of its standard library with all that they need."""
+    for path in (shutil.which("rustc"), "/usr/bin/rustc"):
+        if path and os.path.exists(path):
+            found = subprocess.run([path, "--print", "sysroot"], stdout=subprocess.PIPE, check=True).stdout.decode().strip()
+            library = os.path.join(found, "lib", "rustlib", "src", "rust", "library")
+            if os.path.isdir(os.path.join(library, "vendor")):
+                return path, library
+    common.skip("missing: rustc-web with rust-web-src, so the crate for Rust is not tried on Windows")
+    return None
+
+
+def wrong_crate(library, system):
+    """What is wrong with the tests of the crate for Rust, linked with the archive for Windows of this folder. Debian has no standard library of a
+    new Rust for Windows, so cargo builds it from Debian's sources of Rust."""
+    found = compiler() if cargo.found() else None
+    if not found:
+        return []
+    place, crate = os.path.join(system.folder, "rust"), os.path.join(system.folder, "rust", "crate")
+    shutil.copytree(os.path.join(common.TOP, "bindings", "rust"), crate)
+    random, dll = common.write(os.path.join(place, "random.c"), RANDOM), os.path.join(place, "bcryptprimitives.dll")
+    subprocess.run([COMPILERS[0], "-shared", "-static", "-o", dll, random, "-ladvapi32"], check=True)
+    # A script that runs a program of cargo under wine.
+    values = {"dlls": "Z:" + place.replace("/", "\\"), "wine": " ".join([*system.words, "wine"]), "folder": system.folder}
+    runner = common.write(os.path.join(place, "wine"), RUNNER % values)
+    os.chmod(runner, 0o755)
+    # Cargo looks for the optional dependency too, and it isn't among the crates that the standard library needs.
+    manifest = os.path.join(crate, "Cargo.toml")
+    common.write(manifest, re.sub(r"^serde = .*\n", "", common.read(manifest), flags=re.M))
+    settings = {"RUSTC": found[0], "RUSTC_BOOTSTRAP": "1", "PULLEYNAVY_LIB": library, "PULLEYNAVY_GOLDEN": common.GOLDEN}
+    settings |= {"CARGO_TARGET_DIR": os.path.join(place, "target")}
+    name = "CARGO_TARGET_%s_" % TARGET.upper().replace("-", "_")
+    settings |= {name + "LINKER": COMPILERS[0], name + "RUNNER": runner}
+    vendored = ['source.crates-io.replace-with="vendored"', 'source.vendored.directory="%s/vendor"' % found[1]]
+    words = ["cargo", "test", "--offline", "--quiet", "--tests", "--no-fail-fast", "--target", TARGET, "-Z", "build-std=std,test,panic_unwind"]
+    words += [word for setting in vendored for word in ("--config", setting)]
+    done = subprocess.run(words, cwd=crate, env={**os.environ, **settings}, stdin=subprocess.DEVNULL, stdout=subprocess.PIPE, stderr=subprocess.STDOUT)
+    text = done.stdout.decode(errors="replace")
+    # A result for the tests in src, and one for each file of tests.
+    passed, wanted = re.findall(r"^test result: ok\. (\d+) passed; 0 failed; 0 ignored;", text, re.M), 1 + len(glob.glob(crate + "/tests/*.rs"))
+    if done.returncode or len(passed) != wanted:
+        return ["the tests of the crate on Windows: status %d, %d of %d files pass\n%s" % (done.returncode, len(passed), wanted, text[-2000:])]
+    print("x86_64-windows, the crate for Rust under wine: %d tests pass" % sum(map(int, passed)), flush=True)
+    return []

@@ -3,6 +3,7 @@ import os
 import re
 
 import common
+from names import prose
 
 # Each pattern, and what to write. Identifiers that the API fixes (`piece`, `ParseAnswer`) are code, which is not looked at.
 AVOIDED = [
@@ -33,15 +34,12 @@ CODE = re.compile(r"`[^`]*`")
 LEFT_OUT = ("docs/history/", "prebuilt/", "tools/lib/words.py", "bindings/js/declared", "bindings/rust/src/ffi.rs")
 
 
-def texts(path, lines):
+def texts(path):
     """The numbers and texts of lines that are prose: all of a document, and the comments of code."""
-    is_block = False
-    for number, line in enumerate(lines, 1):
-        if path.endswith(".md"):
-            is_block ^= line.startswith("```")
-            if not is_block and not line.startswith("    "):
-                yield number, line
-            continue
+    if path.endswith(".md"):
+        yield from prose(path)
+        return
+    for number, line in enumerate(common.read_bytes(path).decode(errors="replace").split("\n"), 1):
         found = COMMENT.search(line)
         if found:
             yield number, found[1] or found[2] or ""
@@ -54,9 +52,7 @@ def faults(paths):
         name = os.path.relpath(path, common.TOP)
         if name.startswith(LEFT_OUT):
             continue
-        with open(path, encoding="utf-8", errors="replace") as file:
-            lines = file.read().split("\n")
-        for number, text in texts(name, lines):
+        for number, text in texts(path):
             for pattern, instead in AVOIDED:
                 found = pattern.search(CODE.sub("", text))
                 if found:
