@@ -1,5 +1,5 @@
 // SPDX-License-Identifier: Apache-2.0 OR MIT
-// The package with its module inside, for bundles that are one file. tools/lib/packages.py writes pulleynavy.wasm.js.
+// The package with its module inside, for bundles that are one file. bindings/packaging/packages.py writes pulleynavy.wasm.js.
 import base64 from "./pulleynavy.wasm.js";
 import { load as loadFrom } from "./pulleynavy.js";
 

@@ -22,13 +22,13 @@ COMMANDS = {
     "try": {
         "tests": ("try_tests", "the tests of tests/ and the benchmark, without proofs"),
         "examples": ("try_examples", "the examples of the doc comments, without proofs"),
-        "c": ("try_c", "the C library, its examples, and the bindings for Rust and Python"),
+        "c": ("test_c", "the C library, its examples, and the bindings for Rust and Python"),
         "cross": ("try_desktops:cross", "the C library for aarch64, under qemu"),
         "desktops": ("try_desktops", "the C library for Windows, macOS, FreeBSD and riscv64, and its packages"),
-        "js": ("try_js", "the JavaScript package in Node and browsers, and bundles of it"),
+        "js": ("test_js", "the JavaScript package in Node and browsers, and bundles of it"),
         "documents": ("try_documents", "the programs of docs/CALLING.md, in each language"),
-        "page": ("try_page", "the page, in Chromium and Firefox"),
-        "packages": ("try_packages", "each package as its user would, and a clone in a system without the toolchain"),
+        "page": ("test_page", "the page, in Chromium and Firefox"),
+        "packages": ("test_packages", "each package as its user would, and a clone in a system without the toolchain"),
         "readme": ("try_readme", "every command and program of README.md, in a new clone"),
     },
     "generate": {
@@ -38,10 +38,10 @@ COMMANDS = {
         "manuals": ("generate_manuals", "manual pages of ten calls of the C library, from the header"),
     },
     "bench": {
-        "tables": ("bench_tables", "instructions and times on made files"),
-        "files": ("bench_files", "times or instructions of the programs on whole files, next to other tools"),
-        "scaling": ("bench_files:scaling", "how time and memory grow with a file, and what more processes gain"),
-        "inlining": ("bench_inlining", "instructions if functions are inlined otherwise, without proofs"),
+        "tables": ("tables", "instructions and times on made files"),
+        "files": ("files", "times or instructions of the programs on whole files, next to other tools"),
+        "scaling": ("files:scaling", "how time and memory grow with a file, and what more processes gain"),
+        "inlining": ("inlining", "instructions if functions are inlined otherwise, without proofs"),
     },
 }
 

@@ -17,10 +17,15 @@ import sys
 sys.dont_write_bytecode = True
 TOP = os.path.dirname(os.path.dirname(os.path.dirname(os.path.abspath(__file__))))
 LIB = os.path.join(TOP, "tools", "lib")
+# Where modules are that only one part of the project needs. They can be imported after this one.
+PLACES = ("bindings/js/tests", "bindings/packaging", "bindings/rust/tests/surface", "crates/wasm_c/examples", "page/site", "page/tests", "tools/benches")
+sys.path[1:1] = [os.path.join(TOP, place) for place in PLACES]
 MODEL = os.path.join(TOP, "tools", "model", "model.py")
 MODEL_OF_ITEMS = os.path.join(TOP, "tools", "model", "model_items.py")
 GOLDEN = os.path.join(TOP, "tools", "golden.jsonl")
 
+# How many differences a tool prints.
+SHOWN = 5
 # The status of a tool that found a difference, that was called wrongly, that lacks its program, and that may skip nothing.
 DIFFERS, WRONG_USE, NO_PROGRAM, SKIPPED = 1, 2, 3, 4
 
@@ -128,18 +133,6 @@ def all_found(names):
     return all([found(name) for name in names])
 
 
-def has_library(name, package):
-    """Whether this Python has a library. If only Debian's own Python has it, that runs the tool instead."""
-    if importlib.util.find_spec(name):
-        return True
-    debian = "/usr/bin/python3"
-    has = os.path.realpath(sys.executable) != os.path.realpath(debian) and os.path.exists(debian)
-    if has and not subprocess.run([debian, "-c", "import " + name], stderr=subprocess.DEVNULL).returncode:
-        os.execv(debian, [debian, *sys.argv])
-    skip("missing: %s" % package)
-    return False
-
-
 # ---- arguments
 
 
@@ -172,16 +165,16 @@ def existing(path):
     return os.path.abspath(path)
 
 
-def arguments(doc, numbers=(), files=False, show=None, more=()):
+def arguments(doc, numbers=(), files=False, more=(), **paths):
     """The arguments of a tool: first numbers, each with its name and what it is if left out, then files.
 
-    `show` is how many differences it prints, and `more` has other options, as `add_argument` takes them.
+    `paths` has options for a file or folder, each with what it is, and `more` other options, as `add_argument` takes them.
     """
     usage = "".join(" [%s]" % name.upper() for name, _ in numbers) + (" [FILE..]" if files else "")
     line = parser(doc, usage="%(prog)s" + usage + " [OPTION..]")
     line.add_argument("files", nargs="*", metavar=usage.strip() or "nothing", help=argparse.SUPPRESS)
-    if show is not None:
-        line.add_argument("--show", metavar="N", type=whole, default=show, help="how many differences are printed (%d)" % show)
+    for name, what in paths.items():
+        line.add_argument("--" + name, metavar="FILE", type=existing, help=what)
     for flag, options in more:
         line.add_argument(flag, **options)
     given = line.parse_intermixed_args()
@@ -285,12 +278,6 @@ def checksum_lines(paths, top=TOP):
         yield "%s  %s\n" % (hashlib.sha256(read_bytes(path)).hexdigest(), os.path.relpath(path, top))
 
 
-def sources_of_programs():
-    """The files of code that the prebuilt programs are made of, in order. Definitions and proofs change no byte of a program."""
-    for crate in sorted({crate for name in ("wasm_list", "pulleynavy") for crate in crates_of(name)}):
-        yield from (path for path in sources_of(crate) if os.path.join("crates", crate, "src") in path)
-
-
 def checksum_of_sources():
     """A checksum of the names and bytes of all sources."""
     whole = hashlib.sha256()
@@ -388,22 +375,17 @@ def number_at(data, place):
 # ---- differences
 
 
-def agrees(line, expected):
-    """Whether a text is what the model says; after a star it says no more."""
-    return line == expected or expected.endswith("*") and line.startswith(expected[:-1])
-
-
 def first_difference(given, expected):
     """The first line that isn't what the model says, as a text, if there is one."""
     for number, (said, wanted) in enumerate(itertools.zip_longest(given, expected, fillvalue="nothing"), 1):
-        if not agrees(said, wanted):
+        if said != wanted:
             return "line %d\n  program %s\n  model   %s" % (number, said[:300], wanted[:300])
     return None
 
 
-def tell(found, show, summary):
-    """Prints some of the differences and the summary, and gives the status of the tool."""
-    for text in found[:show]:
+def tell(found, summary, shown=SHOWN):
+    """Prints some of the differences, or all of them, and the summary, and gives the status of the tool."""
+    for text in found[:shown]:
         print("DIFFERS", text)
     print(summary)
     return DIFFERS if found else 0

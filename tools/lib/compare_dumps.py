@@ -11,7 +11,7 @@ from common import number_at
 from items import CUSTOM, ROWS, SECTIONS, mutated
 from modules import stream_of
 from streams import random_bytes, some_large_stream
-from texts import dump_lines, in_hex, row_lines
+from texts import dump_lines, in_hex
 
 # ---- dumps
 
@@ -95,12 +95,12 @@ def golden_differs(task, stream, output, lines):
 
 def golden():
     """Compares listings and dumps of the built programs with what wasmparser 0.263.0 says of the streams of tools/golden.jsonl."""
-    given, found, pairs = comparing.arguments(golden.__doc__, None, show=5), [], common.golden()
+    given, found, pairs = comparing.arguments(golden.__doc__, None), [], common.golden()
     for task in ("list", "dump"):
         for stream, lines in pairs:
             text = golden_differs(task, stream, programs.run(programs.command(task), stream)[0], lines)
             found += ["%s of %s\n  %s" % (task, stream.hex(), text)] if text else []
-    return common.tell(found, given.show, "%d streams, listed and dumped, %d differ" % (len(pairs), len(found)))
+    return common.tell(found, "%d streams, listed and dumped, %d differ" % (len(pairs), len(found)))
 
 
 # ---- items
@@ -156,11 +156,11 @@ def cases_of(files, outcome):
             common.stop(common.WRONG_USE, "a module of the files has a fault: tools/compare dump can compare it")
 
 
-def items_differ(words, outcome, cases):
+def items_differ(words, model, cases):
     """What differs of each case, read in one run of the program."""
     for case, lines in zip(cases, rows.run(words, [rows.row_line(*case) for case in cases])):
         row, data, offset, features = case
-        found = common.first_difference(lines, row_lines(outcome, case))
+        found = common.first_difference(lines, rows.model_lines(model, case))
         yield found and "%s %s offset %d features %d, %s" % (row, data.hex()[:2000], offset, features, found)
 
 
@@ -173,7 +173,7 @@ def items():
     """
     more = [("--only", {"metavar": "ROW", "choices": sorted(ROWS), "help": "one row: %s" % ", ".join(ROWS)})]
     given = comparing.arguments(items.__doc__, "rows", common.MODEL_OF_ITEMS, numbers=[("seed", 1), ("count", 100000)], files=True, more=more)
-    rng, outcome, readers = random.Random(given.seed), given.known.outcome, [given.only] if given.only else list(ROWS)
-    cases = cases_of(given.files, outcome) if given.files else (some_case(rng, readers) for _ in range(given.count))
+    rng, readers = random.Random(given.seed), [given.only] if given.only else list(ROWS)
+    cases = cases_of(given.files, given.known.outcome) if given.files else (some_case(rng, readers) for _ in range(given.count))
     with_data = lambda case, data: (case[0], data, min(case[2], 2**64 - 1 - len(data)), case[3])
-    return comparing.compare(given, cases, lambda many: list(items_differ(given.command, outcome, many)), lambda case: case[1], with_data, 20000)
+    return comparing.compare(given, cases, lambda many: list(items_differ(given.command, given.known, many)), lambda case: case[1], with_data, 20000)

@@ -21,8 +21,7 @@ import common
 import comparing
 import programs
 import standard
-from made import module, named_module, other_names
-from modules import section, stream_of
+from modules import module, named_module, other_names, section, stream_of
 from streams import COMPONENT, some_stream
 from texts import dumps, in_hex
 
@@ -207,7 +206,7 @@ def forms_differ(words, stream):
 
 
 def main():
-    given = comparing.arguments(__doc__, "dump", numbers=[("seed", 1), ("count", 300)], files=True, show=5)
+    given = comparing.arguments(__doc__, "dump", numbers=[("seed", 1), ("count", 300)], files=True)
     rng = random.Random(given.seed)
     # Two sections of names, a shared memory, and a section of a component with an id that modules have.
     streams = [named_module(), named_module() + other_names(), module(section(5, b"\1\3\1\2")), COMPONENT + section(1, b"\0")]

@@ -147,7 +147,7 @@ def file_differs(words, checks, path):
 
 
 def main():
-    given = comparing.arguments(__doc__, "dump", numbers=[("seed", 1), ("count", 60)], files=True, show=5)
+    given = comparing.arguments(__doc__, "dump", numbers=[("seed", 1), ("count", 60)], files=True)
     checks = [given.command[0], "check"]
     if not common.all_found(["clang", "wasm-ld", "llvm-readobj", "wasm-objdump"]):
         return 0
@@ -155,4 +155,4 @@ def main():
     with tempfile.TemporaryDirectory() as folder:
         paths = [some_file(rng, folder, "p%d" % number) for number in range(given.count)] + given.files
         found = [text for text in comparing.one_by_one(lambda path: file_differs(given.command, checks, path))(paths) if text]
-    return common.tell(found, given.show, "%d compared, %d differ (seed %d)" % (len(paths), len(found), given.seed))
+    return common.tell(found, "%d compared, %d differ (seed %d)" % (len(paths), len(found), given.seed))

@@ -12,6 +12,7 @@ import common
 import comparing
 import pieces
 import programs
+import rows
 from common import number_at
 from streams import some_large_stream, some_stream
 
@@ -110,17 +111,14 @@ def cuttings(stream, has_random):
 
 def chunks_differ(words, model, streams, has_random=True):
     """What differs of each stream, read by `read_pieces` and by a feeder in one run of the program."""
-    cases, wanted, owners = [], [], []
+    cases, found = [], [None] * len(streams)
     for place, stream in enumerate(streams):
         offset, ways = cuttings(stream, has_random)
-        for way in ways:
-            cases += [pieces.case("events", offset, way), pieces.case("steps", offset, way)]
-            wanted += [pieces.expected_events(model, stream, offset), pieces.expected_steps(model, way, offset)]
-            owners += [place, place]
-    found = [None] * len(streams)
-    for place, row, line, expected in zip(owners, cases, pieces.run(words, cases), wanted):
-        text = differing(pieces.said_of(line), expected)
-        found[place] = found[place] or text and row[:2000] + "  " + text
+        cases += [(place, reader, pieces.joined(way), offset) for way in ways for reader in ("events", "steps")]
+    lines = [rows.row_line(*case) for _, *case in cases]
+    for (place, *case), line, said in zip(cases, lines, rows.run(words, lines)):
+        text = differing(said, pieces.model_lines(model, *case))
+        found[place] = found[place] or text and line[:2000] + "  " + text
     return found
 
 
@@ -134,7 +132,7 @@ def chunks():
     are compared, what is then held, and what is stored.
     """
     more = [("--short", {"metavar": "DEPTH", "type": common.whole, "help": "short streams instead of random ones"})]
-    given = comparing.arguments(chunks.__doc__, "rows", common.MODEL, numbers=[("seed", 1), ("count", 10000)], show=5, more=more)
+    given = comparing.arguments(chunks.__doc__, "rows", common.MODEL, numbers=[("seed", 1), ("count", 10000)], more=more)
     shorts = (front + more for front, more in given.known.short_streams(given.short or 0))
     streams = comparing.drawn(given, some_stream) if given.short is None else shorts
     return comparing.compare(given, streams, lambda many: chunks_differ(given.command, given.known, many, given.short is None))

@@ -1,5 +1,4 @@
 """What the subcommands of tools/compare share: their arguments, random streams, and the smallest stream that fails."""
-import argparse
 import itertools
 import os
 import random
@@ -42,22 +41,15 @@ def smallest(data, fails):
     return data
 
 
-def executable(path):
-    """The whole path of a program."""
-    if not os.access(common.existing(path), os.X_OK) or os.path.isdir(path):
-        raise argparse.ArgumentTypeError("%s is no program" % path)
-    return os.path.abspath(path)
-
-
-def arguments(about, task, model=None, show=10, more=(), **others):
+def arguments(about, task, model=None, **others):
     """The arguments of a comparison; `command` is that of its program, and `known` its model."""
-    options = [("--program", {"metavar": "FILE", "type": executable, "help": "the program, instead of the built one"})] if task else []
     if model:
-        about_it = "a model, instead of tools/model/%s" % os.path.basename(model)
-        options.append(("--model", {"metavar": "FILE", "type": common.existing, "default": model, "help": about_it}))
-    given = common.arguments(about, show=show, more=[*options, *more], **others)
-    given.command = programs.command(task, given.program) if task else None
-    given.known = common.load(given.model) if model else None
+        others["model"] = "a model, instead of tools/model/%s" % os.path.basename(model)
+    given = common.arguments(about, **others)
+    given.command = programs.command(task) if task else None
+    if model:
+        given.model = given.model or model
+        given.known = common.load(given.model)
     return given
 
 
@@ -82,7 +74,7 @@ def compare(given, streams, differences, data_of=lambda one: one, with_data=lamb
             break
         count += len(batch)
         found += [one for one, text in zip(batch, differences(batch)) if text]
-    for one in found[: given.show]:
+    for one in found[: common.SHOWN]:
         data = smallest(data_of(one), lambda data: differences([with_data(one, data)])[0])
         print("DIFFERS %s\n  %s" % (data.hex()[:4000], differences([with_data(one, data)])[0]))
     print("%d compared, %d differ%s" % (count, len(found), " (seed %d)" % given.seed if hasattr(given, "seed") else ""))

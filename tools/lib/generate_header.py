@@ -24,9 +24,9 @@ SOURCES += ["imports", "flat_imports", "exports", "instructions", "segments", "n
 
 # The header without what is written from the sources. Compilers of older standards, of C or C++ before 2011, skip its assertions.
 TEMPLATE = common.read("tools", "lib", "templates", "header.h")
-FAULT_KINDS = """The kinds of faults: the lowest 8 bits of the number of a fault. 0 is no fault. No call returns OUT_OF_MEMORY, since none
-    allocates, or INVALID_BOOL, since no item has such a byte. Only cursors return SIZE_MISMATCH, NAMES_ORDER, INDIRECT_ORDER and
-    NAME_SECTION_ORDER; only the checks of an end return CUSTOM_TRAILING and NAME_TRAILING."""
+# The enumerations.
+TABLE = common.read("tools", "lib", "templates", "enumerations.txt")
+
 
 @functools.lru_cache(maxsize=None)
 def source(name):
@@ -138,15 +138,6 @@ def faults():
     return numbered(r"Fault::(\w+)(?:\(\w+\))? => (\d+)", source("faults"), "faults")
 
 
-# The opcodes of constant expressions, by the variants of `ConstOperator`. One of two parts is 256 times the first plus the second.
-OPCODES = {
-    "End": 0x0b, "GlobalGet": 0x23, "I32Const": 0x41, "I64Const": 0x42, "F32Const": 0x43, "F64Const": 0x44, "I32Add": 0x6a,
-    "I32Sub": 0x6b, "I32Mul": 0x6c, "I64Add": 0x7c, "I64Sub": 0x7d, "I64Mul": 0x7e, "RefNull": 0xd0, "RefFunc": 0xd2,
-    "StructNew": 0xfb00, "StructNewDefault": 0xfb01, "ArrayNew": 0xfb06, "ArrayNewDefault": 0xfb07, "ArrayNewFixed": 0xfb08,
-    "AnyConvertExtern": 0xfb1a, "ExternConvertAny": 0xfb1b, "RefI31": 0xfb1c, "V128Const": 0xfd0c,
-}
-
-
 def detail(of):
     """The numbers that the bits above the kind of a fault may be, by an enum of the sources."""
     return numbered(r"\b%s::(\w+) => (\d+)," % of, source("faults"), of)
@@ -159,14 +150,14 @@ def matched(name):
     return sorted({(upper(variant), int(number)) for variant, number in rows}, key=lambda row: row[1])
 
 
-def opcodes():
-    """The opcodes, compared with those that the sources name in one line with their variant."""
-    text = source("instructions")
+def opcodes(words):
+    """The opcodes of constant expressions by the variants of `ConstOperator`, compared with those that the sources name in one line with their variant."""
+    text, known = source("instructions"), {name: int(code, 16) for name, _, code in (word.partition("=") for word in words)}
     found = dict(re.findall(r"ConstOperator::(\w+)(?: \{ \w+ \})? => \w+\(consumed, (0x\w+)", text))
-    missing = set(re.findall(r"ConstOperator::(\w+)", text)) ^ set(OPCODES)
-    if missing or any(int(code, 16) != OPCODES[name] for name, code in found.items()):
+    missing = set(re.findall(r"ConstOperator::(\w+)", text)) ^ set(known)
+    if missing or any(int(code, 16) != known[name] for name, code in found.items()):
         common.stop(common.DIFFERS, "the opcodes are not those of crates/wasm_plain/src/instructions.rt")
-    return [(re.sub(r"(?<=[0-9])(?=[A-Z])", "_", upper(name)), code) for name, code in OPCODES.items()]
+    return [(re.sub(r"(?<=[0-9])(?=[A-Z])", "_", upper(name)), code) for name, code in known.items()]
 
 
 def custom_source(name):
@@ -187,55 +178,35 @@ def flags(of):
     return numbered(r"pub const (\w+): %s = %s\(([0-9x_a-f]+)\);" % (of, of), custom_source("flags"), of)
 
 
-def coded(names, of=None):
+def coded(names, of):
     """The numbers of a coded field by their names, from 0 on, among them those of the `match` that an enum of the sources has. Without names, the latter."""
-    found = matched(of) if of else []
-    rows = [(name, number) for number, name in enumerate(names.split())] or found
-    if any(row not in rows for row in found) or of and not found:
+    found = [] if of == "-" else matched(of)
+    rows = [(name, number) for number, name in enumerate(names)] or found
+    if any(row not in rows for row in found) or of != "-" and not found:
         common.stop(common.DIFFERS, "the numbers of %s are %s, and not those of the header" % (of, found))
     return rows
 
 
-# Each enumeration: a comment, its name, and what finds its numbers.
-ENUMERATIONS = [
-    (FAULT_KINDS, "pulleynavy_fault_kind", faults),
-    ("The kind of the number of NUMBER_TOO_LONG and NUMBER_TOO_LARGE: the bits above the lowest 8.", "pulleynavy_number_kind", detail, "NumberKind"),
-    ("What the byte of LEADING_BYTE should have begun: the bits above the lowest 8.", "pulleynavy_lead", detail, "Lead"),
-    ("The part of a core dump that the byte of CORE_START_BYTE should have begun: the bits above the lowest 8.",
-     "pulleynavy_core_start", detail, "CoreStart"),
-    ("The id of a section of a module.", "pulleynavy_section_id", coded,
-     "CUSTOM TYPE IMPORT FUNCTION TABLE MEMORY GLOBAL EXPORT START ELEMENT CODE DATA DATA_COUNT TAG"),
-    ("The kind of a type: of a value, or of what a field holds.", "pulleynavy_type_kind", coded, "I32 I64 F32 F64 V128 REF I8 I16"),
-    ("The type of what a reference refers to.", "pulleynavy_heap_kind", coded,
-     "FUNC EXTERN ANY EQ I31 STRUCT ARRAY EXN NONE NO_EXTERN NO_FUNC NO_EXN CONCRETE", "HeapType"),
-    ("The kind of a composite type.", "pulleynavy_composite_kind", coded, "FUNC ARRAY STRUCT"),
-    ("The kind of an import or export.", "pulleynavy_external_kind", coded, "FUNC TABLE MEMORY GLOBAL TAG FUNC_EXACT", "ExternalKind"),
-    ("The kind of an item of an import section: an import, a bundle of imports from one module, or a bundle of one module and one type.",
-     "pulleynavy_import_kind", coded, "SINGLE BUNDLE BUNDLE_OF_TYPE"),
-    ("The kind of an element segment.", "pulleynavy_element_kind", coded, "PASSIVE ACTIVE DECLARED", "ElementKind"),
-    ("The kind of a data segment.", "pulleynavy_data_kind", coded, "PASSIVE ACTIVE", "DataKind"),
-    ("The kind of a custom section, by its name.", "pulleynavy_custom_kind", coded,
-     "UNKNOWN NAME BRANCH_HINTS PRODUCERS DYLINK0 LINKING RELOC CORE CORE_MODULES CORE_INSTANCES CORE_STACK"),
-    ("The kind of a symbol.", "pulleynavy_symbol_kind", coded, "FUNC DATA GLOBAL SECTION EVENT TABLE"),
-    ("The kind of a symbol of a comdat.", "pulleynavy_comdat_kind", coded, "DATA FUNC GLOBAL EVENT TABLE SECTION", "ComdatSymbolKind"),
-    ("The type of a relocation.", "pulleynavy_relocation_kind", coded, "", "RelocationType"),
-    ("The kind of a value of a core dump.", "pulleynavy_core_value_kind", coded, "MISSING I32 I64 F32 F64", "CoreDumpValue"),
-    ("The kind of an edit.", "pulleynavy_edit_kind", coded, "APPEND REPLACE REMOVE KEEP", "Edit"),
-    ("Whether an edited stream was written, and why not.", "pulleynavy_edit_status", coded,
-     "DONE NO_ROOM MALFORMED UNKNOWN_KIND NAME_NOT_UTF8 SECTION_TOO_LARGE", "EditStatus"),
-    ("The id of a subsection of `name`.", "pulleynavy_name_id", subsection_ids, "names", "Name"),
-    ("The id of a subsection of `linking`.", "pulleynavy_linking_id", subsection_ids, "linking", "Linking"),
-    ("The id of a subsection of `dylink.0`.", "pulleynavy_dylink_id", subsection_ids, "dylink0", "Dylink0Subsection"),
-    ("The opcode of an instruction of a constant expression. An opcode of two parts is 256 times the first plus the second.",
-     "pulleynavy_opcode", opcodes),
-    ("The flags of a symbol, as bits.", "pulleynavy_symbol_flags", flags, "SymbolFlags"),
-    ("The flags of a segment for linkers, as bits.", "pulleynavy_segment_flags", flags, "SegmentFlags"),
-]
+# What finds the numbers of an enumeration, by the names in its row and the words after how it is found.
+FINDS = {
+    "faults": lambda names: faults(),
+    "detail": lambda names, of: detail(of),
+    "coded": coded,
+    "subsections": lambda names, file, of: subsection_ids(file, of),
+    "opcodes": opcodes,
+    "flags": lambda names, of: flags(of),
+}
 
 
+@functools.lru_cache(maxsize=None)
 def enumerations():
     """The comment, the name and the numbers of each enumeration."""
-    return [(comment, tag, find(*words)) for comment, tag, find, *words in ENUMERATIONS]
+    found = []
+    for tag, how, lines in re.findall(r"^(\w+): (.*)\n((?: .*\n)+)", TABLE, re.M):
+        comment, names = (re.findall(start + "(.*)", lines) for start in ("    ", "  = "))
+        find, *words = how.split()
+        found.append((" ".join(comment), tag, FINDS[find](" ".join(names).split(), *words)))
+    return found
 
 
 # ---- the header

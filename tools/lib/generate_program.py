@@ -150,26 +150,7 @@ def offered(name):
 def bash():
     words = {name: " ".join(word for names, _, _ in offered(name) for word in names) for name in program.COMMANDS}
     cases = "\n".join('        %s) words="%s" ;;' % pair for pair in words.items())
-    return """# Completions of pulleynavy for bash. Made by tools/generate program.
-_pulleynavy() {
-    local word=${COMP_WORDS[COMP_CWORD]} before=${COMP_WORDS[COMP_CWORD-1]} words=""
-    COMPREPLY=()
-    case ${COMP_WORDS[1]:-} in
-%s
-    esac
-    if [[ $COMP_CWORD -eq 1 || ( $COMP_CWORD -eq 2 && $before == help ) ]]; then
-        words="%s help --help --version"
-    elif [[ $before == --section ]]; then
-        words="%s"
-    elif [[ $word != -* ]]; then
-        words=""
-    fi
-    if [[ -n $words ]]; then
-        mapfile -t COMPREPLY < <(compgen -W "$words" -- "$word")
-    fi
-}
-complete -o default -F _pulleynavy pulleynavy
-""" % (cases, COMMANDS, SECTIONS)
+    return common.read("tools", "lib", "templates", "completion.bash") % (cases, COMMANDS, SECTIONS)
 
 
 def zsh_option(names, value, said):
@@ -187,22 +168,7 @@ def zsh():
         options = " \\\n".join(zsh_option(*option) for option in offered(name))
         cases.append("    %s)\n        _arguments \\\n%s \\\n            '*:file:_files'\n        ;;" % (name, options))
     commands = " ".join("'%s:%s'" % (name, about["summary"]) for name, about in program.COMMANDS.items())
-    return """#compdef pulleynavy
-# Completions of pulleynavy for zsh. Made by tools/generate program.
-local -a commands
-commands=(%s 'help:print a summary')
-if (( CURRENT == 2 )); then
-    _describe command commands
-    _arguments '--help[print a summary]' '--version[print the version]'
-    return
-fi
-shift words
-(( CURRENT-- ))
-case $words[1] in
-%s
-    help) _describe command commands ;;
-esac
-""" % (commands, "\n".join(cases))
+    return common.read("tools", "lib", "templates", "completion.zsh") % (commands, "\n".join(cases))
 
 
 def fish():

@@ -45,7 +45,7 @@ def other_words():
     found = set()
     for top in OTHERS:
         for folder, folders, names in os.walk(os.path.join(common.TOP, top)):
-            folders[:] = [name for name in folders if name not in ("__pycache__", "node_modules", "target", "dist")]
+            folders[:] = [name for name in folders if name not in ("__pycache__", "node_modules", "out", "target", "dist")]
             for name in names:
                 if not name.endswith((".md", ".jsonl", ".png", ".html")):
                     found.update(re.findall(r"\w+", common.read(os.path.join(folder, name))))
@@ -210,7 +210,7 @@ def wrong_statements(path):
     """Statements for callers that the modules ForCallers don't pass on, and those that no row has."""
     rows = [(number, cells[0]) for number, crates, cells in rows_of(path, 2) if crates and cells[0].startswith("`")]
     listed = {name: number for number, cell in rows for name in QUOTED.findall(cell)}
-    passed_on = declared.crate("wasm_parser").for_callers | declared.crate("wasm_feeder").for_callers
+    passed_on = set().union(*(declared.crate(crate).for_callers for crate in ("wasm_parser", "wasm_streams", "wasm_feed")))
     for name in sorted(set(listed) - passed_on):
         yield listed[name], "no %s in ForCallers" % name
     told = set(QUOTED.findall(common.read(path)))

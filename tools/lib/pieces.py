@@ -1,16 +1,10 @@
 """Streams in chunks: the cases that the program wasm_rows reads, and what a model says of them."""
-import rows
 from common import leb, number_at
 
 
 def joined(pieces):
     """The bytes of a row of chunks: their count, and each after its size."""
     return leb(len(pieces)) + b"".join(leb(len(piece)) + piece for piece in pieces)
-
-
-def case(reader, offset, pieces):
-    """The row of a stream in chunks."""
-    return rows.row_line(reader, joined(pieces), offset)
 
 
 # ---- what the model says
@@ -53,15 +47,10 @@ def pieces_in(data):
     return pieces
 
 
-def model_lines(model, case):
-    """The lines that a model has for a row of a stream in chunks; None for other rows."""
-    reader, data, offset, _ = case
-    if reader == "events":
-        parts = expected_events(model, b"".join(pieces_in(data)), offset)
-    elif reader == "steps":
-        parts = expected_steps(model, pieces_in(data), offset)
-    else:
-        return None
+def model_lines(model, reader, data, offset):
+    """The lines that a model has for a row of a stream in chunks, whose reader is `events` or `steps`."""
+    pieces = pieces_in(data)
+    parts = expected_events(model, b"".join(pieces), offset) if reader == "events" else expected_steps(model, pieces, offset)
     return ["  " + "".join(part + "; " for part in parts)]
 
 
@@ -75,15 +64,3 @@ def cut(rng, stream):
 
 def with_empty(rng, pieces):
     return [part for piece in pieces for part in ([b""] * rng.randrange(2) + [piece])]
-
-
-# ---- the program
-
-
-def run(words, cases):
-    """The line that it writes of each case."""
-    return [" / ".join(line[2:] for line in lines) for lines in rows.run(words, cases)]
-
-
-def said_of(line):
-    return [part for part in line.split("; ") if part]

@@ -4,14 +4,12 @@ import os
 import shutil
 import subprocess
 import sys
-import tempfile
 
 import common
 
 # The words of each task: a crate that is a program, and its first arguments.
 WORDS = {
     "list": ["wasm_list"],
-    "named": ["pulleynavy", "list"],
     "dump": ["pulleynavy", "dump"],
     "check": ["pulleynavy", "check"],
     "strip": ["pulleynavy", "strip"],
@@ -44,10 +42,10 @@ def built(crate):
     return path
 
 
-def command(task, path=None):
-    """The words with which a task begins: the built program, or the one at this path, and its first arguments."""
+def command(task):
+    """The words with which a task begins: the built program, and its first arguments."""
     crate, *words = WORDS[task]
-    return [path or built(crate), *words]
+    return [built(crate), *words]
 
 
 def build_targets(folder, *targets):
@@ -79,10 +77,3 @@ def lines_in(output):
 def status(lines):
     """The exit status of a program that writes these lines."""
     return 0 if lines[-1].startswith("end ") else 1
-
-
-def peak_memory(words, path):
-    """The most memory that a command held, in KiB, by GNU time. The file is its input."""
-    with tempfile.NamedTemporaryFile("r") as said, open(path, "rb") as data:
-        subprocess.run(["time", "-q", "-f", "%M", "-o", said.name, *words], stdin=data, stdout=subprocess.DEVNULL, stderr=subprocess.DEVNULL)
-        return int(said.read())

@@ -8,12 +8,10 @@ import re
 import subprocess
 
 import common
+import pieces
 
 TABLE = os.path.join(common.TOP, "crates", "wasm_rows", "stdout")
 INPUT = os.path.join(common.TOP, "crates", "wasm_rows", "stdin")
-
-# The readers whose rows no model computes, each with the reason. A row of another reader has to have a model.
-WITHOUT_MODEL = {}
 
 # The bits of the features.
 FEATURES = {"none": 0, "memory64": 1, "compact": 2, "all": 3}
@@ -51,14 +49,18 @@ def results(lines):
 
 
 def model_lines(model, case):
-    """The lines that a model of items gives of a row that is a call, a section of what calls read, or a stream; None of other rows."""
+    """The lines that a model of items gives of a row, or None of a reader that it does not have."""
     reader, data, offset, features = case
+    if reader in ("events", "steps"):
+        return pieces.model_lines(model.model, reader, data, offset)
     if reader == "stream":
         lines = model.model.reading(data, offset, True, True)
     elif reader == "prefix":
         lines = model.model.prefix(data, offset, True)
     elif reader in model.CALLS or reader in model.LISTS or reader == "subsections":
         lines = model.call_lines(reader, data, offset, features)
+    elif reader in model.ITEMS or reader in model.SECTIONS:
+        lines = model.outcome(*case).under
     else:
         return None
     return ["  " + line for line in lines]

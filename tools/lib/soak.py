@@ -25,16 +25,17 @@ import time
 
 import common
 import comparing
+import modelled
 import pieces
 import programs
 import sequences
-import try_c
+import test_c
 from compare_streams import chunks_differ, listing_differs
 from modules import stream_of
 from streams import random_bytes, some_stream
 
 SOURCE = os.path.join(common.LIB, "soak.c")
-EXAMPLES = os.path.join(try_c.CRATE, "examples")
+EXAMPLES = os.path.join(test_c.CRATE, "examples")
 ARCHIVE = os.path.join(common.PREBUILT, "libpulleynavy-x86_64.a")
 # How many streams a round has, how many of them may end the driver, and how many bytes are taken of a file.
 ROUND, CRASHES, LARGEST = 2000, 3, 30000
@@ -125,9 +126,9 @@ def said(driver, cases):
     return texts
 
 
-def modelled(model, stream, way):
+def wanted_of(model, stream, way):
     """What the models say: the lines and items of a stream, its bytes when it is stripped and edited, or its fault again, and each step of a feeder."""
-    lines = try_c.without_ranges(try_c.modelled(stream, features_of(way)))
+    lines = modelled.without_ranges(modelled.listed(stream, features_of(way)))
     changed = [model.strip(stream), model.strip(stream, True), model.edit(stream, *edit_of(way), stream[:MOST_DATA])]
     lines += [lines[-1] if lines[-1].startswith("fault") else data.hex() for data in changed]
     for offset, chunks in cuttings(stream, way):
@@ -141,7 +142,7 @@ def differences(driver, model, cases):
     found = []
     for _ in range(CRASHES):
         rest = cases[len(found) :]
-        pairs = [(text, modelled(model, *one)) for one, text in zip(rest, said(driver, rest))]
+        pairs = [(text, wanted_of(model, *one)) for one, text in zip(rest, said(driver, rest))]
         found += [text != wanted and common.first_difference(text.split("\n"), wanted.split("\n")) or None for text, wanted in pairs]
     return found + [None] * (len(cases) - len(found))
 
@@ -149,7 +150,7 @@ def differences(driver, model, cases):
 def sequences_differ(program, streams, seed, seconds=0):
     """What differs if streams are read by random calls, or None, and how many calls were made."""
     with tempfile.NamedTemporaryFile() as file:
-        done = try_c.run([program, str(seed), str(seconds), sequences.with_sizes(file.name, streams)])
+        done = test_c.run([program, str(seed), str(seconds), sequences.with_sizes(file.name, streams)])
     text = done.stdout.decode(errors="replace")
     made = re.search(r"(\d+) calls", text)
     return (text[:2000] if done.returncode or not made else None), int(made[1]) if made else 0
@@ -199,10 +200,10 @@ def smaller(driver, caller, model, data, way, text):
 def built(folder, archive):
     """The driver and the program of random calls, by the first compiler here, with sanitizers if this machine has them. None without a compiler."""
     sequences.written(folder)
-    for c, _ in try_c.compilers():
-        for flags in reversed(list(try_c.kinds_of_flags(folder, c))):
+    for c, _ in test_c.compilers():
+        for flags in reversed(list(test_c.kinds_of_flags(folder, c))):
             more = [*flags, "-I" + folder, "-I" + EXAMPLES]
-            return [try_c.compiled(folder, c, source, "c11", more, archive, "soak") for source in (SOURCE, sequences.SOURCE)]
+            return [test_c.compiled(folder, c, source, "c11", more, archive, "soak") for source in (SOURCE, sequences.SOURCE)]
     return None
 
 
@@ -224,7 +225,7 @@ def main():
         ("--seed", {"metavar": "S", "type": common.whole, "default": 1, "help": "the seed (1)"}),
         ("--archive", {"metavar": "FILE", "type": common.existing, "default": ARCHIVE, "help": "the library, instead of that in prebuilt/"}),
     ]
-    given = comparing.arguments(__doc__, None, common.MODEL, show=3, more=more, files=True)
+    given = comparing.arguments(__doc__, None, common.MODEL, more=more, files=True)
     streams = size = calls = differ = 0
     # Interrupted, it still says what it did.
     with tempfile.TemporaryDirectory() as folder, contextlib.suppress(KeyboardInterrupt):
@@ -232,7 +233,7 @@ def main():
         if not made:
             return 0
         for read, called, found in rounds(given, max(1, given.jobs), made):
-            for data, way, text in found[: max(0, given.show - differ)]:
+            for data, way, text in found[: max(0, common.SHOWN - differ)]:
                 data, text = smaller(*made, given.known, data, way, text)
                 print("DIFFERS %s (way %d)\n  %s" % (data.hex(), way, text), flush=True)
             streams, size, calls, differ = streams + ROUND, size + read, calls + called, differ + len(found)

@@ -2,7 +2,6 @@
 import re
 from collections import ChainMap, Counter
 
-import common
 import standard as S
 
 # ---- numbers in index spaces
@@ -194,33 +193,3 @@ def in_hex(line):
     if words[0] == "fault":
         return hexadecimal
     return RANGE.sub(lambda found: "=0x%x..0x%x" % (int(found[1]), int(found[2])) if found[1] else found[0], hexadecimal)
-
-
-# ---- rows and golden streams
-
-
-def row_lines(outcome, case):
-    """The lines that the model has for the result of a case, which is a reader, bytes, their offset and features."""
-    return ["  " + line for line in outcome(*case).under]
-
-
-def said_text(case, lines):
-    """The result of a row, to be compared with `expected_text`."""
-    return "\n".join(lines)
-
-
-def expected_text(outcome, case):
-    return "\n".join(row_lines(outcome, case))
-
-
-def listing_texts(lines, data):
-    """The texts of the model for a stream whose dump has these lines. An AssertionError says what the model has otherwise."""
-    model = common.load(common.MODEL_OF_ITEMS)
-    found = common.first_difference(lines, dump_lines(model, data))
-    assert not found, found
-    return model.listing(data)
-
-
-def shortened(text):
-    """A text of a golden stream, as `listing_texts` has it."""
-    return text

@@ -17,14 +17,14 @@ import os
 import re
 import shutil
 import tempfile
-from concurrent.futures import ThreadPoolExecutor
 
 import common
-import desktop_packages
 import desktops
 import images
+import modelled
 import programs
-import try_c
+import test_desktops
+import test_c
 import try_documents
 import wine
 
@@ -45,16 +45,6 @@ RELOCATION = re.compile(r"\t\t[0-9a-f]+:\s+\S+\s+(?:\.text\.|_)?(.*?)(?:[-+]0x[0
 SAMPLE = 5
 
 
-def examples(folder, compilers, options, library, name, suffix=""):
-    """The path of each example, compiled with these options and a library."""
-    made = {}
-    with ThreadPoolExecutor(4) as pool:
-        for example, standards in try_c.PROGRAMS.items():
-            words = folder, compilers[example.endswith("pp")], example, standards[0], options, library, name
-            made[example.partition(".")[0]] = pool.submit(try_c.compiled, *words)
-    return {example: path.result() + suffix for example, path in made.items()}
-
-
 def emulated(built, runner):
     """Programs that run these under an emulator, or themselves if there is none."""
     found = {}
@@ -62,12 +52,6 @@ def emulated(built, runner):
         found[example] = [common.write(path + ".sh", '#!/bin/sh\nexec %s %s "$@"\n' % (runner, path)) if runner else path]
         os.chmod(found[example][0], 0o755)
     return found
-
-
-def differences(built, streams):
-    """How the examples differ from the models; one stream in ten is tried as a pattern."""
-    try_c.patterns(built, streams[::10])
-    return [text for compare in (try_c.compared, try_c.stripped, try_c.edited, try_c.names, try_c.imports) for text in compare(built, streams)]
 
 
 def cross():
@@ -80,17 +64,17 @@ def cross():
     The examples are built twice, with -O2 and with -O0, since compilers differ most in how they pass and return structs. Each stream goes to
     one of the two, in turn.
     """
-    more = [("--archive", {"metavar": "FILE", "type": common.existing, "help": "an archive for aarch64, instead of one that is built here"})]
-    given, (compilers, runner), differ = common.arguments(cross.__doc__, [("seed", 1), ("count", 100)], show=5, more=more), LINUX["aarch64"], []
+    given = common.arguments(cross.__doc__, [("seed", 1), ("count", 100)], archive="an archive for aarch64, instead of one that is built here")
+    (compilers, runner), differ = LINUX["aarch64"], []
     if not common.all_found([*compilers, runner]):
         return 0
-    streams = common.golden() + try_c.drawn(given.seed, given.count)
+    streams = common.golden() + modelled.drawn(given.seed, given.count)
     with tempfile.TemporaryDirectory() as folder:
         archive = given.archive or os.path.join(programs.build_targets(folder, "aarch64"), "libwasm_c-aarch64.a")
         for number, level in enumerate(("-O2", "-O0")):
-            built = examples(folder, compilers, [level, "-static"], archive, level.strip("-"))
-            differ += differences(emulated(built, runner), streams[number::2])
-    return common.tell(differ, given.show, "aarch64: %d streams, %d differ (seed %d)" % (len(streams), len(differ), given.seed))
+            built = test_c.examples(folder, compilers, [level, "-static"], archive, level.strip("-"))
+            differ += test_c.all_differences(emulated(built, runner), streams[number::2])
+    return common.tell(differ, "aarch64: %d streams, %d differ (seed %d)" % (len(streams), len(differ), given.seed))
 
 
 # ---- Windows, under wine
@@ -101,15 +85,15 @@ def windows_programs(library, folder, system):
     shutil.copy(os.path.join(library, "pulleynavy.dll"), folder)
     built = collections.defaultdict(list)
     for name, (file, options) in WINDOWS.items():
-        for example, path in examples(folder, wine.COMPILERS, [*options, wine.WITNESS], os.path.join(library, file), name, ".exe").items():
+        for example, path in test_c.examples(folder, wine.COMPILERS, [*options, wine.WITNESS], os.path.join(library, file), name, ".exe").items():
             built[example].append(system.running(path))
     return built
 
 
 def from_wheel(made, folder, system):
     """Scripts that run each example under wine, over the library of a wheel, which is loaded as Python does."""
-    source, os.environ["PULLEYNAVY_LIB"] = desktop_packages.loader(folder, made)
-    built = examples(folder, wine.COMPILERS, ["-O1", "-static", wine.WITNESS], source, "wheel", ".exe")
+    source, os.environ["PULLEYNAVY_LIB"] = test_desktops.loader(folder, made)
+    built = test_c.examples(folder, wine.COMPILERS, ["-O1", "-static", wine.WITNESS], source, "wheel", ".exe")
     return {example: [system.running(path)] for example, path in built.items()}
 
 
@@ -137,13 +121,13 @@ def on_windows(library, archive, made, streams):
     if not common.all_found([*wine.PROGRAMS, "lld"]):
         return []
     with tempfile.TemporaryDirectory() as folder, wine.windows(folder) as system:
-        differ = differences(windows_programs(library, folder, system), streams)
+        differ = test_c.all_differences(windows_programs(library, folder, system), streams)
         if common.found("cmake"):
-            differ += try_c.names({"names": desktop_packages.under_wine(made, system)}, streams[::SAMPLE])
+            differ += test_c.names({"names": test_desktops.under_wine(made, system)}, streams[::SAMPLE])
         if common.found("cc"):
             differ += documented(library, archive, folder, system)
         for wheel in glob.glob(made + "/*-win_amd64.whl"):
-            differ += differences(from_wheel(wheel, folder, system), streams[::SAMPLE])
+            differ += test_c.all_differences(from_wheel(wheel, folder, system), streams[::SAMPLE])
         differ += wine.wrong_crate(library, system)
         if len(system.repeated()) > wine.MOST_REPEATED:
             differ.append("wine lost %d runs" % len(system.repeated()))
@@ -184,7 +168,7 @@ def callees(path):
     """How often each function of an archive refers to each other function, by the relocations in its disassembly."""
     # The assembler for macOS on arm64 adds a symbol of its own at the address of the first function.
     rows = [line.split() for line in images.said("llvm-nm", "--format=posix", path).splitlines()]
-    first = next((row[0].lstrip("_") for row in rows if row[1:3] == ["t", "0"] and row[0] != ADDED), None)
+    first = next((row[0].lstrip("_") for row in rows if row[1:3] == ["t", "0"] and row[0] != ADDED), ADDED)
     found, name = {}, None
     for line in images.said("llvm-objdump", "-d", "-r", "--no-show-raw-insn", "--no-leading-addr", path).split("\n"):
         label, relocation = LABEL.match(line), RELOCATION.match(line)
@@ -213,20 +197,19 @@ def on_linux(target, library, streams):
         return []
     with tempfile.TemporaryDirectory() as folder:
         code = os.path.join(library, "libpulleynavy.a") if is_elf else shared_library(target, library).assembly(folder, "image")
-        differ = differences(emulated(examples(folder, compilers, ["-O2", "-static"], code, target), emulator), streams)
+        differ = test_c.all_differences(emulated(test_c.examples(folder, compilers, ["-O2", "-static"], code, target), emulator), streams)
     print("%s, its code on Linux: %d streams, %d differ" % (target, len(streams), len(differ)), flush=True)
     return differ
 
 
 def main():
-    more = [("--built", {"metavar": "TARGETS", "type": common.existing, "help": "a folder that tools/build_targets wrote, instead of one that is built here"})]
-    given = common.arguments(__doc__, [("seed", 1), ("count", 300)], show=5, more=more)
+    given = common.arguments(__doc__, [("seed", 1), ("count", 300)], built="a folder that tools/build_targets wrote, instead of one that is built here")
     if not common.all_found(["llvm-nm", "llvm-objdump", "llvm-readobj"]):
         return 0
-    streams = [(BINARY, try_c.modelled(BINARY)), *common.golden(), *try_c.drawn(given.seed, given.count)]
+    streams = [(BINARY, modelled.listed(BINARY)), *common.golden(), *modelled.drawn(given.seed, given.count)]
     with tempfile.TemporaryDirectory() as folder, tempfile.TemporaryDirectory() as made:
         built = given.built or programs.build_targets(folder, *desktops.TARGETS)
-        differ = desktop_packages.differences(built, made)
+        differ = test_desktops.differences(built, made)
         for target, (machine, _) in desktops.TARGETS.items():
             library, archive = os.path.join(built, target), os.path.join(built, "libwasm_c-%s.a" % machine)
             differ += wrong_symbols(target, library, archive)
@@ -236,4 +219,4 @@ def main():
                 differ += on_windows(library, archive, made, streams)
             else:
                 differ += on_linux(target, library, streams if target == "riscv64-linux" else streams[::SAMPLE])
-    return common.tell(differ, given.show, "%d targets, %d differ (seed %d)" % (len(desktops.TARGETS), len(differ), given.seed))
+    return common.tell(differ, "%d targets, %d differ (seed %d)" % (len(desktops.TARGETS), len(differ), given.seed))

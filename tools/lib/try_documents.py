@@ -15,6 +15,7 @@ import tempfile
 
 import cargo
 import common
+import packages
 import trial
 
 sys.path.insert(0, os.path.join(common.TOP, "bindings", "python"))
@@ -91,10 +92,9 @@ def with_rattle(folder, code, streams):
 
 def built(folder, archive, wasm):
     """How each program is run, by the number of its task and its language."""
-    commands, rust, node, package = {}, {}, common.found("node"), os.path.join(folder, "node_modules", "pulleynavy")
+    commands, rust, node = {}, {}, common.found("node")
     if node:
-        shutil.copytree(os.path.join(common.TOP, "bindings", "js"), package)
-        shutil.copy(wasm, os.path.join(package, "pulleynavy.wasm"))
+        packages.javascript(os.path.join(folder, "node_modules", "pulleynavy"), wasm)
     for number, blocks in sources():
         commands[number, "c"] = with_c(folder, number, blocks["c"], archive)
         if "cpp" in blocks and common.found("c++"):
@@ -166,4 +166,4 @@ def main():
     with tempfile.TemporaryDirectory() as folder:
         differ = list(differences(folder, given.archive, given.wasm, streams, malformed))
     counts = len(TASKS), len(streams), len(malformed), len(differ)
-    return common.tell(differ, 5, "%d tasks, %d modules, %d malformed streams, %d differ" % counts)
+    return common.tell(differ, "%d tasks, %d modules, %d malformed streams, %d differ" % counts)

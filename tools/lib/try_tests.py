@@ -14,19 +14,19 @@ import shutil
 import subprocess
 import tempfile
 
-import benches
+import benchmark
 import common
 import trial
 
 RESULT = re.compile(r"^test result: .*?(\d+) passed; (\d+) failed", re.M)
 
 
-def benchmark(given):
+def try_benchmark(given):
     """Lays out the benchmark, or runs it without a proof and compares what it writes. Returns the status."""
     with tempfile.TemporaryDirectory() as folder:
-        trial.listed(folder, benches.CRATE, trial.copied(folder, benches.libraries()))
-        place = os.path.join(folder, "crates", benches.CRATE)
-        files = benches.written(place)
+        trial.listed(folder, benchmark.CRATE, trial.copied(folder, benchmark.libraries()))
+        place = os.path.join(folder, "crates", benchmark.CRATE)
+        files = benchmark.written(place)
         if given.fmt:
             return laid_out(place, files)
         with open(os.path.join(trial.BENCHES, "stdin"), "rb") as stream:
@@ -81,8 +81,8 @@ def main():
     if not shutil.which("rt"):
         common.stop(common.NO_PROGRAM, "rt is not on the path")
     if given.fmt or given.counted:
-        return benchmark(given)
+        return try_benchmark(given)
     counts = [passed(crate) for crate in given.crates or known]
     if None in counts:
         return common.DIFFERS
-    return 0 if given.crates else enough(sum(counts)) or benchmark(given)
+    return 0 if given.crates else enough(sum(counts)) or try_benchmark(given)

@@ -214,6 +214,3 @@ function rounded(line) {
     const number = text => (text === "-" ? text : `${Number(text)}`);
     return line.replace(/(memory\(false \w+|table\(\S+ false) (\d+) (\d+|-)/g, (all, head, low, high) => `${head} ${number(low)} ${number(high)}`);
 }
-
-/** Whether a line is what a model says; after a star a model says no more. */
-export const agrees = (said, wanted) => said === wanted || (wanted?.endsWith("*") && said?.startsWith(wanted.slice(0, -1)));

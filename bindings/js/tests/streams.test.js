@@ -4,7 +4,7 @@ import assert from "node:assert/strict";
 import { readFileSync } from "node:fs";
 import test from "node:test";
 import { load } from "../node.js";
-import { agrees, eventLine, itemLines, withoutRanges } from "./lines.js";
+import { eventLine, itemLines, withoutRanges } from "./lines.js";
 
 const { parse, Parser, ParserStream, strip, edit } = await load();
 const file = process.env.PULLEYNAVY_STREAMS ?? new URL("../../../tools/golden.jsonl", import.meta.url);
@@ -15,7 +15,6 @@ const streams = rows.map(row => ({
 
 function compare(bytes, said, wanted) {
     for (let at = 0; at < Math.max(said.length, wanted.length); at++) {
-        if (agrees(said[at], wanted[at])) continue;
         assert.equal(said[at], wanted[at], `line ${at + 1} of ${Buffer.from(bytes).toString("hex").slice(0, 400)}`);
     }
 }

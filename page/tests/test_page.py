@@ -23,8 +23,7 @@ import common
 import programs
 from browsers import waited
 from common import leb, require
-from made import NAMES, custom, module, named_module, other_names, text, vector
-from modules import section, stream_of
+from modules import NAMES, custom, module, named_module, other_names, section, stream_of, text, vector
 
 # The most rows of a stream that is compared, which are all in sight in a window of this height.
 MOST_ROWS, TALL, USUAL = 90, 3000, 860
@@ -55,9 +54,9 @@ def becomes(find, wanted, what):
 
 # ---- the page
 
-HELPERS = common.read("tools", "lib", "templates", "page.js")
+HELPERS = common.read("page", "tests", "page.js")
 # The lowest contrast of a visible text with what is behind it, and its place.
-CONTRAST = common.read("tools", "lib", "templates", "contrast.js")
+CONTRAST = common.read("page", "tests", "contrast.js")
 FOCUS_TREE = "$('tree').querySelector('[tabindex=\"0\"]').focus()"
 # What is shown if there is no chosen row.
 NO_ROW = {"row": -1, "level": 0, "size": 0, "place": 0, "offset": -1, "isOpen": None, "isBad": False, "texts": []}
@@ -171,13 +170,12 @@ def compare(page, path, stream, lines):
     same(names, [escaped(bytes.fromhex(line.split()[0][1:]).decode()) for line in customs], what)
     offsets = {int(number) for number in re.findall(r"[\[ ](\d+):(?=[a-z])", " ".join(customs))}
     same(offsets - inside, set(), "items of custom sections: %s" % what)
-    if "*" not in " ".join(customs):
-        # Of a malformed section of a core dump the model only says that it is unknown.
-        faults = len(re.findall(r"\bfault \d+", " ".join(re.sub(r"\bx[0-9a-f]+", "", line) for line in lines)))
-        unknown = sum(bool(re.match("  x[0-9a-f]* unknown", line)) for line in customs)
-        more = re.search(r"and ([\d,]+) more faults?\.", said)
-        shown = 0 if said.endswith("No faults.") else 1 + int(more[1] if more else 0)
-        require(faults <= shown <= faults + unknown, "%d faults, not %d: %s: %s" % (shown, faults, said, what))
+    # Of a malformed section of a core dump the model only says that it is unknown.
+    faults = len(re.findall(r"\bfault \d+", " ".join(re.sub(r"\bx[0-9a-f]+", "", line) for line in lines)))
+    unknown = sum(bool(re.match("  x[0-9a-f]* unknown", line)) for line in customs)
+    more = re.search(r"and ([\d,]+) more faults?\.", said)
+    shown = 0 if said.endswith("No faults.") else 1 + int(more[1] if more else 0)
+    require(faults <= shown <= faults + unknown, "%d faults, not %d: %s: %s" % (shown, faults, said, what))
     return len(rows)
 
 
@@ -575,8 +573,7 @@ def tried(browser, given, made, folder):
 
 
 def main():
-    more = [("--wasm", {"metavar": "FILE", "type": common.existing, "help": "the module with 32-bit memory"})]
-    given, status = common.arguments(__doc__, [("seed", 1), ("count", 20)], more=more), 0
+    given, status = common.arguments(__doc__, [("seed", 1), ("count", 20)], wasm="the module with 32-bit memory"), 0
     if not common.found("esbuild"):
         return 0
     with tempfile.TemporaryDirectory() as folder:

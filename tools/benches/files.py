@@ -8,7 +8,7 @@
     tools/bench scaling                   how time and memory grow with a file, and what more processes gain
 
 A row is a task: to list or to dump a file, to dump it as JSON, to dump one section of it, to check it, to strip it, to walk over all items of it in memory.
-Others are `cat`, the ruler (tools/lib/limit.c, which checks bounds alone), wabt (wasm-objdump, wasm-strip) and LLVM (llvm-objdump, llvm-strip), where they are
+Others are `cat`, the ruler (limit.c, which checks bounds alone), wabt (wasm-objdump, wasm-strip) and LLVM (llvm-objdump, llvm-strip), where they are
 installed. A time is the processor time of a process, user and system, and then its wall time, each the least of seven rounds in which the programs take turns. `memory`
 is the most that ours held, by GNU time. All items are walked by the benchmark, if tools/bench has built it, and their time is that of the fastest round
 in one process. It takes the programs of `prebuilt/`, or those that ./wasm_list and ./pulleynavy built. Leave the machine idle, or use --count.
@@ -20,13 +20,13 @@ import subprocess
 import tempfile
 import time
 
-import bench_tables as tables
-import benches
+import benchmark
 import common
 import programs
 import standard as S
+import tables
 from common import leb
-from made import custom, listed, module, section, text
+from modules import custom, listed, module, section, text
 
 RUNS = 7
 MEGABYTE = 1_000_000
@@ -167,10 +167,17 @@ def measured(commands, path, out, counts):
         yield "refuses the file" if any(statuses) else " / ".join("%.1f" % min(figure) for figure in figures)
 
 
+def peak_memory(words, path):
+    """The most memory that a command held, in KiB, by GNU time. The file is its input."""
+    with tempfile.NamedTemporaryFile("r") as said, open(path, "rb") as data:
+        subprocess.run(["time", "-q", "-f", "%M", "-o", said.name, *words], stdin=data, stdout=subprocess.DEVNULL, stderr=subprocess.DEVNULL)
+        return int(said.read())
+
+
 def row(path, task, commands, out, counts):
     ours, *cells = measured(commands, path, out, counts)
     named = ["%s %s" % (os.path.basename(words[0]), cell) for words, cell in zip(commands[1:], cells)]
-    return [task, ours, "%.1f" % (programs.peak_memory(commands[0], path) / 1024) if shutil.which("time") else "-", ", ".join(named)]
+    return [task, ours, "%.1f" % (peak_memory(commands[0], path) / 1024) if shutil.which("time") else "-", ", ".join(named)]
 
 
 def walked(program, path):
@@ -182,8 +189,8 @@ def rows(path, out, ruler, crate, counts):
     """A row for each task. All items in memory are walked by our crates and by the original one."""
     for task, commands in tasks(path, out, ruler):
         yield row(path, task, commands, out, counts)
-    if os.access(benches.PROGRAM, os.X_OK) and not counts:
-        yield ["all items", walked(benches.PROGRAM, path), "", "wasmparser " + walked(crate, path) if crate else ""]
+    if os.access(benchmark.PROGRAM, os.X_OK) and not counts:
+        yield ["all items", walked(benchmark.PROGRAM, path), "", "wasmparser " + walked(crate, path) if crate else ""]
 
 
 def arguments(doc, *more):
@@ -229,7 +236,7 @@ def growth(given, unit, folder):
             common.write(path, make(size))
             for task, words in [(task, words) for task, [words, *_] in tasks(path) if task in SCALED]:
                 [figure] = measured([words], path, path, given.count)
-                held[task].append(programs.peak_memory(words, path) if shutil.which("time") else 0)
+                held[task].append(peak_memory(words, path) if shutil.which("time") else 0)
                 tables.print_row([what, megabytes(path), task, figure, "%d" % held[task][-1]])
         growing += ["%s, %s: %s KiB" % (what, task, held[task]) for task in SCALED[:FREE] if max(held[task]) > min(held[task]) + MORE]
     return growing
@@ -264,4 +271,4 @@ def scaling():
         growing = growth(given, unit, folder)
         if not given.count:
             gain(folder)
-    return common.tell(growing, len(growing), "%d files whose memory depends on their size" % len(growing))
+    return common.tell(growing, "%d files whose memory depends on their size" % len(growing), None)

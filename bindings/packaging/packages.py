@@ -93,14 +93,13 @@ def copy_to(path, *names):
     shutil.copy(path, to)
 
 
-# What tools make in the repository, and what of a binding no package has.
-MADE = ("target", "__pycache__", "node_modules", "out", "dist", "*.lock", "*.tgz", "*.wasm", "*.pyc")
-UNPACKED = shutil.ignore_patterns(*MADE, "tests")
+# What tools make in the folders of a binding.
+MADE = ("target", "__pycache__", "node_modules", "out", "dist", "*.lock", "*.tgz", "*.wasm", "*.wasm.js", "*.pyc")
 
 
-def copy_binding(name, place):
-    """Copies a binding, with the licenses."""
-    shutil.copytree(source("bindings", name), place, ignore=UNPACKED, dirs_exist_ok=True)
+def copy_binding(name, place, *left_out):
+    """Copies a binding, without what tools made there, with the licenses."""
+    shutil.copytree(source("bindings", name), place, ignore=shutil.ignore_patterns(*MADE, *left_out), dirs_exist_ok=True)
     for path in LICENSES:
         copy_to(source(path), place, path)
 
@@ -122,7 +121,7 @@ def built(target, *names):
 
 def crate(folder, place):
     """The crate, with the archives of both machines in lib/, and those for Windows and macOS if they are given."""
-    copy_binding("rust", place)
+    copy_binding("rust", place, "tests")
     for machine in MACHINES:
         copy_to(archive(machine), place, "lib", machine, "libwasm_c.a")
     for target in desktops.TARGETS:
@@ -150,7 +149,7 @@ def python_package(place, kind):
 
 def wheel(folder, place, library, name, tag):
     """A wheel that has this library, by this name, for the machines of this tag."""
-    copy_binding("python", place)
+    copy_binding("python", place, "tests")
     shutil.copyfile(library, os.path.join(place, "pulleynavy", name))
     common.write(os.path.join(place, "setup.py"), SETUP % tag)
     shutil.copy(python_package(place, "wheel"), folder)
@@ -173,7 +172,7 @@ def desktop_wheels(folder, place):
 
 def sdist(folder, place):
     """The sources of the Python package, which uses a library that the system has. It is packed again for its dates."""
-    copy_binding("python", place)
+    copy_binding("python", place, "tests")
     shutil.unpack_archive(python_package(place, "sdist"), place + "/unpacked")
     top = "pulleynavy-" + common.version()
     write_tarball(os.path.join(folder, top + ".tar.gz"), place + "/unpacked/" + top)
@@ -182,15 +181,16 @@ def sdist(folder, place):
 # ---- JavaScript
 
 
-def add_module(wasm, place):
-    """Adds the module to the package for JavaScript, and a script that has it."""
+def javascript(place, wasm, *left_out):
+    """Copies the package for JavaScript, with this module and a script that has it. Returns the folder."""
+    copy_binding("js", place, *left_out)
     shutil.copyfile(wasm, os.path.join(place, "pulleynavy.wasm"))
     common.write(os.path.join(place, "pulleynavy.wasm.js"), b'export default "%s";\n' % base64.b64encode(common.read_bytes(wasm)))
+    return place
 
 
 def npm(folder, place):
-    copy_binding("js", place)
-    add_module(prebuilt("pulleynavy.wasm"), place)
+    javascript(place, prebuilt("pulleynavy.wasm"), "tests")
     common.must([needed("npm"), "pack", "--offline", "--pack-destination", folder], place)
 
 
@@ -234,10 +234,12 @@ def repository():
     if os.path.exists(source(".git")) and shutil.which("git"):
         listed = subprocess.run(["git", "ls-files", "-z"], cwd=common.TOP, stdout=subprocess.PIPE, check=True).stdout.decode().split("\0")
         return sorted(name for name in listed if os.path.isfile(source(name)))
-    found, is_made = [], shutil.ignore_patterns(*MADE)
+    found, is_made = [], shutil.ignore_patterns(*MADE, ".git")
     for place, folders, names in os.walk(common.TOP):
         folders[:] = {*folders} - is_made(place, folders)
-        found += [os.path.relpath(os.path.join(place, name), common.TOP) for name in {*names} - is_made(place, names)]
+        # prebuilt/ has a module that is no product of this place.
+        made = is_made(place, names) if place != common.PREBUILT else set()
+        found += [os.path.relpath(os.path.join(place, name), common.TOP) for name in {*names} - made]
     return sorted(found)
 
 

@@ -14,9 +14,9 @@ import os
 import re
 import tempfile
 
-import bench_tables as bench
-import benches
+import benchmark
 import common
+import tables
 import toolchain
 
 MARKS = {"always": "alwaysinline", "never": "noinline"}
@@ -30,7 +30,7 @@ class Module:
 
     def __init__(self, folder):
         self.folder = folder
-        benches.proved(os.path.join(folder, "whole.o"), toolchain.keeping(folder))
+        benchmark.proved(os.path.join(folder, "whole.o"), toolchain.keeping(folder))
         text = os.path.join(folder, "module.ll")
         common.must(toolchain.text_command(folder, text))
         self.text = common.read(text)
@@ -58,7 +58,7 @@ class Module:
 
 def files(only, folder):
     """The made files whose names contain the word, or the first ones, each with its name and the ways through it."""
-    for what, _, make, ways, by_made in bench.MADE:
+    for what, _, make, ways, by_made in tables.MADE:
         if only in what if only else "parse" in ways:
             path = os.path.join(folder, what.replace(" ", "_"))
             common.write(path, make(MANY))
@@ -70,8 +70,8 @@ def counts(program, made, folder):
     rows = {}
     for what, path, ways, units in made:
         for way in ways:
-            wrote, calls = bench.profiled([program, way], path, folder)
-            figure = bench.of_a_unit(wrote, calls, "wasm_bench::" + bench.READERS[way], units)
+            wrote, calls = tables.profiled([program, way], path, folder)
+            figure = tables.of_a_unit(wrote, calls, "wasm_bench::" + tables.READERS[way], units)
             # A reader that is inlined itself has no count.
             rows["%s, %s" % (what, way)] = float("nan") if figure == "-" else float(figure)
     return rows

@@ -1,12 +1,27 @@
 """Markdown as HTML, by markdown-it: doc comments and documents. In both, code may be a link, and a document's links lead to the site."""
 import html
+import importlib.util
 import os
 import re
+import subprocess
 import sys
 
 import common
 
-if not common.has_library("markdown_it", "python3-markdown-it"):
+
+def has_library():
+    """Whether this Python has markdown-it. If only Debian's own Python has it, that runs the tool instead."""
+    if importlib.util.find_spec("markdown_it"):
+        return True
+    debian = "/usr/bin/python3"
+    has = os.path.realpath(sys.executable) != os.path.realpath(debian) and os.path.exists(debian)
+    if has and not subprocess.run([debian, "-c", "import markdown_it"], stderr=subprocess.DEVNULL).returncode:
+        os.execv(debian, [debian, *sys.argv])
+    common.skip("missing: python3-markdown-it")
+    return False
+
+
+if not has_library():
     sys.exit(0)
 from markdown_it import MarkdownIt
 

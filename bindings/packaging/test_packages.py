@@ -22,36 +22,11 @@ import cargo
 import common
 import desktops
 import generate_manuals
+import modelled
 import packages
-import try_js
 from common import Failed, require, write
 
-RUST = common.read("tools", "lib", "templates", "package.rs")
-PYTHON = common.read("tools", "lib", "templates", "package.py")
-JAVASCRIPT = common.read("tools", "lib", "templates", "package.js")
-TYPESCRIPT = common.read("tools", "lib", "templates", "package.ts")
-# Whether each entry of the installed package leads to files that are there.
-EXPORTS = common.read("tools", "lib", "templates", "exports.js")
-# Loads the library under a C library that is not glibc.
-LOADER = common.read("tools", "lib", "templates", "loader.c")
-C = common.read("tools", "lib", "templates", "package.c")
-CMAKE = common.read("tools", "lib", "templates", "package.cmake")
 MANIFEST = '[package]\nname = "t"\nversion = "0.0.0"\nedition = "2021"\n\n[dependencies]\npulleynavy = "%s"\n' % common.version()
-# What stands in for pandas: a Parquet file that is a CSV file.
-PANDAS = """import csv
-
-
-class DataFrame:
-    def __init__(self, rows, columns):
-        self.rows, self.columns = rows, columns
-
-    def to_parquet(self, path, index):
-        with open(path, "w", newline="", encoding="utf-8") as file:
-            table = csv.DictWriter(file, self.columns)
-            table.writeheader()
-            table.writerows(self.rows)
-"""
-
 # How many files the example scans.
 FILES = 10_000
 # What the systems of Debian have, in which packages are tried. The second has the oldest Rust that the crate needs.
@@ -60,11 +35,25 @@ OLDEST_RUST = ("trixie", ["cargo", "libc6-dev"])
 SERIES = packages.soname().partition(".so.")[2]
 
 
+def source(name):
+    """A source of a user's project."""
+    return common.read("bindings", "packaging", "tests", name)
+
+
 def one(pattern):
     """The one file of this pattern."""
     found = sorted(glob.glob(pattern))
     require(len(found) == 1, "there are %d files %s" % (len(found), pattern))
     return found[0]
+
+
+def with_cmake(place, prefix, sources, version, *words, **settings):
+    """Has CMake build a program twice over the package below a prefix: with the shared library and with the static one. Returns their folder."""
+    write(place + "/CMakeLists.txt", source("CMakeLists.txt") % (version, " ".join('"%s"' % path for path in sources)))
+    settings = {"PULLEYNAVY_LIB": None, **settings}
+    common.must(["cmake", "-S", place, "-B", place + "/out", "-DCMAKE_PREFIX_PATH=" + prefix, *words], env=settings)
+    common.must(["cmake", "--build", place + "/out"], env=settings)
+    return place + "/out"
 
 
 class System:
@@ -133,7 +122,7 @@ class Trial:
         project = self.place + "/project"
         self.run("cargo", "new", "--quiet", "--vcs", "none", project)
         cargo.offline(self.place, self.registry(self.place + "/registry"))
-        write(project + "/src/main.rs", RUST)
+        write(project + "/src/main.rs", source("program.rs"))
         self.run("cargo", "add", "--offline", "--quiet", "pulleynavy", folder=project)
         self.expect(self.run("cargo", "run", "--offline", "--quiet", "--", self.file, folder=project), "the crate")
         shutil.unpack_archive(shutil.copy(self.package("*.crate"), self.place + "/crate.tar.gz"), self.place)
@@ -162,7 +151,7 @@ class Trial:
 
     def wheels(self):
         wheel, sources = self.package("*manylinux*x86_64.whl"), self.package("pulleynavy-[0-9]*[0-9].tar.gz")
-        program = write(self.place + "/t.py", PYTHON)
+        program = write(self.place + "/t.py", source("program.py"))
         if common.found("twine"):
             self.run("twine", "--no-color", "check", "--strict", *glob.glob(self.dist + "/*.whl"), sources)
         python = self.venv("of_wheel", wheel)
@@ -175,7 +164,7 @@ class Trial:
         # The wheel says that it is for musl too, so its library is loaded there.
         if common.found("musl-gcc"):
             shutil.unpack_archive(wheel, self.place + "/wheel", "zip")
-            self.run("musl-gcc", write(self.place + "/loader.c", LOADER), "-o", "loader")
+            self.run("musl-gcc", write(self.place + "/loader.c", source("loader.c")), "-o", "loader")
             self.run(self.place + "/loader", one(self.place + "/wheel/pulleynavy/libpulleynavy.so.*"))
         python = self.venv("of_sdist", sources, "--system-site-packages")
         packages.shared_library("x86_64", os.path.join(self.place, packages.soname()))
@@ -207,7 +196,7 @@ class Trial:
             if tried.returncode != 2 or "Parquet needs pandas with pyarrow" not in tried.stderr:
                 raise Failed("without pyarrow, scan.py ends with %d and %r" % (tried.returncode, tried.stderr))
         write(self.place + "/stand_in/pyarrow.py", "")
-        write(self.place + "/stand_in/pandas.py", PANDAS)
+        write(self.place + "/stand_in/pandas.py", source("pandas.py"))
         for words in made.values():
             self.run(*words, more={"PYTHONPATH": self.place + "/stand_in"})
         parquet, table = (common.read("%s/few.%s" % (self.place, ending)) for ending in made)
@@ -219,13 +208,13 @@ class Trial:
         project = self.place + "/empty"
         write(project + "/package.json", '{ "private": true, "type": "module" }\n')
         self.run("npm", "install", "--silent", "--offline", "--no-audit", "--no-fund", self.package("*.tgz"), folder=project)
-        write(project + "/t.js", JAVASCRIPT)
+        write(project + "/t.js", source("program.js"))
         self.expect(self.run("node", "t.js", self.file, folder=project), "the npm package")
         require("import (1)" in self.run("npx", "--offline", "pulleynavy", self.file, folder=project), "npx pulleynavy does not list the sections")
-        write(project + "/exports.js", EXPORTS)
+        write(project + "/exports.js", source("exports.js"))
         self.run("node", "exports.js", folder=project)
         if common.found("tsc"):
-            write(project + "/t.ts", TYPESCRIPT)
+            write(project + "/t.ts", source("program.ts"))
             flags = ["--strict", "--noEmit", "--target", "es2022", "--module", "node16", "--moduleResolution", "node16"]
             for library in ("es2022", "es2022,dom"):
                 self.run("tsc", *flags, "--lib", library, "t.ts", folder=project)
@@ -242,7 +231,7 @@ class Trial:
         os.rename(moved, prefix)
         found = {"PKG_CONFIG_PATH": prefix + "/lib/pkgconfig", "LD_LIBRARY_PATH": prefix + "/lib"}
         flags = self.run("pkg-config", "--cflags", "--libs", "pulleynavy", more=found).split()
-        self.run("cc", "-Wall", "-Werror", write(self.place + "/t.c", C), *flags, "-o", "t")
+        self.run("cc", "-Wall", "-Werror", write(self.place + "/t.c", source("program.c")), *flags, "-o", "t")
         self.expect(self.run(self.place + "/t", more=found, stream=self.stream), "the C program of the tarball")
         if common.found("cmake"):
             self.found_by_cmake(prefix)
@@ -250,21 +239,18 @@ class Trial:
 
     def found_by_cmake(self, prefix):
         """Builds the C program as CMake finds the library below a prefix: the shared one and the static one. A wrong version is not found."""
-        version = ".".join(common.version().split(".")[:2])
-        for name, wanted, target in (("shared", version, "pulleynavy"), ("static", "", "static"), ("old", "0.9", "static")):
-            project = "%s/cmake_%s" % (self.place, name)
-            write(project + "/t.c", C)
-            write(project + "/CMakeLists.txt", CMAKE % (wanted, target))
-            words = ["cmake", "-S", project, "-B", project + "/build", "-DCMAKE_PREFIX_PATH=" + prefix]
-            if name == "old":
-                said = subprocess.run(words, cwd=self.place, stdout=subprocess.DEVNULL, stderr=subprocess.PIPE, text=True).stderr
-                require("compatible" in said, "CMake does not say that version %s is another one" % wanted)
-                continue
-            self.run(*words)
-            self.run("cmake", "--build", project + "/build")
-            is_shared = packages.soname() in self.run("readelf", "-dW", project + "/build/t")
-            require(is_shared == (name == "shared"), "CMake links the %s library otherwise" % name)
-            self.expect(self.run(project + "/build/t", stream=self.stream), "the C program that CMake built with the %s library" % name)
+        place, program, version = self.place + "/cmake", write(self.place + "/t.c", source("program.c")), ".".join(common.version().split(".")[:2])
+        made = with_cmake(place, prefix, [program], version)
+        for name in ("pulleynavy", "static"):
+            built = "%s/names_%s" % (made, name)
+            is_shared = packages.soname() in self.run("readelf", "-dW", built)
+            require(is_shared == (name == "pulleynavy"), "CMake links the %s library otherwise" % name)
+            self.expect(self.run(built, stream=self.stream), "the C program that CMake built with the %s library" % name)
+        try:
+            said = with_cmake(place + "_old", prefix, [program], "0.9")
+        except Failed as failed:
+            said = str(failed)
+        require("compatible" in said, "CMake does not say that version 0.9 is another one")
 
     # ---- Debian
 
@@ -320,7 +306,7 @@ class Trial:
     def wheel_inside(self, system):
         wheel = self.package("*manylinux*x86_64.whl")
         system.put(wheel, "wheels/" + os.path.basename(wheel))
-        system.write("t.py", PYTHON)
+        system.write("t.py", source("program.py"))
         system.inside("python3 -m venv env; env/bin/pip install --quiet --no-index wheels/*")
         self.expect(system.inside("env/bin/python t.py a.wasm"), "the wheel in a clean system")
         require("import (1)" in system.inside("env/bin/pulleynavy list a.wasm"), "pulleynavy list of the wheel does not list the sections")
@@ -328,19 +314,19 @@ class Trial:
     def npm_inside(self, system):
         """The package in Debian's Node, which comes without npm: it is unpacked where npm would. Its tests run there too."""
         system.put(self.package("*.tgz"), "pulleynavy.tgz")
-        system.write("project/t.mjs", JAVASCRIPT)
+        system.write("project/t.mjs", source("program.js"))
         system.inside("mkdir -p project/node_modules; tar -xzf pulleynavy.tgz; mv package project/node_modules/pulleynavy")
         self.expect(system.inside("node project/t.mjs a.wasm"), "the npm package in a clean system")
         require("import (1)" in system.inside("node project/node_modules/pulleynavy/cli.js a.wasm"), "cli.js does not list the sections")
-        system.put(try_js.installed(self.place, "tests", packages.prebuilt("pulleynavy.wasm")), "js")
-        try_js.write_streams(system.root + "/root/streams.jsonl", 1, 200)
+        system.put(packages.javascript(self.place + "/tests", packages.prebuilt("pulleynavy.wasm")), "js")
+        modelled.write(system.root + "/root/streams.jsonl", common.golden() + modelled.drawn(1, 200))
         said = system.inside("cd js; PULLEYNAVY_STREAMS=~/streams.jsonl node --test; node --version")
         print("chroot: %s tests in Node %s" % (re.search(r"^# pass (\d+)$", said, re.M)[1], said.split()[-1]))
 
     def crate_inside(self, system):
         """The crate with Debian's Rust, or what that says if it is too old."""
         version = system.inside("cargo --version").split()[1]
-        files = {"Cargo.toml": MANIFEST, "src/main.rs": RUST, ".cargo/config.toml": cargo.settings("local-registry", "/root/registry")}
+        files = {"Cargo.toml": MANIFEST, "src/main.rs": source("program.rs"), ".cargo/config.toml": cargo.settings("local-registry", "/root/registry")}
         for name, text in files.items():
             system.write("crate/" + name, text)
         system.put(self.registry(self.place + "/registry"), "registry")
@@ -355,7 +341,7 @@ class Trial:
     def chroot(self):
         system = System(self.place, self.run("sh", "-c", ". /etc/os-release; echo $VERSION_CODENAME").strip(), SYSTEM)
         system.put(self.file, "a.wasm")
-        system.write("t.c", C)
+        system.write("t.c", source("program.c"))
         for trial in (self.clone_inside, self.debs_inside, self.wheel_inside, self.npm_inside, self.crate_inside):
             trial(system)
 
@@ -380,9 +366,9 @@ KINDS = {
 }
 
 
-def made(dist, targets):
-    """Makes all packages, with those of a folder of targets if it is given. Returns the kinds for which tools/package lacks a program."""
-    words = [os.path.join(common.TOP, "tools", "package"), "--out", dist, "--twice", *(["--targets", targets] if targets else [])]
+def made(dist, kinds, targets):
+    """Makes packages of these kinds, or all, with those of a folder of targets if it is given. Returns the kinds for which tools/package lacks a program."""
+    words = [os.path.join(common.TOP, "tools", "package"), *kinds, "--out", dist, "--twice", *(["--targets", targets] if targets else [])]
     done = subprocess.run(words, stdout=subprocess.PIPE, stderr=subprocess.PIPE, text=True)
     print(done.stderr, end="", flush=True)
     require(done.returncode in (0, common.NO_PROGRAM), "tools/package")
@@ -418,6 +404,6 @@ def main():
         return 0
     os.umask(0o022)
     with tempfile.TemporaryDirectory() as dist:
-        absent = made(dist, given.targets)
+        absent = made(dist, sorted({kind for name in given.kinds for kind in KINDS[name][1]}), given.targets)
         works = [attempt(kind, dist, absent) for kind in given.kinds or KINDS]
     return 0 if all(works) else common.DIFFERS

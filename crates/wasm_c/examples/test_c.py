@@ -11,7 +11,6 @@ The examples of the header run too, and Doxygen reads it without a warning. What
 """
 import contextlib
 import itertools
-import json
 import os
 import random
 import re
@@ -23,10 +22,10 @@ from concurrent.futures import ThreadPoolExecutor
 
 import cargo
 import common
+import modelled
 import programs
 import sequences as tables
-from modules import mutants, stream_of
-from streams import some_stream
+from modules import mutants
 
 CRATE = os.path.join(common.TOP, "crates", "wasm_c")
 MUTANTS = 20_000
@@ -71,6 +70,15 @@ def compiled(folder, compiler, example, standard, flags, archive, name):
     return path
 
 
+def examples(folder, pair, options, library, name, suffix=""):
+    """The path of each example, compiled by a compiler for C or one for C++ with these options and a library."""
+    made = {}
+    with ThreadPoolExecutor(4) as pool:
+        for example, standards in PROGRAMS.items():
+            made[example.partition(".")[0]] = pool.submit(compiled, folder, pair[example.endswith("pp")], example, standards[0], options, library, name)
+    return {example: path.result() + suffix for example, path in made.items()}
+
+
 def compilers():
     for c, cpp in (("gcc", "g++"), ("clang", "clang++")):
         if common.all_found([c, cpp]):
@@ -103,26 +111,6 @@ def built_examples(folder, made):
 # ---- what they say
 
 
-def without_ranges(lines):
-    """The lines of a model without the offsets of lists of elements, which the library has no call for."""
-    return [re.sub(r"^(  \d+ element\(.*) \d+\.\.\d+ (#\d+\[)", r"\1 \2", line) for line in lines]
-
-
-def modelled(stream, features=3):
-    """The lines of the models, where a body that passes its section is refused as soon as its size has been read."""
-    return common.load(common.MODEL_OF_ITEMS).listing(stream, features, True)
-
-
-def drawn(seed, count):
-    """Random streams, half of them modules with items, with the lines of the models."""
-    rng = random.Random(seed)
-    return [(stream, modelled(stream)) for stream in [(stream_of if number % 2 else some_stream)(rng) for number in range(count)]]
-
-
-def status_of(lines):
-    return programs.status([line for line in lines if not line.startswith("  ")])
-
-
 def difference(command, stream, wanted, status):
     """How what a program writes of a stream, and its status, differ from what is wanted: bytes, or the lines of a model."""
     done = subprocess.run(command, input=stream, stdout=subprocess.PIPE, timeout=600)
@@ -150,20 +138,19 @@ def each(paths, streams, wanted_of, more=lambda number, turn: [], every=None, st
     for number, (stream, lines) in enumerate(streams):
         for turn, path in enumerate(paths, number // stride):
             if turn % every == 0:
-                rows.append(([path, *more(number, turn)], stream, wanted_of(number, stream, lines), status_of(lines)))
+                rows.append(([path, *more(number, turn)], stream, wanted_of(number, stream, lines), modelled.status(lines)))
     return differences(rows)
-
-
-def events_of(_number, _stream, lines):
-    return [line for line in lines if not line.startswith("  ")]
-
-
-def items_of(_number, _stream, lines):
-    return without_ranges(lines)
 
 
 def compared(built, streams):
     """The events of each stream, in chunks and whole, and its items, some by a call."""
+
+    def events_of(_number, _stream, lines):
+        return modelled.events(lines)
+
+    def items_of(_number, _stream, lines):
+        return modelled.without_ranges(lines)
+
     return [
         *each(built["list"], streams, events_of, lambda _, turn: [str(PIECES[turn % len(PIECES)])], TURNS),
         *each(built["whole"], streams, events_of, every=TURNS),
@@ -173,34 +160,12 @@ def compared(built, streams):
 
 def stripped(built, streams):
     """Each stream stripped, as the model has it, or nothing if it has a fault."""
-    strip = common.load(common.MODEL).strip
-    return each(built["strip"], streams, lambda _, stream, lines: b"" if status_of(lines) else strip(stream))
-
-
-# Edits, each with a name that streams have or lack.
-EDITS = [("append", "a", "xyz"), ("replace", "name", ""), ("remove", "", ""), ("keep", "name", ""), ("append", "a name", "z" * 130)]
-EDITS += [("replace", "x", "z" * 126), ("remove", "name", ""), ("keep", "x", "")]
-
-
-def edit_of(number, _turn=0):
-    return EDITS[number % len(EDITS)]
-
-
-def modelled_edit(number, stream, lines):
-    """A stream after the edit with this number, as the model has it, or nothing if it has a fault."""
-    kind, name, data = edit_of(number)
-    return b"" if status_of(lines) else common.load(common.MODEL).edit(stream, kind, name.encode(), data.encode())
-
-
-def row(number, stream, lines):
-    """A stream as the tests of the bindings read it: its lines, an edit, and the edited stream, or none of a malformed one."""
-    edited_hex = None if status_of(lines) else modelled_edit(number, stream, lines).hex()
-    return {"hex": stream.hex(), "lines": lines, "edit": edit_of(number), "edited": edited_hex}
+    return each(built["strip"], streams, lambda _, stream, lines: modelled.stripped(stream, lines))
 
 
 def edited(built, streams):
     """Each stream after one of the edits, each of which each build makes."""
-    return each(built["edit"], streams, modelled_edit, edit_of, stride=len(EDITS))
+    return each(built["edit"], streams, modelled.edited, lambda number, _: modelled.edit(number), stride=len(modelled.EDITS))
 
 
 def named_in(data):
@@ -250,6 +215,15 @@ def patterns(built, streams):
         list(pool.map(lambda row: common.must([built["fuzz"][-1]], stream=row[0]), streams))
 
 
+COMPARISONS = (compared, stripped, edited, names, imports)
+
+
+def all_differences(built, streams):
+    """How the examples differ from the models; one stream in ten is tried as a pattern."""
+    patterns(built, streams[::10])
+    return [text for test in COMPARISONS for text in test(built, streams)]
+
+
 def documented():
     """A program of the examples in the doc comments of the sources, which the header has too: a function for each."""
     names, text = [], "#include <assert.h>\n#include <string.h>\n#include <pulleynavy.h>\n"
@@ -292,8 +266,8 @@ def under_valgrind(built, streams):
     path_of = lambda name: next(path for path in built[name] if not path.endswith("_checked"))
     rows = []
     for stream, lines in streams[:: max(1, len(streams) // 12)]:
-        rows.append(([*words, path_of("list"), "7"], stream, events_of(0, stream, lines), status_of(lines)))
-        rows.append(([*words, path_of("items")], stream, without_ranges(lines), status_of(lines)))
+        rows.append(([*words, path_of("list"), "7"], stream, modelled.events(lines), modelled.status(lines)))
+        rows.append(([*words, path_of("items")], stream, modelled.without_ranges(lines), modelled.status(lines)))
     return differences(rows)
 
 
@@ -364,8 +338,7 @@ def with_python(folder, archive, streams, changed, is_first):
     common.must([os.path.join(common.TOP, "tools", "shared_library"), archive, library])
     os.environ["PULLEYNAVY_LIB"] = library
     package = os.path.join(common.TOP, "bindings", "python")
-    os.environ["PULLEYNAVY_STREAMS"] = os.path.join(folder, "streams.jsonl")
-    common.write(os.environ["PULLEYNAVY_STREAMS"], "".join(json.dumps(row(number, *one)) + "\n" for number, one in enumerate(streams + changed)))
+    os.environ["PULLEYNAVY_STREAMS"] = modelled.write(os.path.join(folder, "streams.jsonl"), streams + changed)
     common.must([sys.executable, "-B", "-m", "unittest", "discover", "-q", "-s", "tests", "-t", "."], folder=package)
     if is_first and common.found("mypy"):
         common.must(["mypy", "--strict", "--cache-dir", os.path.join(folder, "mypy"), "pulleynavy", "tests"], folder=package)
@@ -373,8 +346,8 @@ def with_python(folder, archive, streams, changed, is_first):
 
 def main():
     more = [("--archive", {"metavar": "FILE", "type": common.existing, "action": "append", "help": "an archive, instead of those that are built here"})]
-    given = common.arguments(__doc__, [("seed", 1), ("count", 300)], show=5, more=more)
-    streams = common.golden() + drawn(given.seed, given.count)
+    given = common.arguments(__doc__, [("seed", 1), ("count", 300)], more=more)
+    streams = common.golden() + modelled.drawn(given.seed, given.count)
     with tempfile.TemporaryDirectory() as folder:
         made = {"given%d" % number: path for number, path in enumerate(given.archive)} if given.archive else archives(folder)
         built = built_examples(folder, made)
@@ -385,10 +358,10 @@ def main():
         with_doxygen(folder)
         patterns(built, streams)
         sequences(folder, made, streams, given.seed)
-        differ = [text for test in (compared, stripped, edited, names, imports, under_valgrind) for text in test(built, streams)]
-        changed = [(stream, modelled(stream)) for stream in mutants(random.Random(given.seed), [stream for stream, _ in common.golden()], MUTANTS)]
+        differ = [text for test in (*COMPARISONS, under_valgrind) for text in test(built, streams)]
+        changed = [(stream, modelled.listed(stream)) for stream in mutants(random.Random(given.seed), [stream for stream, _ in common.golden()], MUTANTS)]
         for number, archive in enumerate(made.values()):
             with_cargo(folder, archive, number == 0)
             with_python(folder, archive, streams, changed[number :: len(made)], number == 0)
     count = sum(len(paths) for paths in built.values())
-    return common.tell(differ, given.show, "%d programs, %d streams, %d differ (seed %d)" % (count, len(streams), len(differ), given.seed))
+    return common.tell(differ, "%d programs, %d streams, %d differ (seed %d)" % (count, len(streams), len(differ), given.seed))

@@ -1,4 +1,4 @@
-"""Compares the public items of the crate for Rust with those of wasmparser 0.263.0, which tools/lib/surface.txt lists.
+"""Compares the public items of the crate for Rust with those of wasmparser 0.263.0, which surface.txt lists.
 
     tools/compare surface    names each item of the list that the crate does not have
 
@@ -13,8 +13,6 @@ import tempfile
 import cargo
 import common
 
-LIST = os.path.join(common.LIB, "surface.txt")
-CRATE = os.path.join(common.TOP, "bindings", "rust")
 PAGE = re.compile(r"(?:struct|enum|trait|type|fn|constant)\.(\w+)\.html\Z")
 MEMBER = re.compile(r'id="(?:method|tymethod|structfield|variant|associatedconstant)\.([\w.]+)"')
 # What precedes the members of traits on a page. They are no members of the list.
@@ -29,7 +27,7 @@ def pages(folder):
         common.stop(common.NO_PROGRAM, "there is no cargo")
     cargo.offline(folder)
     settings = {**os.environ, "CARGO_TARGET_DIR": folder, "RUSTDOCFLAGS": "-D warnings"}
-    words = ["cargo", "doc", "--offline", "--no-deps", "--quiet", "--jobs", "2", "--manifest-path", os.path.join(CRATE, "Cargo.toml")]
+    words = ["cargo", "doc", "--offline", "--no-deps", "--quiet", "--jobs", "2", "--manifest-path", os.path.join(cargo.CRATE, "Cargo.toml")]
     done = subprocess.run(words, cwd=folder, env=settings, stdout=subprocess.PIPE, stderr=subprocess.STDOUT)
     if done.returncode:
         common.stop(common.NO_PROGRAM, "cargo doc failed\n" + done.stdout.decode(errors="replace")[-3000:])
@@ -48,7 +46,7 @@ def pages(folder):
 
 def listed():
     """Of each line of the list whether its items are absent, their name, and their members and traits."""
-    for line in common.read(LIST).splitlines():
+    for line in common.read(cargo.CRATE, "tests", "surface", "surface.txt").splitlines():
         if line.strip() and not line.startswith("#"):
             name, _, rest = line.lstrip("- ").partition(":")
             members, _, traits = rest.partition("|")
@@ -82,6 +80,6 @@ def main():
     common.parser(__doc__).parse_args()
     with tempfile.TemporaryDirectory() as folder:
         found = pages(folder)
-    faults, wanted = compared(found, common.read(CRATE, "README.md"))
+    faults, wanted = compared(found, common.read(cargo.CRATE, "README.md"))
     count = len(wanted) + sum(len(members) + len(traits) for members, traits in wanted.values())
-    return common.tell(faults, len(faults), "%d items of wasmparser, %d differ" % (count, len(faults)))
+    return common.tell(faults, "%d items of wasmparser, %d differ" % (count, len(faults)), None)

@@ -14,6 +14,7 @@ import common
 import desktops
 import packages
 import wine
+from test_packages import source, with_cmake
 
 sys.path.insert(0, os.path.join(common.TOP, "bindings", "python"))
 from pulleynavy import _library, declared
@@ -27,12 +28,10 @@ WHEELS = {
     "aarch64-macos": ("macosx_11_0_arm64", ["macosx_11_0_arm64", "macosx_15_0_arm64"], "macosx_11_0_x86_64", "darwin", 0x100000C),
 }
 # Loads the library of a wheel as `ctypes` does, with the calls that the package names, for a program that is linked with these calls.
-LOADER = common.read("tools", "lib", "templates", "wheel_loader.c")
+LOADER = source("wheel_loader.c")
 JUMP = '__asm__(".globl {0}\\n{0}: jmp *calls+{1}(%rip)");\n'
-# Two programs over a package: with the shared library, which is put beside it, and with the archive.
-CMAKE = common.read("tools", "lib", "templates", "CMakeLists.txt")
 # A program that needs nothing of a system but the library, and has the two functions that the library calls.
-ALONE = common.read("tools", "lib", "templates", "alone.c")
+ALONE = source("alone.c")
 # The library that the crate links for each target of Rust, in a folder of targets.
 CRATE = {
     "x86_64-pc-windows-gnu": "x86_64-windows/libpulleynavy.a",
@@ -155,19 +154,12 @@ def unpacked(folder, target):
     return os.path.join(place, top)
 
 
-def built(place, package, sources, words, **more):
-    """Has CMake build both programs in a folder over a package. Returns the folder of the programs."""
-    common.write(os.path.join(place, "CMakeLists.txt"), CMAKE % (common.version(), " ".join('"%s"' % path for path in sources)))
-    must(["cmake", "-S", place, "-B", place + "/out", "-DCMAKE_PREFIX_PATH=" + package, *words], **more)
-    must(["cmake", "--build", place + "/out"], **more)
-    return place + "/out"
-
-
 def under_wine(folder, system):
     """Scripts that run an example under wine, as CMake builds it with MinGW over the zip for Windows on x86-64."""
     package = unpacked(folder, "x86_64-windows")
     sources = [os.path.join(common.TOP, "crates", "wasm_c", "examples", "names.c"), wine.WITNESS]
-    out = built(os.path.join(folder, "cmake"), package, sources, ["-DCMAKE_SYSTEM_NAME=Windows", "-DCMAKE_C_COMPILER=" + wine.COMPILERS[0]])
+    words = ["-DCMAKE_SYSTEM_NAME=Windows", "-DCMAKE_C_COMPILER=" + wine.COMPILERS[0]]
+    out = with_cmake(os.path.join(folder, "cmake"), package, sources, common.version(), *words)
     return [system.running(os.path.join(out, name)) for name in ("names_pulleynavy.exe", "names_static.exe")]
 
 
@@ -177,13 +169,14 @@ def wrongly_linked(folder, target):
         return
     is_windows, place = target.endswith("-windows"), os.path.join(folder, "cmake-" + target)
     os.chmod(common.write(os.path.join(place, "bin", "sw_vers"), SW_VERS), 0o755)
-    source, stub = common.write(os.path.join(place, "alone.c"), ALONE), common.write(os.path.join(place, "libSystem.tbd"), desktops.STUB)
+    program, stub = common.write(os.path.join(place, "alone.c"), ALONE), common.write(os.path.join(place, "libSystem.tbd"), desktops.STUB)
     words = {"C_COMPILER": "clang", "C_COMPILER_TARGET": desktops.TARGETS[target][1], "C_FLAGS": "-ffreestanding", "C_STANDARD_LIBRARIES": ""}
     words |= {"TRY_COMPILE_TARGET_TYPE": "STATIC_LIBRARY", "OSX_SYSROOT": "", "SYSTEM_NAME": "Windows" if is_windows else "Darwin"}
     words |= {"EXE_LINKER_FLAGS": "-fuse-ld=lld -nostdlib " + ("-Wl,--entry=main" if is_windows else stub)}
     words |= {"AR": shutil.which("llvm-ar"), "RANLIB": shutil.which("llvm-ranlib"), "INSTALL_NAME_TOOL": shutil.which("llvm-install-name-tool")}
     path = os.path.join(place, "bin") + os.pathsep + os.environ["PATH"]
-    out = built(place, unpacked(folder, target), [source], ["-DCMAKE_%s=%s" % pair for pair in words.items()], PATH=path)
+    settings = ["-DCMAKE_%s=%s" % pair for pair in words.items()]
+    out = with_cmake(place, unpacked(folder, target), [program], common.version(), *settings, PATH=path)
     for name in ("pulleynavy", "static"):
         [program] = [path for path in glob.glob("%s/names_%s*" % (out, name)) if path.endswith((name, ".exe"))]
         needed = NEEDED[target.partition("-")[2]] in must(["llvm-readobj", "--needed-libs", program]).split()

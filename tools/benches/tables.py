@@ -24,20 +24,21 @@ import shutil
 import subprocess
 import tempfile
 
-import benches
+import benchmark
 import cargo
 import common
 import programs
 import standard as S
+import trial
 from common import leb
-from made import custom, listed, module, section, text
+from modules import custom, listed, module, section, text
 
-PROGRAM, LISTER, DUMPER = benches.PROGRAM, programs.path_of("wasm_list"), programs.path_of("pulleynavy")
+PROGRAM, LISTER, DUMPER = benchmark.PROGRAM, programs.path_of("wasm_list"), programs.path_of("pulleynavy")
 EVENT_WAYS = ["parse", "parse_all", "65536", "4096", "100", "16", "1"]
 # The program of the crate for Rust's examples that reads as the benchmark does.
 ORIGINAL = os.path.join(common.TOP, "bindings", "rust", "examples", "programs", "src", "bin", "bench.rs")
 # The manifest: the crate's folder, name and features.
-MANIFEST = common.read("tools", "lib", "templates", "original.toml")
+MANIFEST = common.read("tools", "benches", "original.toml")
 
 
 # ---- the files
@@ -246,7 +247,7 @@ def build():
         if subprocess.run([os.path.join(common.TOP, "tools", "run"), "--build", name]).returncode:
             common.stop(common.NO_PROGRAM, "%s could not be built" % name)
     try:
-        benches.build()
+        benchmark.build()
     except common.Failed as failed:
         common.stop(common.NO_PROGRAM, "the benchmark could not be built: %s" % failed)
 
@@ -267,7 +268,7 @@ def built_ruler(folder):
     if not shutil.which("cc"):
         return None
     program = os.path.join(folder, "limit")
-    subprocess.run(["cc", "-O2", os.path.join(common.LIB, "limit.c"), "-o", program], check=True)
+    subprocess.run(["cc", "-O2", os.path.join(common.TOP, "tools", "benches", "limit.c"), "-o", program], check=True)
     return program
 
 

@@ -8,7 +8,6 @@
 Every stream is parsed whole and in chunks of 1, 7, 100 and 65,536 bytes, with its items, and compared with the lines of a model or of
 tools/golden.jsonl. 20,000 streams with changed bytes are parsed too, and must not make memory grow. What a machine lacks (Node, npm, tsc, esbuild, Chromium, Firefox, wasm-opt) is reported in one line, and the rest is done.
 """
-import json
 import os
 import random
 import shutil
@@ -16,35 +15,14 @@ import subprocess
 import tempfile
 
 import common
+import modelled
 import packages
 import programs
-import try_c
 from modules import mutants
 
-PACKAGE = os.path.join(common.TOP, "bindings", "js")
 TSC = ["--strict", "--noEmit", "--target", "es2022", "--module", "es2022", "--moduleResolution", "node"]
 OLDEST_NODE = 18
 MUTANTS = 20_000
-
-
-def write_streams(path, seed, count, mutant_count=0):
-    """Writes the golden streams and random ones, each with the lines of the models and, if it is well-formed, stripped. Returns how many there are."""
-    model, changed = common.load(common.MODEL), mutants(random.Random(seed), [stream for stream, _ in common.golden()], mutant_count)
-    rows = common.golden() + try_c.drawn(seed, count) + [(stream, try_c.modelled(stream)) for stream in changed]
-    with open(path, "w", encoding="utf-8") as file:
-        for number, (stream, lines) in enumerate(rows):
-            stripped = None if try_c.status_of(lines) else model.strip(stream).hex()
-            file.write(json.dumps({**try_c.row(number, stream, lines), "stripped": stripped}) + "\n")
-    return len(rows)
-
-
-def installed(folder, name, wasm):
-    """A copy of the package with this module."""
-    place = os.path.join(folder, name)
-    shutil.copytree(PACKAGE, place, ignore=shutil.ignore_patterns("*.wasm", "*.wasm.js", "*.tgz"))
-    packages.add_module(wasm, place)
-    return place
-
 
 # The entry of the package, the platform of a bundle, and whether the bundle needs the module beside it.
 BUNDLES = [("pulleynavy", "browser", True), ("pulleynavy", "node", True), ("pulleynavy/inline", "browser", False), ("pulleynavy/inline", "node", False)]
@@ -97,17 +75,19 @@ def tried(given, folder, node):
         wasm, wasm64 = (os.path.join(programs.build_targets(folder, "wasm32"), name) for name in ("pulleynavy32.wasm", "pulleynavy64.wasm"))
     if not os.path.exists(wasm):
         common.stop(common.NO_PROGRAM, "there is no module with 32-bit memory")
-    streams, mutated, place = os.path.join(folder, "streams.jsonl"), os.path.join(folder, "mutated.jsonl"), installed(folder, "pulleynavy", wasm)
-    count, changed = write_streams(streams, given.seed, given.count), write_streams(mutated, given.seed, 0, MUTANTS)
+    place, golden = packages.javascript(os.path.join(folder, "pulleynavy"), wasm), common.golden()
+    rows = golden + modelled.drawn(given.seed, given.count)
+    changed = [(stream, modelled.listed(stream)) for stream in mutants(random.Random(given.seed), [stream for stream, _ in golden], MUTANTS)]
+    streams, mutated = (modelled.write(os.path.join(folder, name), of) for name, of in (("streams.jsonl", rows), ("mutated.jsonl", changed)))
     text = common.must([node, "--test"], folder=place, env={"PULLEYNAVY_STREAMS": streams})
     passed = sum(int(line.split()[-1]) for line in text.splitlines() if line.startswith(("# pass ", "ℹ pass ")))
-    said = "%d tests, %d streams (seed %d), %d with changed bytes" % (passed, count, given.seed, changed)
+    said = "%d tests, %d streams (seed %d), %d with changed bytes" % (passed, len(rows), given.seed, len(changed))
     common.must([node, "--expose-gc", "tests/streams.test.js"], folder=place, env={"PULLEYNAVY_STREAMS": mutated})
     if wasm64:
         flags = ["--experimental-wasm-memory64"]
         if subprocess.run([node, *flags, "-e", "0"], stdout=subprocess.DEVNULL, stderr=subprocess.DEVNULL).returncode:
             flags = []
-        common.must([node, *flags, "tests/streams.test.js"], folder=installed(folder, "wide", wasm64), env={"PULLEYNAVY_STREAMS": streams})
+        common.must([node, *flags, "tests/streams.test.js"], folder=packages.javascript(os.path.join(folder, "wide"), wasm64), env={"PULLEYNAVY_STREAMS": streams})
         said += ", also with 64-bit memory"
     for name, program in (("Chromium", "chromium"), ("Firefox", "firefox-esr")):
         browser = common.found(program)
@@ -125,9 +105,8 @@ def tried(given, folder, node):
 
 
 def main():
-    more = [("--wasm", {"metavar": "FILE", "type": common.existing, "help": "the module with 32-bit memory"})]
-    more += [("--wasm64", {"metavar": "FILE", "type": common.existing, "help": "the module with 64-bit memory"})]
-    given = common.arguments(__doc__, [("seed", 1), ("count", 1000)], more=more)
+    modules = {"wasm": "the module with 32-bit memory", "wasm64": "the module with 64-bit memory"}
+    given = common.arguments(__doc__, [("seed", 1), ("count", 1000)], **modules)
     node = common.found("node")
     version = common.must([node, "--version"]).strip() if node else ""
     if node and int(version[1:].split(".")[0]) < OLDEST_NODE:

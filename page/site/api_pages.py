@@ -32,7 +32,7 @@ ABOUT_DEFINITIONS = "The definitions of the crates: those that contracts cite, a
 KNOWN = ("self", "result", "Self", "Type", "Unit", "_", "sem", "𝓛", "refl", "tt")
 # Traits of the standard library whose implementations say nothing that a reader looks for.
 PLAIN = ("Debug", "fmt::Debug", "Drop")
-PAGE = common.read("tools", "lib", "templates", "page.html")
+PAGE = common.read("page", "site", "page.html")
 
 
 def breakable(name):
@@ -457,7 +457,7 @@ def definitions_page(site):
 
 def index_page(site):
     """The crates, and what a reader has to know of the examples and of the contracts."""
-    rows, (guide, _) = [], markdown.document("tools/lib/templates/reference.md", lambda path: path.rpartition("/")[2])
+    rows, (guide, _) = [], markdown.document("page/site/reference.md", lambda path: path.rpartition("/")[2])
     for crate in api_source.LIBRARIES:
         counts = {kind: len(pairs) for kind, pairs in grouped(site.modules[crate]).items()}
         said = ", ".join("%d %s" % (count, GROUPS[kind][count > 1]) for kind, count in counts.items())
@@ -473,7 +473,7 @@ def files(more):
     found[DEFINITIONS] = definitions_page(site)
     found.update((name, write(site)) for name, write in more.items())
     found[CRATES] = index_page(site)
-    found["api.css"] = common.read("tools", "lib", "api.css")
+    found["api.css"] = common.read("page", "site", "api.css")
     index = json.dumps(site.index, ensure_ascii=False, separators=(",", ":"))
-    found["api.js"] = "const INDEX = %s;\n%s" % (index, common.read("tools", "lib", "api.js"))
+    found["api.js"] = "const INDEX = %s;\n%s" % (index, common.read("page", "site", "api.js"))
     return found, site

@@ -13,17 +13,17 @@ import api_text
 import common
 from api_text import anchor, code, details, escaped, link
 
-TABLE = common.read("tools", "lib", "templates", "productions.txt")
+TABLE = common.read("page", "site", "productions.txt")
 # Files of definitions that cite the chapter and define no production.
 OTHERS = {
     ("wasm_items", "TypeHeads"): "the heads of groups of types and of subtypes, for callers that read their lists one by one",
     ("wasm_items", "TypeLaws"): "that these are the heads of RecGroups",
     ("wasm_frames", "SkipNext"): "skipping a part by its first fields",
-    ("wasm_feeder", "Fates"): "what stripping does to a part",
-    ("wasm_feed", "Edits"): "what edits of custom sections say of sections",
-    ("wasm_feed", "Edited"): "an edited stream",
-    ("wasm_feed", "Encoded"): "the bytes of a new custom section",
-    ("wasm_feed", "Stripped"): "what remains of a stripped stream",
+    ("wasm_edits", "Fates"): "what stripping does to a part",
+    ("wasm_edits", "Edits"): "what edits of custom sections say of sections",
+    ("wasm_edits", "Edited"): "an edited stream",
+    ("wasm_edits", "Encoded"): "the bytes of a new custom section",
+    ("wasm_edits", "Stripped"): "what remains of a stripped stream",
 }
 # What names more than one section of a chapter.
 WIDE = ("Binary format, Modules.", "Modules, Sections", "each section", "from Type Section to Tag Section", "Appendix, Custom Sections")
@@ -231,12 +231,12 @@ def without_production():
     shown = {(crate, name.split(".")[0]) for section in ALL_SECTIONS for one in section.productions for crate, name in one.cites}
     for crate, module in sorted(OTHERS):
         if (crate, module) in shown or module not in api_names.all_specs(crate):
-            yield "tools/lib/api_standard.py: %s, %s is no longer one of OTHERS" % (crate, module)
+            yield "page/site/api_standard.py: %s, %s is no longer one of OTHERS" % (crate, module)
     for crate in api_source.LIBRARIES:
         for module, specs in api_names.all_specs(crate).items():
             names_chapter = re.search(r"Core specification, (Binary format|Appendix), ", " ".join(specs.comment), re.I)
             if names_chapter and (crate, module) not in {*shown, *OTHERS}:
-                yield "%s, %s: no production of tools/lib/api_standard.py has a definition of it" % (crate, module)
+                yield "%s, %s: no production of page/site/api_standard.py has a definition of it" % (crate, module)
 
 
 def faults(site, ids):

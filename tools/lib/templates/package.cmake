@@ -1,5 +1,0 @@
-cmake_minimum_required(VERSION 3.13)
-project(t C)
-find_package(pulleynavy %s REQUIRED)
-add_executable(t t.c)
-target_link_libraries(t pulleynavy::%s)
