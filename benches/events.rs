@@ -1,12 +1,12 @@
 // Reads the events of a stream in several ways.
 ghost use Rattle.std.specs.Prelude.{⊤, ◌≤◌, length};
-ghost use Rattle.wasm_feeder.specs.Beside.{MayCome};
+ghost use Rattle.wasm_streams.specs.Beside.{MayCome};
 
 use crate::tally::Tally;
 use bitflags::Flags;
 use std::alloc::Global;
 use wasm_base::{Error, Result, WasmFeatures};
-use wasm_feeder::{Feeder, Step};
+use wasm_feed::{Feeder, Step};
 use wasm_parser::{Chunk, Parser, Payload};
 
 /// Chunks of at most this many bytes are pushed, and larger ones are borrowed.

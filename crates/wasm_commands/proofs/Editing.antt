@@ -8,20 +8,20 @@ use Rattle.std.proofs.KnownBytes.{Appends-kept, Appends-trans}
 use Rattle.wasm_base.specs.FaultAt.{fault_at}
 use Rattle.wasm_base.specs.declared.error.Error.{Error}
 use Rattle.wasm_base.specs.declared.fault.Fault.TheVariants.{OutOfMemory}
-use Rattle.wasm_feed.specs.EditStream.{EditsParts, EditsSource, EndsEdit, WritesNew, ended_by}
-use Rattle.wasm_feed.specs.Edits.{CanBeMade, edited_bytes, new_bytes}
-use Rattle.wasm_feed.specs.Encoded.{Fits}
-use Rattle.wasm_feed.specs.declared.encoding.NewSection.{NewSection}
-use Rattle.wasm_feed.specs.declared.edits.Edit.{Edit}
-use Rattle.wasm_feed.specs.Stripped.{EndsWithFault, RefusesToStrip}
+use Rattle.wasm_edits.specs.EditStream.{EditsParts, EditsSource, EndsEdit, WritesNew, ended_by}
+use Rattle.wasm_edits.specs.Edits.{CanBeMade, edited_bytes, new_bytes}
+use Rattle.wasm_edits.specs.Encoded.{Fits}
+use Rattle.wasm_edits.specs.declared.encoding.NewSection.{NewSection}
+use Rattle.wasm_edits.specs.declared.edits.Edit.{Edit}
+use Rattle.wasm_edits.specs.Stripped.{EndsWithFault, RefusesToStrip}
 use Rattle.wasm_grammar.specs.Accepted.{IsAccepted}
 use Rattle.wasm_text.specs.Calls.{Device}
 use Rattle.wasm_text.specs.declared.devices.ListError.{ListError}
 use Rattle.wasm_text.specs.declared.devices.ListError.TheVariants.{Input, Output, Memory}
 use Rattle.wasm_text.specs.declared.devices.sink.Sink.{Ghosts as SinkOf}
 use Rattle.wasm_text.specs.declared.devices.source.Source.{Ghosts as SourceOf}
-use Rattle.wasm_feeder.specs.declared.turns.Ended.{Ended}
-use Rattle.wasm_feeder.specs.declared.turns.Ended.TheVariants.{End, Fault}
+use Rattle.wasm_streams.specs.declared.turns.Ended.{Ended}
+use Rattle.wasm_streams.specs.declared.turns.Ended.TheVariants.{End, Fault}
 use Rattle.wasm_console.specs.Devices.{IsUntouched}
 use Rattle.wasm_commands.specs.EditsTwice.{EditsTwice, GoesOnAs}
 use Rattle.wasm_commands.specs.Rewrites.{EndsBytes, EditsBy, EditsFile, EditsOriginal, EndsFile, IsWritten, WritesAll, input_device}

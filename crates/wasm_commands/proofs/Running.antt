@@ -4,7 +4,7 @@ use Rattle.std.proofs.Common.{Result, Ok, Err, OnErr, ap, subst, subst₂, sym}
 use Rattle.std.specs.Io.KnownBytes.{Appends, Keeps}
 use Rattle.std.proofs.KnownBytes.{Appends-kept}
 use Rattle.wasm_text.specs.Calls.{from_to}
-use Rattle.wasm_feeder.specs.declared.turns.Ended.{Ended}
+use Rattle.wasm_streams.specs.declared.turns.Ended.{Ended}
 use Rattle.wasm_text.specs.declared.devices.ListError.{ListError}
 use Rattle.wasm_text.specs.declared.devices.ListError.TheVariants.{Input, Output, Memory}
 use Rattle.wasm_tree.specs.Numbers.{Number}

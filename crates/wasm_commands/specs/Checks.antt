@@ -7,7 +7,7 @@ use Rattle.wasm_commands.specs.Systems.{UsesFile, named_files}
 use Rattle.wasm_console.specs.Devices.{IsUntouched}
 use Rattle.wasm_dumper.specs.Checks.{IsFaulty}
 use Rattle.wasm_dumper.specs.declared.events.Only.TheVariants.{All}
-use Rattle.wasm_feeder.specs.declared.turns.Ended.{Ended}
+use Rattle.wasm_streams.specs.declared.turns.Ended.{Ended}
 use Rattle.wasm_text.specs.Calls.{Change, Device, bytes_of}
 use Rattle.wasm_text.specs.declared.devices.ListError.{ListError}
 

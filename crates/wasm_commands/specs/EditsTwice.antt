@@ -2,10 +2,10 @@
 use Rattle.std.specs.Prelude.{◌≡◌, false, List, [], None, Result, Ok, Err}
 use Rattle.wasm_text.specs.Calls.{Device}
 use Rattle.wasm_text.specs.declared.devices.ListError.{ListError}
-use Rattle.wasm_feed.specs.EditStream.{EditsSource}
-use Rattle.wasm_feed.specs.declared.edits.Edit.{Edit}
-use Rattle.wasm_feeder.specs.declared.turns.Ended.{Ended}
-use Rattle.wasm_feeder.specs.declared.turns.Ended.TheVariants.{End, Fault}
+use Rattle.wasm_edits.specs.EditStream.{EditsSource}
+use Rattle.wasm_edits.specs.declared.edits.Edit.{Edit}
+use Rattle.wasm_streams.specs.declared.turns.Ended.{Ended}
+use Rattle.wasm_streams.specs.declared.turns.Ended.TheVariants.{End, Fault}
 use Rattle.wasm_console.specs.Devices.{IsUntouched}
 
 -- a device that drops what is written to it

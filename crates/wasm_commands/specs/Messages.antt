@@ -6,7 +6,7 @@ use Rattle.wasm_text.specs.Calls.{Device}
 use Rattle.wasm_text.specs.Messages.{Says}
 use Rattle.wasm_text.specs.declared.devices.ListError.{ListError}
 use Rattle.wasm_text.specs.declared.devices.ListError.TheVariants.{Input, Output, Memory}
-use Rattle.wasm_feeder.specs.declared.turns.Ended.{Ended}
+use Rattle.wasm_streams.specs.declared.turns.Ended.{Ended}
 use Rattle.wasm_console.specs.Devices.{IsUntouched}
 use Rattle.wasm_commands.specs.Reasons.{reason_of, reason_of_kind}
 use Rattle.wasm_commands.specs.declared.arguments.Refusal.{Refusal}

@@ -14,14 +14,14 @@ use Rattle.wasm_text.specs.Calls.{Device}
 use Rattle.wasm_text.specs.Messages.{Says}
 use Rattle.wasm_text.specs.declared.devices.sink.Sink.{Ghosts as SinkOf}
 use Rattle.wasm_text.specs.declared.devices.source.Source.{Ghosts as SourceOf}
-use Rattle.wasm_feed.specs.Edits.{CanBeMade}
-use Rattle.wasm_feed.specs.Encoded.{Fits}
-use Rattle.wasm_feed.specs.declared.edits.Edit.{Edit}
-use Rattle.wasm_feed.specs.declared.edits.Edit.TheVariants as edit
-use Rattle.wasm_feed.specs.declared.encoding.NewSection.{NewSection}
-use Rattle.wasm_feeder.specs.declared.turns.Ended.{Ended}
+use Rattle.wasm_edits.specs.Edits.{CanBeMade}
+use Rattle.wasm_edits.specs.Encoded.{Fits}
+use Rattle.wasm_edits.specs.declared.edits.Edit.{Edit}
+use Rattle.wasm_edits.specs.declared.edits.Edit.TheVariants as edit
+use Rattle.wasm_edits.specs.declared.encoding.NewSection.{NewSection}
+use Rattle.wasm_streams.specs.declared.turns.Ended.{Ended}
 use Rattle.wasm_text.specs.declared.devices.ListError.{ListError}
-use Rattle.wasm_feeder.specs.declared.fates.Keep.{Keep}
+use Rattle.wasm_edits.specs.declared.fates.Keep.{Keep}
 use Rattle.wasm_console.specs.Devices.{IsUntouched}
 use Rattle.wasm_console.specs.Strips.{Refuses}
 use Rattle.wasm_commands.specs.ArgumentLists.{Read, has_option, is_equals, last_value, operands_in, values_in}

@@ -11,12 +11,12 @@ use Rattle.wasm_text.specs.declared.devices.ListError.{ListError}
 use Rattle.wasm_text.specs.declared.devices.ListError.TheVariants.{Input, Output, Memory}
 use Rattle.wasm_text.specs.declared.devices.sink.Sink.{Ghosts as SinkOf}
 use Rattle.wasm_text.specs.declared.devices.source.Source.{Ghosts as SourceOf}
-use Rattle.wasm_feeder.specs.declared.turns.Ended.{Ended}
-use Rattle.wasm_feeder.specs.declared.turns.Ended.TheVariants.{End, Fault}
-use Rattle.wasm_feed.specs.EditStream.{EditsSource}
-use Rattle.wasm_feed.specs.Edited.{IsEdited}
-use Rattle.wasm_feed.specs.Stripped.{EndsWithFault}
-use Rattle.wasm_feed.specs.declared.edits.Edit.{Edit}
+use Rattle.wasm_streams.specs.declared.turns.Ended.{Ended}
+use Rattle.wasm_streams.specs.declared.turns.Ended.TheVariants.{End, Fault}
+use Rattle.wasm_edits.specs.EditStream.{EditsSource}
+use Rattle.wasm_edits.specs.Edited.{IsEdited}
+use Rattle.wasm_edits.specs.Stripped.{EndsWithFault}
+use Rattle.wasm_edits.specs.declared.edits.Edit.{Edit}
 use Rattle.wasm_console.specs.Devices.{IsUntouched}
 use Rattle.wasm_console.specs.Strips.{ReadsAll, Refuses}
 use Rattle.wasm_commands.specs.ArgumentLists.{Read, last_value}

@@ -25,7 +25,7 @@ use Rattle.wasm_console.specs.Devices.{IsUntouched}
 use Rattle.wasm_console.specs.Endings.{status_for}
 use Rattle.wasm_dumper.specs.declared.events.Only.{Only}
 use Rattle.wasm_dumper.specs.declared.events.Only.TheVariants.{All, Parts}
-use Rattle.wasm_feeder.specs.declared.turns.Ended.{Ended}
+use Rattle.wasm_streams.specs.declared.turns.Ended.{Ended}
 use Rattle.wasm_text.specs.Calls.{Device, output_failed}
 use Rattle.wasm_text.specs.Messages.{Says}
 use Rattle.wasm_text.specs.declared.devices.ListError.{ListError}

@@ -6,7 +6,7 @@ ghost use Rattle.wasm_commands.specs.Parsing.{reads_of, texts};
 ghost use Rattle.wasm_commands.specs.RewriteCommands.{FindsChange, SetsData, SetsFile, SetsNew, SetsProducers, edit_that_sets, is_setting, no_setting, wrong_setting};
 ghost use Rattle.wasm_commands.specs.Systems.{IfAllocated, platform};
 ghost use Rattle.wasm_commands.specs.declared.options.Flag.TheVariants as option;
-ghost use Rattle.wasm_feed.specs.Encoded.{encoded};
+ghost use Rattle.wasm_edits.specs.Encoded.{encoded};
 ghost use Rattle.wasm_text.specs.Calls.{device_of, writer_device};
 
 use crate::arguments::Arguments;

@@ -3,7 +3,7 @@ ghost use Rattle.std.specs.Prelude.{All, ◌==◌};
 ghost use Rattle.std.specs.Io.KnownBytes.{Keeps};
 ghost use Rattle.wasm_commands.specs.Parsing.{reads_of};
 ghost use Rattle.wasm_commands.specs.Rewrites.{ChangesFile, EditsHeld, EditsOriginal, EndsFile, EndsOutput, EndsRun, EndsTarget, Finds, FlushesAtEnd, Holds, WritesFile, WritesOut, WritesTo, target_in};
-ghost use Rattle.wasm_feed.specs.Edits.{CanBeMade};
+ghost use Rattle.wasm_edits.specs.Edits.{CanBeMade};
 ghost use Rattle.wasm_text.specs.Calls.{device_of, writer_device};
 
 mod twice;

@@ -2,8 +2,8 @@
 use Rattle.std.specs.Prelude.{◌≡◌, ◌⊎◌, ℕ, ◌<◌, ◌≤◌, Bool, true, List, take, Result, Ok, Err}
 use Rattle.std.specs.Io.KnownBytes.{Appends, Keeps}
 use Rattle.wasm_text.specs.Calls.{Device}
-use Rattle.wasm_feeder.specs.declared.turns.Ended.{Ended}
-use Rattle.wasm_feeder.specs.declared.turns.Ended.TheVariants.{End, Fault}
+use Rattle.wasm_streams.specs.declared.turns.Ended.{Ended}
+use Rattle.wasm_streams.specs.declared.turns.Ended.TheVariants.{End, Fault}
 use Rattle.wasm_text.specs.declared.devices.ListError.{ListError}
 use Rattle.wasm_text.specs.declared.devices.ListError.TheVariants.{Output, Memory}
 use Rattle.wasm_console.specs.Devices.{IsUntouched}

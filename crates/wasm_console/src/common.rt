@@ -8,8 +8,8 @@ ghost use Rattle.wasm_text.specs.Messages.{Says};
 
 use std::alloc::{AllocError, Global};
 use std::io::Write;
-use wasm_feed::{Ended, Failed, ListError, Sink, WriteSink, write_all};
-use wasm_text::give_up;
+use wasm_streams::Ended;
+use wasm_text::{Failed, ListError, Sink, WriteSink, give_up, write_all};
 
 /// The number of bytes of the input that are read at once, at most.
 pub const PIECE: usize = 65_536;

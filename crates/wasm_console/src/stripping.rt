@@ -1,14 +1,15 @@
 // Strips an input that can be read only once.
-ghost use Rattle.wasm_feeder.specs.Fates.{stays_by};
+ghost use Rattle.wasm_edits.specs.Fates.{stays_by};
 ghost use Rattle.wasm_text.specs.Calls.{input_failed, output_failed, device_of};
 ghost use Rattle.wasm_console.specs.Strips.{ReadsAll, ReadsPiece, Refuses, StripsInput, WritesStripped};
 ghost use Rattle.std.specs.Prelude.{◌≡◌, ◌<◌, length};
 
 use crate::common::read_buffer;
 use std::alloc::Global;
-use wasm_feed::{Ended, Keep, ListError, Sink, Source, strip_in_place, write_all};
-use wasm_parser::Error;
-use wasm_text::{complain, give_up};
+use wasm_base::Error;
+use wasm_edits::{Keep, strip_in_place};
+use wasm_streams::Ended;
+use wasm_text::{ListError, Sink, Source, complain, give_up, write_all};
 
 // Performs one read and appends the result to `bytes`. Returns false at the end of input.
 fn read_piece<R: Source>(
@@ -72,7 +73,7 @@ fn write_stripped<W: Sink>(
 /// Reads all of an input, and writes it without its custom sections, except those that stay. Returns how the stream
 /// ended.
 ///
-/// At a fault of the stream nothing is written. To strip a stream that can be read twice, `wasm_feed::strip_stream` needs
+/// At a fault of the stream nothing is written. To strip a stream that can be read twice, `wasm_edits::strip_stream` needs
 /// less memory.
 ///
 /// # Errors

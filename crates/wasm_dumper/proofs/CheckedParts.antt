@@ -4,12 +4,12 @@ use Rattle.wasm_dumper.proofs.Common.{Error, seen, lending, Feed, pushed, Cursor
 use Rattle.wasm_dumper.specs.Checks.{any_faulty, shown_faulty}
 use Rattle.wasm_dumper.specs.Hiding.{DropsPart, FindsOutline}
 use Rattle.wasm_dumper.specs.declared.hidden.Skipped.{Skipped}
-use Rattle.wasm_feeder.specs.Passing.{held_by}
+use Rattle.wasm_streams.specs.Passing.{held_by}
 use Rattle.wasm_frames.specs.SkipNext.{Head}
 use Rattle.wasm_tree.specs.Found.{Finds, FindsNone}
 use Rattle.wasm_dumper.proofs.Checking.{any_more, finds_both}
 use Rattle.wasm_dumper.specs.Dumping.{Finding, Seeking}
-use Rattle.wasm_feeder.proofs.ForCallers.{arrived, past}
+use Rattle.wasm_streams.proofs.ForCallers.{arrived, past}
 
 -- what was found so far is known, and the parser has skipped a part
 module _ (only : List Only) (has_bytes : Bool) (full rest : Option (List ℕ)) (cur : Cursor) (stored chunk : List ℕ)

@@ -7,11 +7,11 @@ use Rattle.wasm_dumper.proofs.Common.{Feed, Moves, turn_after, Told}
 use Rattle.wasm_dumper.proofs.Common.{Request, Part, Stop, Ending, Event, last_event, report_of, Writing, Only}
 use Rattle.wasm_dumper.specs.Dumping.{Finding, Seeking}
 use Rattle.wasm_dumper.specs.Checks.{FindsIn, answer_faulty, any_faulty, custom_of, faulty_if, report_faulty, shown_faulty}
-use Rattle.wasm_feeder.specs.Beside.{FillsAlike}
-use Rattle.wasm_feeder.specs.declared.turns.Ended.{Ended}
-use Rattle.wasm_feeder.specs.declared.turns.Turn.{Turn}
-use Rattle.wasm_feeder.proofs.ForCallers.{IsEnding, IsEvent, begins, next_asks, next_ends, next_event, reads_on, whole_input}
-use Rattle.wasm_feeder.specs.declared.turns.Turn.TheVariants as turn
+use Rattle.wasm_streams.specs.Beside.{FillsAlike}
+use Rattle.wasm_streams.specs.declared.turns.Ended.{Ended}
+use Rattle.wasm_streams.specs.declared.turns.Turn.{Turn}
+use Rattle.wasm_streams.proofs.ForCallers.{IsEnding, IsEvent, begins, next_asks, next_ends, next_event, reads_on, whole_input}
+use Rattle.wasm_streams.specs.declared.turns.Turn.TheVariants as turn
 use Rattle.wasm_parser.specs.declared.payload.Payload.{Payload}
 use Rattle.wasm_parser.specs.declared.payload.Payload.TheVariants.{End}
 use Rattle.wasm_grammar.specs.Reading.{Report, stream_end}

@@ -15,14 +15,14 @@ pub use Rattle.wasm_base.specs.Section.{Section, all_items}
 pub use Rattle.wasm_base.specs.Window.{Place, place}
 pub use Rattle.wasm_base.specs.declared.error.Error.{Error}
 pub use Rattle.wasm_base.specs.declared.fault.NumberKind.TheVariants.{VarU32}
-pub use Rattle.wasm_feeder.specs.Beside.{seen, lending, beside}
-pub use Rattle.wasm_feeder.specs.Cursors.{feed_of}
-pub use Rattle.wasm_feeder.specs.Feed.{Feed, pushed}
-pub use Rattle.wasm_feeder.specs.Progress.{weight}
-pub use Rattle.wasm_feeder.specs.Step.{Told, Part, Request, Stop, Moves}
-pub use Rattle.wasm_feeder.specs.Turns.{turn_after}
-pub use Rattle.wasm_feeder.specs.declared.feeder.Cursor.{Cursor}
-pub use Rattle.wasm_feeder.specs.declared.turns.Ended.TheVariants.{Fault, End}
+pub use Rattle.wasm_streams.specs.Beside.{seen, lending, beside}
+pub use Rattle.wasm_streams.specs.Cursors.{feed_of}
+pub use Rattle.wasm_streams.specs.Feed.{Feed, pushed}
+pub use Rattle.wasm_streams.specs.Progress.{weight}
+pub use Rattle.wasm_streams.specs.Step.{Told, Part, Request, Stop, Moves}
+pub use Rattle.wasm_streams.specs.Turns.{turn_after}
+pub use Rattle.wasm_streams.specs.declared.cursor.Cursor.{Cursor}
+pub use Rattle.wasm_streams.specs.declared.turns.Ended.TheVariants.{Fault, End}
 pub use Rattle.wasm_grammar.specs.Content.{fault, Ending}
 pub use Rattle.wasm_grammar.specs.Ids.{import_id}
 pub use Rattle.wasm_grammar.specs.Reading.{Report, counted, Event, last_event, stream_end}

@@ -12,9 +12,9 @@ use Rattle.wasm_base.specs.FaultAt.{at_offset}
 use Rattle.wasm_base.specs.declared.fault.Fault.TheVariants.{UnexpectedEof}
 use Rattle.wasm_dumper.specs.Hiding.{CountsOutline, DropsPart, ReportsOutline, ShowsOutline}
 use Rattle.wasm_dumper.specs.declared.hidden.Skipped.{Skipped}
-use Rattle.wasm_feeder.specs.Beside.{unseen}
-use Rattle.wasm_feeder.specs.Passing.{SkipsHere, held_by}
-use Rattle.wasm_feeder.specs.Progress.{Reached}
+use Rattle.wasm_streams.specs.Beside.{unseen}
+use Rattle.wasm_streams.specs.Passing.{SkipsHere, held_by}
+use Rattle.wasm_streams.specs.Progress.{Reached}
 use Rattle.wasm_grammar.specs.Grammar.{final, verdict}
 use Rattle.wasm_frames.specs.ParserState.{grammar_of}
 use Rattle.wasm_frames.specs.SkipNext.{Head, skip_in}
@@ -22,8 +22,8 @@ use Rattle.wasm_dumper.specs.Dumping.{Dumping, HasWritten, IsFresh, Wanting, Wri
 use Rattle.wasm_dumper.proofs.Dumping.{ShowsStep, all, bytes_more, dumped, events_are}
 use Rattle.wasm_dumper.proofs.Dumping.{has_failed, not_whole, numbers_of, source, stopped_after, whole}
 use Rattle.wasm_dumper.proofs.Numbering.{all_more, events_more}
-use Rattle.wasm_feeder.proofs.ForCallers.{arrived, is_short, one_more, past, reads_short, same_held}
-use Rattle.wasm_feeder.specs.declared.turns.Turn.TheVariants as turn
+use Rattle.wasm_streams.proofs.ForCallers.{arrived, is_short, one_more, past, reads_short, same_held}
+use Rattle.wasm_streams.specs.declared.turns.Turn.TheVariants as turn
 
 -- the bytes of a step are those that it sees
 pub skips_here : (only : List Only) (has_bytes : Bool) (old : Cursor) (stored chunk kept rest bytes : List ℕ) (part : Skipped)

@@ -7,13 +7,13 @@ use Rattle.wasm_dumper.proofs.Dumping.{ShowsStep, advanced, asked, ended, starts
 use Rattle.wasm_dumper.specs.Checks.{FindsAt, answer_faulty}
 use Rattle.wasm_dumper.specs.Counting.{no_counts}
 use Rattle.wasm_dumper.specs.Dump.{after_answer}
-use Rattle.wasm_dumper.specs.Dumping.{Dumper, Dumping, Finding, Going, Seeking, Wanting, dump_stages, dumper}
-use Rattle.wasm_feeder.specs.Visits.{Finishes, GivesOut, MayBegin, Met, MeetsRequest, Taken, TakesStep, since}
-use Rattle.wasm_feeder.specs.declared.turns.Turn.{Turn}
-use Rattle.wasm_feeder.specs.declared.turns.Turn.TheVariants as turn
+use Rattle.wasm_dumper.specs.Dumping.{Done, Dumper, Dumping, Finding, Going, Seeking, Wanting, dump_stages, dumper}
+use Rattle.wasm_streams.specs.Visits.{Finishes, GivesOut, MayBegin, Met, MeetsRequest, Taken, TakesStep, since}
+use Rattle.wasm_streams.specs.declared.turns.Turn.{Turn}
+use Rattle.wasm_streams.specs.declared.turns.Turn.TheVariants as turn
 use Rattle.wasm_text.specs.Calls.{Device, bytes_of}
 use Rattle.wasm_tree.specs.Found.{Finds, FindsNone}
-use Rattle.wasm_feeder.proofs.ForCallers.{nothing_read}
+use Rattle.wasm_streams.proofs.ForCallers.{nothing_read}
 
 module _ {V W : Type 0} (only : V → List Only) (has_bytes : V → Bool) (counts : V → Counts) (writing : W → Writing)
     (found : W → Option Bool) where
@@ -29,70 +29,77 @@ module _ {V W : Type 0} (only : V → List Only) (has_bytes : V → Bool) (count
     same = (refl, refl);
   }
 
-  -- the tree stopped before anything of a step was shown
-  pub stops_before : (old new : V) (before after : W) (x : Told) (why : ListError) → Adds (writing before) (writing after)
-      → (writing after).why ≡ Some why → TakesStep (dump_stages visitor) old before x (Err why) new after
-  stops_before old new before after x why a w first start input f g same going moves = (
+  -- the tree stopped where a step was to be made
+  stopped_going : (old : V) (before after : W) (why : ListError) → Adds (writing before) (writing after)
+      → (writing after).why ≡ Some why → (first : V) (start : W) (input : Device) (f : Feed) → input.has_failed ≡ input.had_failed
+      → Going visitor first start input f old before → Done visitor first start input (Err why) after
+  stopped_going old before after why a w first start input f same going = (
     stopped_before (only first) (has_bytes first) input.before input.after (writing start) f (counts old) (writing before) going.dumping
         input.had_failed input.has_failed same (writing after) why a w,
     tt,
   )
 
+  -- and so before anything of the step was shown
+  pub stops_before : (old new : V) (before after : W) (x : Told) (why : ListError) → Adds (writing before) (writing after)
+      → (writing after).why ≡ Some why → TakesStep (dump_stages visitor) old before x (Err why) new after
+  stops_before old new before after x why a w first start input f g same going moves =
+      stopped_going old before after why a w first start input f same going
+
   -- a step was shown
-  module _ (old new : V) (before after : W) (x : Told) (next : Turn) (turns : next ≡ turn_after x)
+  module _ (old new : V) (before after : W) (x : Told)
       (shows : ShowsAnswer (only old) (has_bytes old) (counts old) x (writing before) (writing after))
       (counted : counts new ≡ after_answer (counts old) x)
       (finds : Finds (answer_faulty (only old) x) (found before) (found after)) where
     module _ (first : V) (start : W) (input : Device) (f g : Feed) (going : Going visitor first start input f old before)
         (moves : Moves f x g) where
-      step : ShowsStep (only first) (has_bytes first) (counts old) (counts new) f g (writing before) (writing after) next
+      step : ShowsStep (only first) (has_bytes first) (counts old) (counts new) f g (writing before) (writing after) (turn_after x)
       step = record {
         answer = x;
         steps = moves;
-        turns = turns;
+        turns = refl;
         shows = rw (going.same.0, going.same.1) at shows;
         counted = counted;
       }
 
-      found_step : FindsStep (only first) f g (found before) (found after) next
-      found_step = record { answer = x; steps = moves; turns = turns; finds = rw going.same.0 at finds }
+      found_step : FindsStep (only first) f g (found before) (found after) (turn_after x)
+      found_step = record { answer = x; steps = moves; turns = refl; finds = rw going.same.0 at finds }
 
-    pub stops : (why : ListError) → (writing after).why ≡ Some why → TakesStep (dump_stages visitor) old before x (Err why) new after
+    stops : (why : ListError) → (writing after).why ≡ Some why → TakesStep (dump_stages visitor) old before x (Err why) new after
     stops why w first start input f g same going moves = (
       stopped (only first) (has_bytes first) input.before input.after (writing start) f (counts old) (writing before) going.dumping g
-          (counts new) (writing after) next (step first start input f g going moves) input.had_failed input.has_failed same why w,
+          (counts new) (writing after) (turn_after x) (step first start input f g going moves) input.had_failed input.has_failed same why w,
       tt,
     )
 
-    pub goes_on : (writing after).why ≡ None → only new ≡ only old → has_bytes new ≡ has_bytes old
-        → TakesStep (dump_stages visitor) old before x (Ok next) new after
-    goes_on on o b first start input f g same going moves = by next refl
+    goes_on : (done : Unit {0}) → (writing after).why ≡ None → only new ≡ only old → has_bytes new ≡ has_bytes old
+        → TakesStep (dump_stages visitor) old before x (Ok done) new after
+    goes_on done on o b first start input f g same going moves = by (turn_after x) refl
       where
-        s : ShowsStep (only first) (has_bytes first) (counts old) (counts new) f g (writing before) (writing after) next
+        s : ShowsStep (only first) (has_bytes first) (counts old) (counts new) f g (writing before) (writing after) (turn_after x)
         s = step first start input f g going moves
 
-        k : FindsStep (only first) f g (found before) (found after) next
+        k : FindsStep (only first) f g (found before) (found after) (turn_after x)
         k = found_step first start input f g going moves
 
-        by : (t : Turn) → next ≡ t → Taken (dump_stages visitor) first start input f g (Ok t) new after
+        by : (t : Turn) → turn_after x ≡ t → Taken (dump_stages visitor) first start input f g (Ok t) new after
         by turn.Advance t =
             let (p, less) = advanced (only first) (has_bytes first) input.before input.after (writing start) f (counts old)
-            (writing before) going.dumping g (counts new) (writing after) next s on t in (
+            (writing before) going.dumping g (counts new) (writing after) (turn_after x) s on t in (
               record {
                 dumping = p;
                 finding = finds_advanced (only first) input.before input.after f (found start) (found before) going.finding g (found after)
-                    next k t;
+                    (turn_after x) k t;
                 same = (o ∙ going.same.0, b ∙ going.same.1);
               },
               less,
             )
         by turn.Read t =
             let (p, is) = asked (only first) (has_bytes first) input.before input.after (writing start) f (counts old)
-            (writing before) going.dumping g (counts new) (writing after) next s on t in (
+            (writing before) going.dumping g (counts new) (writing after) (turn_after x) s on t in (
               record {
                 wanting = p;
                 seeking = finds_asked (only first) input.before input.after f (found start) (found before) going.finding g (found after)
-                    next k t;
+                    (turn_after x) k t;
                 same = (o ∙ going.same.0, b ∙ going.same.1);
               },
               is,
@@ -100,16 +107,23 @@ module _ {V W : Type 0} (only : V → List Only) (has_bytes : V → Bool) (count
         by (turn.End how) t = record {
           whole = λ last a out went more. (
             ended (only first) (has_bytes first) input.before input.after (writing start) f (counts old) (writing before) going.dumping g
-                (counts new) (writing after) next s input.had_failed input.has_failed same on how (writing last) t a out went,
-            finds_ended (only first) input.before input.after f (found start) (found before) going.finding g (found after) next k how t
-                (writing last) went (found last) more,
+                (counts new) (writing after) (turn_after x) s input.had_failed input.has_failed same on how (writing last) t a out went,
+            finds_ended (only first) input.before input.after f (found start) (found before) going.finding g (found after)
+                (turn_after x) k how t (writing last) went (found last) more,
           );
           cut = λ last why a w. (
             stopped_at_last (only first) (has_bytes first) input.before input.after (writing start) f (counts old) (writing before)
-                going.dumping g (counts new) (writing after) next s input.had_failed input.has_failed same (writing last) why a w,
+                going.dumping g (counts new) (writing after) (turn_after x) s input.had_failed input.has_failed same (writing last) why a w,
             tt,
           );
         }
+
+    -- what came of it, by whether the tree has stopped
+    pub takes : (result : Result (Unit {0}) ListError) → OnOk result ((writing after).why ≡ None)
+        → IfErr result (λ why. (writing after).why ≡ Some why) → only new ≡ only old → has_bytes new ≡ has_bytes old
+        → TakesStep (dump_stages visitor) old before x result new after
+    takes (Ok done) on w o b = goes_on done on o b
+    takes (Err why) on w o b = stops why w
 
   -- what was done with a request, by what the visitor shows
   abbrev pub MetBy : List Only → Bool → (start : W) (input : Device) (f g : Feed) → Result (Option Error) ListError → (now : V) (out : W)
@@ -161,8 +175,5 @@ module _ {V W : Type 0} (only : V → List Only) (has_bytes : V → Bool) (count
   -- no memory was left
   pub gives_out : (old : V) (before after : W) (why : ListError) → Adds (writing before) (writing after)
       → (writing after).why ≡ Some why → GivesOut (dump_stages visitor) old before why after
-  gives_out old before after why a w first start input f same going = (
-    stopped_before (only first) (has_bytes first) input.before input.after (writing start) f (counts old) (writing before) going.dumping
-        input.had_failed input.has_failed same (writing after) why a w,
-    tt,
-  )
+  gives_out old before after why a w first start input f same going =
+      stopped_going old before after why a w first start input f same going

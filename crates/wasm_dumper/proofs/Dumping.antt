@@ -13,15 +13,15 @@ use Rattle.std.specs.Prelude.{flat_map}
 use Rattle.wasm_base.specs.Features.{all_features}
 use Rattle.wasm_dumper.specs.Dump.{AreOfSource, bytes_of_answer, bytes_of_event, is_whole, WritesWhole, WritesSome, AreOfAnswer}
 use Rattle.wasm_dumper.specs.Dump.{after_answer, DumpsFrom, DumpsByTree, Writes, stopped_by}
-use Rattle.wasm_feeder.specs.Beside.{FillsAlike}
-use Rattle.wasm_feeder.specs.Feed.{new_feed}
-use Rattle.wasm_feeder.specs.Lists.{IsHead, ListsBy, Refills, listing_by}
-use Rattle.wasm_feeder.specs.Progress.{Reached, Progress}
-use Rattle.wasm_feeder.specs.Step.{answer_of, is_request, shown}
-use Rattle.wasm_feeder.specs.Turns.{text_after}
-use Rattle.wasm_feeder.specs.Step as tells
-use Rattle.wasm_feeder.specs.declared.turns.Ended.{Ended}
-use Rattle.wasm_feeder.specs.declared.turns.Turn.{Turn}
+use Rattle.wasm_streams.specs.Beside.{FillsAlike}
+use Rattle.wasm_streams.specs.Feed.{new_feed}
+use Rattle.wasm_streams.specs.Lists.{IsHead, ListsBy, Refills, listing_by}
+use Rattle.wasm_streams.specs.Progress.{Reached, Progress}
+use Rattle.wasm_streams.specs.Step.{answer_of, is_request, shown}
+use Rattle.wasm_streams.specs.Turns.{text_after}
+use Rattle.wasm_streams.specs.Step as tells
+use Rattle.wasm_streams.specs.declared.turns.Ended.{Ended}
+use Rattle.wasm_streams.specs.declared.turns.Turn.{Turn}
 use Rattle.wasm_grammar.specs.EventRanges.{consumed_by}
 use Rattle.wasm_grammar.specs.Reading.{Reading}
 use Rattle.wasm_text.specs.Calls.{Change, Device, bytes_of, from_to, output_failed}
@@ -34,12 +34,12 @@ use Rattle.wasm_tree.specs.declared.tree.Style.{Style}
 use Rattle.wasm_tree.specs.declared.tree.Style.TheVariants.{Lines, Objects}
 use Rattle.wasm_dumper.specs.Dumping.{Dumping, HasWritten, IsFresh, Wanting, WrittenWith, outline_of}
 use Rattle.wasm_dumper.proofs.Numbering.{all_more, events_begin, events_more, end_none}
-use Rattle.wasm_feeder.proofs.ForCallers.{AtEnd, IsEnding, IsEvent, all_given, begins_with, consumed, next_asks, next_ends, next_event}
-use Rattle.wasm_feeder.proofs.ForCallers.{reads_on}
+use Rattle.wasm_streams.proofs.ForCallers.{AtEnd, IsEnding, IsEvent, all_given, begins_with, consumed, next_asks, next_ends, next_event}
+use Rattle.wasm_streams.proofs.ForCallers.{reads_on}
 use Rattle.wasm_parser.proofs.ForCallers.{end_consumes_all}
 use Rattle.wasm_tree.proofs.ForCallers.{as_going, as_short}
-use Rattle.wasm_feeder.specs.declared.turns.Turn.TheVariants as turn
-use Rattle.wasm_feeder.proofs.ForCallers as progress
+use Rattle.wasm_streams.specs.declared.turns.Turn.TheVariants as turn
+use Rattle.wasm_streams.proofs.ForCallers as progress
 use Rattle.wasm_tree.specs.Tree as Tree
 use Rattle.wasm_tree.specs.Json as json
 

@@ -28,7 +28,7 @@ use Rattle.wasm_parser.specs.declared.payload.Payload.TheVariants.{TagSection, G
 use Rattle.wasm_tree.specs.Numbers.{AreShown}
 use Rattle.wasm_tree.specs.Tree.{with_line, AddsNumber, AddsAll, AddsBytes, with_bytes}
 use Rattle.wasm_dumper.proofs.Lines.{line_is_first}
-use Rattle.wasm_feeder.specs.declared.turns.Turn.TheVariants as turn
+use Rattle.wasm_streams.specs.declared.turns.Turn.TheVariants as turn
 
 -- ---- numbers that are shown one after the other
 

@@ -10,9 +10,9 @@ use Rattle.wasm_custom.specs.Custom.{Custom}
 use Rattle.wasm_dumper.specs.Chosen.{is_chosen, shows_items}
 use Rattle.wasm_dumper.specs.Counting.{after_number, imports_in}
 use Rattle.wasm_dumper.specs.declared.events.Only.{Only}
-use Rattle.wasm_feeder.specs.Lists.{IsEndedBy, IsWhole, PassesTop}
-use Rattle.wasm_feeder.specs.Step.{Told, Part, Request, Stop}
-use Rattle.wasm_feeder.specs.declared.turns.Ended.{Ended}
+use Rattle.wasm_streams.specs.Lists.{IsEndedBy, IsWhole, PassesTop}
+use Rattle.wasm_streams.specs.Step.{Told, Part, Request, Stop}
+use Rattle.wasm_streams.specs.declared.turns.Ended.{Ended}
 use Rattle.wasm_grammar.specs.Content.{Ending, fault}
 use Rattle.wasm_grammar.specs.Ids.{type_id, import_id, function_id, table_id, memory_id, tag_id, global_id, export_id}
 use Rattle.wasm_grammar.specs.Ids.{element_id}

@@ -7,11 +7,11 @@ use Rattle.wasm_grammar.specs.EventRanges.{consumed_by}
 use Rattle.wasm_grammar.specs.Reading.{Report, Event}
 use Rattle.wasm_frames.specs.Along.{ReadingBegins}
 use Rattle.wasm_text.specs.Calls.{Change, Device, bytes_of, from_to, input_failed, output_failed}
-use Rattle.wasm_feeder.specs.Lists.{ListsBy}
-use Rattle.wasm_feeder.specs.Turns.{text_after}
-use Rattle.wasm_feeder.specs.Step.{Told, Part, Request, Stop}
-use Rattle.wasm_feeder.specs.declared.turns.Ended.{Ended}
-use Rattle.wasm_feeder.specs.declared.turns.Ended.TheVariants.{End}
+use Rattle.wasm_streams.specs.Lists.{ListsBy}
+use Rattle.wasm_streams.specs.Turns.{text_after}
+use Rattle.wasm_streams.specs.Step.{Told, Part, Request, Stop}
+use Rattle.wasm_streams.specs.declared.turns.Ended.{Ended}
+use Rattle.wasm_streams.specs.declared.turns.Ended.TheVariants.{End}
 use Rattle.wasm_text.specs.declared.devices.ListError.{ListError}
 use Rattle.wasm_text.specs.declared.devices.ListError.TheVariants.{Input, Output, Memory}
 use Rattle.wasm_dumper.specs.Chosen.{is_chosen, chosen_line, shows_items}

@@ -6,11 +6,11 @@ use Rattle.wasm_dumper.specs.Counting.{after_all, no_counts}
 use Rattle.wasm_dumper.specs.Dump.{AreOfEvents, DumpsInto, bytes_of_events, origin}
 use Rattle.wasm_dumper.specs.declared.counts.Counts.{Counts}
 use Rattle.wasm_dumper.specs.declared.events.Only.{Only}
-use Rattle.wasm_feeder.specs.Feed.{Feed}
-use Rattle.wasm_feeder.specs.Lists.{listing_by}
-use Rattle.wasm_feeder.specs.Progress.{Asks, Reached}
-use Rattle.wasm_feeder.specs.Visits.{Stages}
-use Rattle.wasm_feeder.specs.declared.turns.Ended.{Ended}
+use Rattle.wasm_streams.specs.Feed.{Feed}
+use Rattle.wasm_streams.specs.Lists.{listing_by}
+use Rattle.wasm_streams.specs.Progress.{Asks, Reached}
+use Rattle.wasm_streams.specs.Visits.{Stages}
+use Rattle.wasm_streams.specs.declared.turns.Ended.{Ended}
 use Rattle.wasm_grammar.specs.Reading.{Event}
 use Rattle.wasm_text.specs.Calls.{Device, bytes_of}
 use Rattle.wasm_text.specs.declared.devices.ListError.{ListError}

@@ -10,9 +10,9 @@ use Rattle.wasm_custom.specs.Known.{readings}
 use Rattle.wasm_grammar.specs.Ids.{custom_id, import_id}
 use Rattle.wasm_grammar.specs.Reading.{Report}
 use Rattle.wasm_frames.specs.SkipNext.{Head, Skip, custom, items, body, report_with, skip_in}
-use Rattle.wasm_feeder.specs.Passing.{PartEnds, SkipsHere}
-use Rattle.wasm_feeder.specs.declared.feeder.Cursor.{Cursor}
-use Rattle.wasm_feeder.specs.declared.passing.Passing.{Passing}
+use Rattle.wasm_streams.specs.Passing.{PartEnds, SkipsHere}
+use Rattle.wasm_streams.specs.declared.cursor.Cursor.{Cursor}
+use Rattle.wasm_streams.specs.declared.passing.Passing.{Passing}
 use Rattle.wasm_text.specs.declared.devices.ListError.{ListError}
 use Rattle.wasm_text.specs.declared.devices.ListError.TheVariants.{Input}
 use Rattle.wasm_tree.specs.Found.{Finds}

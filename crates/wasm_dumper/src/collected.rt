@@ -8,9 +8,11 @@ use crate::hidden::{Outline, Skipped, drop_part, skip_unread};
 use crate::linked::Linked;
 use std::alloc::Global;
 use wasm_custom::{Name, NameMap, NameSectionReader};
-use wasm_feeder::{Ahead, Cursor, Step, parse_next, seen};
+use wasm_feed::{Step, parse_next};
+use wasm_frames::StoredParser;
 use wasm_grammar::CUSTOM_SECTION;
-use wasm_parser::{Parser, Payload, Result as ParserResult};
+use wasm_parser::{Payload, Result as ParserResult};
+use wasm_streams::{Ahead, Cursor, seen};
 use wasm_text::{ListError, Source};
 use wasm_tree::{ItemNames, Space};
 
@@ -284,7 +286,7 @@ fn collect_into<R: Source>(
 {
     let mut ahead = Ahead::new(buffer);
     let mut stored = Vec::new(alloc);
-    let mut cursor = Cursor::new(Parser::new(0));
+    let mut cursor = Cursor::new(StoredParser::new(0));
     'steps: for _ in 0..u64::MAX {
         if !add_next(alloc, names, &mut cursor, &mut stored, &mut ahead, input)? {
             break;

@@ -7,8 +7,8 @@ ghost use Rattle.wasm_base.specs.Window.{window_over};
 ghost use Rattle.wasm_dumper.specs.Chosen.{fields_part, id_of as id_reported, name_of as name_reported};
 ghost use Rattle.wasm_dumper.specs.Hiding.{DropsPart, FailsWithin, IsOutlineIfAny, SkipsIfAny, has_imports as imports_are_in, has_symbols as symbols_are_in};
 ghost use Rattle.wasm_dumper.specs.Hiding.{is_body_head, is_hidden as hides, is_known as name_is_known, is_outlined as outlines, outlined_part};
-ghost use Rattle.wasm_feeder.specs.Beside.{seen};
-ghost use Rattle.wasm_feeder.specs.Passing.{held_by};
+ghost use Rattle.wasm_streams.specs.Beside.{seen};
+ghost use Rattle.wasm_streams.specs.Passing.{held_by};
 ghost use Rattle.wasm_frames.specs.SkipNext.{head_is, report_with, skip_is};
 ghost use Rattle.wasm_grammar.specs.Reading.{custom_section};
 ghost use Rattle.wasm_parser.specs.ParseAnswer.{ItemsBegin, report_of};
@@ -21,9 +21,9 @@ use std::alloc::Global;
 use std::io;
 use wasm_base::BinaryReader;
 use wasm_custom::CustomSectionReader;
-use wasm_feeder::{Ahead, Cursor, Passing, pass_part};
 use wasm_grammar::{CODE_SECTION, CUSTOM_SECTION, IMPORT_SECTION};
 use wasm_parser::{Error, PartHead, Payload, SkippedPart};
+use wasm_streams::{Ahead, Cursor, Passing, pass_part};
 use wasm_text::{ListError, Page, Source};
 
 /// A part that was skipped by its first fields.

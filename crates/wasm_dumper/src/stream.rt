@@ -1,11 +1,10 @@
 // Dumps a stream.
 ghost use Rattle.std.specs.Prelude.{◌≡◌, ◌≤◌, ◌<◌, ◌+◌, [], length, vec_len, vec_capacity, Some, None, OnOk, IfErr, if◌then◌else◌};
-ghost use Rattle.wasm_feeder.specs.Beside.{beside, lending, ReadsEnough};
-ghost use Rattle.wasm_feeder.specs.Cursors.{feed_of};
+ghost use Rattle.wasm_streams.specs.Beside.{beside, lending, ReadsEnough};
+ghost use Rattle.wasm_streams.specs.Cursors.{feed_of};
 ghost use Rattle.wasm_parser.specs.ParseAnswer.{ItemsBegin, report_of};
 ghost use Rattle.wasm_text.specs.Calls.{device_of, from_to};
-ghost use Rattle.wasm_feeder.specs.Step.{StepBegins, told};
-ghost use Rattle.wasm_feeder.specs.Turns.{turn_after};
+ghost use Rattle.wasm_feed.specs.Steps.{StepBegins, told};
 ghost use Rattle.wasm_dumper.specs.Dump.{DumpsByTree, DumpsInto, ShowsAnswer, ShowsReport, after_answer};
 ghost use Rattle.wasm_dumper.specs.Checks.{FindsAt, answer_faulty, shown_faulty};
 ghost use Rattle.wasm_dumper.specs.Dumping.{dump_stages, dumper};
@@ -22,8 +21,9 @@ use crate::hidden::{CustomOutline, Outline, Skipped, drop_part, skip_unread};
 use crate::linked::Linked;
 use crate::payload::{offsets_of_items, show_payload_if};
 use std::alloc::Global;
-use wasm_feeder::{Ahead, Cursor, Ended, Step, Turn, Visitor, seen, visit};
+use wasm_feed::{Step, step_of};
 use wasm_parser::{Error, Payload, Result as ParserResult};
+use wasm_streams::{Ahead, Cursor, Ended, FrameStep, Visitor, seen, visit};
 use wasm_text::{ListError, Source};
 use wasm_tree::{ItemNames, Tree};
 
@@ -84,7 +84,7 @@ fn show_chosen<O: Tree>(
     }
 }
 
-// Writes the result of a step. Returns what to do next.
+// Writes the result of a step.
 fn show_answer<O: Tree>(
     alloc: Global,
     shown: Shown<'_>,
@@ -92,8 +92,7 @@ fn show_answer<O: Tree>(
     offset: &mut u64,
     answer: &ParserResult<Step<'_>>,
     out: &mut O,
-) -> Turn
-    ensures turns { result ≡ turn_after (told answer.now) }
+)
     ensures shows { StepBegins answer.now → ShowsAnswer shown.entry.only.now
         shown.entry.has_bytes counts.old (told answer.now) (O.writing out.old) (O.writing out.new) }
     ensures counts { StepBegins answer.now
@@ -102,7 +101,7 @@ fn show_answer<O: Tree>(
         (answer_faulty shown.entry.only.now (told answer.now)) (O.found out.old) (O.found out.new) }
 {
     match answer {
-        Ok(Step::NeedMoreData(_)) => Turn::Read,
+        Ok(Step::NeedMoreData(_)) => {}
         Ok(Step::Parsed { bytes, payload }) => {
             let part = Part {
                 offset: *offset,
@@ -111,15 +110,8 @@ fn show_answer<O: Tree>(
             show_chosen(alloc, shown, counts, part, payload, out);
             counts.pass(payload);
             *offset = offset.saturating_add(bytes.len() as u64);
-            match payload {
-                Payload::End(_) => Turn::End(Ended::End),
-                _ => Turn::Advance,
-            }
         }
-        Err(error) => {
-            show_last_fault(error, out);
-            Turn::End(Ended::Fault(*error))
-        }
+        Err(error) => show_last_fault(error, out),
     }
 }
 
@@ -292,18 +284,18 @@ impl<'a, O: Tree> Visitor<Global, O> for Dumper<'a> {
 
     ghost sound = { λ d. Unit {0} };
 
-    fn take(&mut self, answer: &ParserResult<Step<'_>>, out: &mut O) -> Result<Turn, ListError> {
-        learn(self.alloc, self.shown.only, &mut self.linked, answer, out)?;
-        let turn = show_answer(
+    fn take(&mut self, step: FrameStep<'_>, out: &mut O) -> Result<(), ListError> {
+        let answer = step_of(step);
+        learn(self.alloc, self.shown.only, &mut self.linked, &answer, out)?;
+        show_answer(
             self.alloc,
             self.shown,
             &mut self.counts,
             &mut self.offset,
-            answer,
+            &answer,
             out,
         );
-        go_on(out)?;
-        Ok(turn)
+        go_on(out)
     }
 
     fn read_on<R: Source>(

@@ -4,7 +4,7 @@ use Rattle.std.proofs.Common.{append_assoc, inl, inr}
 use Rattle.wasm_base.specs.declared.error.Error.{Error}
 use Rattle.wasm_grammar.specs.Content.{Ending}
 use Rattle.wasm_grammar.specs.Reading.{Event}
-use Rattle.wasm_feeder.specs.Pieces.{joined}
+use Rattle.wasm_feed.specs.Pieces.{joined}
 use Rattle.wasm_examples.specs.Collecting.{Collects, CollectsStream}
 use Rattle.wasm_base.specs.Window.{Window}
 use Rattle.wasm_examples.specs.Compiling.{bodies_of, CompilesStream}

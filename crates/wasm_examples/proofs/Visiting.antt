@@ -13,15 +13,15 @@ use Rattle.wasm_frames.specs.Answer.{is_end}
 use Rattle.wasm_grammar.specs.Reading.{Event, last_event, Reading}
 use Rattle.wasm_parser.specs.declared.payload.Payload.{Payload}
 use Rattle.wasm_parser.proofs.ForCallers.{answers_go_along}
-use Rattle.wasm_feeder.specs.Feed.{Feed, new_feed, pushed, finished, RefusesPush}
-use Rattle.wasm_feeder.specs.Pieces.{joined}
-use Rattle.wasm_feeder.specs.Step.{Steps, told}
-use Rattle.wasm_feeder.specs.declared.feeder.Step.TheVariants.{NeedMoreData, Parsed}
-use Rattle.wasm_feeder.specs.declared.turns.Ended.{Ended}
-use Rattle.wasm_feeder.specs.declared.turns.Turn.{Turn}
-use Rattle.wasm_feeder.specs.declared.turns.Turn.TheVariants.{Advance, Read, End}
-use Rattle.wasm_feeder.proofs.ForCallers.{feeders_go_along, feeders_wait}
-use Rattle.wasm_feeder.proofs.ForCallers.{joined_more, joined_parts}
+use Rattle.wasm_streams.specs.Feed.{Feed, new_feed, pushed, finished, RefusesPush}
+use Rattle.wasm_feed.specs.Pieces.{joined}
+use Rattle.wasm_feed.specs.Steps.{Steps, told}
+use Rattle.wasm_feed.specs.declared.feeder.Step.TheVariants.{NeedMoreData, Parsed}
+use Rattle.wasm_streams.specs.declared.turns.Ended.{Ended}
+use Rattle.wasm_streams.specs.declared.turns.Turn.{Turn}
+use Rattle.wasm_streams.specs.declared.turns.Turn.TheVariants.{Advance, Read, End}
+use Rattle.wasm_streams.proofs.ForCallers.{feeders_go_along, feeders_wait}
+use Rattle.wasm_feed.proofs.ForCallers.{joined_more, joined_parts}
 use Rattle.wasm_examples.specs.Visits.{part, Visits, Tells, HasVisited, HasVisitedAll, StopsAt}
 use Rattle.wasm_examples.specs.Visits.{IsAsked, VisitsNext, VisitsHeld, StoresLittle}
 use Rattle.wasm_examples.specs.Visits.{VisitsStream}

@@ -6,7 +6,7 @@ use Rattle.wasm_base.specs.Owned.{out_of_memory}
 use Rattle.wasm_base.specs.declared.error.Error.{Error}
 use Rattle.wasm_grammar.specs.Content.{Ending, ended, fault}
 use Rattle.wasm_grammar.specs.Reading.{Event, last_event, Reading}
-use Rattle.wasm_feeder.specs.Pieces.{joined}
+use Rattle.wasm_feed.specs.Pieces.{joined}
 use Rattle.wasm_examples.specs.Visits.{StoresLittle}
 
 -- The stream's reading ends so, and this is what each of its other events yields, in order, after what was there.

@@ -7,7 +7,7 @@ use Rattle.wasm_base.specs.Window.{Window}
 use Rattle.wasm_base.specs.declared.error.Error.{Error}
 use Rattle.wasm_grammar.specs.Content.{Ending, ended, fault}
 use Rattle.wasm_grammar.specs.Reading.{Report, code_entry, Event, last_event, Reading}
-use Rattle.wasm_feeder.specs.Pieces.{joined}
+use Rattle.wasm_feed.specs.Pieces.{joined}
 use Rattle.wasm_examples.specs.Visits.{Visits, StoresLittle}
 
 -- the body that is reported, if one is

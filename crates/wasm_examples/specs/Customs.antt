@@ -7,7 +7,7 @@ use Rattle.wasm_base.specs.Window.{Window, Place, place, advanced}
 use Rattle.wasm_base.specs.declared.error.Error.{Error}
 use Rattle.wasm_grammar.specs.Content.{ended, fault}
 use Rattle.wasm_grammar.specs.Reading.{Report, custom_section, Event}
-use Rattle.wasm_feeder.specs.Pieces.{joined}
+use Rattle.wasm_feed.specs.Pieces.{joined}
 use Rattle.wasm_examples.specs.Collecting.{Collects}
 use Rattle.wasm_examples.specs.declared.customs.CustomSize.{CustomSize}
 

@@ -14,11 +14,11 @@ use Rattle.wasm_frames.specs.ParserState.{ParserState, grammar_of}
 use Rattle.wasm_grammar.specs.Reading.{Event, last_event}
 use Rattle.wasm_grammar.specs.Waiting.{wants, waiting}
 use Rattle.wasm_parser.specs.declared.payload.Payload.{Payload}
-use Rattle.wasm_feeder.specs.Feed.{Feed}
-use Rattle.wasm_feeder.specs.FeedersLaws.{IsAlong}
-use Rattle.wasm_feeder.specs.Pieces.{joined}
-use Rattle.wasm_feeder.specs.declared.turns.Turn.{Turn}
-use Rattle.wasm_feeder.specs.declared.turns.Turn.TheVariants.{Advance, Read, End}
+use Rattle.wasm_streams.specs.Feed.{Feed}
+use Rattle.wasm_streams.specs.FeedersLaws.{IsAlong}
+use Rattle.wasm_feed.specs.Pieces.{joined}
+use Rattle.wasm_streams.specs.declared.turns.Turn.{Turn}
+use Rattle.wasm_streams.specs.declared.turns.Turn.TheVariants.{Advance, Read, End}
 
 -- a part as an event of a reading
 abbrev pub part : (bytes : List ℕ) → Payload → Event

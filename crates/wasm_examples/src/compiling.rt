@@ -2,7 +2,7 @@
 ghost use Rattle.std.specs.Prelude.{◌≡◌, List, [], ◌∷◌, ◌<◌, ◌^◌, length, MatchOption};
 ghost use Rattle.wasm_base.specs.Features.{feature_bits};
 ghost use Rattle.wasm_base.specs.Window.{Window};
-ghost use Rattle.wasm_feeder.specs.Pieces.{joined};
+ghost use Rattle.wasm_feed.specs.Pieces.{joined};
 ghost use Rattle.wasm_items.specs.Windows.{body_window};
 ghost use Rattle.wasm_parser.specs.ParseAnswer.{report_of};
 ghost use Rattle.wasm_examples.specs.Compiling.{body_in, bodies_of, CompilesStream};

@@ -3,7 +3,7 @@ ghost use Rattle.std.specs.Prelude.{◌≡◌, ◌<◌, ◌^◌, length, OnOk, I
 ghost use Rattle.wasm_base.specs.FaultAt.{fault_at};
 ghost use Rattle.wasm_base.specs.Features.{feature_bits};
 ghost use Rattle.wasm_base.specs.Owned.{out_of_memory};
-ghost use Rattle.wasm_feeder.specs.Pieces.{joined};
+ghost use Rattle.wasm_feed.specs.Pieces.{joined};
 ghost use Rattle.wasm_grammar.specs.Reading.{Event};
 ghost use Rattle.wasm_examples.specs.Visits.{part, Tells, VisitsHeld, VisitsNext, VisitsStream};
 

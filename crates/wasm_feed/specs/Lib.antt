@@ -1,9 +1,5 @@
-pub mod Dropping
-pub mod EditParts
-pub mod EditStream
-pub mod Edited
-pub mod Edits
-pub mod Encoded
-pub mod EncodedLaws
-pub mod ListStream
-pub mod Stripped
+pub mod Events
+pub mod Opened
+pub mod Pieces
+pub mod Rows
+pub mod Steps

@@ -1,4 +1,4 @@
-//! Whole streams: a listing, and stripping. Re-exports the feeder for chunked input.
+//! Chunked input with payloads: a feeder, and the events of a stream in chunks. Re-exports listings, edits and stripping.
 //!
 //! * `Feeder` buffers what a chunk boundary cuts, and returns the payloads of a stream that arrives in chunks.
 //! * `read_pieces` returns the events of a chunked stream as values that own their bytes.
@@ -9,31 +9,46 @@
 //! offset 0, or `ListError::Memory` when an allocation fails.
 //!
 //! ```rattle
-//! let mut input = SliceSource::new(b"\0asm\x01\0\0\0\0\x02\x01a");
-//! let mut output = BoundedSink::new(alloc, 1000)?;
-//! assert_eq!(rt; list(alloc, &mut input, &mut output, 4096)?, Ended::End);
-//! assert_eq!(rt; output.written(), b"version 0 8 1 module\ncustom 10 12 12\nend 12\n".as_slice());
+//! use bitflags::Flags;
+//! let mut feeder = Feeder::new(alloc, 0, WasmFeatures::all());
+//! let mut chunks = [b"\0asm\x01".as_slice(), b"\0\0\0\0\x02\x01a".as_slice()].into_iter();
+//! let mut parts = 0;
+//! loop {
+//!     match feeder.open().step()? {
+//!         Step::Parsed { payload: Payload::End(offset), .. } => {
+//!             assert_eq!(rt; offset, 12);
+//!             break;
+//!         }
+//!         Step::Parsed { .. } => parts += 1,
+//!         Step::NeedMoreData(_) => {}
+//!     }
+//!     if feeder.wants_more() {
+//!         match chunks.next() {
+//!             Some(chunk) => feeder.push(chunk)?,
+//!             None => feeder.finish(),
+//!         }
+//!     }
+//! }
+//! assert_eq!(rt; parts, 2);
 //! ```
 #![tactic(auto)]
 
-mod editing;
-mod edits;
-mod encoding;
+mod events;
+mod feeder;
 pub mod laws;
-mod listing;
-mod streaming;
-mod stripping;
+mod lines;
+mod pieces;
 
-pub use editing::{edit, edit_to, edited_len};
-pub use edits::{Edit, all_fit};
-pub use encoding::{NewSection, encode};
-pub use listing::{list, list_in};
-pub use streaming::{edit_stream, strip_stream};
-pub use stripping::{strip, strip_in, strip_in_place, strip_to_front};
-pub use wasm_feeder::{
-    Ahead, Cursor, Ended, Event, EventKind, Feeder, Keep, Opened, Step, Turn, fits_pieces,
-    parse_next, read_pieces, read_pieces_in, seen, stays,
+pub use events::{Event, EventKind};
+pub use feeder::{Feeder, Opened, Step, parse_next, step_of};
+pub use lines::write_payload;
+pub use pieces::{fits_pieces, read_pieces, read_pieces_in};
+pub use wasm_edits::{
+    Edit, Keep, NewSection, all_fit, edit, edit_stream, edit_to, edited_len, encode, stays, strip,
+    strip_in, strip_in_place, strip_stream, strip_to_front,
 };
+pub use wasm_lines::{list, list_in};
+pub use wasm_streams::{Ahead, Cursor, Ended, Turn, seen};
 pub use wasm_text::{
     BoundedSink, Failed, ListError, ReadSource, Sink, SliceSource, Source, WriteSink, write_all,
 };

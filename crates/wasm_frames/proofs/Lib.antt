@@ -9,6 +9,7 @@ pub mod Consumed
 pub mod CutParts
 pub mod Cuts
 pub mod Following
+pub mod ForCallers
 pub mod Forms
 pub mod Framed
 pub mod Headers

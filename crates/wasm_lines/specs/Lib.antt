@@ -1,1 +1,3 @@
+pub mod Dropping
+pub mod ListStream
 pub mod Listing

@@ -1,7 +1,6 @@
 // The texts of a listing.
 ghost use Rattle.std.specs.List.{list_any};
 ghost use Rattle.std.specs.Prelude.{◌≡◌, ◌≤◌, ◌+◌, ◌++◌, codes, false, length, nat_eq, take};
-ghost use Rattle.wasm_parser.specs.ParseAnswer.{report_of};
 ghost use Rattle.wasm_frames.specs.SkipNext.{skip_is};
 ghost use Rattle.wasm_base.specs.FaultAt.{fault_at};
 ghost use Rattle.wasm_grammar.specs.Content.{fault};
@@ -9,7 +8,9 @@ ghost use Rattle.wasm_grammar.specs.Reading.{code_start, stream_end};
 ghost use Rattle.wasm_lines.specs.Listing.{encoding_name as name_of, field, fault_number, offset_field, report_text, skip_text};
 
 use std::ops::Range;
-use wasm_parser::{Encoding, Error, PartHead, Payload, SkippedPart};
+use wasm_base::Error;
+use wasm_frames::{Frame, FrameKind, PartHead, SkippedPart};
+use wasm_grammar::Encoding;
 use wasm_text::{Base, ShortText, write_number, write_offset, write_word};
 
 /// Returns the name of an encoding in listings: `module` or `component`.
@@ -68,9 +69,9 @@ fn write_range(
     write_field(bytes, at, number)
 }
 
-// Writes a section that begins with a count.
+/// Writes the line of a section that begins with a count, as `write_frame` does.
 #[inline(always)]
-fn write_counted(
+pub fn write_counted(
     bytes: &mut [u8],
     at: usize,
     base: Base,
@@ -91,9 +92,9 @@ fn write_counted(
     write_field(bytes, at, u64::from(count))
 }
 
-// Writes the start of a code section.
+/// Writes the line of the start of a code section, as `write_frame` does.
 #[tactic(auto, unfolding(crate::specs::Listing::report_text))]
-fn write_code(
+pub fn write_code(
     bytes: &mut [u8],
     at: usize,
     base: Base,
@@ -113,8 +114,8 @@ fn write_code(
     write_field(bytes, at, u64::from(size))
 }
 
-// Writes a header.
-fn write_version(
+/// Writes the line of a header, as `write_frame` does.
+pub fn write_version(
     bytes: &mut [u8],
     at: usize,
     base: Base,
@@ -133,8 +134,8 @@ fn write_version(
     write_word(bytes, at, encoding_name(encoding))
 }
 
-// Writes a start section.
-fn write_start(bytes: &mut [u8], at: usize, base: Base, range: &Range<u64>, func: u32) -> usize
+/// Writes the line of a start section, as `write_frame` does.
+pub fn write_start(bytes: &mut [u8], at: usize, base: Base, range: &Range<u64>, func: u32) -> usize
     requires { at + 100 ≤ length bytes.old }
     ensures short { result ≤ at + 100 }
     ensures written { take result bytes.new ≡ take at bytes.old ++ (codes "start"
@@ -143,8 +144,8 @@ fn write_start(bytes: &mut [u8], at: usize, base: Base, range: &Range<u64>, func
     write_range(bytes, at, base, "start", range, u64::from(func))
 }
 
-// Writes a data count section.
-fn write_data_count(
+/// Writes the line of a data count section, as `write_frame` does.
+pub fn write_data_count(
     bytes: &mut [u8],
     at: usize,
     base: Base,
@@ -159,9 +160,9 @@ fn write_data_count(
     write_range(bytes, at, base, "datacount", range, u64::from(count))
 }
 
-// Writes a body.
+/// Writes the line of a body, as `write_frame` does.
 #[inline(always)]
-fn write_body(bytes: &mut [u8], at: usize, base: Base, range: &Range<u64>) -> usize
+pub fn write_body(bytes: &mut [u8], at: usize, base: Base, range: &Range<u64>) -> usize
     requires { at + 100 ≤ length bytes.old }
     ensures short { result ≤ at + 100 }
     ensures written { take result bytes.new ≡ take at bytes.old
@@ -172,9 +173,9 @@ fn write_body(bytes: &mut [u8], at: usize, base: Base, range: &Range<u64>) -> us
     write_place(bytes, at, base, range.end)
 }
 
-// Writes a custom section.
+/// Writes the line of a custom section, as `write_frame` does.
 #[inline(always)]
-fn write_custom(
+pub fn write_custom(
     bytes: &mut [u8],
     at: usize,
     base: Base,
@@ -193,9 +194,9 @@ fn write_custom(
     write_place(bytes, at, base, data_offset)
 }
 
-// Writes an unknown section.
+/// Writes the line of an unknown section, as `write_frame` does.
 #[inline(always)]
-fn write_unknown(bytes: &mut [u8], at: usize, base: Base, id: u8, range: &Range<u64>) -> usize
+pub fn write_unknown(bytes: &mut [u8], at: usize, base: Base, id: u8, range: &Range<u64>) -> usize
     requires { at + 100 ≤ length bytes.old }
     ensures short { result ≤ at + 100 }
     ensures written { take result bytes.new ≡ take at bytes.old ++ (codes "unknown"
@@ -207,8 +208,8 @@ fn write_unknown(bytes: &mut [u8], at: usize, base: Base, id: u8, range: &Range<
     write_place(bytes, at, base, range.end)
 }
 
-// Writes the end.
-fn write_end(bytes: &mut [u8], at: usize, base: Base, offset: u64) -> usize
+/// Writes the line of the end, as `write_frame` does.
+pub fn write_end(bytes: &mut [u8], at: usize, base: Base, offset: u64) -> usize
     requires { at + 100 ≤ length bytes.old }
     ensures short { result ≤ at + 100 }
     ensures written { take result bytes.new ≡ take at bytes.old
@@ -218,53 +219,42 @@ fn write_end(bytes: &mut [u8], at: usize, base: Base, offset: u64) -> usize
     write_place(bytes, at, base, offset)
 }
 
-/// Writes the line of a payload at the index `at` of `bytes`, with offsets in this base and without a line feed, and
+/// Writes the line of a frame at the index `at` of `bytes`, with offsets in this base and without a line feed, and
 /// returns the index after it.
 ///
 /// From `at` on there must be 100 bytes. Later bytes may be overwritten.
 ///
 /// ```rattle
 /// let mut bytes = [0; 100];
-/// let mut payloads = Parser::new(0).parse_all(b"\0asm\x01\0\0\0");
-/// let version = payloads.next().ok_or("no header")??;
-/// let end = write_payload(&mut bytes, 0, Base::Decimal, &version);
-/// assert_eq!(rt; &bytes[..end], b"version 0 8 1 module".as_slice());
+/// let mut parser = StoredParser::new(0);
+/// match parser.next(b"\0asm\x01\0\0\0", true) {
+///     NextFrame::Parsed { frame, .. } => {
+///         let end = write_frame(&mut bytes, 0, Base::Decimal, &frame);
+///         assert_eq!(rt; &bytes[..end], b"version 0 8 1 module".as_slice());
+///     }
+///     _ => assert!(rt; false),
+/// }
 /// ```
 #[inline(always)]
 #[tactic(auto, unfolding(crate::specs::Listing::report_text))]
-pub fn write_payload(bytes: &mut [u8], at: usize, base: Base, payload: &Payload) -> usize
+pub fn write_frame(bytes: &mut [u8], at: usize, base: Base, frame: &Frame<'_>) -> usize
     requires { at + 100 ≤ length bytes.old }
     ensures short { result ≤ at + 100 }
-    ensures written { take result bytes.new ≡ take at bytes.old
-        ++ report_text base (report_of payload.now) }
+    ensures written { take result bytes.new ≡ take at bytes.old ++ report_text base frame.now }
 {
-    match payload {
-        Payload::Version {
-            num,
-            encoding,
-            range,
-        } => write_version(bytes, at, base, *num, *encoding, range),
-        Payload::StartSection { func, range } => { write_start(bytes, at, base, range, *func) }
-        Payload::DataCountSection { count, range } => {
-            write_data_count(bytes, at, base, range, *count)
+    let range = frame.range();
+    match frame.kind() {
+        FrameKind::Body => write_body(bytes, at, base, &range),
+        FrameKind::Custom => write_custom(bytes, at, base, &range, frame.data_offset()),
+        FrameKind::Items => write_counted(bytes, at, base, frame.id(), &range, frame.count()),
+        FrameKind::Unknown => write_unknown(bytes, at, base, frame.id(), &range),
+        FrameKind::Header => {
+            write_version(bytes, at, base, frame.version(), frame.encoding(), &range)
         }
-        Payload::CodeSectionStart {
-            count,
-            unchecked_range,
-            size,
-        } => write_code(bytes, at, base, unchecked_range, *count, *size),
-        Payload::CodeSectionEntry(body) => write_body(bytes, at, base, &body.range()),
-        Payload::CustomSection(section) => {
-            write_custom(bytes, at, base, &section.range(), section.data_offset())
-        }
-        Payload::UnknownSection { id, range, .. } => write_unknown(bytes, at, base, *id, range),
-        Payload::End(offset) => write_end(bytes, at, base, *offset),
-        _ => match payload.as_counted() {
-            Some(section) => {
-                write_counted(bytes, at, base, section.id, &section.range, section.count)
-            }
-            None => unreachable!(),
-        },
+        FrameKind::Start => write_start(bytes, at, base, &range, frame.count()),
+        FrameKind::DataCount => write_data_count(bytes, at, base, &range, frame.count()),
+        FrameKind::CodeStart => { write_code(bytes, at, base, &range, frame.count(), frame.size()) }
+        FrameKind::End => write_end(bytes, at, base, range.start),
     }
 }
 
@@ -325,35 +315,40 @@ pub fn write_fault(bytes: &mut [u8], at: usize, base: Base, error: &Error) -> us
     write_fault_number(bytes, at, error.number())
 }
 
-/// The line of a payload, without its line feed.
+/// The line of a frame, without its line feed.
 ///
 /// ```rattle
 /// let mut bytes = [0; TEXT_BYTES];
-/// let line = PayloadLine { base: Base::Decimal, payload: &Payload::End(8) };
-/// let end = line.write_at(&mut bytes, 0);
-/// assert_eq!(rt; &bytes[..end], b"end 8".as_slice());
+/// let mut parser = StoredParser::new(0);
+/// match parser.next(b"\0asm\x01\0\0\0", true) {
+///     NextFrame::Parsed { frame, .. } => {
+///         let line = FrameLine { base: Base::Decimal, frame: &frame };
+///         let end = line.write_at(&mut bytes, 0);
+///         assert_eq!(rt; &bytes[..end], b"version 0 8 1 module".as_slice());
+///     }
+///     _ => assert!(rt; false),
+/// }
 /// ```
 #[derive(Clone, Copy)]
-pub struct PayloadLine<'a, 'b> {
+pub struct FrameLine<'a, 'b> {
     /// The base of the offsets.
     pub base: Base,
-    /// The payload.
-    pub payload: &'a Payload<'b>,
+    /// The frame.
+    pub frame: &'a Frame<'b>,
 }
 
-impl ShortText for PayloadLine<'_, '_> {
-    ghost use Rattle.wasm_parser.specs.ParseAnswer.{report_of};
+impl ShortText for FrameLine<'_, '_> {
     ghost use Rattle.wasm_lines.specs.Listing.{report_text};
 
-    ghost text = { λ line. report_text line.base (report_of line.payload.now) };
+    ghost text = { λ line. report_text line.base line.frame.now };
 
     #[inline(always)]
     fn write_at(&self, bytes: &mut [u8], at: usize) -> usize {
-        write_payload(bytes, at, self.base, self.payload)
+        write_frame(bytes, at, self.base, self.frame)
     }
 }
 
-/// The line of a part that was skipped, without its line feed: that of the payload that it would have been.
+/// The line of a part that was skipped, without its line feed: that of the frame that it would have been.
 #[derive(Clone, Copy)]
 pub struct SkippedLine<'a, 'b> {
     /// The base of the offsets.

@@ -3,9 +3,9 @@ use Rattle.std.specs.Prelude.{◌≡◌, ◌⊎◌, ℕ, Bool, List, codes, map,
 use Rattle.wasm_text.specs.Calls.{Device, bytes_of, input_failed, output_failed}
 use Rattle.wasm_text.specs.Messages.{Says, complaint_of}
 use Rattle.wasm_text.specs.declared.devices.ListError.{ListError}
-use Rattle.wasm_feed.specs.ListStream.{Lists, ListsSource}
-use Rattle.wasm_feeder.specs.Fates.{custom_stays}
-use Rattle.wasm_feeder.specs.declared.turns.Ended.{Ended}
+use Rattle.wasm_lines.specs.ListStream.{Lists, ListsSource}
+use Rattle.wasm_edits.specs.Fates.{custom_stays}
+use Rattle.wasm_streams.specs.declared.turns.Ended.{Ended}
 use Rattle.wasm_console.specs.Devices.{over, Follows}
 use Rattle.wasm_console.specs.Endings.{status_for, Reports, RunsUsage, CannotBegin, Flushes, FailsToFlush, Finishes}
 use Rattle.wasm_console.specs.Strips.{AnswersAs, StripsInput}

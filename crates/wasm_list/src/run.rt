@@ -14,8 +14,10 @@ use std::env::Args;
 use std::io::{self, Write};
 use std::process::ExitCode;
 use wasm_console::{Given, PIECE, finish, report_fault, strip_input, words_given};
-use wasm_feed::{Ended, Keep, ListError, Sink, Source, WriteSink, list};
-use wasm_text::{complain, give_up};
+use wasm_edits::Keep;
+use wasm_lines::list;
+use wasm_streams::Ended;
+use wasm_text::{ListError, Sink, Source, WriteSink, complain, give_up};
 
 /// Runs `wasm_list` with arguments as the system has them, flushes the output, and returns the exit status.
 ///
@@ -84,7 +86,7 @@ fn run_whole<R: Source, W: Write, E: Sink>(
 
 /// Runs `wasm_list` with these arguments, and returns its exit status.
 ///
-/// Without arguments it lists the input, as `wasm_feed::list` does. With the one argument `strip` it reads all of the
+/// Without arguments it lists the input, as `wasm_lines::list` does. With the one argument `strip` it reads all of the
 /// input and writes it without its custom sections.
 ///
 /// # Errors

@@ -1,15 +1,6 @@
--- What the crates above may cite of the proofs below them: the statements of laws, each in the words of specs/.
-pub use Rattle.wasm_base.proofs.SameFaults.{error as equal_errors}
+-- What the crates above may cite of the proofs below them: the statements of laws, each in the words of specs/, and of walks.
 pub use Rattle.wasm_base.proofs.Walks.{gives, gives_owned, item_came, fault_came, after_item, at_a_fault}
-pub use Rattle.wasm_grammar.proofs.accepted.Frames.{reads_accepted}
-pub use Rattle.wasm_grammar.proofs.accepted.Accepting.{fault_ends}
-pub use Rattle.wasm_grammar.proofs.accepted.Walks.{accepted_reads}
-pub use Rattle.wasm_grammar.proofs.readings.Readings.{reading_same}
-pub use Rattle.wasm_frames.proofs.Along.{answers_go_along}
-pub use Rattle.wasm_frames.proofs.AnswerBounds.{answers_last}
-pub use Rattle.wasm_frames.proofs.Consumed.{end_consumes_all}
+pub use Rattle.wasm_frames.proofs.ForCallers.{accepted_reads, answers_go_along, answers_last, custom_has_its_id, end_consumes_all}
+pub use Rattle.wasm_frames.proofs.ForCallers.{equal_errors, fault_ends, frames_give_events, frames_read_the_same, one_division}
+pub use Rattle.wasm_frames.proofs.ForCallers.{rankless_may_go, reading_same, reads_accepted, skipping_goes_along}
 pub use Rattle.wasm_parser.proofs.EachPayload.{PayloadCame, WalkedTo, payload_came, walk_begins, walk_begun, walk_ends, walk_faults}
-pub use Rattle.wasm_grammar.proofs.frames.Kept.{frames_read_the_same, rankless_may_go}
-pub use Rattle.wasm_grammar.proofs.accepted.KindIds.{custom_has_its_id}
-pub use Rattle.wasm_grammar.proofs.frames.ReportedAs.{frames_give_events, one_division}
-pub use Rattle.wasm_frames.proofs.SkipAlong.{skipping_goes_along}

@@ -1,7 +1,7 @@
 -- The edit that is chosen by the bytes of a name.
 use Rattle.std.proofs.Common.{◌≡◌, ℕ, List, Result, Ok, Err, subst}
 use Rattle.std.specs.Str.{IsUtf8}
-use Rattle.wasm_feed.specs.declared.edits.Edit.{Edit}
+use Rattle.wasm_edits.specs.declared.edits.Edit.{Edit}
 use Rattle.wasm_plain.specs.Edits.{IsChoice, IsChosen}
 use Rattle.wasm_plain.specs.declared.edits.EditStatus.{EditStatus}
 use Rattle.wasm_plain.specs.declared.edits.EditStatus.TheVariants.{Done, NoRoom, Malformed, UnknownKind}

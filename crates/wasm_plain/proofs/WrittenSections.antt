@@ -1,6 +1,6 @@
 -- Sections at the front of other bytes.
 use Rattle.std.proofs.Common.{◌≡◌, ℕ, ◌+◌, ◌≤◌, List, ◌++◌, length, take, subst, arith}
-use Rattle.wasm_feed.specs.Edited.{IsWritten}
+use Rattle.wasm_edits.specs.Edited.{IsWritten}
 
 -- bytes that were written at the index 0, where there was room for them
 pub written_at_front : {size : ℕ} (bytes old new : List ℕ) (end : ℕ) → end ≡ 0 + length bytes

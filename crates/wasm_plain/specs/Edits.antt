@@ -5,13 +5,13 @@ use Rattle.std.specs.Borrow.{Bor}
 use Rattle.std.specs.Str.{IsUtf8}
 use Rattle.wasm_base.specs.FaultAt.{fault_at}
 use Rattle.wasm_base.specs.declared.error.Error.{Error}
-use Rattle.wasm_feed.specs.Edited.{EditsTo, IsWritten}
-use Rattle.wasm_feed.specs.Edits.{CanBeMade}
-use Rattle.wasm_feed.specs.Encoded.{Fits, encoded_section}
-use Rattle.wasm_feed.specs.declared.edits.Edit.{Edit}
-use Rattle.wasm_feed.specs.declared.edits.Edit.TheVariants as edit
-use Rattle.wasm_feed.specs.declared.encoding.NewSection.{NewSection}
-use Rattle.wasm_feeder.specs.declared.fates.Keep.{Keep}
+use Rattle.wasm_edits.specs.Edited.{EditsTo, IsWritten}
+use Rattle.wasm_edits.specs.Edits.{CanBeMade}
+use Rattle.wasm_edits.specs.Encoded.{Fits, encoded_section}
+use Rattle.wasm_edits.specs.declared.edits.Edit.{Edit}
+use Rattle.wasm_edits.specs.declared.edits.Edit.TheVariants as edit
+use Rattle.wasm_edits.specs.declared.encoding.NewSection.{NewSection}
+use Rattle.wasm_edits.specs.declared.fates.Keep.{Keep}
 use Rattle.wasm_plain.specs.Faults.{no_fault, plain_fault}
 use Rattle.wasm_plain.specs.declared.edits.EditStatus.{EditStatus}
 use Rattle.wasm_plain.specs.declared.edits.EditStatus.TheVariants.{Done, NoRoom, Malformed, UnknownKind}

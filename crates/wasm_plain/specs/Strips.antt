@@ -2,8 +2,8 @@
 use Rattle.std.specs.Prelude.{◌≡◌, ℕ, Bool, List, Result, Ok, Err}
 use Rattle.wasm_base.specs.FaultAt.{fault_at}
 use Rattle.wasm_base.specs.declared.error.Error.{Error}
-use Rattle.wasm_feeder.specs.Fates.{custom_stays}
-use Rattle.wasm_feed.specs.Stripped.{StripsToFront}
+use Rattle.wasm_edits.specs.Fates.{custom_stays}
+use Rattle.wasm_edits.specs.Stripped.{StripsToFront}
 use Rattle.wasm_plain.specs.Faults.{no_fault, plain_fault}
 use Rattle.wasm_plain.specs.declared.strip.PlainStripped.{PlainStripped}
 

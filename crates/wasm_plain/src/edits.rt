@@ -1,8 +1,8 @@
 // Custom sections that are written, and edits of a stream, one a call.
 ghost use Rattle.std.specs.Prelude.{◌≡◌, [], ◌∷◌, All, IfOk, length};
-ghost use Rattle.wasm_feed.specs.Edited.{IsWritten};
-ghost use Rattle.wasm_feed.specs.Edits.{CanBeMade};
-ghost use Rattle.wasm_feed.specs.Encoded.{Fits, encoded_section};
+ghost use Rattle.wasm_edits.specs.Edited.{IsWritten};
+ghost use Rattle.wasm_edits.specs.Edits.{CanBeMade};
+ghost use Rattle.wasm_edits.specs.Encoded.{Fits, encoded_section};
 ghost use Rattle.wasm_plain.specs.Edits.{Answers, EditsPlain, EncodesPlain, IsChoice, IsEditOf, IsNewSection, KeepsOnly, MakesEdits, plain_edit, refused, room_status, status_code, texts};
 
 use crate::faults::{NO_FAULT, PlainFault, plain_fault};

@@ -2,8 +2,8 @@
 use crate::rows::Failed;
 use std::alloc::Global;
 use wasm_base::{Error, Fault, Result as Read, WasmFeatures};
-use wasm_feed::{BoundedSink, Ended, Feeder, ListError, SliceSource, Step, list};
-use wasm_lines::{write_fault, write_payload};
+use wasm_feed::{BoundedSink, Ended, Feeder, ListError, SliceSource, Step, list, write_payload};
+use wasm_lines::write_fault;
 use wasm_parser::{Chunk, Parser, Payload};
 use wasm_text::{Base, write_number};
 

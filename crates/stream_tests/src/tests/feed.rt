@@ -5,6 +5,7 @@ mod digits;
 mod editing;
 mod equal_events;
 mod feeding;
+mod frames;
 mod lending;
 mod listings;
 mod passing;

@@ -1,7 +1,7 @@
 // Edits a stream by reading it twice, in memory that does not depend on its size.
 ghost use Rattle.std.specs.Prelude.{All};
 ghost use Rattle.wasm_commands.specs.EditsTwice.{EditsTwice};
-ghost use Rattle.wasm_feed.specs.Edits.{CanBeMade};
+ghost use Rattle.wasm_edits.specs.Edits.{CanBeMade};
 ghost use Rattle.wasm_text.specs.Calls.{device_of};
 
 use std::alloc::Global;

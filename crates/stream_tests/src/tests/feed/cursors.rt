@@ -4,15 +4,16 @@ use crate::tests::same;
 use std::alloc::Allocator;
 use std::process::Abort;
 use std::test::Fail;
+use wasm_edits::stays;
 use wasm_feed::{Ahead, Cursor, Failed, Keep, SliceSource, Step, parse_next};
-use wasm_feeder::stays;
-use wasm_lines::{FaultLine, PayloadLine, SkippedLine};
+use wasm_frames::{NextFrame, StoredParser};
+use wasm_lines::{FaultLine, FrameLine, SkippedLine};
 use wasm_parser::{Error, Fault, Parser, Payload};
 use wasm_text::{Base, ShortText, TEXT_BYTES};
 
 #[test]
 fn a_cursor_over_all_of_a_stream(rt: HostRuntime) -> Result<(), Fail> {
-    let mut cursor = Cursor::over_all(Parser::new(0));
+    let mut cursor = Cursor::over_all(StoredParser::new(0));
     same(&rt, (cursor.offset(), cursor.mark()), (0, 0));
     drop(parse_next(&mut cursor, PARTS)?);
     same(&rt, (cursor.offset(), cursor.mark()), (8, 8));
@@ -37,7 +38,7 @@ fn a_cursor_over_all_of_a_stream(rt: HostRuntime) -> Result<(), Fail> {
 #[test]
 fn a_cursor_at_the_largest_offset(rt: HostRuntime) -> Result<(), Fail> {
     let header = &PARTS[..8];
-    let mut cursor = Cursor::over_all(Parser::new(u64::MAX - 8));
+    let mut cursor = Cursor::over_all(StoredParser::new(u64::MAX - 8));
     drop(parse_next(&mut cursor, header)?);
     same(&rt, (cursor.offset(), cursor.mark()), (u64::MAX, 8));
     assert!(rt; cursor.skip_next(header).is_none());
@@ -52,7 +53,7 @@ fn a_cursor_at_the_largest_offset(rt: HostRuntime) -> Result<(), Fail> {
         )
     );
     drop(end);
-    let mut cursor = Cursor::over_all(Parser::new(u64::MAX - 7));
+    let mut cursor = Cursor::over_all(StoredParser::new(u64::MAX - 7));
     assert!(rt; cursor.skip_next(header).is_none());
     for _ in 0..2 {
         match parse_next(&mut cursor, header) {
@@ -66,7 +67,7 @@ fn a_cursor_at_the_largest_offset(rt: HostRuntime) -> Result<(), Fail> {
 
 #[test]
 fn a_part_that_a_cursor_skips(rt: HostRuntime) -> Result<(), Fail> {
-    let mut cursor = Cursor::new(Parser::new(0));
+    let mut cursor = Cursor::new(StoredParser::new(0));
     assert!(rt; cursor.skip_next(&PARTS[..12]).is_none());
     drop(parse_next(&mut cursor, PARTS)?);
     // All of the section is here, or its first fields are not.
@@ -144,20 +145,25 @@ fn is_line<T: ShortText>(rt: &impl Abort, line: &T, text: &[u8]) {
 #[test]
 fn lines_in_both_bases(rt: HostRuntime) -> Result<(), Fail> {
     let (decimal, hexadecimal) = (Base::Decimal, Base::Hexadecimal);
-    let payload = &Payload::End(20);
+    let mut frames = StoredParser::new(12);
+    drop(frames.next(&PARTS[..8], true));
+    let NextFrame::Parsed { frame, .. } = frames.next(b"", true) else {
+        return Err("no end".into());
+    };
+    let frame = &frame;
     is_line(
         &rt,
-        &PayloadLine {
+        &FrameLine {
             base: decimal,
-            payload,
+            frame,
         },
         b"end 20",
     );
     is_line(
         &rt,
-        &PayloadLine {
+        &FrameLine {
             base: hexadecimal,
-            payload,
+            frame,
         },
         b"end 0x14",
     );

@@ -1,5 +1,5 @@
 // Chunks that a feeder borrows.
-ghost use Rattle.wasm_feeder.specs.Beside.{MayCome};
+ghost use Rattle.wasm_streams.specs.Beside.{MayCome};
 
 use super::feeding::{Reported, push, say};
 use crate::tests::{SMALL, same};

@@ -9,8 +9,9 @@ use std::test::Fail;
 use wasm_feed::{
     Ahead, BoundedSink, Cursor, ListError, SliceSource, Source, Step, parse_next, seen,
 };
-use wasm_feeder::{Passing, pass_part, put_all};
-use wasm_parser::{Error, Fault, Parser};
+use wasm_frames::StoredParser;
+use wasm_parser::{Error, Fault};
+use wasm_streams::{Passing, pass_part, put_all};
 use wasm_testing::Sparing;
 use wasm_text::Page;
 
@@ -104,7 +105,7 @@ impl<R: Source + Drop, A: Allocator + Copy> Stream<R, A> {
         Ok(Stream {
             input,
             ahead: Ahead::new(vec![in alloc; 0_u8; piece.max(1)]?),
-            cursor: Cursor::new(Parser::new(0)),
+            cursor: Cursor::new(StoredParser::new(0)),
             stored: Vec::new(alloc),
         })
     }

@@ -5,7 +5,8 @@ use bitflags::Flags;
 use std::alloc::Global;
 use std::process::Abort;
 use wasm_feed::{Ahead, Cursor, Failed, Feeder, ListError, SliceSource, Source, parse_next, seen};
-use wasm_parser::{Error, Fault, Parser, WasmFeatures};
+use wasm_frames::StoredParser;
+use wasm_parser::{Error, Fault, WasmFeatures};
 
 // Reads into this buffer, where the feeder wants more. Returns whether it did.
 fn read_more(
@@ -154,7 +155,7 @@ fn read_borrowed(
     let mut source = SliceSource::new(bytes);
     let mut ahead = Ahead::new(room);
     let mut stored = Vec::new(alloc);
-    let mut cursor = Cursor::new(Parser::new(0));
+    let mut cursor = Cursor::new(StoredParser::new(0));
     let mut reads = 0u32;
     let mut steps = 0u32;
     for _turn in 0..200 {

@@ -1,5 +1,5 @@
 use Rattle.std.proofs.Common.{◌≡◌, ◌<◌, ◌^◌, ◌++◌}
-use Rattle.wasm_feed.specs.Encoded.{encoded}
+use Rattle.wasm_edits.specs.Encoded.{encoded}
 use Rattle.wasm_commands.proofs.producers.push_number.Given as goal
 
 abbrev pub invariant-septets : goal.invariant-septets

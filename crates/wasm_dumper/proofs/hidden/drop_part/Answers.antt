@@ -1,7 +1,7 @@
 use Rattle.wasm_dumper.proofs.Common.{◌≡◌, ℕ, Bool, false, List, Result, Ok, Err, Option, Error, ListError, FailsWithin}
 use Rattle.std.specs.Prelude.{IfErr}
-use Rattle.wasm_feeder.specs.Passing.{GivesUp}
-use Rattle.wasm_feeder.proofs.ForCallers.{dropped_before}
+use Rattle.wasm_streams.specs.Passing.{GivesUp}
+use Rattle.wasm_streams.proofs.ForCallers.{dropped_before}
 use Rattle.wasm_dumper.proofs.hidden.drop_part.Goals as goal
 
 fails_so : (source rest taken written : Option (List ℕ)) (stays : Bool) (size : ℕ) (held waiting left new : List ℕ)

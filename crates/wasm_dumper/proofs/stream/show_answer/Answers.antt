@@ -1,8 +1,8 @@
 use Rattle.wasm_dumper.proofs.Common.{◌≡◌, ap, turn_after}
 use Rattle.std.proofs.Common.{rules}
-use Rattle.wasm_feeder.specs.Step.{told}
+use Rattle.wasm_feed.specs.Steps.{told}
 use Rattle.wasm_dumper.proofs.Numbering.{shows_fault, shows_request}
-use Rattle.wasm_feeder.specs.declared.turns.Turn.TheVariants as turn
+use Rattle.wasm_streams.specs.declared.turns.Turn.TheVariants as turn
 use Rattle.wasm_dumper.proofs.stream.show_answer.Goals as goal
 
 pub returns-in-Ok-NeedMoreData-clause-shows : goal.returns-in-Ok-NeedMoreData-clause-shows

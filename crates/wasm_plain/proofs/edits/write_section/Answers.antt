@@ -1,5 +1,5 @@
 use Rattle.std.proofs.Common.{arith}
-use Rattle.wasm_feed.specs.Encoded.{encoded_section}
+use Rattle.wasm_edits.specs.Encoded.{encoded_section}
 use Rattle.wasm_plain.proofs.WrittenSections.{written_at_front}
 use Rattle.wasm_plain.proofs.edits.write_section.Goals as goal
 

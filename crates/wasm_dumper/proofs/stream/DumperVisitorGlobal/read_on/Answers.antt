@@ -9,7 +9,7 @@ use Rattle.wasm_dumper.proofs.Dumping.{ended, filled, not_filled, same_written, 
 use Rattle.wasm_dumper.proofs.Dumping.{ShowsStep}
 use Rattle.wasm_dumper.specs.Dumping.{Dumping, Finding, Seeking, Wanting}
 use Rattle.wasm_dumper.proofs.Numbering as numbering
-use Rattle.wasm_feeder.specs.declared.turns.Turn.TheVariants as turn
+use Rattle.wasm_streams.specs.declared.turns.Turn.TheVariants as turn
 use Rattle.wasm_text.specs.Calls.{device_of}
 use Rattle.wasm_tree.specs.Tree.{Writing}
 use Rattle.wasm_dumper.proofs.stream.DumperVisitorGlobal.read_on.Given.{Over}

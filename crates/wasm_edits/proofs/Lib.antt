@@ -1,0 +1,14 @@
+pub mod Appended
+pub mod Common
+pub mod EditLaws
+pub mod EditProgress
+pub mod EditedSections
+pub mod EditTurns
+pub mod Encodings
+pub mod KeptFrames
+pub mod KeptInPlace
+pub mod OnePass
+pub mod PartSteps
+pub mod SectionEvents
+pub mod ShortestNames
+pub mod StripLaws

@@ -1,0 +1,36 @@
+-- What encodings are read as.
+use Rattle.std.specs.Prelude.{◌≡◌, ℕ, ◌<◌, ◌≤◌, ◌^◌, true, List, ◌++◌, length, Some}
+use Rattle.std.specs.Str.{is_utf8}
+use Rattle.wasm_base.specs.Name.{named, name_limit, name}
+use Rattle.wasm_base.specs.Number.{read, number}
+use Rattle.wasm_base.specs.declared.fault.NumberKind.TheVariants.{VarU32}
+use Rattle.wasm_edits.specs.Encoded.{encoded, encoded_name, frame_of, Fits}
+use Rattle.wasm_edits.specs.declared.encoding.NewSection.{NewSection}
+use Rattle.wasm_grammar.specs.Accepted.{IsFrame}
+use Rattle.wasm_grammar.specs.declared.encoding.Encoding.{Encoding}
+
+-- | an encoded number, name or section is read as that, wherever it is, and no shorter bytes are [`NumbersReadBack`,
+--   `NamesReadBack`, `SectionsReadBack`; `NumbersAreShortest`, `NamesAreShortest`] <Values, Integers;
+--   Names; Custom Section>
+-- An encoded number is read as that number, and takes its bytes, whatever comes after it.
+abbrev pub NumbersReadBack : Type 0
+NumbersReadBack = (n : ℕ) (later : List ℕ) → n < 2 ^ 32
+    → number VarU32 (encoded n ++ later) ≡ read n (length (encoded n))
+
+-- No other encoding of the number has fewer bytes.
+abbrev pub NumbersAreShortest : Type 0
+NumbersAreShortest = (n used : ℕ) (bytes : List ℕ) → number VarU32 bytes ≡ read n used → length (encoded n) ≤ used
+
+-- A name is read as that name, and takes its bytes, whatever comes after it.
+abbrev pub NamesReadBack : Type 0
+NamesReadBack = (text later : List ℕ) → is_utf8 text ≡ true → length text ≤ name_limit
+    → name (Some name_limit) (encoded_name text ++ later) ≡ named text (length (encoded_name text))
+
+-- A custom section is well-formed in each encoding.
+abbrev pub SectionsReadBack : Type 0
+SectionsReadBack = (encoding : Encoding) (s : NewSection) → Fits s → IsFrame encoding (frame_of s)
+
+-- No shorter bytes are read as the name.
+abbrev pub NamesAreShortest : Type 0
+NamesAreShortest = (text bytes : List ℕ) (used : ℕ) → name (Some name_limit) bytes ≡ named text used
+    → length (encoded_name text) ≤ used

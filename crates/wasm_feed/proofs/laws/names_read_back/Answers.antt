@@ -1,5 +1,0 @@
-use Rattle.wasm_feed.proofs.Encodings.{names_back}
-use Rattle.wasm_feed.proofs.laws.names_read_back.Goals as goal
-
-pub returns : goal.returns
-returns c = names_back

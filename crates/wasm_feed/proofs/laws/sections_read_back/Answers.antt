@@ -1,5 +1,0 @@
-use Rattle.wasm_feed.proofs.Encodings.{sections_back}
-use Rattle.wasm_feed.proofs.laws.sections_read_back.Goals as goal
-
-pub returns : goal.returns
-returns c = sections_back

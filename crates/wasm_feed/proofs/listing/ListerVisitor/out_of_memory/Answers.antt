@@ -1,5 +1,0 @@
-use Rattle.wasm_feed.proofs.ListTurns.{gives_out}
-use Rattle.wasm_feed.proofs.listing.ListerVisitor.out_of_memory.Goals as goal
-
-pub returns : goal.returns
-returns g c = record { gives = gives_out (λ l. l.page) g.W.Sink.taken g.W.Sink.has_failed _ _ }

@@ -1,5 +1,0 @@
-use Rattle.wasm_feeder.proofs.Waits.{feeders_wait}
-use Rattle.wasm_feeder.proofs.laws.feeders_wait_where_undecided.Goals as goal
-
-pub returns : goal.returns
-returns c = feeders_wait

@@ -1,0 +1,11 @@
+pub mod Beside
+pub mod Common
+pub mod ForCallers
+pub mod Parsers
+pub mod PassedParts
+pub mod Progress
+pub mod Reached
+pub mod Skipping
+pub mod Stepping
+pub mod Waits
+pub mod Writers

@@ -1,0 +1,23 @@
+use Rattle.wasm_streams.proofs.Common.{ℕ, List, ◌++◌, take, drop, sym, ap, subst₂, ◌∙◌, drop-drop, take-append-drop, GivesAnswer}
+use Rattle.std.proofs.lemmas.List.{length-take-le}
+use Rattle.wasm_frames.specs.Answer.{Consumes, GivesFrame, reports}
+use Rattle.wasm_frames.specs.declared.next.NextFrame.TheVariants.{Parsed}
+use Rattle.wasm_streams.proofs.cursor.next_frame.Goals as goal
+
+pub returns-in-Parsed-clause-shows : goal.returns-in-Parsed-clause-shows
+returns-in-Parsed-clause-shows c =
+    let m = c.args.cursor.now.mark in
+    let k = c.in-Parsed.consumed in
+    let xs = c.args.bytes.now in
+    rw c.after-rest.ensures (sym (take-append-drop k (drop m xs)) ∙ ap (λ (l : List ℕ). take k (drop m xs) ++ l) (drop-drop k m xs))
+
+pub returns-in-Parsed-clause-parses : goal.returns-in-Parsed-clause-parses
+returns-in-Parsed-clause-parses c =
+    let rest = c.after-rest.result.now in
+    let read = c.in-Parsed in
+    let fits : Consumes rest (reports read.frame read.consumed) = read.ensures.consumes in
+    let answers : GivesFrame c.args.cursor.now.parser c.args.cursor.now.is_finished rest
+    (Parsed read.frame read.consumed) c.next.new.self = read.ensures.answers in
+    subst₂ (λ (xs : List ℕ) (n : ℕ). GivesAnswer c.args.cursor.now.parser c.args.cursor.now.is_finished xs
+    (reports read.frame n) c.next.new.self)
+    c.after-rest.ensures (sym (length-take-le read.consumed rest fits.0)) answers

@@ -1,0 +1,12 @@
+pub mod Beside
+pub mod Cursors
+pub mod Ends
+pub mod Feed
+pub mod FeedersLaws
+pub mod Lists
+pub mod Passing
+pub mod Progress
+pub mod Step
+pub mod Turns
+pub mod Visits
+pub mod Writers
