@@ -17,8 +17,8 @@ use bitflags::Flags;
 use std::alloc::{Allocator, Global};
 use std::marker::Model;
 use wasm_frames::StoredParser;
-use wasm_parser::{Error, Fault, Payload, Result, WasmFeatures, fits};
-use wasm_streams::{Cursor, FrameStep, make_ready, next_frame, read_more, refill, seen, take_left};
+use wasm_parser::{Chunk, Error, Fault, ParsePayloads, Payload, Result, WasmFeatures, fits};
+use wasm_streams::{Cursor, FrameStep, make_ready, read_more, refill, seen, take_left};
 use wasm_text::{ListError, Source};
 
 /// The result of one step of a feeder: a part of the stream, or a request for more input.
@@ -464,7 +464,22 @@ pub fn parse_next<'a>(cursor: &mut Cursor, bytes: &'a [u8]) -> Result<Step<'a>>
     ensures wants { cursor.new.wants_more ≡ is_request (told result) }
     ensures mark { cursor.new.mark ≡ cursor.old.mark + length (shown (told result)) }
 {
-    step_of(next_frame(cursor, bytes))
+    // The payload is made where the frame is read. One of `next_frame` would be copied twice.
+    let mut parser = cursor.parser();
+    match parser.parse(cursor.remaining(bytes), cursor.is_finished()) {
+        Ok(Chunk::Parsed { consumed, payload }) => {
+            let bytes = cursor.advance(bytes, consumed, parser);
+            Ok(Step::Parsed { bytes, payload })
+        }
+        Ok(Chunk::NeedMoreData(hint)) => {
+            cursor.stay(true);
+            Ok(Step::NeedMoreData(hint))
+        }
+        Err(error) => {
+            cursor.stay(false);
+            Err(error)
+        }
+    }
 }
 
 /// Returns the result of a step with the payload of its frame.

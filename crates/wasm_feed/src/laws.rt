@@ -1,4 +1,4 @@
-//! Laws of feeders, listings, edits and encodings. They are about streams, whether payloads are made of their frames or not.
+//! Laws of feeders, listings, edits and encodings.
 pub use wasm_edits::laws::{
     editing_composes, names_are_shortest, names_read_back, numbers_are_shortest, numbers_read_back,
     sections_read_back, stripping_is_an_edit, stripping_twice_is_once,

@@ -15,7 +15,7 @@ use wasm_grammar::{DATA_SECTION, SectionKind};
 /// Reads content of this kind, which ends at this offset, or as much of it as there is.
 ///
 /// The count of a data section must be the announced one, if a data count section announced one.
-pub(crate) fn content<'a>(
+pub(crate) fn content<'a, For>(
     announced: Option<u32>,
     kind: SectionKind,
     id: u8,
@@ -28,9 +28,9 @@ pub(crate) fn content<'a>(
 {
     match kind {
         SectionKind::Custom => custom(id, window),
-        SectionKind::Items => items(announced, id, end, window),
-        SectionKind::Index => start(id, window),
-        SectionKind::DataCount => data_count(id, window),
+        SectionKind::Items => items::<For>(announced, id, end, window),
+        SectionKind::Index => start::<For>(id, window),
+        SectionKind::DataCount => data_count::<For>(id, window),
         SectionKind::Unknown => unknown(id, window),
         SectionKind::Code => unreachable!(),
     }
@@ -38,7 +38,7 @@ pub(crate) fn content<'a>(
 
 /// Reads the content of a custom section, of this size.
 // Custom and unknown sections are the most frequent ones. So these have a call of their own, without a look at the kind.
-pub(crate) fn whole_custom<'a>(
+pub(crate) fn whole_custom<'a, For>(
     id: u8,
     size: u32,
     reader: &mut BinaryReader<'a>,
@@ -50,7 +50,7 @@ pub(crate) fn whole_custom<'a>(
 }
 
 /// Reads the content of an unknown section, of this size.
-pub(crate) fn whole_unknown<'a>(
+pub(crate) fn whole_unknown<'a, For>(
     id: u8,
     size: u32,
     reader: &mut BinaryReader<'a>,
@@ -74,7 +74,7 @@ fn custom<'a>(id: u8, mut window: BinaryReader<'a>) -> Result<Frame<'a>>
 }
 
 // Reads the content of a section that is a count and its items.
-fn items<'a>(
+fn items<'a, For>(
     announced: Option<u32>,
     id: u8,
     end: u64,
@@ -95,7 +95,7 @@ fn items<'a>(
 }
 
 // Reads the content of a start section: the index of a function.
-fn start<'a>(id: u8, window: BinaryReader<'a>) -> Result<Frame<'a>>
+fn start<'a, For>(id: u8, window: BinaryReader<'a>) -> Result<Frame<'a>>
     requires { window.position ≡ 0 }
     ensures { ReadsAnywhere index id window.entry result }
 {
@@ -105,7 +105,7 @@ fn start<'a>(id: u8, window: BinaryReader<'a>) -> Result<Frame<'a>>
 }
 
 // Reads the content of a data count section: the number of data segments.
-fn data_count<'a>(id: u8, window: BinaryReader<'a>) -> Result<Frame<'a>>
+fn data_count<'a, For>(id: u8, window: BinaryReader<'a>) -> Result<Frame<'a>>
     requires { window.position ≡ 0 }
     ensures { ReadsAnywhere data_count id window.entry result }
 {
@@ -144,7 +144,7 @@ fn is_miscounted(announced: Option<u32>, id: u8, count: u32) -> bool
 
 /// Reads the start of a code section: the number of bodies, which must be the count of the function section, or 0
 /// without one.
-pub(crate) fn code<'a>(
+pub(crate) fn code<'a, For>(
     functions: Option<u32>,
     size: u32,
     reader: &mut BinaryReader<'a>,

@@ -14,6 +14,7 @@ use crate::contents::{code, content, lacks, whole_custom, whole_unknown, window}
 use crate::frame::Frame;
 use crate::head::SectionHead;
 use crate::header::{missing_at_section, read_header};
+use crate::kind::FrameKind;
 use crate::next::NextFrame;
 use crate::stored::StoredParser;
 use wasm_base::{BinaryReader, Error, Fault, Result, fits};
@@ -50,13 +51,36 @@ impl StoredParser {
         ensures waits { AsksWhereOpen (parser_of self.old) eof bytes.now (content_of result) }
         ensures faults { FaultsWithin (parser_of self.old) bytes.now (content_of result) }
     {
+        // Each of the frequent kinds returns on its own, so that its fields go straight to the caller's memory.
+        match self.next_for::<Frame<'_>>(bytes, eof) {
+            NextFrame::Parsed { frame, consumed } => match frame.kind() {
+                FrameKind::Body => return NextFrame::Parsed { frame, consumed },
+                FrameKind::Custom => return NextFrame::Parsed { frame, consumed },
+                FrameKind::Unknown => return NextFrame::Parsed { frame, consumed },
+                _ => return NextFrame::Parsed { frame, consumed },
+            },
+            NextFrame::NeedMoreData(hint) => NextFrame::NeedMoreData(hint),
+            NextFrame::Fault(error) => NextFrame::Fault(error),
+        }
+    }
+
+    /// Does what `next` does. `For` is what the caller makes of a frame, as for `next_settled`.
+    #[inline(always)]
+    pub fn next_for<'a, For>(&mut self, bytes: &'a [u8], eof: bool) -> NextFrame<'a>
+        // Proved: `next_for` and `next_settled` return what `next` does, whatever their type is [the
+        //   clauses of both (`GivesFrame`)]
+        ensures { GivesFrame (parser_of self.old) eof bytes.now result (parser_of self.new) }
+    {
         self.settle();
-        self.next_settled(bytes, eof)
+        self.next_settled::<For>(bytes, eof)
     }
 
     /// Does what `next` does, for a parser whose code section ends within the offsets of a stream. That is so after
     /// each call.
-    pub fn next_settled<'a>(&mut self, bytes: &'a [u8], eof: bool) -> NextFrame<'a>
+    ///
+    /// `For` is a type of the caller's, such as what it makes of a frame. So each caller has an instance of this and of
+    /// what it calls, which LLVM puts in place: a parser that is called costs up to a half more.
+    pub fn next_settled<'a, For>(&mut self, bytes: &'a [u8], eof: bool) -> NextFrame<'a>
         requires room { self.old.offset + self.old.code_bytes < 2 ^ 64 }
         ensures answers { GivesFrame (numbers_of self.old) eof bytes.now result (numbers_of self.new) }
         ensures room { self.new.offset + self.new.code_bytes < 2 ^ 64 }
@@ -71,7 +95,7 @@ impl StoredParser {
                     return NextFrame::NeedMoreData(hint);
                 }
             } else if bytes.is_empty() {
-                return self.end();
+                return self.end::<For>();
             }
         }
         let mut reader = self.reader(bytes);
@@ -80,10 +104,10 @@ impl StoredParser {
             return self.given(read, bytes, &reader, eof);
         }
         if self.is_code_open() {
-            let read = self.body(&mut reader);
+            let read = self.body::<For>(&mut reader);
             return self.given(read, bytes, &reader, eof);
         }
-        self.section(bytes, &mut reader, eof)
+        self.section::<For>(bytes, &mut reader, eof)
     }
 
     // Moves past the frame that was read of these bytes, or refuses. In place, so that each kind of frame is looked at where
@@ -116,7 +140,7 @@ impl StoredParser {
     }
 
     // Reads a section of these bytes, where one may start. Frequent kinds come first, each on its own.
-    fn section<'a>(
+    fn section<'a, For>(
         &mut self,
         bytes: &'a [u8],
         reader: &mut BinaryReader<'a>,
@@ -136,26 +160,26 @@ impl StoredParser {
         };
         match head.kind {
             SectionKind::Custom => {
-                let read = whole_custom(head.id, head.size, reader);
+                let read = whole_custom::<For>(head.id, head.size, reader);
                 self.given(read, bytes, reader, eof)
             }
             SectionKind::Unknown => {
-                let read = whole_unknown(head.id, head.size, reader);
+                let read = whole_unknown::<For>(head.id, head.size, reader);
                 self.given(read, bytes, reader, eof)
             }
             SectionKind::Code => {
-                let read = code(self.functions(), head.size, reader);
+                let read = code::<For>(self.functions(), head.size, reader);
                 self.given(read, bytes, reader, eof)
             }
             _ => {
-                let read = self.whole(head, reader);
+                let read = self.whole::<For>(head, reader);
                 self.given(read, bytes, reader, eof)
             }
         }
     }
 
     // Ends the stream at the parser. Each count above 0 needs its other section.
-    fn end<'a>(&mut self) -> NextFrame<'a>
+    fn end<'a, For>(&mut self) -> NextFrame<'a>
         requires { at_section (numbers_of self.old) ≡ true }
         ensures answers { GivesFrame (numbers_of self.old) true [] result (numbers_of self.new) }
         ensures room { self.new.offset + self.new.code_bytes ≡ self.old.offset + self.old.code_bytes }
@@ -197,18 +221,18 @@ impl StoredParser {
     }
 
     // Reads the content of a section that is a frame of its own.
-    fn whole<'a>(&self, head: SectionHead, reader: &mut BinaryReader<'a>) -> Result<Frame<'a>>
+    fn whole<'a, For>(&self, head: SectionHead, reader: &mut BinaryReader<'a>) -> Result<Frame<'a>>
         requires { IsWhole (kind_is head.kind) head.id }
         ensures { ReadsContent (numbers_of self.now) (kind_is head.kind) head.id head.size
             (place reader.old) result (place reader.new) }
     {
         let window = window(head.size, reader)?;
         let end = reader.original_position();
-        content(self.data_counts(), head.kind, head.id, end, window)
+        content::<For>(self.data_counts(), head.kind, head.id, end, window)
     }
 
     // Reads the next body of a code section that has remaining bytes or bodies.
-    fn body<'a>(&self, reader: &mut BinaryReader<'a>) -> Result<Frame<'a>>
+    fn body<'a, For>(&self, reader: &mut BinaryReader<'a>) -> Result<Frame<'a>>
         ensures { ReadsBody (numbers_of self.now) (place reader.old) result (place reader.new) }
     {
         let size = self.body_head(reader)?;

@@ -155,7 +155,13 @@ impl StoredParser {
             return None;
         }
         let end = reader.original_position() + u64::from(head.size);
-        match content(self.data_counts(), head.kind, head.id, end, reader.shrink()) {
+        match content::<SkippedPart<'_>>(
+            self.data_counts(),
+            head.kind,
+            head.id,
+            end,
+            reader.shrink(),
+        ) {
             Ok(frame) => Some((frame, end)),
             Err(_) => None,
         }

@@ -30,6 +30,8 @@ pub trait ParsePayloads {
 }
 
 impl ParsePayloads for StoredParser {
+    // A call: in place, next to the code of a feeder, it takes more instructions than the call.
+    #[inline(never)]
     fn parse<'a>(&mut self, bytes: &'a [u8], eof: bool) -> Result<Chunk<'a>>
         // Proved: every bit pattern of the 48 bytes of a stored parser is a parser, and each parser
         //   can be stored [`parse` of `StoredParser` and `stored` of `Parser` in `wasm_parser`
@@ -44,7 +46,7 @@ impl ParsePayloads for StoredParser {
         ensures unchanged { IsUnchanged (parser_of self.old) (said result) (parser_of self.new) }
     {
         // As in `Parser::parse`, each of the frequent kinds returns on its own.
-        match self.next(bytes, eof) {
+        match self.next_for::<Payload<'_>>(bytes, eof) {
             NextFrame::Parsed { frame, consumed } => match frame.kind() {
                 FrameKind::Body => {
                     return Ok(Chunk::Parsed {

@@ -1,14 +1,13 @@
 // The results of a parser as plain numbers.
 ghost use Rattle.std.specs.Prelude.{◌≡◌};
 ghost use Rattle.wasm_base.specs.FaultAt.{fault_at};
-ghost use Rattle.wasm_frames.specs.Answer.{content_of};
-ghost use Rattle.wasm_plain.specs.Events.{answer_event, code_event, encoding_code, event_between, fault_event, placed_at, report_event, request_event};
+ghost use Rattle.wasm_plain.specs.Events.{code_event, encoding_code, event_between, fault_event, placed_at, report_event, request_event};
 
 use crate::faults::{NO_FAULT, PlainFault, plain_fault};
 use crate::spans::distance;
 use std::ops::Range;
 use wasm_base::Error;
-use wasm_frames::{Frame, FrameKind, NextFrame};
+use wasm_frames::{Frame, FrameKind};
 use wasm_grammar::{CODE_SECTION, CUSTOM_SECTION, DATA_COUNT_SECTION, Encoding, START_SECTION};
 
 /// An event of a stream, a fault or a request for more input. Fields that the kind does not use are 0.
@@ -174,24 +173,5 @@ pub(crate) fn request_event(hint: usize, base: usize) -> PlainEvent
         at: base,
         hint,
         ..SILENT
-    }
-}
-
-/// What a parser returned at this offset, whose byte is at `base` in memory.
-#[inline(always)]
-pub(crate) fn answer_event(offset: u64, base: usize, answer: &NextFrame<'_>) -> PlainEvent
-    ensures { result ≡ answer_event base offset (content_of answer.now) }
-{
-    match answer {
-        NextFrame::Parsed { frame, consumed } => {
-            let origin = Origin {
-                offset,
-                base,
-                consumed: *consumed,
-            };
-            frame_event(origin, frame)
-        }
-        NextFrame::NeedMoreData(hint) => request_event(*hint, base),
-        NextFrame::Fault(error) => fault_event(*error, base),
     }
 }

@@ -6,10 +6,10 @@ ghost use Rattle.wasm_plain.specs.Events.{ParsesPlain};
 ghost use Rattle.wasm_frames.specs.Stored.{parser_of};
 ghost use Rattle.wasm_plain.specs.Texts.{Says, SaysFault};
 
-use crate::events::{PlainEvent, answer_event};
+use crate::events::{Origin, PlainEvent, fault_event, frame_event, request_event};
 use crate::text::write_text;
 use bitflags::Flags;
-use wasm_frames::NextFrame;
+use wasm_frames::{FrameKind, NextFrame};
 use wasm_parser::{Parser, StoredParser, WasmFeatures};
 
 /// Returns a parser of a stream that begins at this offset, with these features.
@@ -24,7 +24,8 @@ pub fn new_parser(offset: u64, features: u32) -> StoredParser
 }
 
 /// Returns the next event of a stream, a fault, or a request for more bytes, for bytes that begin at `base` of a storage.
-#[inline(always)]
+// All calls of the library share it: a copy of it in each is slower, and larger.
+#[inline(never)]
 pub(crate) fn next_event(
     parser: &mut StoredParser,
     bytes: &[u8],
@@ -35,7 +36,24 @@ pub(crate) fn next_event(
         (parser_of parser.new) }
 {
     let offset = parser.offset;
-    answer_event(offset, base, &parser.next(bytes, is_all))
+    match parser.next_for::<PlainEvent>(bytes, is_all) {
+        NextFrame::Parsed { frame, consumed } => {
+            let origin = Origin {
+                offset,
+                base,
+                consumed,
+            };
+            // Each of the frequent kinds returns on its own, so that its fields go straight to the caller's memory.
+            match frame.kind() {
+                FrameKind::Body => return frame_event(origin, &frame),
+                FrameKind::Custom => return frame_event(origin, &frame),
+                FrameKind::Unknown => return frame_event(origin, &frame),
+                _ => return frame_event(origin, &frame),
+            }
+        }
+        NextFrame::NeedMoreData(hint) => request_event(hint, base),
+        NextFrame::Fault(error) => fault_event(error, base),
+    }
 }
 
 /// Returns the next event of a stream, a fault, or a request for more bytes.

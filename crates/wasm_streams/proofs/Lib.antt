@@ -1,5 +1,6 @@
 pub mod Beside
 pub mod Common
+pub mod Consuming
 pub mod ForCallers
 pub mod Parsers
 pub mod PassedParts

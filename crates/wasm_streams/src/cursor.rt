@@ -1,5 +1,5 @@
 // A position in a stream that arrives in chunks.
-ghost use Rattle.std.specs.Prelude.{⊤, ◌≡◌, ◌+◌, ◌<◌, ◌++◌, true, [], drop, length, option_map, OnOk, OnErr};
+ghost use Rattle.std.specs.Prelude.{⊤, ◌≡◌, ◌+◌, ◌<◌, ◌≤◌, ◌++◌, true, false, [], drop, length, option_map, OnOk, OnErr};
 ghost use Rattle.wasm_frames.specs.Answer.{GivesAnswer};
 ghost use Rattle.wasm_frames.specs.SkipNext.{SkipsNext, skip_is, skip_of};
 ghost use Rattle.wasm_frames.specs.Stored.{parser_of};
@@ -13,7 +13,8 @@ mod lending;
 
 use crate::buffer::{after, append};
 use crate::parser::FrameParser;
-pub use lending::{keep, make_ready, pass_borrowed, seen, take_left};
+pub(crate) use lending::{keep, pass_borrowed};
+pub use lending::{make_ready, seen, take_left};
 use std::alloc::{AllocError, Allocator};
 use wasm_base::Error;
 use wasm_frames::{Frame, NextFrame, SkippedPart, StoredParser};
@@ -138,6 +139,48 @@ impl Cursor {
         ensures same { self.new ≡ record self.old { parser = self.new.parser } }
     {
         self.parser.skip_next(after(bytes, self.mark))
+    }
+
+    /// Returns the parser of the next part. `advance` puts it back.
+    #[inline(always)]
+    pub fn parser(&self) -> StoredParser
+        // Proved: `parser` of a cursor is its parser; `advance` puts it back and consumes bytes of
+        //   the buffer, which it returns; `stay` changes nothing but whether more is wanted [the
+        //   clauses of each]
+        ensures { parser_of result ≡ self.now.parser }
+    {
+        self.parser.stored()
+    }
+
+    /// Consumes this many bytes of the buffer, with which this parser has read a part, and returns them.
+    #[inline(always)]
+    pub fn advance<'a>(
+        &mut self,
+        bytes: &'a [u8],
+        consumed: usize,
+        parser: StoredParser,
+    ) -> &'a [u8]
+        requires { consumed ≤ length (drop self.old.mark bytes.now) }
+        ensures shows { drop self.old.mark bytes.now ≡ result.now ++ drop self.new.mark bytes.now }
+        ensures many { length result.now ≡ consumed }
+        ensures parser { self.new.parser ≡ parser_of parser }
+        ensures mark { self.new.mark ≡ self.old.mark + consumed }
+        ensures finished { self.new.is_finished ≡ self.old.is_finished }
+        ensures wants { self.new.wants_more ≡ false }
+    {
+        let rest = after(bytes, self.mark);
+        self.parser = FrameParser::new(parser);
+        self.mark += consumed;
+        self.wants_more = false;
+        &rest[..consumed]
+    }
+
+    /// Stays where it is, after a request for more input or at a fault.
+    #[inline(always)]
+    pub fn stay(&mut self, wants_more: bool)
+        ensures { self.new ≡ record self.old { wants_more = wants_more } }
+    {
+        self.wants_more = wants_more;
     }
 
     /// Returns how many bytes of the buffer are consumed.

@@ -27,10 +27,7 @@ mod turns;
 mod visits;
 
 pub use ahead::Ahead;
-pub use cursor::{
-    Cursor, FrameStep, keep, make_ready, next_frame, pass_borrowed, read_more, refill, seen,
-    take_left,
-};
+pub use cursor::{Cursor, FrameStep, make_ready, next_frame, read_more, refill, seen, take_left};
 pub use passing::{Passing, pass_part, put_all};
 pub use turns::{Ended, Turn};
 pub use visits::{Visitor, visit};

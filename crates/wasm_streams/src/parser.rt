@@ -39,6 +39,14 @@ impl FrameParser {
         }
     }
 
+    /// Returns the numbers of the parser.
+    #[inline(always)]
+    pub(crate) fn stored(&self) -> StoredParser
+        ensures { parser_of result ≡ self.now }
+    {
+        self.stored
+    }
+
     /// Returns the offset of the next part.
     #[inline(always)]
     pub(crate) fn offset(&self) -> u64

@@ -27,7 +27,7 @@ pub enum Ended {
     Fault(Error),
 }
 
-/// The next action of a loop over a stream, after a step. Use it in loops of your own, as `wasm_dumper` does.
+/// What a loop over a stream does after a step.
 #[derive(Clone, Copy)]
 pub enum Turn {
     /// Perform another step over the bytes so far.

@@ -81,7 +81,8 @@ pub trait Visitor<A: Allocator, W> {
 
 /// Reads a stream from a source, and passes each step over it to a visitor. Returns how the stream ended.
 ///
-/// A visitor serves one run, and may end it before the stream ends. It reads into `buffer`, which must have at least one byte; its length is the size of the largest chunk.
+/// A visitor serves one run, and may end it before the stream ends. It reads into `buffer`, which must have at least one
+/// byte; its length is the size of the largest chunk.
 ///
 /// # Errors
 ///

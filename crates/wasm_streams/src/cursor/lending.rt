@@ -140,7 +140,7 @@ fn missing(parser: &FrameParser, bytes: &[u8]) -> usize
 }
 
 /// Consumes the bytes that a step read in place from a chunk, and returns their number.
-pub fn pass_borrowed(cursor: &mut Cursor, stored: &[u8], piece: &[u8]) -> usize
+pub(crate) fn pass_borrowed(cursor: &mut Cursor, stored: &[u8], piece: &[u8]) -> usize
     ensures passes { beside (feed_of stored.now cursor.new) (drop result piece.now)
         ≡ lending stored.now piece.now cursor.old }
     ensures within { result ≤ length piece.now }
@@ -154,7 +154,7 @@ pub fn pass_borrowed(cursor: &mut Cursor, stored: &[u8], piece: &[u8]) -> usize
 }
 
 /// Stores the remaining bytes of the chunk after a step. There must be room for them.
-pub fn keep<A: Allocator>(cursor: &mut Cursor, stored: &mut Vec<u8, A>, piece: &[u8])
+pub(crate) fn keep<A: Allocator>(cursor: &mut Cursor, stored: &mut Vec<u8, A>, piece: &[u8])
     requires { vec_len stored.old + length piece.now ≤ vec_capacity stored.old }
     ensures keeps { beside (feed_of stored.new.items cursor.new) []
         ≡ lending stored.old.items piece.now cursor.old }

@@ -6,7 +6,7 @@ use std::alloc::Global;
 use std::process::Abort;
 use std::test::Fail;
 use wasm_base::Fault;
-use wasm_frames::{FrameKind, StoredParser};
+use wasm_frames::{FrameKind, NextFrame, StoredParser};
 use wasm_streams::{Cursor, FrameStep, next_frame, read_more, refill};
 use wasm_testing::Sparing;
 use wasm_text::{ListError, SliceSource};
@@ -72,6 +72,55 @@ fn frames_of_a_stream_in_a_buffer(rt: HostRuntime) {
     for _again in 0..2 {
         let ended = Said::Frame(FrameKind::End, 0);
         steps(&rt, &mut cursor, PARTS, ended, (128, 128, false));
+    }
+}
+
+// The step of a caller that parses with the parser of the cursor, as a feeder with payloads does.
+fn stepped(cursor: &mut Cursor, bytes: &[u8]) -> Said {
+    let mut parser = cursor.parser();
+    match parser.next(cursor.remaining(bytes), cursor.is_finished()) {
+        NextFrame::Parsed { frame, consumed } => {
+            let shown = cursor.advance(bytes, consumed, parser);
+            Said::Frame(frame.kind(), shown.len())
+        }
+        NextFrame::NeedMoreData(hint) => {
+            cursor.stay(true);
+            Said::More(hint)
+        }
+        NextFrame::Fault(error) => {
+            cursor.stay(false);
+            Said::Fault(error.fault(), error.offset())
+        }
+    }
+}
+
+// Both steps say the same, and leave the cursors at the same place.
+fn step_both(rt: &impl Abort, one: &mut Cursor, other: &mut Cursor, bytes: &[u8]) {
+    let said = stepped(other, bytes);
+    let place = (other.offset(), other.mark(), other.wants_more());
+    steps(rt, one, bytes, said, place);
+    same(rt, one.is_finished(), other.is_finished());
+}
+
+#[test]
+fn steps_of_a_callers_own(rt: HostRuntime) {
+    for (stream, start) in [
+        (PARTS, 0),
+        (PARTS, u64::MAX - 90),
+        (b"\0asm\x01\0\0\0\0\x01\x07".as_slice(), 5),
+    ] {
+        let mut one = Cursor::new(StoredParser::new(start));
+        let mut other = Cursor::new(StoredParser::new(start));
+        for end in 0..=stream.len() {
+            for _again in 0..3 {
+                step_both(&rt, &mut one, &mut other, &stream[..end]);
+            }
+        }
+        one.finish();
+        other.finish();
+        for _again in 0..3 {
+            step_both(&rt, &mut one, &mut other, stream);
+        }
     }
 }
 

@@ -4,19 +4,19 @@ use Rattle.wasm_frames.proofs.Bodies.{code_no_count, code_short, code_wrong, cod
 use Rattle.wasm_frames.proofs.contents.code.Goals as goal
 
 pub returns-in_err-count : goal.returns-in_err-count
-returns-in_err-count c =
+returns-in_err-count g c =
     λ context same. let e = err_from_is_err_and c.from_residual.result c.from_residual.ensures.1 in
     rw (e.1, e.2) (code_no_count context _ _ _ _ c.in_err-count.ensures.gives c.in_err-count.ensures.hints)
 
 pub returns-then-end-after : goal.returns-then-end-after
-returns-then-end-after c = λ context same.
+returns-then-end-after g c = λ context same.
     let at = c.original_position-start.ensures.offset in
     let after = c.original_position-after.ensures.offset in
     code_short context _ _ _ _ c.in_ok-count.ensures.gives _ _ (omega (arith, at, after, c.from.ensures, c.if-end-after.true))
     (c.new.ensures.report ∙ ap (at_offset UnexpectedEof) at) c.new.ensures.hint
 
 pub returns-then-differs : goal.returns-then-differs
-returns-then-differs c = λ context same.
+returns-then-differs g c = λ context same.
     let at = c.original_position-start.ensures.offset in
     let after = c.original_position-after.ensures.offset in
     code_wrong context _ _ _ _ c.in_ok-count.ensures.gives _ _ (omega (arith, at, after, c.from.ensures, c.if-end-after.false))
@@ -24,7 +24,7 @@ returns-then-differs c = λ context same.
     (c.new-then-differs.ensures.report ∙ ap (at_offset FunctionCodeDiffer) at)) c.new-then-differs.ensures.hint
 
 pub returns-then-lacks : goal.returns-then-lacks
-returns-then-lacks c = λ context same.
+returns-then-lacks g c = λ context same.
     let at = c.original_position-start.ensures.offset in
     let after = c.original_position-after.ensures.offset in
     code_wrong context _ _ _ _ c.in_ok-count.ensures.gives _ _ (omega (arith, at, after, c.from.ensures, c.if-end-after.false))
@@ -32,7 +32,7 @@ returns-then-lacks c = λ context same.
     (c.new-then-lacks.ensures.report ∙ ap (at_offset CodeWithoutFunction) at)) c.new-then-lacks.ensures.hint
 
 pub returns : goal.returns
-returns c = λ context same.
+returns g c = λ context same.
     let at = c.original_position-start.ensures.offset in
     let after = c.original_position-after.ensures.offset in
     rw c.code_start.ensures (code_read context c.args.size _ _ c.in_ok-count.count c.in_ok-count.ensures.gives _

@@ -1,13 +1,13 @@
 use Rattle.wasm_frames.proofs.contents.content.Goals as goal
 
 pub returns-in-Custom : goal.returns-in-Custom
-returns-in-Custom c = rw c.in-Custom.is (λ context same. c.custom.ensures context c.args.end)
+returns-in-Custom g c = rw c.in-Custom.is (λ context same. c.custom.ensures context c.args.end)
 
 pub returns-in-Index : goal.returns-in-Index
-returns-in-Index c = rw c.in-Index.is (λ context same. c.start.ensures context c.args.end)
+returns-in-Index g c = rw c.in-Index.is (λ context same. c.start.ensures context c.args.end)
 
 pub returns-in-DataCount : goal.returns-in-DataCount
-returns-in-DataCount c = rw c.in-DataCount.is (λ context same. c.data_count.ensures context c.args.end)
+returns-in-DataCount g c = rw c.in-DataCount.is (λ context same. c.data_count.ensures context c.args.end)
 
 pub returns-in-Unknown : goal.returns-in-Unknown
-returns-in-Unknown c = rw c.in-Unknown.is (λ context same. c.unknown.ensures context c.args.end)
+returns-in-Unknown g c = rw c.in-Unknown.is (λ context same. c.unknown.ensures context c.args.end)

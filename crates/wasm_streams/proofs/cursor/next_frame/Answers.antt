@@ -1,15 +1,12 @@
-use Rattle.wasm_streams.proofs.Common.{ℕ, List, ◌++◌, take, drop, sym, ap, subst₂, ◌∙◌, drop-drop, take-append-drop, GivesAnswer}
+use Rattle.wasm_streams.proofs.Common.{ℕ, List, drop, sym, subst₂, GivesAnswer}
 use Rattle.std.proofs.lemmas.List.{length-take-le}
 use Rattle.wasm_frames.specs.Answer.{Consumes, GivesFrame, reports}
 use Rattle.wasm_frames.specs.declared.next.NextFrame.TheVariants.{Parsed}
+use Rattle.wasm_streams.proofs.Consuming.{consumed_so}
 use Rattle.wasm_streams.proofs.cursor.next_frame.Goals as goal
 
 pub returns-in-Parsed-clause-shows : goal.returns-in-Parsed-clause-shows
-returns-in-Parsed-clause-shows c =
-    let m = c.args.cursor.now.mark in
-    let k = c.in-Parsed.consumed in
-    let xs = c.args.bytes.now in
-    rw c.after-rest.ensures (sym (take-append-drop k (drop m xs)) ∙ ap (λ (l : List ℕ). take k (drop m xs) ++ l) (drop-drop k m xs))
+returns-in-Parsed-clause-shows c = rw c.after-rest.ensures (consumed_so c.args.cursor.now.mark c.in-Parsed.consumed c.args.bytes.now)
 
 pub returns-in-Parsed-clause-parses : goal.returns-in-Parsed-clause-parses
 returns-in-Parsed-clause-parses c =

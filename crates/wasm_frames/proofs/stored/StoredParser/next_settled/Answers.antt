@@ -4,12 +4,12 @@ use Rattle.wasm_frames.proofs.Results.{asks_at_section}
 use Rattle.wasm_frames.proofs.stored.StoredParser.next_settled.Goals as goal
 
 pub returns-in-Some-clause-answers : goal.returns-in-Some-clause-answers
-returns-in-Some-clause-answers c =
+returns-in-Some-clause-answers g c =
     let fits = c.fits.ensures.0 c.if-not-fits.false in
     rw c.if-not-eof.true (asks_at_section _ _ _ (omega (arith, fits)) (sym c.if-is_at_section.ensures) (sym c.in-Some.ensures))
 
 pub given-requires-then-is_code_open-clause-reads : goal.given-requires-then-is_code_open-clause-reads
-given-requires-then-is_code_open-clause-reads c =
+given-requires-then-is_code_open-clause-reads g c =
     next_in_code (numbers_of c.args.self.now) c.args.bytes.now (place c.reader-reader.result) _ _ (sym c.if-expects_header.ensures)
     (not_true _ c.if-is_code_open.ensures)
     (place_at (numbers_of c.args.self.now) c.reader-reader.result c.args.bytes.now c.reader-reader.ensures) c.body-read.ensures

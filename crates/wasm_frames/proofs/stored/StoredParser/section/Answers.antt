@@ -3,28 +3,28 @@ use Rattle.wasm_frames.proofs.NextParts.{fault_given, next_section}
 use Rattle.wasm_frames.proofs.stored.StoredParser.section.Goals as goal
 
 pub returns-in-Err-clause-answers : goal.returns-in-Err-clause-answers
-returns-in-Err-clause-answers c =
+returns-in-Err-clause-answers g c =
     fault_given (numbers_of c.args.self.now) c.args.eof c.args.bytes.now _ c.in-Err.error _
     (next_section (numbers_of c.args.self.now) c.args.bytes.now (place c.args.reader.now) _ _ c.requires.closed c.requires.at
     c.in-Err.ensures.0) c.requires.fits c.requires.begun c.refused.ensures
 
 pub given-requires-clause-reads : goal.given-requires-clause-reads
-given-requires-clause-reads c =
+given-requires-clause-reads g c =
     next_section (numbers_of c.args.self.now) c.args.bytes.now (place c.args.reader.now) _ _ c.requires.closed c.requires.at
     (c.in-Ok.ensures.next _ _ (rw c.in-Custom.is (c.whole_custom-read.ensures (known_context (numbers_of c.args.self.now)))))
 
 pub given-requires-in-Unknown-clause-reads : goal.given-requires-in-Unknown-clause-reads
-given-requires-in-Unknown-clause-reads c =
+given-requires-in-Unknown-clause-reads g c =
     next_section (numbers_of c.args.self.now) c.args.bytes.now (place c.args.reader.now) _ _ c.requires.closed c.requires.at
     (c.in-Ok.ensures.next _ _ (rw c.in-Unknown.is (c.whole_unknown-read.ensures (known_context (numbers_of c.args.self.now)))))
 
 pub given-requires-in-Code-clause-reads : goal.given-requires-in-Code-clause-reads
-given-requires-in-Code-clause-reads c =
+given-requires-in-Code-clause-reads g c =
     next_section (numbers_of c.args.self.now) c.args.bytes.now (place c.args.reader.now) _ _ c.requires.closed c.requires.at
     (c.in-Ok.ensures.next _ _ (rw c.in-Code.is (c.code-read.ensures (known_context (numbers_of c.args.self.now))
     (ap option_to_list (sym c.functions.ensures)))))
 
 pub given-requires-in_default-clause-reads : goal.given-requires-in_default-clause-reads
-given-requires-in_default-clause-reads c =
+given-requires-in_default-clause-reads g c =
     next_section (numbers_of c.args.self.now) c.args.bytes.now (place c.args.reader.now) _ _ c.requires.closed c.requires.at
     (c.in-Ok.ensures.next _ _ c.whole-read.ensures)

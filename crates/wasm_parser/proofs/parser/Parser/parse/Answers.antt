@@ -1,7 +1,5 @@
 use Rattle.wasm_parser.proofs.Common.{sym}
-use Rattle.wasm_frames.proofs.AnswerBounds.{asks_for_some, consumes, faults_within}
-use Rattle.wasm_frames.proofs.AsksWhereOpen.{asks_where_open}
-use Rattle.wasm_frames.proofs.Following.{gives_next}
+use Rattle.wasm_frames.proofs.ForCallers.{asks_for_some, asks_where_open, consumes, faults_within, gives_next}
 use Rattle.wasm_parser.proofs.Parsing.{payload_given}
 use Rattle.wasm_parser.proofs.parser.Parser.parse.Goals.{in-NeedMoreData, in-Fault}
 use Rattle.wasm_parser.proofs.parser.Parser.parse.Goals as goal
