@@ -7,8 +7,8 @@ use Rattle.wasm_dumper.specs.declared.hidden.Skipped.{Skipped}
 use Rattle.wasm_streams.specs.Passing.{held_by}
 use Rattle.wasm_frames.specs.SkipNext.{Head}
 use Rattle.wasm_tree.specs.Found.{Finds, FindsNone}
-use Rattle.wasm_dumper.proofs.Checking.{any_more, finds_both}
-use Rattle.wasm_dumper.specs.Dumping.{Finding, Seeking}
+use Rattle.wasm_dumper.proofs.Checking.{Seeking, any_more, finds_both}
+use Rattle.wasm_dumper.specs.Dumping.{Finding}
 use Rattle.wasm_streams.proofs.ForCallers.{arrived, past}
 
 -- what was found so far is known, and the parser has skipped a part

@@ -5,7 +5,8 @@ use Rattle.wasm_base.specs.Window.{place}
 use Rattle.wasm_custom.specs.Custom.{Custom}
 use Rattle.wasm_dumper.proofs.Common.{Feed, Moves, turn_after, Told}
 use Rattle.wasm_dumper.proofs.Common.{Request, Part, Stop, Ending, Event, last_event, report_of, Writing, Only}
-use Rattle.wasm_dumper.specs.Dumping.{Finding, Seeking}
+use Rattle.wasm_dumper.specs.Dumping.{Finding}
+use Rattle.wasm_streams.specs.Progress.{Asks}
 use Rattle.wasm_dumper.specs.Checks.{FindsIn, answer_faulty, any_faulty, custom_of, faulty_if, report_faulty, shown_faulty}
 use Rattle.wasm_streams.specs.Beside.{FillsAlike}
 use Rattle.wasm_streams.specs.declared.turns.Ended.{Ended}
@@ -79,6 +80,18 @@ finds_both a b old mid new f g is h = subst (λ (x : Option Bool). HasFound x ne
 
 -- ---- how far a tree has come
 
+-- What was found where the feeder asks for more.
+pub record Seeking (only : List Only) (full rest : Option (List ℕ)) (f : Feed) (old new : Option Bool) : Type 0 where
+  pub events : List Event
+  pub asks : Asks full rest f events
+  pub found : Finds (any_faulty only events) old new
+
+pub sought : (only : List Only) (full rest : Option (List ℕ)) (e : Feed) (old new : Option Bool) → Finding only full rest e old new
+    → (f : Feed) (hint : ℕ) → Moves e (Request hint) f → Seeking only full rest f old new
+sought only full rest e old new d f hint s =
+    let (h, is, asks, same) = next_asks full rest e d.events d.reached f (Request hint) s refl in
+    record { events = d.events; asks = asks; found = d.found }
+
 -- a step of the feeder, and what was found of it
 pub record FindsStep (only : List Only) (old new : Feed) (before after : Option Bool) (next : Turn) : Type 0 where
   pub answer : Told
@@ -106,18 +119,6 @@ module _ (only : List Only) (full rest : Option (List ℕ)) (f : Feed) (old now 
         reached = after;
         found = subst (λ (b : Bool). Finds b old new)
             (ap (either (any_faulty only d.events)) (event_faulty only s.answer e is) ∙ sym (any_more only d.events e))
-            (finds_both (any_faulty only d.events) (answer_faulty only s.answer) old now new d.found s.finds);
-      }
-
-  pub finds_asked : next ≡ turn.Read → Seeking only full rest g old new
-  finds_asked t =
-      let (hint, is, asks, same) = next_asks full rest f d.events d.reached g s.answer s.steps (sym t ∙ s.turns) in
-      let none : answer_faulty only s.answer ≡ false = ap (answer_faulty only) is in
-      record {
-        events = d.events;
-        asks = asks;
-        found = subst (λ (b : Bool). Finds b old new)
-            (ap (either (any_faulty only d.events)) none ∙ either_none (any_faulty only d.events))
             (finds_both (any_faulty only d.events) (answer_faulty only s.answer) old now new d.found s.finds);
       }
 

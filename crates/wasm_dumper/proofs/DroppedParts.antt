@@ -18,8 +18,8 @@ use Rattle.wasm_streams.specs.Progress.{Reached}
 use Rattle.wasm_grammar.specs.Grammar.{final, verdict}
 use Rattle.wasm_frames.specs.ParserState.{grammar_of}
 use Rattle.wasm_frames.specs.SkipNext.{Head, skip_in}
-use Rattle.wasm_dumper.specs.Dumping.{Dumping, HasWritten, IsFresh, Wanting, WrittenWith, outline_of}
-use Rattle.wasm_dumper.proofs.Dumping.{ShowsStep, all, bytes_more, dumped, events_are}
+use Rattle.wasm_dumper.specs.Dumping.{Dumping, HasWritten, IsFresh, WrittenWith, outline_of}
+use Rattle.wasm_dumper.proofs.Dumping.{ShowsStep, Wanting, all, bytes_more, dumped, events_are}
 use Rattle.wasm_dumper.proofs.Dumping.{has_failed, not_whole, numbers_of, source, stopped_after, whole}
 use Rattle.wasm_dumper.proofs.Numbering.{all_more, events_more}
 use Rattle.wasm_streams.proofs.ForCallers.{arrived, is_short, one_more, past, reads_short, same_held}
@@ -181,4 +181,11 @@ module _ (only : List Only) (has_bytes : Bool) (full rest : Option (List ℕ)) (
 
       pub shows_fault : (shown : Writing) (c' : Counts) → ShowsAnswer only has_bytes c (Stop error) last shown → c' ≡ c
           → ShowsStep only has_bytes c c' feed feed last shown (turn.End (Fault error))
-      shows_fault shown c' s same = record { answer = Stop error; steps = fault_step; turns = refl; shows = s; counted = same }
+      shows_fault shown c' s same = record {
+        answer = Stop error;
+        steps = fault_step;
+        turns = refl;
+        shows = s;
+        counted = same;
+        no_request = λ hint is. cc;
+      }

@@ -1,19 +1,29 @@
 -- What a dump does at each turn of its run.
-use Rattle.wasm_dumper.proofs.Common.{◌≡◌, ℕ, ◌<◌, Bool, List, [], Ok, Err, Some, None, refl, ◌∙◌, Option, Error, Feed, Told, Moves, weight}
+use Rattle.wasm_dumper.proofs.Common.{◌≡◌, ℕ, ◌<◌, Bool, List, [], Ok, Err, Some, None, refl, ◌∙◌, Option}
+use Rattle.wasm_dumper.proofs.Common.{Error, Feed, Told, Moves, Part, Report, Request, Stop}
+use Rattle.wasm_dumper.proofs.Common.{weight}
 use Rattle.wasm_dumper.proofs.Common.{Counts, Only, Writing, ListError, Fault, DumpsInto, ShowsAnswer, turn_after, Adds, IsOut}
 use Rattle.std.specs.Prelude.{IfErr, OnOk, Result}
-use Rattle.wasm_dumper.proofs.Checking.{FindsStep, finds_advanced, finds_asked, finds_ended}
-use Rattle.wasm_dumper.proofs.Dumping.{ShowsStep, advanced, asked, ended, starts, stopped, stopped_after, stopped_at_last, stopped_before}
+use Rattle.wasm_dumper.proofs.Checking.{FindsStep, Seeking, finds_advanced, finds_ended, sought}
+use Rattle.wasm_dumper.proofs.Dumping.{ShowsStep, Wanting, advanced, ended, starts, stopped, stopped_after, stopped_at_last}
+use Rattle.wasm_dumper.proofs.Dumping.{stopped_before, wanted}
 use Rattle.wasm_dumper.specs.Checks.{FindsAt, answer_faulty}
 use Rattle.wasm_dumper.specs.Counting.{no_counts}
 use Rattle.wasm_dumper.specs.Dump.{after_answer}
-use Rattle.wasm_dumper.specs.Dumping.{Done, Dumper, Dumping, Finding, Going, Seeking, Wanting, dump_stages, dumper}
+use Rattle.wasm_dumper.specs.Dumping.{Done, Dumper, Dumping, Finding, Going, dump_stages, dumper}
 use Rattle.wasm_streams.specs.Visits.{Finishes, GivesOut, MayBegin, Met, MeetsRequest, Taken, TakesStep, since}
 use Rattle.wasm_streams.specs.declared.turns.Turn.{Turn}
 use Rattle.wasm_streams.specs.declared.turns.Turn.TheVariants as turn
 use Rattle.wasm_text.specs.Calls.{Device, bytes_of}
 use Rattle.wasm_tree.specs.Found.{Finds, FindsNone}
 use Rattle.wasm_streams.proofs.ForCallers.{nothing_read}
+
+-- a part and a fault are no requests
+pub part_is_no_request : (report : Report) (bytes : List ℕ) (hint : ℕ) → Part report bytes ≡ Request hint → ⊥
+part_is_no_request report bytes hint is = cc
+
+pub stop_is_no_request : (e : Error) (hint : ℕ) → Stop e ≡ Request hint → ⊥
+stop_is_no_request e hint is = cc
 
 module _ {V W : Type 0} (only : V → List Only) (has_bytes : V → Bool) (counts : V → Counts) (writing : W → Writing)
     (found : W → Option Bool) where
@@ -49,7 +59,7 @@ module _ {V W : Type 0} (only : V → List Only) (has_bytes : V → Bool) (count
   module _ (old new : V) (before after : W) (x : Told)
       (shows : ShowsAnswer (only old) (has_bytes old) (counts old) x (writing before) (writing after))
       (counted : counts new ≡ after_answer (counts old) x)
-      (finds : Finds (answer_faulty (only old) x) (found before) (found after)) where
+      (finds : Finds (answer_faulty (only old) x) (found before) (found after)) (no_request : (hint : ℕ) → x ≡ Request hint → ⊥) where
     module _ (first : V) (start : W) (input : Device) (f g : Feed) (going : Going visitor first start input f old before)
         (moves : Moves f x g) where
       step : ShowsStep (only first) (has_bytes first) (counts old) (counts new) f g (writing before) (writing after) (turn_after x)
@@ -59,6 +69,7 @@ module _ {V W : Type 0} (only : V → List Only) (has_bytes : V → Bool) (count
         turns = refl;
         shows = rw (going.same.0, going.same.1) at shows;
         counted = counted;
+        no_request = no_request;
       }
 
       found_step : FindsStep (only first) f g (found before) (found after) (turn_after x)
@@ -93,17 +104,7 @@ module _ {V W : Type 0} (only : V → List Only) (has_bytes : V → Bool) (count
               },
               less,
             )
-        by turn.Read t =
-            let (p, is) = asked (only first) (has_bytes first) input.before input.after (writing start) f (counts old)
-            (writing before) going.dumping g (counts new) (writing after) (turn_after x) s on t in (
-              record {
-                wanting = p;
-                seeking = finds_asked (only first) input.before input.after f (found start) (found before) going.finding g (found after)
-                    (turn_after x) k t;
-                same = (o ∙ going.same.0, b ∙ going.same.1);
-              },
-              is,
-            )
+        by turn.Read t = tt
         by (turn.End how) t = record {
           whole = λ last a out went more. (
             ended (only first) (has_bytes first) input.before input.after (writing start) f (counts old) (writing before) going.dumping g
@@ -143,15 +144,18 @@ module _ {V W : Type 0} (only : V → List Only) (has_bytes : V → Bool) (count
       → Seeking (only old) full input.before f (found start) (found before)
       → MetBy (only old) (has_bytes old) start (since full had input) f g result new after)
       → MeetsRequest (dump_stages visitor) old before input f result new after g
-  requests old new before after input f g result o b m first start full had mid asking =
-      let (own, bytes) = asking.same in
-      met result (rw (own, bytes) at (m start full had mid (rw (own, bytes) asking.wanting) (rw own asking.seeking)))
+  requests old new before after input f g result o b m first start full had e hint mid going moves =
+      let (own, bytes) = going.same in
+      let wants = wanted (only first) (has_bytes first) full input.before (writing start) e (counts old) (writing before) going.dumping
+      f hint moves in
+      let seeks = sought (only first) full input.before e (found start) (found before) going.finding f hint moves in
+      met result (rw (own, bytes) at (m start full had mid (rw (own, bytes) wants) (rw own seeks)))
     where
       met : (result : Result (Option Error) ListError)
           → MetBy (only first) (has_bytes first) start (since full had input) f g result new after
           → Met (dump_stages visitor) first start (since full had input) f g result new after
       met (Ok None) (p, k, less) =
-          (record { dumping = p; finding = k; same = (o ∙ asking.same.0, b ∙ asking.same.1) }, less)
+          (record { dumping = p; finding = k; same = (o ∙ going.same.0, b ∙ going.same.1) }, less)
       met (Ok (Some e)) ends = ends
       met (Err e) ends = (ends, tt)
 

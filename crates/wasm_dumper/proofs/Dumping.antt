@@ -16,7 +16,7 @@ use Rattle.wasm_dumper.specs.Dump.{after_answer, DumpsFrom, DumpsByTree, Writes,
 use Rattle.wasm_streams.specs.Beside.{FillsAlike}
 use Rattle.wasm_streams.specs.Feed.{new_feed}
 use Rattle.wasm_streams.specs.Lists.{IsHead, ListsBy, Refills, listing_by}
-use Rattle.wasm_streams.specs.Progress.{Reached, Progress}
+use Rattle.wasm_streams.specs.Progress.{Asks, Reached, Progress}
 use Rattle.wasm_streams.specs.Step.{answer_of, is_request, shown}
 use Rattle.wasm_streams.specs.Turns.{text_after}
 use Rattle.wasm_streams.specs.Step as tells
@@ -32,7 +32,7 @@ use Rattle.wasm_tree.specs.Tree.{IsOutlined, Part, begun, begun_numbers, IsGoing
 use Rattle.wasm_tree.specs.declared.objects.Spot.{Spot}
 use Rattle.wasm_tree.specs.declared.tree.Style.{Style}
 use Rattle.wasm_tree.specs.declared.tree.Style.TheVariants.{Lines, Objects}
-use Rattle.wasm_dumper.specs.Dumping.{Dumping, HasWritten, IsFresh, Wanting, WrittenWith, outline_of}
+use Rattle.wasm_dumper.specs.Dumping.{Dumping, HasWritten, IsFresh, WrittenWith, outline_of}
 use Rattle.wasm_dumper.proofs.Numbering.{all_more, events_begin, events_more, end_none}
 use Rattle.wasm_streams.proofs.ForCallers.{AtEnd, IsEnding, IsEvent, all_given, begins_with, consumed, next_asks, next_ends, next_event}
 use Rattle.wasm_streams.proofs.ForCallers.{reads_on}
@@ -305,6 +305,21 @@ stopped_before only has_bytes full rest before f c now d had has h last why a w 
 puts : (outline line : List ℕ) → PutsBytes (Some outline) (Some (outline ++ line)) [] line []
 puts outline line = record { moved = line; writes = refl; waits = sym (append-nil line) }
 
+-- How far a dump has come where the feeder asks for more.
+pub record Wanting (only : List Only) (has_bytes : Bool) (full rest : Option (List ℕ)) (before : Writing) (f : Feed)
+    (c : Counts) (now : Writing) : Type 0 where
+  pub events : List Event
+  pub asks : Asks full rest f events
+  pub counted : c ≡ after_all no_counts events
+  pub writing : HasWritten only has_bytes before events now
+
+pub wanted : (only : List Only) (has_bytes : Bool) (full rest : Option (List ℕ)) (before : Writing) (e : Feed) (c : Counts) (now : Writing)
+    → Dumping only has_bytes full rest before e c now → (f : Feed) (hint : ℕ) → Moves e (Request hint) f
+    → Wanting only has_bytes full rest before f c now
+wanted only has_bytes full rest before e c now d f hint s =
+    let (h, is, asks, same) = next_asks full rest e d.events d.reached f (Request hint) s refl in
+    record { events = d.events; asks = asks; counted = d.counted; writing = d.writing }
+
 -- A step of the feeder was shown, and this is done next.
 pub record ShowsStep (only : List Only) (has_bytes : Bool) (counts counts' : Counts) (old new : Feed) (before after : Writing) (next : Turn)
     : Type 0 where
@@ -313,6 +328,7 @@ pub record ShowsStep (only : List Only) (has_bytes : Bool) (counts counts' : Cou
   pub turns : next ≡ turn_after answer
   pub shows : ShowsAnswer only has_bytes counts answer before after
   pub counted : counts' ≡ after_answer counts answer
+  pub no_request : (hint : ℕ) → answer ≡ Request hint → ⊥
 
 module _ (only : List Only) (has_bytes : Bool) (full rest : Option (List ℕ)) (before : Writing) (f : Feed) (c : Counts) (now : Writing)
     (d : Dumping only has_bytes full rest before f c now) (g : Feed) (c' : Counts) (new : Writing) (next : Turn)
@@ -346,8 +362,10 @@ module _ (only : List Only) (has_bytes : Bool) (full rest : Option (List ℕ)) (
       subst₂ (λ (why : Option ListError) (o : List ℕ). WrittenWith why only has_bytes events before.style taken failed o new) going same
       (written events more taken failed i)
 
-  still : (hint : ℕ) → s.answer ≡ Request hint → Continues only has_bytes c s.answer d.events d.events
-  still hint is = rw is (counted_still only has_bytes d.events c d.counted (Request hint) (λ why shown b. b) refl)
+  -- a request is not shown
+  no_read : next ≡ turn.Read → ⊥
+  no_read t =
+      let (hint, is, asks, same) = next_asks full rest f d.events d.reached g s.answer s.steps (sym t ∙ s.turns) in s.no_request hint is
 
   pub advanced : new.why ≡ None → next ≡ turn.Advance → Dumping only has_bytes full rest before g c' new × (weight g < weight f)
   advanced going t =
@@ -362,18 +380,6 @@ module _ (only : List Only) (has_bytes : Bool) (full rest : Option (List ℕ)) (
         less,
       )
 
-  pub asked : new.why ≡ None → next ≡ turn.Read → Wanting only has_bytes full rest before g c' new × (weight g ≡ weight f)
-  asked going t =
-      let (hint, is, asks, same) = next_asks full rest f d.events d.reached g s.answer s.steps (sym t ∙ s.turns) in (
-        record {
-          events = d.events;
-          asks = asks;
-          counted = s.counted ∙ (ap (λ (x : Told). after_answer c x) is ∙ d.counted);
-          writing = going_on going d.events (rw is (append-nil outlined)) (still hint is);
-        },
-        same,
-      )
-
   -- the listing of what was shown
   abbrev all_listed : Progress (listing_by line_of) (from_to full rest) (from_to (Some []) (Some outlined)) f []
   all_listed = listed only before.style full rest f d.events d.reached
@@ -386,11 +392,7 @@ module _ (only : List Only) (has_bytes : Bool) (full rest : Option (List ℕ)) (
       let p = (progress.line_advanced line_of full rest (Some []) (Some outlined) f [] all_listed g s.answer s.steps (Some outline) [] put
       (sym t ∙ s.turns)).0 in
       progress.cut line_of full rest (Some []) (Some outline) g [] p (Some outline) Output (nothing_cut (Some outline))
-  begins turn.Read t =
-      let w = (progress.line_asked line_of full rest (Some []) (Some outlined) f [] all_listed g s.answer s.steps (Some outline) [] put
-      (sym t ∙ s.turns)).0 in
-      progress.cut line_of full rest (Some []) (Some outline) g [] (progress.progress_of w) (Some outline) Output
-      (nothing_cut (Some outline))
+  begins turn.Read t = absurd (no_read t)
   begins (turn.End how) t = progress.end_cut line_of full rest (Some []) (Some outlined) f [] all_listed g s.answer s.steps
       (Some outline) []
       put how (sym t ∙ s.turns) (Some outline) Output (nothing_cut (Some outline))
@@ -423,9 +425,7 @@ module _ (only : List Only) (has_bytes : Bool) (full rest : Option (List ℕ)) (
       let (e, is, after, less) = next_event full rest f d.events d.reached g s.answer s.steps (sym t ∙ s.turns) in
       written_of false g (d.events ++ e ∷ []) after (not_whole (g.held ++ []))
       (counted_on only has_bytes d.events c d.counted s.answer e is).1
-  all_written turn.Read t =
-      let (hint, is, asks, same) = next_asks full rest f d.events d.reached g s.answer s.steps (sym t ∙ s.turns) in
-      written_of false g d.events asks.reached (not_whole (g.held ++ [])) (still hint is)
+  all_written turn.Read t = absurd (no_read t)
   all_written (turn.End how) t =
       let (end, a, is) = next_ends full rest f d.events d.reached g s.answer s.steps how (sym t ∙ s.turns) in
       written_of (is_whole (Ok how)) f d.events d.reached (held_none full rest f d.events d.reached how end a)

@@ -2,7 +2,7 @@
 use Rattle.wasm_dumper.proofs.Common.{◌≡◌, ℕ, zero, suc, ◌+◌, ◌^◌, ◌<◌, Bool, true, false, List, [], ◌∷◌, ◌++◌, Some, None, Result, Ok, Err}
 use Rattle.wasm_dumper.proofs.Common.{refl, sym, ap, subst, subst₂, ◌∙◌, add-one, append-nil, arith, nat_eq, Option, append_assoc, is_some}
 use Rattle.wasm_dumper.proofs.Common.{if◌then◌else◌, fault_at, ReadsAs, unsigned_at, Outcome, Section, Place, place, Error, VarU32}
-use Rattle.wasm_dumper.proofs.Common.{turn_after, Told, Request, Part, Stop, End, fault, Ending, import_id, Report, counted, Event}
+use Rattle.wasm_dumper.proofs.Common.{Told, Stop, fault, Ending, import_id, Report, counted, Event}
 use Rattle.wasm_dumper.proofs.Common.{stream_end, line_in, report_of, ListError, Base, Number, more, numbers_from, numbers_read, Writing}
 use Rattle.wasm_dumper.proofs.Common.{IsWritten, with_numbers, AddsThese, AddsNumbers, Adds, base_of, Origin, AddsFirst, AddsUpTo, Space}
 use Rattle.wasm_dumper.proofs.Common.{Types, is_chosen, shown_line, numbered_line, one_number, after, after_all, numbers_in_line, Found}
@@ -28,7 +28,6 @@ use Rattle.wasm_parser.specs.declared.payload.Payload.TheVariants.{TagSection, G
 use Rattle.wasm_tree.specs.Numbers.{AreShown}
 use Rattle.wasm_tree.specs.Tree.{with_line, AddsNumber, AddsAll, AddsBytes, with_bytes}
 use Rattle.wasm_dumper.proofs.Lines.{line_is_first}
-use Rattle.wasm_streams.specs.declared.turns.Turn.TheVariants as turn
 
 -- ---- numbers that are shown one after the other
 
@@ -329,17 +328,6 @@ module _ (only : List Only) (has_bytes : Bool) (c : Counts) (answer : Told) wher
       → ShowsAnswer only has_bytes c answer old new
   shows_fault e old new is a = subst (λ (x : Told). ShowsAnswer only has_bytes c x old new) (sym is)
       (fault_shown only has_bytes c e old new a)
-
--- where more is asked for, nothing is shown
-pub shows_request : (only : List Only) (has_bytes : Bool) (c : Counts) (answer : Told) (w : Writing)
-    → turn.Read ≡ turn_after answer → ShowsAnswer only has_bytes c answer w w
-shows_request only has_bytes c (Request hint) w t = λ o i. ([], refl, nothing_more o w i)
-shows_request only has_bytes c (Stop e) w t = cc
-shows_request only has_bytes c (Part report bytes) w t = absurd (by_end (is_end report) t)
-  where
-    by_end : (b : Bool) → turn.Read ≡ (if b then turn.End End else turn.Advance) → ⊥
-    by_end true e = cc
-    by_end false e = cc
 
 -- ---- those of events
 

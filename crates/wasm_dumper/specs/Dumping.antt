@@ -8,7 +8,7 @@ use Rattle.wasm_dumper.specs.declared.counts.Counts.{Counts}
 use Rattle.wasm_dumper.specs.declared.events.Only.{Only}
 use Rattle.wasm_streams.specs.Feed.{Feed}
 use Rattle.wasm_streams.specs.Lists.{listing_by}
-use Rattle.wasm_streams.specs.Progress.{Asks, Reached}
+use Rattle.wasm_streams.specs.Progress.{Reached}
 use Rattle.wasm_streams.specs.Visits.{Stages}
 use Rattle.wasm_streams.specs.declared.turns.Ended.{Ended}
 use Rattle.wasm_grammar.specs.Reading.{Event}
@@ -48,28 +48,14 @@ pub record Dumping (only : List Only) (has_bytes : Bool) (full rest : Option (Li
   pub counted : c ≡ after_all no_counts events
   pub writing : HasWritten only has_bytes before events now
 
--- the same where the feeder asks for more
-pub record Wanting (only : List Only) (has_bytes : Bool) (full rest : Option (List ℕ)) (before : Writing) (f : Feed)
-    (c : Counts) (now : Writing) : Type 0 where
-  pub events : List Event
-  pub asks : Asks full rest f events
-  pub counted : c ≡ after_all no_counts events
-  pub writing : HasWritten only has_bytes before events now
-
 -- where the feeder is along what the source gave, and what was found of its events
 pub record Finding (only : List Only) (full rest : Option (List ℕ)) (f : Feed) (old new : Option Bool) : Type 0 where
   pub events : List Event
   pub reached : Reached full rest f events
   pub found : Finds (any_faulty only events) old new
 
--- the same where the feeder asks for more
-pub record Seeking (only : List Only) (full rest : Option (List ℕ)) (f : Feed) (old new : Option Bool) : Type 0 where
-  pub events : List Event
-  pub asks : Asks full rest f events
-  pub found : Finds (any_faulty only events) old new
-
--- | a visitor that dumps, and what is so of it at each stage of its run [`Dumper`, `dump_stages`; `Going`, `Asking`,
---   `Ending`, `Done`]
+-- | a visitor that dumps, and what is so of it at each stage of its run [`Dumper`, `dump_stages`; `Going`, `Ending`,
+--   `Done`]
 -- What it shows and counts, and what its tree has written and found.
 pub record Dumper (V W : Type 0) : Type 0 where
   pub only : V → List Only
@@ -83,12 +69,6 @@ module _ {V W : Type 0} (d : Dumper V W) (first : V) (start : W) (input : Device
     pub dumping : Dumping (d.only first) (d.has_bytes first) input.before input.after (d.writing start) f (d.counts now)
         (d.writing out)
     pub finding : Finding (d.only first) input.before input.after f (d.found start) (d.found out)
-    pub same : (d.only now ≡ d.only first) × (d.has_bytes now ≡ d.has_bytes first)
-
-  pub record Asking (f : Feed) (now : V) (out : W) : Type 0 where
-    pub wanting : Wanting (d.only first) (d.has_bytes first) input.before input.after (d.writing start) f (d.counts now)
-        (d.writing out)
-    pub seeking : Seeking (d.only first) input.before input.after f (d.found start) (d.found out)
     pub same : (d.only now ≡ d.only first) × (d.has_bytes now ≡ d.has_bytes first)
 
   abbrev pub Done : Result Ended ListError → (out : W) → Type 0
@@ -105,7 +85,6 @@ module _ {V W : Type 0} (d : Dumper V W) (first : V) (start : W) (input : Device
 abbrev pub dump_stages : {V W : Type 0} → Dumper V W → Stages V W
 dump_stages d = record {
   going = λ first start input f now out. Going d first start input f now out;
-  wanting = λ first start input f now out. Asking d first start input f now out;
   ending = λ first start input how now out. Ending d first start input how now out;
   done = λ first start input result out. Done d first start input result out;
 }

@@ -9,11 +9,9 @@ mod hidden;
 pub mod laws;
 mod linked;
 mod numbered;
-mod payload;
 mod stream;
 
 pub use collected::collect_names;
 pub use counts::{Counts, import_space};
 pub use events::{Only, Shown};
-pub use payload::show_payload;
-pub use stream::dump;
+pub use stream::{dump, show_payload};

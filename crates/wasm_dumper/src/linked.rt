@@ -1,9 +1,12 @@
 // The names that an object file has: those of its symbols, and by them of its items.
-ghost use Rattle.std.specs.Prelude.{◌≡◌, IfErr};
+ghost use Rattle.std.specs.Prelude.{◌≡◌, IfErr, None, OnOk, Some};
 ghost use Rattle.wasm_text.specs.declared.devices.ListError.TheVariants.{Memory};
 ghost use Rattle.wasm_tree.specs.ItemNames.{KeepsNames};
+ghost use Rattle.wasm_tree.specs.Tree.{Adds};
 
 use crate::counts::{Counts, import_space};
+use crate::events::{Only, chooses, shows_items};
+use crate::hidden::Outline;
 use std::alloc::Global;
 use wasm_base::BinaryReader;
 use wasm_custom::{
@@ -12,7 +15,7 @@ use wasm_custom::{
 use wasm_items::{Import, ImportSection, ImportSectionReader};
 use wasm_parser::Payload;
 use wasm_text::ListError;
-use wasm_tree::{ItemNames, Space};
+use wasm_tree::{ItemNames, Space, Tree};
 
 /// The name of the section with the symbols of an object file (tool conventions, Linking).
 pub(crate) const LINKING: &str = "linking";
@@ -402,5 +405,70 @@ impl Linked {
             self.pass_section();
         }
         Ok(())
+    }
+}
+
+/// Adds the names of symbols in a payload to those of the tree, if it shows items: relocations show them. The tree stops if
+/// an allocation fails. A section that is not shown may be skipped before it has come as a whole, so its name is not kept
+/// in either case.
+pub(crate) fn learn_payload<O: Tree>(
+    alloc: Global,
+    only: &[Only<'_>],
+    linked: &mut Linked,
+    bytes: &[u8],
+    payload: &Payload<'_>,
+    out: &mut O,
+) -> Result<(), ListError>
+    ensures keeps { OnOk result (O.writing out.new ≡ O.writing out.old) }
+    ensures found { OnOk result (O.found out.new ≡ O.found out.old) }
+    ensures adds { Adds (O.writing out.old) (O.writing out.new) }
+    ensures stops { IfErr result (λ why. (O.writing out.new).why ≡ Some why) }
+{
+    if O::ONLY_FAULTS || !shows_items(only) || payload.as_section().is_none() {
+        return Ok(());
+    }
+    let mut names = out.take_names().unwrap_or(ItemNames::new(alloc));
+    let learned = linked.pass(alloc, &mut names, bytes, payload, chooses(only, payload));
+    out.set_names(names);
+    match learned {
+        Ok(()) => Ok(()),
+        Err(_) => Err(stop(out)),
+    }
+}
+
+/// Passes a part that was skipped. The name of a custom section that is shown is kept: symbols name sections. The tree stops
+/// if an allocation fails.
+pub(crate) fn learn_skipped<O: Tree>(
+    alloc: Global,
+    only: &[Only<'_>],
+    linked: &mut Linked,
+    outline: Outline,
+    out: &mut O,
+) -> Result<(), ListError>
+    ensures keeps { OnOk result (O.writing out.new ≡ O.writing out.old) }
+    ensures found { OnOk result (O.found out.new ≡ O.found out.old) }
+    ensures adds { Adds (O.writing out.old) (O.writing out.new) }
+    ensures stops { IfErr result (λ why. (O.writing out.new).why ≡ Some why) }
+{
+    match outline {
+        Outline::Hidden { is_body } => {
+            linked.pass_hidden(is_body);
+            Ok(())
+        }
+        Outline::Custom(section) => {
+            learn_payload(alloc, only, linked, &[], &section.without_data(), out)
+        }
+    }
+}
+
+/// Stops the tree because an allocation failed, and returns why it has stopped.
+pub(crate) fn stop<O: Tree>(out: &mut O) -> ListError
+    ensures adds { Adds (O.writing out.old) (O.writing out.new) }
+    ensures stops { (O.writing out.new).why ≡ Some result }
+{
+    out.out_of_memory();
+    match out.stopped() {
+        Some(why) => why,
+        None => ListError::Memory,
     }
 }

@@ -1,12 +1,12 @@
-// Dumps a stream.
+// Dumps a stream: the line of each part, and its items under it.
 ghost use Rattle.std.specs.Prelude.{◌≡◌, ◌≤◌, ◌<◌, ◌+◌, [], length, vec_len, vec_capacity, Some, None, OnOk, IfErr, if◌then◌else◌};
 ghost use Rattle.wasm_streams.specs.Beside.{beside, lending, ReadsEnough};
 ghost use Rattle.wasm_streams.specs.Cursors.{feed_of};
+ghost use Rattle.wasm_streams.specs.Step.{Part as a_part};
 ghost use Rattle.wasm_parser.specs.ParseAnswer.{ItemsBegin, report_of};
 ghost use Rattle.wasm_text.specs.Calls.{device_of, from_to};
-ghost use Rattle.wasm_feed.specs.Steps.{StepBegins, told};
-ghost use Rattle.wasm_dumper.specs.Dump.{DumpsByTree, DumpsInto, ShowsAnswer, ShowsReport, after_answer};
-ghost use Rattle.wasm_dumper.specs.Checks.{FindsAt, answer_faulty, shown_faulty};
+ghost use Rattle.wasm_dumper.specs.Dump.{DumpsByTree, DumpsInto, ShowsAnswer, ShowsItems, ShowsItemsIf, ShowsReport, after_answer};
+ghost use Rattle.wasm_dumper.specs.Checks.{FindsAt, answer_faulty, faulty_if, report_faulty, shown_faulty};
 ghost use Rattle.wasm_dumper.specs.Dumping.{dump_stages, dumper};
 ghost use Rattle.wasm_dumper.specs.Hiding.{CountsOutline, FindsOutline, ShowsOutline};
 ghost use Rattle.wasm_dumper.specs.declared.hidden.Outline.TheVariants.{Custom};
@@ -15,17 +15,111 @@ ghost use Rattle.wasm_tree.specs.Tree.{Adds, AddsBytes, IsOut};
 
 use crate::counts::Counts;
 use crate::events::{
-    Only, Shown, chooses, note_found, show_custom_event, show_event, show_last_fault, shows_items,
+    Shown, chooses, counted_name, note_found, show_custom_event, show_event, show_last_fault,
+    shows_items,
 };
 use crate::hidden::{CustomOutline, Outline, Skipped, drop_part, skip_unread};
-use crate::linked::Linked;
-use crate::payload::{offsets_of_items, show_payload_if};
+use crate::linked::{Linked, learn_payload, learn_skipped, stop};
+use crate::numbered::{show_groups, show_imports, show_numbered};
 use std::alloc::Global;
-use wasm_feed::{Step, step_of};
-use wasm_parser::{Error, Payload, Result as ParserResult};
-use wasm_streams::{Ahead, Cursor, Ended, FrameStep, Visitor, seen, visit};
+use wasm_frames::Frame;
+use wasm_parser::{Error, Payload};
+use wasm_show::{show_custom, show_section};
+use wasm_streams::{Ahead, Cursor, Ended, Visitor, seen, visit};
 use wasm_text::{ListError, Source};
-use wasm_tree::{ItemNames, Tree};
+use wasm_tree::{Offsets, Space, Tree, Within};
+
+// The place of the items of a payload.
+fn within<'a>(payload: &Payload<'a>) -> Within<'a> {
+    match payload {
+        Payload::CustomSection(section) => Within::Custom(section.name()),
+        _ => match counted_name(payload) {
+            Some(name) => Within::Section(name),
+            None => Within::Stream,
+        },
+    }
+}
+
+/// Writes the items of a payload on lines of level 1, with their numbers in their index spaces.
+///
+/// `counts` are those of the payloads before. A fault of an item is a line in its place. Payloads without items write
+/// nothing.
+///
+/// ```rattle
+/// let mut out = Lines::new(alloc, BoundedSink::new(alloc, 1000)?);
+/// let counts = Counts::new();
+/// for payload in Parser::new(0).parse_all(b"\0asm\x01\0\0\0\x07\x05\x01\x01f\0\x05") {
+///     if let Ok(payload) = payload {
+///         show_payload(alloc, &counts, &payload, &mut out);
+///     }
+/// }
+/// out.write_out();
+/// let wanted = b"  11 name=\"f\" kind=func index=5\n";
+/// assert_eq!(rt; out.into_output().written(), wanted.as_slice());
+/// ```
+#[inline(always)]
+pub fn show_payload<O: Tree>(alloc: Global, counts: &Counts, payload: &Payload<'_>, out: &mut O)
+    // Proved: the numbers of the items of a payload whose reader is at them, and that of one item [`show_payload`
+    //   (`ShowsItems`, `AreOfItems`), `Tree::item_number` (`AddsNumber`)]
+    ensures shows { ItemsBegin payload.now
+        → ShowsItems counts.now (report_of payload.now) (O.writing out.old) (O.writing out.new) }
+    ensures found { ItemsBegin payload.now
+        → Finds (report_faulty (report_of payload.now)) (O.found out.old) (O.found out.new) }
+{
+    out.enter(within(payload));
+    show_items_of(alloc, counts, payload, out);
+}
+
+// Writes the items of a payload, if items are shown.
+#[inline(always)]
+fn show_payload_if<O: Tree>(
+    has_items: bool,
+    alloc: Global,
+    counts: &Counts,
+    payload: &Payload<'_>,
+    out: &mut O,
+)
+    ensures shows { ItemsBegin payload.now → ShowsItemsIf has_items counts.now
+        (report_of payload.now) (O.writing out.old) (O.writing out.new) }
+    ensures found { ItemsBegin payload.now
+        → Finds (faulty_if has_items (report_of payload.now)) (O.found out.old) (O.found out.new) }
+{
+    if has_items {
+        show_payload(alloc, counts, payload, out);
+    }
+}
+
+// Does what `show_payload` says, where the tree knows in which section the items are.
+#[inline(always)]
+fn show_items_of<O: Tree>(alloc: Global, counts: &Counts, payload: &Payload<'_>, out: &mut O)
+    ensures shows { ItemsBegin payload.now
+        → ShowsItems counts.now (report_of payload.now) (O.writing out.old) (O.writing out.new) }
+    ensures found { ItemsBegin payload.now
+        → Finds (report_faulty (report_of payload.now)) (O.found out.old) (O.found out.new) }
+{
+    match payload {
+        Payload::TypeSection(section) => show_groups(alloc, section, out),
+        Payload::ImportSection(section) => show_imports(counts, section, out),
+        Payload::FunctionSection(section) => show_numbered(Space::Functions, counts, section, out),
+        Payload::TableSection(section) => show_numbered(Space::Tables, counts, section, out),
+        Payload::MemorySection(section) => show_numbered(Space::Memories, counts, section, out),
+        Payload::TagSection(section) => show_numbered(Space::Tags, counts, section, out),
+        Payload::GlobalSection(section) => show_numbered(Space::Globals, counts, section, out),
+        Payload::ExportSection(section) => show_section(1, section, out),
+        Payload::ElementSection(section) => show_numbered(Space::Elements, counts, section, out),
+        Payload::DataSection(section) => show_numbered(Space::DataSegments, counts, section, out),
+        Payload::CustomSection(section) => show_custom(alloc, section, out),
+        _ => {}
+    }
+}
+
+// Returns the offsets of the items that are shown under a payload, in the order of their lines. Returns `None` when an
+// allocation fails.
+fn offsets_of_items(alloc: Global, counts: &Counts, payload: &Payload<'_>) -> Option<Vec<u64>> {
+    let mut offsets = Offsets::new(alloc);
+    show_payload(alloc, counts, payload, &mut offsets);
+    offsets.into_noted()
+}
 
 // The bytes of one part of the stream, and their offset.
 #[derive(Clone, Copy)]
@@ -84,35 +178,26 @@ fn show_chosen<O: Tree>(
     }
 }
 
-// Writes the result of a step.
-fn show_answer<O: Tree>(
+// Writes a part and counts its items.
+fn show_part<O: Tree>(
     alloc: Global,
     shown: Shown<'_>,
     counts: &mut Counts,
-    offset: &mut u64,
-    answer: &ParserResult<Step<'_>>,
+    part: Part<'_>,
+    payload: &Payload<'_>,
     out: &mut O,
 )
-    ensures shows { StepBegins answer.now → ShowsAnswer shown.entry.only.now
-        shown.entry.has_bytes counts.old (told answer.now) (O.writing out.old) (O.writing out.new) }
-    ensures counts { StepBegins answer.now
-        → counts.new ≡ after_answer counts.old (told answer.now) }
-    ensures found { StepBegins answer.now → Finds
-        (answer_faulty shown.entry.only.now (told answer.now)) (O.found out.old) (O.found out.new) }
+    ensures shows { ItemsBegin payload.now → ShowsAnswer shown.entry.only.now shown.entry.has_bytes
+        counts.old (a_part (report_of payload.now) part.entry.bytes.now)
+        (O.writing out.old) (O.writing out.new) }
+    ensures counts { ItemsBegin payload.now → counts.new
+        ≡ after_answer counts.old (a_part (report_of payload.now) part.entry.bytes.now) }
+    ensures found { ItemsBegin payload.now → Finds (answer_faulty shown.entry.only.now
+        (a_part (report_of payload.now) part.entry.bytes.now))
+        (O.found out.old) (O.found out.new) }
 {
-    match answer {
-        Ok(Step::NeedMoreData(_)) => {}
-        Ok(Step::Parsed { bytes, payload }) => {
-            let part = Part {
-                offset: *offset,
-                bytes,
-            };
-            show_chosen(alloc, shown, counts, part, payload, out);
-            counts.pass(payload);
-            *offset = offset.saturating_add(bytes.len() as u64);
-        }
-        Err(error) => show_last_fault(error, out),
-    }
+    show_chosen(alloc, shown, counts, part, payload, out);
+    counts.pass(payload);
 }
 
 // Writes the line of a custom section that was skipped, and the line below it, if items are shown.
@@ -179,92 +264,6 @@ fn flush<O: Tree>(out: &mut O) -> Result<(), ListError>
     go_on(out)
 }
 
-// Adds the names of symbols that a step returned to those of the tree.
-fn learn<O: Tree>(
-    alloc: Global,
-    only: &[Only<'_>],
-    linked: &mut Linked,
-    answer: &ParserResult<Step<'_>>,
-    out: &mut O,
-) -> Result<(), ListError>
-    ensures keeps { OnOk result (O.writing out.new ≡ O.writing out.old) }
-    ensures found { OnOk result (O.found out.new ≡ O.found out.old) }
-    ensures adds { Adds (O.writing out.old) (O.writing out.new) }
-    ensures stops { IfErr result (λ why. (O.writing out.new).why ≡ Some why) }
-{
-    match answer {
-        Ok(Step::Parsed { bytes, payload }) => {
-            learn_payload(alloc, only, linked, bytes, payload, out)
-        }
-        _ => Ok(()),
-    }
-}
-
-// Adds the names of symbols in a payload to those of the tree, if it shows items: relocations show them. The tree stops if
-// an allocation fails. A section that is not shown may be skipped before it has come as a whole, so its name is not kept
-// in either case.
-fn learn_payload<O: Tree>(
-    alloc: Global,
-    only: &[Only<'_>],
-    linked: &mut Linked,
-    bytes: &[u8],
-    payload: &Payload<'_>,
-    out: &mut O,
-) -> Result<(), ListError>
-    ensures keeps { OnOk result (O.writing out.new ≡ O.writing out.old) }
-    ensures found { OnOk result (O.found out.new ≡ O.found out.old) }
-    ensures adds { Adds (O.writing out.old) (O.writing out.new) }
-    ensures stops { IfErr result (λ why. (O.writing out.new).why ≡ Some why) }
-{
-    if O::ONLY_FAULTS || !shows_items(only) || payload.as_section().is_none() {
-        return Ok(());
-    }
-    let mut names = out.take_names().unwrap_or(ItemNames::new(alloc));
-    let learned = linked.pass(alloc, &mut names, bytes, payload, chooses(only, payload));
-    out.set_names(names);
-    match learned {
-        Ok(()) => Ok(()),
-        Err(_) => Err(stop(out)),
-    }
-}
-
-// Passes a part that was skipped. The name of a custom section that is shown is kept: symbols name sections. The tree stops
-// if an allocation fails.
-fn learn_skipped<O: Tree>(
-    alloc: Global,
-    only: &[Only<'_>],
-    linked: &mut Linked,
-    outline: Outline,
-    out: &mut O,
-) -> Result<(), ListError>
-    ensures keeps { OnOk result (O.writing out.new ≡ O.writing out.old) }
-    ensures found { OnOk result (O.found out.new ≡ O.found out.old) }
-    ensures adds { Adds (O.writing out.old) (O.writing out.new) }
-    ensures stops { IfErr result (λ why. (O.writing out.new).why ≡ Some why) }
-{
-    match outline {
-        Outline::Hidden { is_body } => {
-            linked.pass_hidden(is_body);
-            Ok(())
-        }
-        Outline::Custom(section) => {
-            learn_payload(alloc, only, linked, &[], &section.without_data(), out)
-        }
-    }
-}
-
-// Stops the tree because an allocation failed, and returns why it has stopped.
-fn stop<O: Tree>(out: &mut O) -> ListError
-    ensures adds { Adds (O.writing out.old) (O.writing out.new) }
-    ensures stops { (O.writing out.new).why ≡ Some result }
-{
-    out.out_of_memory();
-    match out.stopped() {
-        Some(why) => why,
-        None => ListError::Memory,
-    }
-}
-
 // What shows each part on a tree.
 #[derive(Drop)]
 struct Dumper<'a> {
@@ -284,17 +283,26 @@ impl<'a, O: Tree> Visitor<Global, O> for Dumper<'a> {
 
     ghost sound = { λ d. Unit {0} };
 
-    fn take(&mut self, step: FrameStep<'_>, out: &mut O) -> Result<(), ListError> {
-        let answer = step_of(step);
-        learn(self.alloc, self.shown.only, &mut self.linked, &answer, out)?;
-        show_answer(
+    fn take_part(&mut self, frame: Frame<'_>, bytes: &[u8], out: &mut O) -> Result<(), ListError> {
+        let payload = Payload::from(frame);
+        let only = self.shown.only;
+        learn_payload(self.alloc, only, &mut self.linked, bytes, &payload, out)?;
+        let offset = self.offset;
+        let part = Part { offset, bytes };
+        show_part(
             self.alloc,
             self.shown,
             &mut self.counts,
-            &mut self.offset,
-            &answer,
+            part,
+            &payload,
             out,
         );
+        self.offset = offset.saturating_add(bytes.len() as u64);
+        go_on(out)
+    }
+
+    fn take_fault(&mut self, error: Error, out: &mut O) -> Result<(), ListError> {
+        show_last_fault(&error, out);
         go_on(out)
     }
 

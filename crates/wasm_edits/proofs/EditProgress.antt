@@ -152,11 +152,6 @@ module _ (edits : List Edit) (source rest taken written : Option (List ℕ)) (f 
       advanced t = progress.advanced (edited_bytes edits) source rest taken written f page p written' g x s (piece_after edits x) page' w t
           (λ e is. edited_event edits x p.events e is)
 
-      pub asked : turn.Read ≡ turn_after x
-          → Wants (edited_bytes edits) (from_to source rest) (from_to taken written') g page' × (weight g ≡ weight f)
-      asked t = progress.asked (edited_bytes edits) source rest taken written f page p written' g x s (piece_after edits x) page' w t
-          (λ hint is. rw is refl)
-
       -- all is written, and the run ends
       pub streamed : All CanBeMade edits → (how : Ended) → turn.End how ≡ turn_after x → (written'' : Option (List ℕ))
           → Appends written' written'' page'

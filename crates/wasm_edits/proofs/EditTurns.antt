@@ -1,6 +1,6 @@
 -- What edits do at each turn of their run.
 use Rattle.wasm_edits.proofs.Common.{◌≡◌, ℕ, Bool, All, List, [], Ok, Err, refl, ◌∙◌, Option, Result, Consumes-nil, ListError, Error, Feed}
-use Rattle.wasm_edits.proofs.EditProgress.{advanced, asked, cut, cut_page, gave_up_at_once, streamed}
+use Rattle.wasm_edits.proofs.EditProgress.{advanced, cut, cut_page, gave_up_at_once, streamed}
 use Rattle.wasm_edits.specs.EditStream.{TakesPiece, editor}
 use Rattle.wasm_edits.specs.Edits.{CanBeMade}
 use Rattle.wasm_edits.specs.declared.edits.Edit.{Edit}
@@ -29,10 +29,7 @@ module _ {V W : Type 0} (edits : V → List Edit) (page : V → List ℕ) (taken
           let (p, less) = advanced (edits first) input.before input.after (taken start) (taken before) e (page old) going.progress g x moves
           (taken after) (page new) (rw going.same at puts) t in
           (record { progress = p; same = kept ∙ going.same; sink = f ∙ going.sink }, less)
-      by turn.Read t =
-          let (p, is) = asked (edits first) input.before input.after (taken start) (taken before) e (page old) going.progress g x moves
-          (taken after) (page new) (rw going.same at puts) t in
-          (record { wants = p; same = kept ∙ going.same; sink = f ∙ going.sink }, is)
+      by turn.Read t = tt
       by (turn.End how) t = record {
         whole = λ written a. streamed (edits first) input.before input.after (taken start) (taken before) e (page old) going.progress g x
             moves (taken after) (page new) (rw going.same at puts) (rw going.same at fits) how t written a;

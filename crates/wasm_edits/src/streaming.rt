@@ -4,7 +4,7 @@ ghost use Rattle.wasm_text.specs.Calls.{device_of, input_failed, output_failed};
 ghost use Rattle.wasm_streams.specs.Beside.{beside};
 ghost use Rattle.wasm_streams.specs.Cursors.{feed_of};
 ghost use Rattle.wasm_streams.specs.Passing.{PutsAll};
-ghost use Rattle.wasm_streams.specs.Step.{says};
+ghost use Rattle.wasm_streams.specs.Step.{Part};
 ghost use Rattle.wasm_streams.specs.Writers.{writer_stages};
 ghost use Rattle.wasm_edits.specs.Edits.{CanBeMade, CanBeWritten, bytes_as};
 ghost use Rattle.wasm_edits.specs.Encoded.{Fits, encoded_section};
@@ -16,10 +16,8 @@ use crate::encoding::{NewSection, encode};
 use crate::fates::Keep;
 use std::alloc::Allocator;
 use wasm_base::Error;
-use wasm_frames::FrameKind;
-use wasm_streams::{
-    Ahead, Cursor, Ended, FrameStep, Passing, Visitor, pass_part, put_all, seen, visit,
-};
+use wasm_frames::{Frame, FrameKind};
+use wasm_streams::{Ahead, Cursor, Ended, Passing, Visitor, pass_part, put_all, seen, visit};
 use wasm_text::{ListError, Page, Sink, Source};
 
 // Puts a new section on the page.
@@ -64,27 +62,24 @@ fn put_as<A: Allocator + Copy, W: Sink>(
     }
 }
 
-// Puts the part of a step on the page, or what becomes of it.
+// Puts a part on the page, or what becomes of it. The end of the stream has no bytes.
 #[inline(always)]
 fn put_part<A: Allocator + Copy, W: Sink>(
     alloc: A,
     edits: &[Edit<'_>],
-    step: FrameStep<'_>,
+    frame: &Frame<'_>,
+    bytes: &[u8],
     page: &mut Page<A>,
     output: &mut W,
 ) -> Result<(), ListError>
     requires { All CanBeMade edits.now }
     ensures takes { TakesPiece edits.now (W.taken output.old) (W.taken output.new)
-        page.old page.new (says step.entry) result }
+        page.old page.new (Part frame.now bytes.now) result }
     ensures failed { W.has_failed output.new ≡ output_failed result (W.has_failed output.old) }
 {
-    match step {
-        FrameStep::Parsed { frame, bytes } => match frame.kind() {
-            FrameKind::End => Ok(()),
-            _ => put_as(alloc, frame_fate(edits, &frame), bytes, page, output),
-        },
-        FrameStep::NeedMoreData(_) => Ok(()),
-        FrameStep::Fault(_) => Ok(()),
+    match frame.kind() {
+        FrameKind::End => Ok(()),
+        _ => put_as(alloc, frame_fate(edits, frame), bytes, page, output),
     }
 }
 
@@ -171,8 +166,18 @@ impl<'a, A: Allocator + Copy, W: Sink> Visitor<A, W> for Editor<'a, A> {
 
     ghost sound = { λ editor. All CanBeMade editor.edits.now };
 
-    fn take(&mut self, step: FrameStep<'_>, output: &mut W) -> Result<(), ListError> {
-        put_part(self.alloc, self.edits, step, &mut self.page, output)
+    fn take_part(
+        &mut self,
+        frame: Frame<'_>,
+        bytes: &[u8],
+        output: &mut W,
+    ) -> Result<(), ListError> {
+        let page = &mut self.page;
+        put_part(self.alloc, self.edits, &frame, bytes, page, output)
+    }
+
+    fn take_fault(&mut self, _error: Error, _output: &mut W) -> Result<(), ListError> {
+        Ok(())
     }
 
     fn read_on<R: Source>(

@@ -1,9 +1,9 @@
 -- What a step adds to the events so far.
 use Rattle.wasm_feed.proofs.Common.{◌≡◌, ℕ, ◌+◌, ◌^◌, ◌<◌, Bool, true, false, List, [], ◌∷◌, ◌++◌, length, take, drop, slice_index_or}
 use Rattle.wasm_feed.proofs.Common.{Bor, Some, None, Ok, refl, sym, ap, subst₂, ◌∙◌, arith, length-append, nat_tests}
-use Rattle.wasm_feed.proofs.Common.{fault_at, Error, fault, last_event, answers_go_along, Came, is_end, GivesAnswer}
-use Rattle.wasm_feed.proofs.Common.{feed_of, Feed, new_feed, pushed, finished, joined, HasCome, HasEnded, answer_of, shown, is_request}
-use Rattle.wasm_feed.proofs.Common.{Told, Request, Part, Stop, Moves, Cursor}
+use Rattle.wasm_feed.proofs.Common.{fault_at, Error, fault, last_event, answers_go_along, Came, is_end}
+use Rattle.wasm_feed.proofs.Common.{Feed, new_feed, pushed, finished, joined, HasCome, HasEnded, answer_of}
+use Rattle.wasm_feed.proofs.Common.{Told, Request, Part, Stop, Moves}
 use Rattle.std.specs.List.{AllZip}
 use Rattle.wasm_frames.specs.Frame.{IsPart}
 use Rattle.wasm_feed.specs.Events.{IsKindOf, IsEvent, is_last, IsEventOfStep}

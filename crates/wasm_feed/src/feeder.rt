@@ -3,22 +3,23 @@ ghost use Rattle.std.specs.Prelude.{◌≡◌, ◌+◌, ◌<◌, ◌≤◌, ◌+
 ghost use Rattle.wasm_base.specs.FaultAt.{fault_at};
 ghost use Rattle.wasm_base.specs.Features.{feature_bits};
 ghost use Rattle.wasm_base.specs.Owned.{out_of_memory};
-ghost use Rattle.wasm_frames.specs.Answer.{GivesAnswer};
 ghost use Rattle.wasm_streams.specs.Beside.{MayCome};
 ghost use Rattle.wasm_feed.specs.Steps.{StepsOver};
 ghost use Rattle.wasm_streams.specs.Cursors.{feed_of};
 ghost use Rattle.wasm_streams.specs.Feed.{new_feed, pushed, finished, RefusesPush};
 ghost use Rattle.wasm_streams.specs.Lists.{Refills};
 ghost use Rattle.wasm_text.specs.Calls.{input_failed};
-ghost use Rattle.wasm_streams.specs.Step.{answer_of, is_request, says, shown};
+ghost use Rattle.wasm_streams.specs.Step.{Part, StepsAt};
 ghost use Rattle.wasm_feed.specs.Steps.{GivesStep, StepBegins, told};
 
 use bitflags::Flags;
 use std::alloc::{Allocator, Global};
 use std::marker::Model;
-use wasm_frames::StoredParser;
-use wasm_parser::{Chunk, Error, Fault, ParsePayloads, Payload, Result, WasmFeatures, fits};
-use wasm_streams::{Cursor, FrameStep, make_ready, read_more, refill, seen, take_left};
+use wasm_frames::{Frame, FrameKind, StoredParser};
+use wasm_parser::{Error, Fault, Payload, Result, WasmFeatures, fits};
+use wasm_streams::{
+    Cursor, FrameStep, make_ready, next_frame_for, read_more, refill, seen, take_left,
+};
 use wasm_text::{ListError, Source};
 
 /// The result of one step of a feeder: a part of the stream, or a request for more input.
@@ -378,7 +379,7 @@ impl<A: Allocator> Feeder<A> {
             return Err(Error::new(Fault::OutOfMemory, 0));
         };
         let rest = &piece[ready..];
-        let looked = look(parse_next(&mut self.cursor, seen(&self.bytes, rest)));
+        let looked = look(parse_next_for::<F>(&mut self.cursor, seen(&self.bytes, rest)));
         let taken = take_left(&mut self.cursor, &mut self.bytes, rest);
         Ok((ready + taken, looked))
     }
@@ -455,45 +456,38 @@ pub(crate) fn add_chunk<A: Allocator>(
 /// }
 /// ```
 pub fn parse_next<'a>(cursor: &mut Cursor, bytes: &'a [u8]) -> Result<Step<'a>>
-    ensures parses { GivesAnswer cursor.old.parser cursor.old.is_finished
-        (drop cursor.old.mark bytes.now) (answer_of (told result)) cursor.new.parser }
+    ensures steps { StepsAt cursor.old bytes.now (told result) cursor.new }
     ensures items { StepBegins result }
-    ensures shows { drop cursor.old.mark bytes.now
-        ≡ shown (told result) ++ drop cursor.new.mark bytes.now }
-    ensures finished { cursor.new.is_finished ≡ cursor.old.is_finished }
-    ensures wants { cursor.new.wants_more ≡ is_request (told result) }
-    ensures mark { cursor.new.mark ≡ cursor.old.mark + length (shown (told result)) }
 {
-    // The payload is made where the frame is read. One of `next_frame` would be copied twice.
-    let mut parser = cursor.parser();
-    match parser.parse(cursor.remaining(bytes), cursor.is_finished()) {
-        Ok(Chunk::Parsed { consumed, payload }) => {
-            let bytes = cursor.advance(bytes, consumed, parser);
-            Ok(Step::Parsed { bytes, payload })
-        }
-        Ok(Chunk::NeedMoreData(hint)) => {
-            cursor.stay(true);
-            Ok(Step::NeedMoreData(hint))
-        }
-        Err(error) => {
-            cursor.stay(false);
-            Err(error)
-        }
+    parse_next_for::<Step<'_>>(cursor, bytes)
+}
+
+// Does what `parse_next` does. `For` is what the caller makes of a step: so each caller of `step_over` has an instance, which
+// LLVM puts in place. The payload is made where the frame is read, and each of the frequent kinds returns on its own.
+fn parse_next_for<'a, For>(cursor: &mut Cursor, bytes: &'a [u8]) -> Result<Step<'a>>
+    ensures steps { StepsAt cursor.old bytes.now (told result) cursor.new }
+    ensures items { StepBegins result }
+{
+    match next_frame_for::<For>(cursor, bytes) {
+        FrameStep::Parsed { frame, bytes } => match frame.kind() {
+            FrameKind::Body => return Ok(parsed(frame, bytes)),
+            FrameKind::Custom => return Ok(parsed(frame, bytes)),
+            FrameKind::Unknown => return Ok(parsed(frame, bytes)),
+            _ => return Ok(parsed(frame, bytes)),
+        },
+        FrameStep::NeedMoreData(hint) => Ok(Step::NeedMoreData(hint)),
+        FrameStep::Fault(error) => Err(error),
     }
 }
 
-/// Returns the result of a step with the payload of its frame.
+// Returns the step of a frame that consumed these bytes.
 #[inline(always)]
-pub fn step_of<'a>(step: FrameStep<'a>) -> Result<Step<'a>>
-    ensures says { told result ≡ says step.entry }
-    ensures items { StepBegins result }
+fn parsed<'a>(frame: Frame<'a>, bytes: &'a [u8]) -> Step<'a>
+    ensures says { told (Ok result) ≡ Part frame.entry bytes.now }
+    ensures items { StepBegins (Ok result) }
 {
-    match step {
-        FrameStep::Parsed { frame, bytes } => Ok(Step::Parsed {
-            bytes,
-            payload: Payload::from(frame),
-        }),
-        FrameStep::NeedMoreData(hint) => Ok(Step::NeedMoreData(hint)),
-        FrameStep::Fault(error) => Err(error),
+    Step::Parsed {
+        bytes,
+        payload: Payload::from(frame),
     }
 }

@@ -40,7 +40,7 @@ mod lines;
 mod pieces;
 
 pub use events::{Event, EventKind};
-pub use feeder::{Feeder, Opened, Step, parse_next, step_of};
+pub use feeder::{Feeder, Opened, Step, parse_next};
 pub use lines::write_payload;
 pub use pieces::{fits_pieces, read_pieces, read_pieces_in};
 pub use wasm_edits::{

@@ -8,7 +8,7 @@ use Rattle.wasm_frames.proofs.Common.{MatchesGrammar, ParserState, known_context
 use Rattle.wasm_base.specs.Name.{byte_at, first_of}
 use Rattle.wasm_base.specs.declared.fault.Fault.TheVariants.{MalformedSectionId, SectionTooLarge}
 use Rattle.wasm_frames.specs.Heads.{ReadsHead, ReadsHeadAfterId, ReadsHeadAfterLength, ReadsBodyHead}
-use Rattle.wasm_frames.specs.declared.head.SectionHead.{SectionHead}
+use Rattle.wasm_frames.specs.declared.parts.SectionHead.{SectionHead}
 use Rattle.wasm_grammar.specs.Grammar.{after_id, body_of, section_start}
 use Rattle.wasm_grammar.specs.Waiting.{is_magic_begun}
 use Rattle.wasm_grammar.specs.KindInCode.{kind_is}

@@ -4,7 +4,7 @@ use Rattle.wasm_base.specs.Window.{Place}
 use Rattle.wasm_frames.specs.Heads.{after_head}
 use Rattle.wasm_frames.specs.ParserState.{ParserState, known_context}
 use Rattle.wasm_frames.specs.SkipNext.{cut_part}
-use Rattle.wasm_frames.specs.declared.head.SectionHead.{SectionHead}
+use Rattle.wasm_frames.specs.declared.parts.SectionHead.{SectionHead}
 use Rattle.wasm_grammar.specs.Content.{Kind, code, whole}
 use Rattle.wasm_grammar.specs.Cut.{cut, form_grows}
 use Rattle.wasm_grammar.specs.Grammar.{Grammar, body_grammar, section_grammar}

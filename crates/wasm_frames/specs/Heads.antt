@@ -4,7 +4,7 @@ use Rattle.wasm_base.specs.Window.{Place}
 use Rattle.wasm_base.specs.declared.error.Error.{Error}
 use Rattle.wasm_frames.specs.ParserState.{ParserState, known_context}
 use Rattle.wasm_frames.specs.ReadsPart.{ReadsBody, ReadsByGrammar, ReadsNextSection}
-use Rattle.wasm_frames.specs.declared.head.SectionHead.{SectionHead}
+use Rattle.wasm_frames.specs.declared.parts.SectionHead.{SectionHead}
 use Rattle.wasm_grammar.specs.Content.{kind_of}
 use Rattle.wasm_grammar.specs.Cut.{cut}
 use Rattle.wasm_grammar.specs.Grammar.{Grammar, accept, after_id, after_length, body_grammar, bytes, code_entry}

@@ -11,14 +11,12 @@
 
 mod advance;
 mod checkpoint;
-mod contents;
 mod frame;
-mod head;
-mod header;
 mod kind;
 pub mod laws;
 mod next;
 mod parser;
+mod parts;
 mod skipping;
 mod stored;
 

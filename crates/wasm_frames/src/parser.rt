@@ -10,12 +10,13 @@ ghost use Rattle.wasm_frames.specs.ReadsPart.{IsBegun, place_of, ReadsBody, Read
 ghost use Rattle.wasm_frames.specs.Stored.{numbers_of, parser_of};
 ghost use Rattle.wasm_grammar.specs.KindInCode.{kind_is};
 
-use crate::contents::{code, content, lacks, whole_custom, whole_unknown, window};
 use crate::frame::Frame;
-use crate::head::SectionHead;
-use crate::header::{missing_at_section, read_header};
 use crate::kind::FrameKind;
 use crate::next::NextFrame;
+use crate::parts::{
+    SectionHead, code, content, lacks, missing_at_section, read_header, whole_custom,
+    whole_unknown, window,
+};
 use crate::stored::StoredParser;
 use wasm_base::{BinaryReader, Error, Fault, Result, fits};
 use wasm_grammar::SectionKind;
@@ -51,7 +52,14 @@ impl StoredParser {
         ensures waits { AsksWhereOpen (parser_of self.old) eof bytes.now (content_of result) }
         ensures faults { FaultsWithin (parser_of self.old) bytes.now (content_of result) }
     {
-        // Each of the frequent kinds returns on its own, so that its fields go straight to the caller's memory.
+        self.next_by_kind(bytes, eof)
+    }
+
+    // What `next` returns. Each of the frequent kinds returns on its own, so that its fields go straight to the caller's memory.
+    #[inline(always)]
+    fn next_by_kind<'a>(&mut self, bytes: &'a [u8], eof: bool) -> NextFrame<'a>
+        ensures { GivesFrame (parser_of self.old) eof bytes.now result (parser_of self.new) }
+    {
         match self.next_for::<Frame<'_>>(bytes, eof) {
             NextFrame::Parsed { frame, consumed } => match frame.kind() {
                 FrameKind::Body => return NextFrame::Parsed { frame, consumed },

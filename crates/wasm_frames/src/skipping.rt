@@ -7,11 +7,9 @@ ghost use Rattle.wasm_frames.specs.Stored.{numbers_of, parser_of};
 ghost use Rattle.wasm_grammar.specs.Content.{kind_of};
 ghost use Rattle.wasm_grammar.specs.KindInCode.{kind_is};
 
-use crate::contents::content;
 use crate::frame::Frame;
-use crate::head::SectionHead;
-use crate::header::missing_at_section;
 use crate::kind::FrameKind;
+use crate::parts::{SectionHead, content, missing_at_section};
 use crate::stored::StoredParser;
 use std::ops::Range;
 use wasm_base::{BinaryReader, fits};

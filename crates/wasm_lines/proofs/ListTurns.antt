@@ -2,16 +2,25 @@
 use Rattle.wasm_lines.proofs.Common.{◌≡◌, ℕ, Bool, List, [], Ok, Err, Some, None, refl, ◌∙◌, Option, Result, Consumes-nil}
 use Rattle.wasm_lines.proofs.Common.{cut, line_of, ListError, Error, Feed}
 use Rattle.wasm_lines.specs.ListStream.{TakesTurn, lister}
-use Rattle.wasm_streams.proofs.ForCallers.{MetBy, cut_short, end_cut, line_advanced, line_asked, listed_all, meets, no_memory}
+use Rattle.wasm_streams.proofs.ForCallers.{MetBy, cut_short, end_cut, line_advanced, listed_all, meets, no_memory}
 use Rattle.wasm_streams.specs.Progress.{ReadOn, ReadsOn}
-use Rattle.wasm_streams.specs.Step.{Told}
+use Rattle.wasm_streams.specs.Step.{Part, Told}
 use Rattle.wasm_streams.specs.Turns.{turn_after}
 use Rattle.wasm_streams.specs.Visits.{GivesOut, MeetsRequest, Taken, TakesStep}
 use Rattle.wasm_streams.specs.Writers.{Writer, writer_stages}
+use Rattle.wasm_grammar.specs.Reading.{Report}
 use Rattle.wasm_streams.specs.declared.turns.Turn.{Turn}
 use Rattle.wasm_streams.specs.declared.turns.Turn.TheVariants as turn
 use Rattle.wasm_text.specs.Calls.{Change, Device, bytes_of, from_to, input_failed, output_failed}
+use Rattle.wasm_text.specs.Page.{Puts}
 use Rattle.wasm_text.specs.declared.devices.ListError.TheVariants.{Memory}
+
+-- the line of a part was put
+pub line_taken : (taken written : Option (List ℕ)) (waiting new : List ℕ) (report : Report) (bytes : List ℕ)
+    (result : Result (Unit {0}) ListError) → Puts taken written waiting (line_of report) new result
+    → TakesTurn taken written waiting new (Part report bytes) result
+line_taken taken written waiting new report bytes (Ok done) puts = puts
+line_taken taken written waiting new report bytes (Err e) cut = cut
 
 module _ {V W : Type 0} (page : V → List ℕ) (taken : W → Option (List ℕ)) (failed : W → Bool) where
   abbrev pub writer : Writer V W (Unit {0})
@@ -27,10 +36,7 @@ module _ {V W : Type 0} (page : V → List ℕ) (taken : W → Option (List ℕ)
           let (p, less) = line_advanced line_of input.before input.after (taken start) (taken before) e (page old) going.progress g x moves
           (taken after) (page new) puts t in
           (record { progress = p; same = refl; sink = f ∙ going.sink }, less)
-      by turn.Read t =
-          let (p, is) = line_asked line_of input.before input.after (taken start) (taken before) e (page old) going.progress g x moves
-          (taken after) (page new) puts t in
-          (record { wants = p; same = refl; sink = f ∙ going.sink }, is)
+      by turn.Read t = tt
       by (turn.End how) t = record {
         whole = λ written a. listed_all line_of input.before input.after (taken start) (taken before) e (page old) going.progress g x moves
             (taken after) (page new) puts how t written a;

@@ -1,5 +1,5 @@
 -- The listing of a stream while it is read.
-use Rattle.std.specs.Prelude.{◌≡◌, ℕ, Bool, List, Option, Result, Ok, Err}
+use Rattle.std.specs.Prelude.{ℕ, Bool, List, Option, Result, Ok, Err}
 use Rattle.wasm_streams.specs.Lists.{ListsBy, listing_by}
 use Rattle.wasm_streams.specs.Turns.{text_after}
 use Rattle.wasm_streams.specs.Step.{Told}

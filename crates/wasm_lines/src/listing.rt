@@ -8,7 +8,7 @@ ghost use Rattle.wasm_frames.specs.SkipNext.{skip_is};
 ghost use Rattle.wasm_streams.specs.Beside.{beside, lending};
 ghost use Rattle.wasm_streams.specs.Cursors.{feed_of};
 ghost use Rattle.wasm_streams.specs.Progress.{ReadsOn};
-ghost use Rattle.wasm_streams.specs.Step.{says};
+ghost use Rattle.wasm_streams.specs.Step.{Stop};
 ghost use Rattle.wasm_streams.specs.Writers.{writer_stages};
 ghost use Rattle.wasm_lines.specs.Dropping.{DropsIfAny};
 ghost use Rattle.wasm_lines.specs.ListStream.{ListsSource, TakesTurn, lister};
@@ -16,37 +16,27 @@ ghost use Rattle.wasm_lines.specs.ListStream.{ListsSource, TakesTurn, lister};
 use crate::lines::{FaultLine, FrameLine, SkippedLine};
 use std::alloc::{Allocator, Global};
 use wasm_base::Error;
-use wasm_frames::{PartHead, SkippedPart};
-use wasm_streams::{Ahead, Cursor, Ended, FrameStep, Passing, Visitor, pass_part, seen, visit};
+use wasm_frames::{Frame, PartHead, SkippedPart};
+use wasm_streams::{Ahead, Cursor, Ended, Passing, Visitor, pass_part, seen, visit};
 use wasm_text::{Base, ListError, Page, Sink, Source};
 
-// Puts the line of a step on the page, if it has one.
-fn put_step<A: Allocator, W: Sink>(
+// Puts the line of the fault at which the stream stops on the page.
+fn put_fault<A: Allocator, W: Sink>(
     page: &mut Page<A>,
     output: &mut W,
-    step: FrameStep<'_>,
+    error: &Error,
 ) -> Result<(), ListError>
     ensures takes { TakesTurn (W.taken output.old) (W.taken output.new)
-        page.old page.new (says step.entry) result }
+        page.old page.new (Stop error.now) result }
     ensures failed { W.has_failed output.new ≡ output_failed result (W.has_failed output.old) }
 {
-    match step {
-        FrameStep::Parsed { frame, .. } => page.put_line(
-            &FrameLine {
-                base: Base::Decimal,
-                frame: &frame,
-            },
-            output,
-        ),
-        FrameStep::NeedMoreData(_) => Ok(()),
-        FrameStep::Fault(error) => page.put_line(
-            &FaultLine {
-                base: Base::Decimal,
-                error: &error,
-            },
-            output,
-        ),
-    }
+    page.put_line(
+        &FaultLine {
+            base: Base::Decimal,
+            error,
+        },
+        output,
+    )
 }
 
 // A part that was skipped, whose bytes are dropped.
@@ -141,11 +131,7 @@ fn read_on<A: Allocator, R: Source, W: Sink>(
             Ok(None)
         }
         Some(error) => {
-            let error_line = FaultLine {
-                base: Base::Decimal,
-                error: &error,
-            };
-            page.put_line(&error_line, output)?;
+            put_fault(page, output, &error)?;
             page.write_out(output)?;
             Ok(Some(error))
         }
@@ -163,8 +149,23 @@ impl<A: Allocator, W: Sink> Visitor<A, W> for Lister<A> {
 
     ghost sound = { λ lister. Unit {0} };
 
-    fn take(&mut self, step: FrameStep<'_>, output: &mut W) -> Result<(), ListError> {
-        put_step(&mut self.page, output, step)
+    fn take_part(
+        &mut self,
+        frame: Frame<'_>,
+        _bytes: &[u8],
+        output: &mut W,
+    ) -> Result<(), ListError> {
+        self.page.put_line(
+            &FrameLine {
+                base: Base::Decimal,
+                frame: &frame,
+            },
+            output,
+        )
+    }
+
+    fn take_fault(&mut self, error: Error, output: &mut W) -> Result<(), ListError> {
+        put_fault(&mut self.page, output, &error)
     }
 
     fn read_on<R: Source>(

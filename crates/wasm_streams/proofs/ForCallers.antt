@@ -4,8 +4,8 @@ pub use Rattle.wasm_streams.proofs.Beside.{over, steps_in}
 pub use Rattle.wasm_streams.proofs.Parsers.{new_parser}
 pub use Rattle.wasm_streams.proofs.PassedParts.{dropped_before, head_after, head_before, head_of_cut, head_of_puts, head_past, none_put}
 pub use Rattle.wasm_streams.proofs.PassedParts.{puts_more, puts_out}
-pub use Rattle.wasm_streams.proofs.Progress.{begun, progress_of, to_be_written, advanced, asked, filled}
-pub use Rattle.wasm_streams.proofs.Progress.{one_more, text_of_event, cut, no_memory, listed_to_end, cut_at_end, line_advanced, line_asked}
+pub use Rattle.wasm_streams.proofs.Progress.{begun, progress_of, to_be_written, advanced, filled, wanted}
+pub use Rattle.wasm_streams.proofs.Progress.{one_more, text_of_event, cut, no_memory, listed_to_end, cut_at_end, line_advanced}
 pub use Rattle.wasm_streams.proofs.Progress.{listed_all, end_cut, not_filled}
 pub use Rattle.wasm_streams.proofs.Reached.{nothing_read, IsEvent, IsEnding, AtEnd, all_given, consumed, begins_with}
 pub use Rattle.wasm_streams.proofs.Reached.{begins}

@@ -41,13 +41,12 @@ module _ (text : List Event → List ℕ) (source rest taken written : Option (L
             let puts = puts_more taken written written' [] (text p.events) page piece page' p.puts w in
             (record { events = p.events ++ e ∷ []; reached = after; puts = rw (more e is) puts }, less)
 
-        pub asked : turn.Read ≡ turn_after x → ((hint : ℕ) → x ≡ Request hint → piece ≡ [])
-            → Wants text (from_to source rest) (from_to taken written') g page' × (weight g ≡ weight f)
-        asked t none =
-            let (hint, is, asks, same) = reached.next_asks source rest f p.events p.reached g x s t in
-            let puts = puts_more taken written written' [] (text p.events) page piece page' p.puts w in
-            let all : text p.events ++ piece ≡ text p.events = rw (none hint is) (append-nil (text p.events)) in
-            (record { events = p.events; asks = asks; puts = rw all at puts }, same)
+  -- nothing is put for a request
+  pub wanted : Progress text (from_to source rest) (from_to taken written) f page → (g : Feed) (hint : ℕ) → Moves f (Request hint) g
+      → Wants text (from_to source rest) (from_to taken written) g page
+  wanted p g hint s =
+      let (asked, is, asks, same) = reached.next_asks source rest f p.events p.reached g (Request hint) s refl in
+      record { events = p.events; asks = asks; puts = p.puts }
 
   -- all that waited is written
   pub to_be_written : (written' : Option (List ℕ)) → Wants text (from_to source rest) (from_to taken written) f page
@@ -170,11 +169,6 @@ module _ (text_of : Report → List ℕ) where
           → Progress (listing_by text_of) (from_to source rest) (from_to taken written') g page' × (weight g < weight f)
       line_advanced t = advanced (listing_by text_of) source rest taken written f page p written' g x s (text_after text_of x) page' w t
           (λ e is. text_of_event x p.events e is)
-
-      pub line_asked : turn.Read ≡ turn_after x
-          → Wants (listing_by text_of) (from_to source rest) (from_to taken written') g page' × (weight g ≡ weight f)
-      line_asked t = asked (listing_by text_of) source rest taken written f page p written' g x s (text_after text_of x) page' w t
-          (λ hint is. rw is refl)
 
       module _ (how : Ended) (t : turn.End how ≡ turn_after x) where
         pub listed_all : (written'' : Option (List ℕ)) → Appends written' written'' page'

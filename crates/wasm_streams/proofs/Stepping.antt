@@ -1,9 +1,10 @@
 -- What a step says of a feeder, and of the stream that it goes along.
-use Rattle.wasm_streams.proofs.Common.{◌≡◌, ℕ, ◌+◌, ◌^◌, ◌<◌, Bool, true, false, List, [], ◌∷◌, ◌++◌, length, take, drop, Result, refl}
+use Rattle.wasm_streams.proofs.Common.{◌≡◌, ℕ, ◌+◌, ◌^◌, ◌<◌, Bool, true, false, List, [], ◌∷◌, ◌++◌, length, take, drop, refl}
 use Rattle.wasm_streams.proofs.Common.{arith, length-append, ◌≤◌, append_assoc, append-nil, inl, inr, nat_tests, append_cancel_right}
 use Rattle.wasm_streams.proofs.Common.{take-append-drop, Event, answers_go_along, is_last, GivesAnswer, IsRequest}
 use Rattle.wasm_streams.proofs.Common.{ParserState, MovesOver, Feed, end_of, answer_of, shown, Moves, Stepped, GivesTold, Told}
-use Rattle.wasm_streams.proofs.Common.{Request, Part}
+use Rattle.wasm_streams.proofs.Common.{Request, Part, sym, weight, ◌-◌}
+use Rattle.std.specs.Prelude.{if◌then◌else◌}
 use Rattle.std.proofs.Common.{nat_eq}
 use Rattle.std.proofs.lemmas.List.{drop_at}
 use Rattle.wasm_streams.specs.Beside.{MayCome}
@@ -72,6 +73,12 @@ again f g h x y l s t =
 module _ (f g : Feed) (hint : ℕ) (s : Moves f (Request hint) g) where
   stays : g.state ≡ f.state
   stays = answers_go_along.becomes f.state g.state f.eof f.held (asks hint) s.parses
+
+  -- and no work is done
+  pub weighs_same : weight g ≡ weight f
+  weighs_same =
+      let held : f.held ≡ g.held = s.shows in
+      λ i. (2 ^ 64 - (stays i).offset) + ((2 ^ 64 - ((stays i).offset + length (sym held i))) + (if s.eof i then 0 else 1))
 
   pub asked : IsUndecided g.state g.eof g.held hint
   asked = grind (arith, answers_go_along.becomes, answers_go_along.asks)

@@ -9,7 +9,7 @@ use Rattle.wasm_streams.specs.Writers.{Runs, Writer, writer_stages}
 use Rattle.wasm_base.specs.Features.{all_features}
 use Rattle.wasm_text.specs.Calls.{Change, Device, bytes_of, device_of, from_to, input_failed, output_failed}
 use Rattle.wasm_text.specs.declared.devices.ListError.TheVariants.{Memory, Output}
-use Rattle.wasm_streams.proofs.Progress.{begun}
+use Rattle.wasm_streams.proofs.Progress.{begun, wanted}
 use Rattle.wasm_streams.proofs.Reached.{nothing_read}
 
 -- no page is cut by a source
@@ -64,17 +64,21 @@ module _ {V W K : Type 0} (w : Writer V W K) where
       (w.page new) result
       → input.has_failed ≡ input_failed result input.had_failed → w.failed after ≡ output_failed result (w.failed before)
       → MeetsRequest (writer_stages w) old before input f result new after g
-  meets old new before after input f g result by m source sink first start full had mid wants =
-      met result (rw wants.same at (m full (w.taken start) (rw wants.same wants.wants))) source sink
+  meets old new before after input f g result by m source sink first start full had e hint mid going moves =
+      met result (rw going.same at (m full (w.taken start) (rw going.same wants))) source sink
     where
+      -- nothing is written for a request
+      wants : Wants (w.text (w.by first)) (from_to full input.before) (from_to (w.taken start) (w.taken before)) f (w.page old)
+      wants = wanted (w.text (w.by first)) full input.before (w.taken start) (w.taken before) e (w.page old) going.progress f hint moves
+
       met : (result : Result (Option Error) ListError)
           → MetBy (w.by first) (from_to full input.after) (from_to (w.taken start) (w.taken after)) f g (w.page new) result
           → input.has_failed ≡ input_failed result input.had_failed → w.failed after ≡ output_failed result (w.failed before)
           → Met (writer_stages w) first start (since full had input) f g result new after
-      met (Ok None) (p, less) source sink = (record { progress = p; same = by ∙ wants.same; sink = sink ∙ wants.sink }, less)
-      met (Ok (Some e)) ends source sink = record { ends = ends; source = source ∙ mid; sink = sink ∙ wants.sink }
+      met (Ok None) (p, less) source sink = (record { progress = p; same = by ∙ going.same; sink = sink ∙ going.sink }, less)
+      met (Ok (Some e)) ends source sink = record { ends = ends; source = source ∙ mid; sink = sink ∙ going.sink }
       met (Err e) ends source sink = record {
         ends = ends;
         source = source ∙ ap (λ (b : Bool). input_failed {A = Ended} (Err e) b) mid;
-        sink = sink_then {A = Ended} (Err e) (w.failed start) (w.failed before) (w.failed after) sink wants.sink;
+        sink = sink_then {A = Ended} (Err e) (w.failed start) (w.failed before) (w.failed after) sink going.sink;
       }

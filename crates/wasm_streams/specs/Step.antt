@@ -1,8 +1,9 @@
 -- What a step says, and the feeder after it.
-use Rattle.std.specs.Prelude.{◌≡◌, ℕ, Bool, true, false, List, [], ◌++◌, length, drop}
+use Rattle.std.specs.Prelude.{◌≡◌, ◌+◌, ℕ, Bool, true, false, List, [], ◌++◌, length, drop}
 use Rattle.wasm_base.specs.FaultAt.{fault_at}
 use Rattle.wasm_base.specs.declared.error.Error.{Error}
 use Rattle.wasm_streams.specs.Feed.{Feed}
+use Rattle.wasm_streams.specs.declared.cursor.Cursor.{Cursor}
 use Rattle.wasm_streams.specs.declared.cursor.FrameStep.{FrameStep}
 use Rattle.wasm_streams.specs.declared.cursor.FrameStep.TheVariants.{Parsed, NeedMoreData, Fault}
 use Rattle.wasm_frames.specs.Along.{GoesAlong}
@@ -53,6 +54,16 @@ pub record Moves (old : Feed) (said : Told) (new : Feed) : Type 0 where
   pub stored : new.stored ≡ old.stored
   pub eof : new.eof ≡ old.eof
   pub wants_more : new.wants_more ≡ is_request said
+
+-- | what a step of a cursor says, and where the cursor is then [`StepsAt`]
+-- A step over the stored bytes said this: what the cursor's parser returns on those that are not consumed. The mark is
+-- then after the shown ones, and the cursor wants more exactly if the step requests it.
+pub record StepsAt (old : Cursor) (stored : List ℕ) (said : Told) (new : Cursor) : Type 0 where
+  pub parses : GivesAnswer old.parser old.is_finished (drop old.mark stored) (answer_of said) new.parser
+  pub shows : drop old.mark stored ≡ shown said ++ drop new.mark stored
+  pub mark : new.mark ≡ old.mark + length (shown said)
+  pub finished : new.is_finished ≡ old.is_finished
+  pub wants : new.wants_more ≡ is_request said
 
 -- what a step says of every stream with this prefix, whose events before the step are these
 abbrev pub Stepped : (start features : ℕ) (eof : Bool) (given : List ℕ) (events : List Event) → Told

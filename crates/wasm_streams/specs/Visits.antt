@@ -4,7 +4,7 @@ use Rattle.wasm_base.specs.Features.{all_features}
 use Rattle.wasm_base.specs.declared.error.Error.{Error}
 use Rattle.wasm_streams.specs.Feed.{Feed, new_feed}
 use Rattle.wasm_streams.specs.Progress.{weight}
-use Rattle.wasm_streams.specs.Step.{Told, Moves}
+use Rattle.wasm_streams.specs.Step.{Told, Moves, Request}
 use Rattle.wasm_streams.specs.Turns.{turn_after}
 use Rattle.wasm_streams.specs.declared.turns.Ended.{Ended}
 use Rattle.wasm_streams.specs.declared.turns.Ended.TheVariants.{Fault}
@@ -16,20 +16,18 @@ use Rattle.wasm_text.specs.declared.devices.ListError.{ListError}
 -- | what a visitor of a stream says of itself at each stage of a run, what it promises of each turn in these terms, and
 --   where a run may begin [`Stages`, `TakesStep`, `MeetsRequest`, `Finishes`, `GivesOut`, `MayBegin`]
 -- What is so of a visitor that was `first` and of its output that was `start`, when the source has come this far:
--- before a step of this feeder, after its request, after the end or the fault of the stream, and after the run.
+-- before a step of this feeder, after the end or the fault of the stream, and after the run.
 pub record Stages (V W : Type 0) : Type 1 where
   pub going : (first : V) (start : W) (input : Device) → Feed → (now : V) (out : W) → Type 0
-  pub wanting : (first : V) (start : W) (input : Device) → Feed → (now : V) (out : W) → Type 0
   pub ending : (first : V) (start : W) (input : Device) → Ended → (now : V) (out : W) → Type 0
   pub done : (first : V) (start : W) (input : Device) → Result Ended ListError → (out : W) → Type 0
 
--- the stage after a step was taken
+-- the stage after a step was taken; a request is met, and not taken
 abbrev pub Taken : {V W : Type 0} → Stages V W → (first : V) (start : W) (input : Device) (old new : Feed)
     → Result Turn ListError → (now : V) (out : W) → Type 0
 Taken stages first start input old new (Ok turn.Advance) now out =
     stages.going first start input new now out × (weight new < weight old)
-Taken stages first start input old new (Ok turn.Read) now out =
-    stages.wanting first start input new now out × (weight new ≡ weight old)
+Taken stages first start input old new (Ok turn.Read) now out = Unit {0}
 Taken stages first start input old new (Ok (turn.End how)) now out = stages.ending first start input how now out
 Taken stages first start input old new (Err e) now out = stages.done first start input (Err e) out
 
@@ -61,12 +59,12 @@ abbrev pub until : (full : Option (List ℕ)) (had : Bool) → Device → Device
 until full had call =
     record { before = full; after = call.before; had_failed = had; has_failed = call.had_failed }
 
--- A request was met, wherever the run was.
+-- The request of a step was met, wherever the run was before that step.
 abbrev pub MeetsRequest : {V W : Type 0} → Stages V W → (old : V) (before : W) (input : Device) (f : Feed)
     → Result (Option Error) ListError → (new : V) (after : W) (g : Feed) → Type 0
 MeetsRequest {V} {W} stages old before input f result new after g =
-    (first : V) (start : W) (full : Option (List ℕ)) (had : Bool) → input.had_failed ≡ had
-    → stages.wanting first start (until full had input) f old before
+    (first : V) (start : W) (full : Option (List ℕ)) (had : Bool) (e : Feed) (hint : ℕ) → input.had_failed ≡ had
+    → stages.going first start (until full had input) e old before → Moves e (Request hint) f
     → Met stages first start (since full had input) f g result new after
 
 -- how a run ends that was to end so, by what its last call returned

@@ -2,7 +2,7 @@
 use Rattle.std.specs.Prelude.{◌≡◌, ℕ, Bool, List, Option, Result, Ok, Err}
 use Rattle.std.specs.Io.KnownBytes.{Appends}
 use Rattle.wasm_streams.specs.Feed.{Feed}
-use Rattle.wasm_streams.specs.Progress.{Progress, Wants}
+use Rattle.wasm_streams.specs.Progress.{Progress}
 use Rattle.wasm_streams.specs.Visits.{Stages}
 use Rattle.wasm_streams.specs.declared.turns.Ended.{Ended}
 use Rattle.wasm_grammar.specs.Reading.{Event}
@@ -40,12 +40,6 @@ module _ {V W K : Type 0} (w : Writer V W K) (first : V) (start : W) (input : De
     pub same : w.by now ≡ w.by first
     pub sink : w.failed out ≡ w.failed start
 
-  -- the same where the feeder asks for more
-  pub record Wanting (f : Feed) (now : V) (out : W) : Type 0 where
-    pub wants : Wants (w.text (w.by first)) (bytes_of input) (output (w.taken out)) f (w.page now)
-    pub same : w.by now ≡ w.by first
-    pub sink : w.failed out ≡ w.failed start
-
   -- Once what waits is written, the run ends so.
   pub record Ending (how : Ended) (now : V) (out : W) : Type 0 where
     pub whole : (written : Option (List ℕ)) → Appends (w.taken out) written (w.page now)
@@ -58,7 +52,6 @@ module _ {V W K : Type 0} (w : Writer V W K) (first : V) (start : W) (input : De
 abbrev pub writer_stages : {V W K : Type 0} → Writer V W K → Stages V W
 writer_stages w = record {
   going = λ first start input f now out. Going w first start input f now out;
-  wanting = λ first start input f now out. Wanting w first start input f now out;
   ending = λ first start input how now out. Ending w first start input how now out;
   done = λ first start input result out. Runs (w.ends (w.by first)) input (device_of w.taken w.failed start out) result;
 }

@@ -1,20 +1,15 @@
 // A position in a stream that arrives in chunks.
 ghost use Rattle.std.specs.Prelude.{⊤, ◌≡◌, ◌+◌, ◌<◌, ◌≤◌, ◌++◌, true, false, [], drop, length, option_map, OnOk, OnErr};
-ghost use Rattle.wasm_frames.specs.Answer.{GivesAnswer};
 ghost use Rattle.wasm_frames.specs.SkipNext.{SkipsNext, skip_is, skip_of};
 ghost use Rattle.wasm_frames.specs.Stored.{parser_of};
 ghost use Rattle.wasm_streams.specs.Cursors.{feed_of, finished_cursor};
 ghost use Rattle.wasm_streams.specs.Feed.{empty_feed, pushed};
 ghost use Rattle.wasm_streams.specs.Lists.{Refills};
-ghost use Rattle.wasm_streams.specs.Step.{answer_of, is_request, says, shown};
+ghost use Rattle.wasm_streams.specs.Step.{StepsAt, says};
 ghost use Rattle.wasm_text.specs.Calls.{input_failed};
-
-mod lending;
 
 use crate::buffer::{after, append};
 use crate::parser::FrameParser;
-pub(crate) use lending::{keep, pass_borrowed};
-pub use lending::{make_ready, seen, take_left};
 use std::alloc::{AllocError, Allocator};
 use wasm_base::Error;
 use wasm_frames::{Frame, NextFrame, SkippedPart, StoredParser};
@@ -57,10 +52,10 @@ pub enum FrameStep<'a> {
 /// }
 /// ```
 pub struct Cursor {
-    parser: FrameParser,
-    mark: usize,
-    is_finished: bool,
-    wants_more: bool,
+    pub(crate) parser: FrameParser,
+    pub(crate) mark: usize,
+    pub(crate) is_finished: bool,
+    pub(crate) wants_more: bool,
 }
 
 impl Drop for Cursor {
@@ -139,48 +134,6 @@ impl Cursor {
         ensures same { self.new ≡ record self.old { parser = self.new.parser } }
     {
         self.parser.skip_next(after(bytes, self.mark))
-    }
-
-    /// Returns the parser of the next part. `advance` puts it back.
-    #[inline(always)]
-    pub fn parser(&self) -> StoredParser
-        // Proved: `parser` of a cursor is its parser; `advance` puts it back and consumes bytes of
-        //   the buffer, which it returns; `stay` changes nothing but whether more is wanted [the
-        //   clauses of each]
-        ensures { parser_of result ≡ self.now.parser }
-    {
-        self.parser.stored()
-    }
-
-    /// Consumes this many bytes of the buffer, with which this parser has read a part, and returns them.
-    #[inline(always)]
-    pub fn advance<'a>(
-        &mut self,
-        bytes: &'a [u8],
-        consumed: usize,
-        parser: StoredParser,
-    ) -> &'a [u8]
-        requires { consumed ≤ length (drop self.old.mark bytes.now) }
-        ensures shows { drop self.old.mark bytes.now ≡ result.now ++ drop self.new.mark bytes.now }
-        ensures many { length result.now ≡ consumed }
-        ensures parser { self.new.parser ≡ parser_of parser }
-        ensures mark { self.new.mark ≡ self.old.mark + consumed }
-        ensures finished { self.new.is_finished ≡ self.old.is_finished }
-        ensures wants { self.new.wants_more ≡ false }
-    {
-        let rest = after(bytes, self.mark);
-        self.parser = FrameParser::new(parser);
-        self.mark += consumed;
-        self.wants_more = false;
-        &rest[..consumed]
-    }
-
-    /// Stays where it is, after a request for more input or at a fault.
-    #[inline(always)]
-    pub fn stay(&mut self, wants_more: bool)
-        ensures { self.new ≡ record self.old { wants_more = wants_more } }
-    {
-        self.wants_more = wants_more;
     }
 
     /// Returns how many bytes of the buffer are consumed.
@@ -300,16 +253,21 @@ pub fn read_more<A: Allocator, R: Source>(
 /// }
 /// ```
 pub fn next_frame<'a>(cursor: &mut Cursor, bytes: &'a [u8]) -> FrameStep<'a>
-    ensures parses { GivesAnswer cursor.old.parser cursor.old.is_finished
-        (drop cursor.old.mark bytes.now) (answer_of (says result)) cursor.new.parser }
-    ensures shows { drop cursor.old.mark bytes.now
-        ≡ shown (says result) ++ drop cursor.new.mark bytes.now }
-    ensures finished { cursor.new.is_finished ≡ cursor.old.is_finished }
-    ensures wants { cursor.new.wants_more ≡ is_request (says result) }
-    ensures mark { cursor.new.mark ≡ cursor.old.mark + length (shown (says result)) }
+    // Proved: a step of a cursor says what its parser returns on the bytes that it has not consumed,
+    //   and consumes those that it shows; `next_frame_for` makes the same step [the clauses of both
+    //   (`StepsAt`)]
+    ensures { StepsAt cursor.old bytes.now (says result) cursor.new }
+{
+    next_frame_for::<Frame<'_>>(cursor, bytes)
+}
+
+/// Performs the step that `next_frame` does. `For` is what the caller makes of a frame, as for `StoredParser::next_for`.
+#[inline(always)]
+pub fn next_frame_for<'a, For>(cursor: &mut Cursor, bytes: &'a [u8]) -> FrameStep<'a>
+    ensures { StepsAt cursor.old bytes.now (says result) cursor.new }
 {
     let rest = after(bytes, cursor.mark);
-    match cursor.parser.next(rest, cursor.is_finished) {
+    match cursor.parser.next_for::<For>(rest, cursor.is_finished) {
         NextFrame::Parsed { frame, consumed } => {
             cursor.wants_more = false;
             cursor.mark += consumed;

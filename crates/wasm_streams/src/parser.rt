@@ -1,6 +1,6 @@
 // The parser in a cursor.
 ghost use Rattle.std.specs.Prelude.{◌≡◌, option_map};
-ghost use Rattle.wasm_frames.specs.Answer.{AsksForSome, Consumes, GivesFrame, content_of};
+ghost use Rattle.wasm_frames.specs.Answer.{Consumes, GivesFrame, content_of};
 ghost use Rattle.wasm_frames.specs.SkipNext.{SkipsNext, skip_is, skip_of};
 ghost use Rattle.wasm_frames.specs.Stored.{parser_of};
 
@@ -39,14 +39,6 @@ impl FrameParser {
         }
     }
 
-    /// Returns the numbers of the parser.
-    #[inline(always)]
-    pub(crate) fn stored(&self) -> StoredParser
-        ensures { parser_of result ≡ self.now }
-    {
-        self.stored
-    }
-
     /// Returns the offset of the next part.
     #[inline(always)]
     pub(crate) fn offset(&self) -> u64
@@ -56,13 +48,19 @@ impl FrameParser {
     }
 
     /// Returns the next frame, as `StoredParser::next` does.
-    #[inline(always)]
     pub(crate) fn next<'a>(&mut self, bytes: &'a [u8], eof: bool) -> NextFrame<'a>
-        ensures answers { GivesFrame self.old eof bytes.now result self.new }
-        ensures consumes { Consumes bytes.now (content_of result) }
-        ensures asks { AsksForSome (content_of result) }
+        ensures { GivesFrame self.old eof bytes.now result self.new }
     {
         self.stored.next(bytes, eof)
+    }
+
+    /// Returns the next frame, as `StoredParser::next_for` does.
+    #[inline(always)]
+    pub(crate) fn next_for<'a, For>(&mut self, bytes: &'a [u8], eof: bool) -> NextFrame<'a>
+        ensures answers { GivesFrame self.old eof bytes.now result self.new }
+        ensures consumes { Consumes bytes.now (content_of result) }
+    {
+        self.stored.next_for::<For>(bytes, eof)
     }
 
     /// Skips the next part, as `StoredParser::skip_next` does.

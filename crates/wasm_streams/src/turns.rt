@@ -1,11 +1,9 @@
 // How a loop over a stream goes on, and how it ends.
 ghost use Rattle.std.specs.Prelude.{◌≡◌};
-ghost use Rattle.wasm_streams.specs.Step.{says};
-ghost use Rattle.wasm_streams.specs.Turns.{turn_after};
+ghost use Rattle.wasm_frames.specs.Answer.{is_end};
 
-use crate::cursor::FrameStep;
 use wasm_base::Error;
-use wasm_frames::FrameKind;
+use wasm_frames::{Frame, FrameKind};
 
 /// The end of a stream that was listed or dumped: without a fault, or at the first fault.
 ///
@@ -38,17 +36,10 @@ pub enum Turn {
     End(Ended),
 }
 
-/// Returns what a loop over a stream does after a step.
+/// Returns whether a frame is the end of the stream.
 #[inline(always)]
-pub(crate) fn turn_of(step: &FrameStep<'_>) -> Turn
-    ensures { result ≡ turn_after (says step.now) }
+pub(crate) fn is_end(frame: &Frame<'_>) -> bool
+    ensures { result ≡ is_end frame.now }
 {
-    match step {
-        FrameStep::Parsed { frame, .. } => match frame.kind() {
-            FrameKind::End => Turn::End(Ended::End),
-            _ => Turn::Advance,
-        },
-        FrameStep::NeedMoreData(_) => Turn::Read,
-        FrameStep::Fault(error) => Turn::End(Ended::Fault(*error)),
-    }
+    matches!(frame.kind(), FrameKind::End)
 }

@@ -2,22 +2,22 @@
 ghost use Rattle.std.specs.Prelude.{◌≡◌, ◌+◌, ◌<◌, ◌≤◌, OnOk, length, vec_len, vec_capacity};
 ghost use Rattle.wasm_streams.specs.Beside.{beside, lending};
 ghost use Rattle.wasm_streams.specs.Cursors.{feed_of};
-ghost use Rattle.wasm_streams.specs.Step.{says};
+ghost use Rattle.wasm_streams.specs.Step.{Part, Stop};
 ghost use Rattle.wasm_streams.specs.Visits.{Finishes, GivesOut, MayBegin, MeetsRequest, Stages, TakesStep};
 ghost use Rattle.wasm_text.specs.Calls.{device_of};
 
-use crate::ahead::Ahead;
-use crate::cursor::{Cursor, FrameStep, next_frame, seen};
-use crate::turns::{Ended, Turn, turn_of};
+use crate::ahead::{Ahead, seen};
+use crate::cursor::{Cursor, FrameStep, next_frame_for};
+use crate::turns::{Ended, is_end};
 use std::alloc::Allocator;
 use wasm_base::Error;
-use wasm_frames::StoredParser;
+use wasm_frames::{Frame, StoredParser};
 use wasm_text::{ListError, Source};
 
 /// What is made of the parts of a stream.
 ///
-/// `visit` calls it at each turn: with the result of each step, when more input is requested, and at the end. `W` is what
-/// it writes to.
+/// `visit` calls it at each turn: with each part, with the fault at which the stream stops, when more input is requested,
+/// and at the end. `W` is what it writes to.
 pub trait Visitor<A: Allocator, W> {
     // The output is no field: had a visitor a `&mut`, the checker would know nothing of the output once a call has taken
     // the visitor.
@@ -30,15 +30,26 @@ pub trait Visitor<A: Allocator, W> {
     /// What holds of it before each call, and after it.
     ghost sound: { Self → Type 0 };
 
-    /// Takes the result of a step.
+    /// Takes a part of the stream, or its end, and the bytes that it consumed.
     ///
     /// # Errors
     ///
     /// `Output` if the output failed, and `Memory` when an allocation fails.
-    fn take(&mut self, step: FrameStep<'_>, output: &mut W) -> Result<(), ListError>
+    fn take_part(&mut self, frame: Frame<'_>, bytes: &[u8], output: &mut W) -> Result<(), ListError>
         requires sound { sound self.old }
         ensures takes { TakesStep stages self.old output.old
-            (says step.entry) result self.new output.new }
+            (Part frame.entry bytes.now) result self.new output.new }
+        ensures sound { sound self.new };
+
+    /// Takes the fault at which the stream stops.
+    ///
+    /// # Errors
+    ///
+    /// Those of `take_part`.
+    fn take_fault(&mut self, error: Error, output: &mut W) -> Result<(), ListError>
+        requires sound { sound self.old }
+        ensures takes { TakesStep stages self.old output.old
+            (Stop error) result self.new output.new }
         ensures sound { sound self.new };
 
     /// Meets a request for more input: skips the part at the cursor, or reads the next chunk. Returns the fault of a
@@ -46,7 +57,7 @@ pub trait Visitor<A: Allocator, W> {
     ///
     /// # Errors
     ///
-    /// Those of `take`, and `Input` if the source failed.
+    /// Those of `take_part`, and `Input` if the source failed.
     fn read_on<R: Source>(
         &mut self,
         cursor: &mut Cursor,
@@ -68,7 +79,7 @@ pub trait Visitor<A: Allocator, W> {
     ///
     /// # Errors
     ///
-    /// Those of `take`.
+    /// Those of `take_part`.
     fn finish(&mut self, output: &mut W) -> Result<(), ListError>
         requires sound { sound self.old }
         ensures finishes { Finishes stages self.old output.old result output.new };
@@ -79,7 +90,7 @@ pub trait Visitor<A: Allocator, W> {
         ensures gives { GivesOut stages self.old output.old result output.new };
 }
 
-/// Reads a stream from a source, and passes each step over it to a visitor. Returns how the stream ended.
+/// Reads a stream from a source, and passes each part of it to a visitor. Returns how the stream ended.
 ///
 /// A visitor serves one run, and may end it before the stream ends. It reads into `buffer`, which must have at least one
 /// byte; its length is the size of the largest chunk.
@@ -99,7 +110,7 @@ pub fn visit<A: Allocator, R: Source, W, V: Visitor<A, W>>(
     requires begins { MayBegin V.stages visitor.old output.old
         (R.remaining input.old) (R.has_failed input.old) }
     // Proved: `visit` ends its run as the calls of its visitor lead from stage to stage, whatever the visitor makes of
-    //   the parts: each step, each request and the end is passed to it in turn [`done` on `visit` (`Stages`), and
+    //   the parts: each part, each fault, each request and the end is passed to it in turn [`done` on `visit` (`Stages`), and
     //   `takes`, `meets`, `finishes`, `gives` of `Visitor` (`TakesStep`, `MeetsRequest`, `Finishes`, `GivesOut`)]
     ensures done { V.stages.done visitor.old output.old
         (device_of R.remaining R.has_failed input.old input.new) result output.new }
@@ -113,20 +124,26 @@ pub fn visit<A: Allocator, R: Source, W, V: Visitor<A, W>>(
             Ok(()) => {}
             Err(_) => return Err(visitor.out_of_memory(output)),
         }
-        let step = next_frame(&mut cursor, seen(&stored, ahead.bytes()));
-        let turn = turn_of(&step);
-        visitor.take(step, output)?;
-        match turn {
-            Turn::Advance => ahead.pass_borrowed(&mut cursor, &stored),
-            Turn::Read => {
+        match next_frame_for::<(R, W, V)>(&mut cursor, seen(&stored, ahead.bytes())) {
+            FrameStep::Parsed { frame, bytes } => {
+                let is_last = is_end(&frame);
+                visitor.take_part(frame, bytes, output)?;
+                if is_last {
+                    visitor.finish(output)?;
+                    return Ok(Ended::End);
+                }
+                ahead.pass_borrowed(&mut cursor, &stored);
+            }
+            FrameStep::NeedMoreData(_) => {
                 let fault = visitor.read_on(&mut cursor, &mut stored, &mut ahead, input, output)?;
                 if let Some(error) = fault {
                     return Ok(Ended::Fault(error));
                 }
             }
-            Turn::End(ended) => {
+            FrameStep::Fault(error) => {
+                visitor.take_fault(error, output)?;
                 visitor.finish(output)?;
-                return Ok(ended);
+                return Ok(Ended::Fault(error));
             }
         }
     }

@@ -1,12 +1,12 @@
 -- What a tree of faults alone has found, and whether it could write it.
-use Rattle.wasm_tree.proofs.Common.{◌≡◌, Bool, true, false, refl, sym, ap, subst, ◌∙◌, List, [], Option, Some, None, ListError, ℕ, arith}
+use Rattle.wasm_tree.proofs.Common.{◌≡◌, Bool, true, false, refl, sym, ap, subst, ◌∙◌, List, [], Option, Some, None, ListError, ℕ}
 use Rattle.wasm_tree.proofs.Common.{Writing, Put, PutsAs, Puts, Adds, IsCut, ◌≢◌}
 use Rattle.std.proofs.Common.{Err, ap₂}
 use Rattle.wasm_text.specs.Calls.{output_failed}
 use Rattle.wasm_text.specs.declared.devices.ListError.TheVariants.{Input, Memory, Output}
 use Rattle.wasm_tree.specs.declared.objects.Spot.TheVariants.{Outside}
 use Rattle.wasm_tree.specs.Found.{HasFound, Finds, FindsNone, with_more, IsAlone, IsUnknownOnceStopped, KnowsFaults, found_unless}
-use Rattle.wasm_tree.specs.Tree.{GoesOn, GoesOnAs, GoesOnSince, Origin, IsWritten, Rest, with_rest}
+use Rattle.wasm_tree.specs.Tree.{GoesOn, GoesOnAs, GoesOnSince, Rest, with_rest}
 use Rattle.wasm_tree.specs.Written.{of_objects, text_unstated}
 use Rattle.wasm_tree.proofs.Writing.{no_input, puts_all}
 

@@ -309,8 +309,22 @@ impl<W: Sink> Lines<W> {
         }
     }
 
-    // Shows the bytes in rows that end at this offset at the latest, or all.
+    // Shows the bytes in rows that end at this offset at the latest, or all. Most dumps show none.
+    #[inline(always)]
     fn rows_to(&mut self, end: Option<u64>)
+        requires ended { self.old.is_begun ≡ false }
+        ensures adds { Adds (lines self.old) (lines self.new) }
+        ensures ended { self.new.is_begun ≡ false }
+        ensures all { end ≡ None → self.new.rows ≡ [] }
+    {
+        if !self.rows.is_empty() {
+            self.put_rows(end);
+        }
+    }
+
+    // Puts rows of bytes that end at this offset at the latest, or of all bytes.
+    #[inline(never)]
+    fn put_rows(&mut self, end: Option<u64>)
         requires ended { self.old.is_begun ≡ false }
         ensures adds { Adds (lines self.old) (lines self.new) }
         ensures ended { self.new.is_begun ≡ false }

@@ -1,5 +1,5 @@
 // Rows of bytes.
-ghost use Rattle.std.specs.Prelude.{◌≡◌, ◌≤◌, ◌+◌, ◌*◌, ◌++◌, [], None, IfNone, IfOk, IfSome, drop, length, take};
+ghost use Rattle.std.specs.Prelude.{◌≡◌, ◌≤◌, ◌+◌, ◌*◌, ◌++◌, [], None, IfNone, IfOk, IfSome, drop, length, take, true};
 ghost use Rattle.wasm_tree.specs.Rows.{BeginsWithRow};
 ghost use Rattle.std.specs.List.{flat_map};
 ghost use Rattle.wasm_tree.specs.Tree.{after_blank};
@@ -127,6 +127,14 @@ impl Rows {
             cuts,
             passed: 0,
         })
+    }
+
+    /// Returns whether all bytes were shown.
+    #[inline(always)]
+    pub(crate) fn is_empty(&self) -> bool
+        ensures { result ≡ true → self.now ≡ [] }
+    {
+        self.shown >= self.bytes.len()
     }
 
     /// Passes a cut, and returns the offset of the next one, if there is one.

@@ -7,7 +7,7 @@ use std::process::Abort;
 use std::test::Fail;
 use wasm_base::Fault;
 use wasm_frames::{FrameKind, NextFrame, StoredParser};
-use wasm_streams::{Cursor, FrameStep, next_frame, read_more, refill};
+use wasm_streams::{Cursor, FrameStep, next_frame, next_frame_for, read_more, refill};
 use wasm_testing::Sparing;
 use wasm_text::{ListError, SliceSource};
 
@@ -75,35 +75,16 @@ fn frames_of_a_stream_in_a_buffer(rt: HostRuntime) {
     }
 }
 
-// The step of a caller that parses with the parser of the cursor, as a feeder with payloads does.
-fn stepped(cursor: &mut Cursor, bytes: &[u8]) -> Said {
-    let mut parser = cursor.parser();
-    match parser.next(cursor.remaining(bytes), cursor.is_finished()) {
-        NextFrame::Parsed { frame, consumed } => {
-            let shown = cursor.advance(bytes, consumed, parser);
-            Said::Frame(frame.kind(), shown.len())
-        }
-        NextFrame::NeedMoreData(hint) => {
-            cursor.stay(true);
-            Said::More(hint)
-        }
-        NextFrame::Fault(error) => {
-            cursor.stay(false);
-            Said::Fault(error.fault(), error.offset())
-        }
-    }
-}
-
-// Both steps say the same, and leave the cursors at the same place.
+// A step that is made for a caller says the same as another, and leaves the cursor at the same place.
 fn step_both(rt: &impl Abort, one: &mut Cursor, other: &mut Cursor, bytes: &[u8]) {
-    let said = stepped(other, bytes);
+    let said = told(next_frame_for::<Said>(other, bytes));
     let place = (other.offset(), other.mark(), other.wants_more());
     steps(rt, one, bytes, said, place);
     same(rt, one.is_finished(), other.is_finished());
 }
 
 #[test]
-fn steps_of_a_callers_own(rt: HostRuntime) {
+fn steps_for_a_caller(rt: HostRuntime) {
     for (stream, start) in [
         (PARTS, 0),
         (PARTS, u64::MAX - 90),
@@ -120,6 +101,34 @@ fn steps_of_a_callers_own(rt: HostRuntime) {
         other.finish();
         for _again in 0..3 {
             step_both(&rt, &mut one, &mut other, stream);
+        }
+    }
+}
+
+// What a parser returned, and the number of bytes that it consumed.
+fn given(answer: NextFrame<'_>) -> Said {
+    match answer {
+        NextFrame::Parsed { frame, consumed } => Said::Frame(frame.kind(), consumed),
+        NextFrame::NeedMoreData(hint) => Said::More(hint),
+        NextFrame::Fault(error) => Said::Fault(error.fault(), error.offset()),
+    }
+}
+
+#[test]
+fn frames_for_a_caller(rt: HostRuntime) {
+    for start in [0, u64::MAX - 127, u64::MAX - 90] {
+        let mut one = StoredParser::new(start);
+        let mut other = StoredParser::new(start);
+        let mut mark = 0;
+        for end in 0..=PARTS.len() {
+            for eof in [false, end == PARTS.len(), end == PARTS.len()] {
+                assert!(rt; mark <= end);
+                let rest = &PARTS[mark..end];
+                let said = given(one.next(rest, eof));
+                same_at(&rt, given(other.next_for::<Said>(rest, eof)), said, &end);
+                same_at(&rt, other.offset, one.offset, &end);
+                mark = (one.offset - start) as usize;
+            }
         }
     }
 }

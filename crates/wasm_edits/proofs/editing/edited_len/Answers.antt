@@ -1,4 +1,4 @@
-use Rattle.wasm_edits.proofs.Common.{ℕ, ◌<◌, ◌^◌, inl, [], ◌++◌, length, refl, arith, ap, ◌∙◌, drop, err_from_is_err_and, feed_of}
+use Rattle.wasm_edits.proofs.Common.{ℕ, ◌<◌, ◌^◌, inl, [], ◌++◌, length, refl, arith, ap, drop, err_from_is_err_and, feed_of}
 use Rattle.wasm_edits.proofs.Appended.{both_lengths}
 use Rattle.wasm_edits.proofs.EditLaws.{edits_so}
 use Rattle.wasm_edits.proofs.PartSteps.{all_written, none_yet, one_written}

@@ -39,14 +39,14 @@ returns-in_err-put_line-in-None-clause-reads g c =
     rw (e.1, e.2) (λ source taken w. line_cut _ _ _ _ _ _ _ (to_be_written _ _ _ _ _ _ _ _ w written) _ _ h _ none _ _ _ _ _
     c.in_ok-pass_part.ensures.passes _ _ c.in_err-put_line-in-None.ensures.puts)
 
-pub returns-in_err-put_line-in-Some-2-clause-reads :
-    goal.returns-in_err-put_line-in-Some-2-clause-reads
-returns-in_err-put_line-in-Some-2-clause-reads g c =
-    let e = err_from_is_err_and c.from_residual-in_err-put_line-in-Some-2.result c.from_residual-in_err-put_line-in-Some-2.ensures.1 in
+pub returns-in_err-put_fault-in-Some-2-clause-reads :
+    goal.returns-in_err-put_fault-in-Some-2-clause-reads
+returns-in_err-put_fault-in-Some-2-clause-reads g c =
+    let e = err_from_is_err_and c.from_residual-in_err-put_fault-in-Some-2.result c.from_residual-in_err-put_fault-in-Some-2.ensures.1 in
     let h = dropped_here _ _ _ _ _ _ _ _ c.seen.ensures c.deref.ensures.value c.bytes.ensures c.in-Some.ensures in
     let (written, none) = c.in_ok-write_lines.ensures.writes in
     rw (e.1, e.2) (λ source taken w. line_cut _ _ _ _ _ _ _ (to_be_written _ _ _ _ _ _ _ _ w written) _ _ h _ none _ _ _ _ _
-    c.in_ok-pass_part.ensures.passes _ _ c.in_err-put_line-in-Some-2.ensures.puts)
+    c.in_ok-pass_part.ensures.passes _ _ c.in_err-put_fault-in-Some-2.ensures.takes)
 
 pub returns-in_err-write_out-in-Some-2-clause-reads :
     goal.returns-in_err-write_out-in-Some-2-clause-reads
@@ -55,7 +55,7 @@ returns-in_err-write_out-in-Some-2-clause-reads g c =
     let h = dropped_here _ _ _ _ _ _ _ _ c.seen.ensures c.deref.ensures.value c.bytes.ensures c.in-Some.ensures in
     let (written, none) = c.in_ok-write_lines.ensures.writes in
     rw (e.1, e.2) (λ source taken w. short_cut _ _ _ _ _ _ _ (to_be_written _ _ _ _ _ _ _ _ w written) _ _ h _ none _ _ _ _ _
-    c.in_ok-pass_part.ensures.passes _ c.in-Some-2.is _ _ c.in_ok-put_line-in-Some-2.ensures.puts _ _
+    c.in_ok-pass_part.ensures.passes _ c.in-Some-2.is _ _ c.in_ok-put_fault-in-Some-2.ensures.takes _ _
     (cut_of _ _ _ _ c.in_err-write_out-in-Some-2.ensures.writes))
 
 pub returns-in_ok-put_line-in-None-clause-reads : goal.returns-in_ok-put_line-in-None-clause-reads
@@ -73,5 +73,5 @@ returns-in_ok-write_out-in-Some-2-clause-reads g c = λ source taken w.
     let h = dropped_here _ _ _ _ _ _ _ _ c.seen.ensures c.deref.ensures.value c.bytes.ensures c.in-Some.ensures in
     let (written, none) = c.in_ok-write_lines.ensures.writes in
     listed_short _ _ _ _ _ _ _ (to_be_written _ _ _ _ _ _ _ _ w written) _ _ h _ none _ _ _ _ _
-    c.in_ok-pass_part.ensures.passes _ c.in-Some-2.is _ _ c.in_ok-put_line-in-Some-2.ensures.puts _
+    c.in_ok-pass_part.ensures.passes _ c.in-Some-2.is _ _ c.in_ok-put_fault-in-Some-2.ensures.takes _
     c.in_ok-write_out-in-Some-2.ensures.writes.0

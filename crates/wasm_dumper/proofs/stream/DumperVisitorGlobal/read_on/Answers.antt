@@ -2,12 +2,12 @@ use Rattle.wasm_dumper.proofs.Common.{◌≡◌, ℕ, ◌<◌, Bool, List, true,
 use Rattle.wasm_dumper.proofs.Common.{err_from_is_err_and, seen, lending, beside}
 use Rattle.wasm_dumper.proofs.Common.{feed_of, Cursor, Fault, Feed, Skips, Stop, pushed, weight}
 use Rattle.wasm_dumper.proofs.CheckedParts.{finding_short, finds_dropped}
-use Rattle.wasm_dumper.proofs.Checking.{FindsStep, finds_ended, finds_filled, same_found}
+use Rattle.wasm_dumper.proofs.Checking.{FindsStep, Seeking, finds_ended, finds_filled, same_found}
 use Rattle.wasm_dumper.proofs.DroppedParts.{dropped, dumping_short, failed_within, fault_step, shows_fault, skips_here, stopped_within}
 use Rattle.wasm_dumper.proofs.DumpTurns.{requests, stops_asking}
 use Rattle.wasm_dumper.proofs.Dumping.{ended, filled, not_filled, same_written, stopped, stopped_at_last, stopped_before, without_memory}
-use Rattle.wasm_dumper.proofs.Dumping.{ShowsStep}
-use Rattle.wasm_dumper.specs.Dumping.{Dumping, Finding, Seeking, Wanting}
+use Rattle.wasm_dumper.proofs.Dumping.{ShowsStep, Wanting}
+use Rattle.wasm_dumper.specs.Dumping.{Dumping, Finding}
 use Rattle.wasm_dumper.proofs.Numbering as numbering
 use Rattle.wasm_streams.specs.declared.turns.Turn.TheVariants as turn
 use Rattle.wasm_text.specs.Calls.{device_of}

@@ -1,0 +1,71 @@
+use Rattle.wasm_dumper.proofs.Common.{refl, unsigned_at, VarU32, report_of, item_at}
+use Rattle.wasm_grammar.specs.Ids.{function_id, table_id, memory_id, tag_id, global_id, element_id, data_id}
+use Rattle.wasm_items.specs.Data.{data_at}
+use Rattle.wasm_items.specs.Elements.{element_at}
+use Rattle.wasm_items.specs.Globals.{global_at}
+use Rattle.wasm_items.specs.Memories.{memory_type_at}
+use Rattle.wasm_items.specs.Tables.{table_at}
+use Rattle.wasm_items.specs.Tags.{tag_type_at}
+use Rattle.wasm_tree.specs.declared.numbers.Space.TheVariants.{Functions, Tables, Memories, Tags, Globals, Elements, DataSegments}
+use Rattle.wasm_dumper.proofs.Numbering.{none_numbered, shows_no_items, shows_defined, sized}
+use Rattle.std.proofs.Common.{Bool, subst}
+use Rattle.wasm_dumper.proofs.Checking.{custom_found}
+use Rattle.wasm_tree.specs.Found.{Finds}
+use Rattle.wasm_dumper.proofs.stream.show_items_of.Goals as goal
+
+pub returns-in-ExportSection-clause-shows : goal.returns-in-ExportSection-clause-shows
+returns-in-ExportSection-clause-shows g c begins =
+    shows_no_items c.args.counts.now (report_of c.args.payload.now) _ _ (rw c.in-ExportSection.is refl) c.show_section.ensures.adds
+
+pub returns-in-CustomSection-clause-shows : goal.returns-in-CustomSection-clause-shows
+returns-in-CustomSection-clause-shows g c begins =
+    shows_no_items c.args.counts.now (report_of c.args.payload.now) _ _ (rw c.in-CustomSection.is refl) c.show_custom.ensures.adds
+
+pub returns-in_default-clause-shows : goal.returns-in_default-clause-shows
+returns-in_default-clause-shows g c begins =
+    shows_no_items c.args.counts.now (report_of c.args.payload.now) _ _
+    (none_numbered c.args.payload.now c.in_default.not-TypeSection c.in_default.not-ImportSection c.in_default.not-FunctionSection
+    c.in_default.not-TableSection c.in_default.not-MemorySection c.in_default.not-TagSection c.in_default.not-GlobalSection
+    c.in_default.not-ElementSection c.in_default.not-DataSection)
+    (λ o i. i)
+
+pub returns-in-FunctionSection-clause-shows : goal.returns-in-FunctionSection-clause-shows
+returns-in-FunctionSection-clause-shows g c begins = rw c.in-FunctionSection.is (shows_defined c.args.counts.now function_id Functions _ _ _
+    (rw c.in-FunctionSection.is at begins) refl (λ n shown a. a)
+    (c.show_numbered.ensures.all (item_at function_id) (λ p o read. sized _ (unsigned_at VarU32) p o read)))
+
+pub returns-in-TableSection-clause-shows : goal.returns-in-TableSection-clause-shows
+returns-in-TableSection-clause-shows g c begins = rw c.in-TableSection.is (shows_defined c.args.counts.now table_id Tables _ _ _
+    (rw c.in-TableSection.is at begins) refl (λ n shown a. a)
+    (c.show_numbered-in-TableSection.ensures.all (item_at table_id) (λ p o read. sized _ table_at p o read)))
+
+pub returns-in-MemorySection-clause-shows : goal.returns-in-MemorySection-clause-shows
+returns-in-MemorySection-clause-shows g c begins = rw c.in-MemorySection.is (shows_defined c.args.counts.now memory_id Memories _ _ _
+    (rw c.in-MemorySection.is at begins) refl (λ n shown a. a)
+    (c.show_numbered-in-MemorySection.ensures.all (item_at memory_id) (λ p o read. sized _ memory_type_at p o read)))
+
+pub returns-in-TagSection-clause-shows : goal.returns-in-TagSection-clause-shows
+returns-in-TagSection-clause-shows g c begins = rw c.in-TagSection.is (shows_defined c.args.counts.now tag_id Tags _ _ _
+    (rw c.in-TagSection.is at begins) refl (λ n shown a. a)
+    (c.show_numbered-in-TagSection.ensures.all (item_at tag_id) (λ p o read. sized _ tag_type_at p o read)))
+
+pub returns-in-GlobalSection-clause-shows : goal.returns-in-GlobalSection-clause-shows
+returns-in-GlobalSection-clause-shows g c begins = rw c.in-GlobalSection.is (shows_defined c.args.counts.now global_id Globals _ _ _
+    (rw c.in-GlobalSection.is at begins) refl (λ n shown a. a)
+    (c.show_numbered-in-GlobalSection.ensures.all (item_at global_id) (λ p o read. sized _ global_at p o read)))
+
+pub returns-in-ElementSection-clause-shows : goal.returns-in-ElementSection-clause-shows
+returns-in-ElementSection-clause-shows g c begins = rw c.in-ElementSection.is (shows_defined c.args.counts.now element_id Elements _ _ _
+    (rw c.in-ElementSection.is at begins) refl (λ n shown a. a)
+    (c.show_numbered-in-ElementSection.ensures.all (item_at element_id) (λ p o read. sized _ element_at p o read)))
+
+pub returns-in-DataSection-clause-shows : goal.returns-in-DataSection-clause-shows
+returns-in-DataSection-clause-shows g c begins = rw c.in-DataSection.is (shows_defined c.args.counts.now data_id DataSegments _ _ _
+    (rw c.in-DataSection.is at begins) refl (λ n shown a. a)
+    (c.show_numbered-in-DataSection.ensures.all (item_at data_id) (λ p o read. sized _ data_at p o read)))
+
+pub returns-in-CustomSection-clause-found : goal.returns-in-CustomSection-clause-found
+returns-in-CustomSection-clause-found g c begins = rw c.in-CustomSection.is
+    (subst (λ (b : Bool). Finds b (g.O.Tree.found c.args.out.now) (g.O.Tree.found c.show_custom.new.out))
+    (custom_found c.in-CustomSection.section)
+    c.show_custom.ensures.found)

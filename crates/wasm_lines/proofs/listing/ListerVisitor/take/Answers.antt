@@ -1,7 +1,0 @@
-use Rattle.wasm_lines.proofs.ListTurns.{takes}
-use Rattle.wasm_lines.proofs.listing.ListerVisitor.take.Goals as goal
-
-pub returns-clause-takes : goal.returns-clause-takes
-returns-clause-takes g c =
-    takes (λ l. l.page) g.W.Sink.taken g.W.Sink.has_failed _ _ _ _ _ c.put_step.result c.put_step.ensures.takes
-    c.put_step.ensures.failed
