@@ -127,7 +127,7 @@ fn frames_for_a_caller(rt: HostRuntime) {
                 let said = given(one.next(rest, eof));
                 same_at(&rt, given(other.next_for::<Said>(rest, eof)), said, &end);
                 same_at(&rt, other.offset, one.offset, &end);
-                mark = (one.offset - start) as usize;
+                mark = one.offset.saturating_sub(start) as usize;
             }
         }
     }
