@@ -34,7 +34,7 @@ use wasm_tree::{Space, Style, Tree, Within, write_item};
 /// let only = [Only::Id(2)];
 /// let shown = Shown { only: &only, has_bytes: false, found: &[] };
 /// let mut input = SliceSource::new(b"\0asm\x01\0\0\0\x01\x01\0\x02\x01\0");
-/// let mut out = Lines::new(alloc, BoundedSink::new(alloc, 1000)?);
+/// let mut out = TextLines::new(alloc, BoundedSink::new(alloc, 1000)?);
 /// let ended = dump(alloc, shown, &mut input, &mut out, 4096);
 /// let wanted = b"section 2 13 14 0 import\nend 14\n";
 /// assert_eq!(rt; out.into_output().written(), wanted.as_slice());

@@ -46,7 +46,7 @@ fn within<'a>(payload: &Payload<'a>) -> Within<'a> {
 /// nothing.
 ///
 /// ```rattle
-/// let mut out = Lines::new(alloc, BoundedSink::new(alloc, 1000)?);
+/// let mut out = TextLines::new(alloc, BoundedSink::new(alloc, 1000)?);
 /// let counts = Counts::new();
 /// for payload in Parser::new(0).parse_all(b"\0asm\x01\0\0\0\x07\x05\x01\x01f\0\x05") {
 ///     if let Ok(payload) = payload {
@@ -373,7 +373,7 @@ impl<'a, O: Tree> Visitor<Global, O> for Dumper<'a> {
 ///
 /// ```rattle
 /// let mut input = SliceSource::new(b"\0asm\x01\0\0\0\x07\x05\x01\x01f\0\x05");
-/// let mut out = Lines::new(alloc, BoundedSink::new(alloc, 1000)?);
+/// let mut out = TextLines::new(alloc, BoundedSink::new(alloc, 1000)?);
 /// let shown = Shown { only: &[Only::All], has_bytes: false, found: &[] };
 /// let ended = dump(alloc, shown, &mut input, &mut out, 4096);
 /// let wanted = b"version 0 8 1 module\nsection 7 10 15 1 export\n  11 name=\"f\" kind=func index=5\nend 15\n";

@@ -17,12 +17,10 @@ pub mod laws;
 mod parse_all;
 mod parser;
 mod payload;
-mod stored;
 
 pub use parse_all::ParseAll;
 pub use parser::Parser;
 pub use payload::{Chunk, CountedSection, Payload, SectionParts};
-pub use stored::ParsePayloads;
 // Not re-exported: what only authors of item types need, such as `SkipItem`, `read_inner` and `read_list`.
 pub use wasm_base::_MAX_WASM_TABLE_SIZE;
 pub use wasm_base::Allocation;

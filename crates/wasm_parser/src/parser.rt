@@ -301,10 +301,11 @@ impl Parser {
     /// Returns the parser as numbers, which a program in another language can keep.
     #[tactic(auto, using(wasm_frames::proofs::Settled::settled))]
     pub fn stored(&self) -> StoredParser
-        // Proved: `stored` is a parser as numbers. Any such numbers are a parser, whose `parse` has
-        //   the clauses of `Parser::parse`, and its `skip_next` those of `Parser::skip_next`; its
-        //   `skip_section` skips the rest of a code section, and elsewhere nothing [the clauses of
-        //   each (`parser_of`, `skipped_of`)]
+        // Proved: `stored` is a parser as numbers. Every bit pattern of its 48 bytes is a parser: its
+        //   `next` returns the frame of the payload that `Parser::parse` returns, its `skip_next` has
+        //   the clauses of `Parser::skip_next`, and its `skip_section` skips the rest of a code
+        //   section, and elsewhere nothing [`stored` of `Parser`; `next`, `skip_next` and
+        //   `skip_section` of `StoredParser` (`parser_of`, `skipped_of`)]
         ensures { parser_of result ≡ self.now }
     {
         self.stored

@@ -20,7 +20,7 @@ use wasm_items::{
     Table, TagType, TypeRef, ValType,
 };
 use wasm_show::{Show, show_items};
-use wasm_tree::{Lines, Tree};
+use wasm_tree::{TextLines, Tree};
 
 /// Reads tables from standard input, and writes their lines, with the result of each row in lines under it. A fault is a line in
 /// the place of its item; so is `OutOfMemory`.
@@ -33,7 +33,7 @@ pub(crate) fn run(rt: &HostRuntime) -> Result<(), (u64, Failed)> {
     if let Err(error) = rt.stdin().read_to_string(&mut text) {
         return Err((0, Failed::from(error)));
     }
-    let mut out = Lines::new(rt.alloc(), WriteSink::new(rt.stdout()));
+    let mut out = TextLines::new(rt.alloc(), WriteSink::new(rt.stdout()));
     let shown = show_lines(rt.alloc(), text.as_str(), &mut out);
     out.write_out();
     let stopped = out.stopped();
@@ -45,7 +45,11 @@ pub(crate) fn run(rt: &HostRuntime) -> Result<(), (u64, Failed)> {
 }
 
 // Writes each line of the input, and under each row its result.
-fn show_lines<W: Sink>(alloc: Global, text: &str, out: &mut Lines<W>) -> Result<(), (u64, Failed)> {
+fn show_lines<W: Sink>(
+    alloc: Global,
+    text: &str,
+    out: &mut TextLines<W>,
+) -> Result<(), (u64, Failed)> {
     let mut number = 0_u64;
     for line in text.lines() {
         number = number.wrapping_add(1);
@@ -58,13 +62,13 @@ fn show_lines<W: Sink>(alloc: Global, text: &str, out: &mut Lines<W>) -> Result<
 }
 
 // Writes a line of the input.
-fn echo<W: Sink>(line: &str, out: &mut Lines<W>) {
+fn echo<W: Sink>(line: &str, out: &mut TextLines<W>) {
     write_bytes(line.as_bytes(), out);
     out.first(b"\n");
 }
 
 // Writes the result of a line if it is a row.
-fn show_result<W: Sink>(alloc: Global, line: &str, out: &mut Lines<W>) -> Result<(), Failed> {
+fn show_result<W: Sink>(alloc: Global, line: &str, out: &mut TextLines<W>) -> Result<(), Failed> {
     if is_prose(line) {
         return Ok(());
     }
@@ -72,7 +76,7 @@ fn show_result<W: Sink>(alloc: Global, line: &str, out: &mut Lines<W>) -> Result
     show_row(alloc, &row, out)
 }
 
-fn show_row<W: Sink>(alloc: Global, row: &Row<'_>, out: &mut Lines<W>) -> Result<(), Failed> {
+fn show_row<W: Sink>(alloc: Global, row: &Row<'_>, out: &mut TextLines<W>) -> Result<(), Failed> {
     let stream = Stream {
         bytes: &row.bytes,
         offset: row.offset,

@@ -4,7 +4,7 @@ use std::alloc::{AllocError, Global};
 use std::io::{self, ErrorKind};
 use wasm_base::{Error, Fault, WasmFeatures};
 use wasm_feed::{ListError, Sink};
-use wasm_tree::Lines;
+use wasm_tree::TextLines;
 
 /// How many bytes are written at once at most.
 const PART: usize = 65_536;
@@ -157,7 +157,7 @@ fn parse_digit(digit: u8) -> Result<u8, Failed> {
 }
 
 /// Writes bytes as they are.
-pub(crate) fn write_bytes<W: Sink>(bytes: &[u8], out: &mut Lines<W>) {
+pub(crate) fn write_bytes<W: Sink>(bytes: &[u8], out: &mut TextLines<W>) {
     let mut rest = bytes;
     while rest.len() > PART {
         let (first, later) = rest.split_at(PART);

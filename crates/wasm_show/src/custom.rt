@@ -143,7 +143,7 @@ impl Show for NameSectionReader<'_> {
 ///
 /// ```rattle
 /// let section = CustomSectionReader::new(BinaryReader::new(b"\x04core\x00\x03app", 0))?;
-/// let mut out = Lines::new(alloc, BoundedSink::new(alloc, 1000)?);
+/// let mut out = TextLines::new(alloc, BoundedSink::new(alloc, 1000)?);
 /// show_custom(alloc, &section, &mut out);
 /// out.write_out();
 /// let wanted = b"  section name=\"core\" process=\"app\"\n";

@@ -58,7 +58,7 @@ pub trait Items: Drop {
 /// ```rattle
 /// let bytes = b"\x01\x01m\x01f\x00\x05";
 /// let section = ImportSectionReader::new(BinaryReader::new(bytes, 100))?;
-/// let mut out = Lines::new(alloc, BoundedSink::new(alloc, 1000)?);
+/// let mut out = TextLines::new(alloc, BoundedSink::new(alloc, 1000)?);
 /// show_items(1, section.into_imports_with_offsets(), &mut out);
 /// out.write_out();
 /// let wanted = b"  101 module=\"m\" name=\"f\" ty=func index=5\n";
@@ -147,7 +147,7 @@ pub(crate) fn show_extent<T, O: Tree>(name: &str, section: &SectionLimited<'_, T
 ///
 /// ```rattle
 /// let section = FunctionSectionReader::new(BinaryReader::new(&[2, 5, 7], 100))?;
-/// let mut out = Lines::new(alloc, BoundedSink::new(alloc, 1000)?);
+/// let mut out = TextLines::new(alloc, BoundedSink::new(alloc, 1000)?);
 /// show_section(1, &section, &mut out);
 /// out.write_out();
 /// assert_eq!(rt; out.into_output().written(), b"  101 index=5\n  102 index=7\n".as_slice());

@@ -12,7 +12,7 @@ use wasm_tree::Tree;
 /// ```rattle
 /// let mut reader = BinaryReader::new(b"\x03add\x00\x05", 0);
 /// let export = Export::from_reader(&mut reader)?;
-/// let mut out = Lines::new(alloc, BoundedSink::new(alloc, 1000)?);
+/// let mut out = TextLines::new(alloc, BoundedSink::new(alloc, 1000)?);
 /// out.item(1, 0);
 /// export.show(1, &mut out);
 /// out.write_out();
@@ -29,7 +29,7 @@ pub trait Show: Drop {
 /// A part of an item that is written without the name of a field, such as a type.
 ///
 /// ```rattle
-/// let mut out = Lines::new(alloc, BoundedSink::new(alloc, 1000)?);
+/// let mut out = TextLines::new(alloc, BoundedSink::new(alloc, 1000)?);
 /// out.line_field(1, "ty");
 /// RefType::FUNCREF.text(&mut out);
 /// out.write_out();

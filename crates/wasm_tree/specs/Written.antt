@@ -5,7 +5,7 @@ use Rattle.wasm_text.specs.declared.digits.Base.{Base}
 use Rattle.wasm_tree.specs.Found.{found_unless}
 use Rattle.wasm_tree.specs.Tree.{Put, Rest, Writing, with_rest}
 use Rattle.wasm_tree.specs.declared.faults.Faults.{Faults}
-use Rattle.wasm_tree.specs.declared.lines.Lines.{Lines}
+use Rattle.wasm_tree.specs.declared.lines.TextLines.{TextLines}
 use Rattle.wasm_tree.specs.declared.objects.Objects.{Objects}
 use Rattle.wasm_tree.specs.declared.objects.Spot.{Spot}
 use Rattle.wasm_tree.specs.declared.objects.Spot.TheVariants.{Outside}
@@ -19,12 +19,12 @@ abbrev pub of_lines : Base → (is_begun : Bool) → (unshown : List ℕ) → Re
 of_lines base is_begun unshown =
     record { is_begun = is_begun; style = style.Lines base; spot = Outside; unshown = unshown }
 
-abbrev pub lines_rest : {W : Type 0} → Lines W → Rest
+abbrev pub lines_rest : {W : Type 0} → TextLines W → Rest
 lines_rest t = of_lines t.base t.is_begun t.rows
 
 -- | what a tree has written, whether lines, objects or neither; what is recorded of where items begin [`objects`,
 --   `offsets`, `NotesStart`]
-abbrev pub lines : {W : Type 0} → Lines W → Writing
+abbrev pub lines : {W : Type 0} → TextLines W → Writing
 lines t = with_rest (lines_rest t) t.output
 
 -- in objects

@@ -1,6 +1,6 @@
 //! Trees of lines: text in which lines are indented under others, or one JSON object on each line.
 //!
-//! `Tree` is the trait of what writes such a dump from fields. `Lines` writes text and `Objects` writes JSON to a sink;
+//! `Tree` is the trait of what writes such a dump from fields. `TextLines` writes text and `Objects` writes JSON to a sink;
 //! `Offsets` only records where items begin, and `Faults` writes only the malformed items. `ItemNames` has the names of
 //! items.
 //!
@@ -26,7 +26,7 @@ mod tree;
 pub use faults::Faults;
 pub use gathered::Gathered;
 pub use known_names::ItemNames;
-pub use lines::Lines;
+pub use lines::TextLines;
 pub use numbers::{Space, write_item};
 pub use objects::Objects;
 pub use offsets::Offsets;

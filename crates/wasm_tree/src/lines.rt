@@ -29,7 +29,7 @@ use wasm_text::{Base, ListError, ShortText, Sink};
 /// lines that are read from them. Call `write_out` at the end to write the buffered lines.
 ///
 /// ```rattle
-/// let mut out = Lines::new(alloc, BoundedSink::new(alloc, 1000)?);
+/// let mut out = TextLines::new(alloc, BoundedSink::new(alloc, 1000)?);
 /// out.first(b"section 2 10 20 1 import\n");
 /// out.item(1, 11);
 /// out.quoted("module", "env");
@@ -38,7 +38,7 @@ use wasm_text::{Base, ListError, ShortText, Sink};
 /// let wanted = b"section 2 10 20 1 import\n  11 module=\"env\" index=5\n";
 /// assert_eq!(rt; out.into_output().written(), wanted.as_slice());
 /// ```
-pub struct Lines<W: Sink> {
+pub struct TextLines<W: Sink> {
     output: Output<W>,
     base: Base,
     is_begun: bool,
@@ -46,21 +46,26 @@ pub struct Lines<W: Sink> {
     rows: Rows,
 }
 
-impl<W: Sink> Lines<W> {
+impl<W: Sink> TextLines<W> {
     /// Creates a tree of lines with decimal offsets and without names of items. Nothing is written yet.
-    pub fn new(alloc: Global, output: W) -> Lines<W>
+    pub fn new(alloc: Global, output: W) -> TextLines<W>
         ensures { lines result ≡ starts Decimal (W.taken output) (W.has_failed output) }
     {
-        Lines::with_names(alloc, output, Base::Decimal, None)
+        TextLines::with_names(alloc, output, Base::Decimal, None)
     }
 
     /// Creates a tree of lines with offsets in this base, and with names for items if there are any.
-    pub fn with_names(alloc: Global, output: W, base: Base, names: Option<ItemNames>) -> Lines<W>
+    pub fn with_names(
+        alloc: Global,
+        output: W,
+        base: Base,
+        names: Option<ItemNames>,
+    ) -> TextLines<W>
         // Proved: what holds for a tree holds for one that has names of items, with offsets in either base
-        //   [`with_names` of `Lines` and `Objects` (`starts`, `starts_objects`), `Tree::item_number` (`AddsNumber`)]
+        //   [`with_names` of `TextLines` and `Objects` (`starts`, `starts_objects`), `Tree::item_number` (`AddsNumber`)]
         ensures { lines result ≡ starts base (W.taken output) (W.has_failed output) }
     {
-        Lines {
+        TextLines {
             output: Output::new(alloc, output),
             base,
             is_begun: false,
@@ -74,7 +79,7 @@ impl<W: Sink> Lines<W> {
         ensures taken { W.taken result ≡ (lines self).taken }
         ensures failed { W.has_failed result ≡ (lines self).has_failed }
     {
-        let Lines {
+        let TextLines {
             output,
             base: _,
             is_begun: _,
@@ -87,7 +92,7 @@ impl<W: Sink> Lines<W> {
     /// Returns the number of buffered bytes, at most 65,536.
     pub fn waits(&self) -> usize
         ensures waits { result ≡ length (lines self.now).waiting }
-        // Proved: at most 65,536 bytes of a tree wait to be written [`bounded` of `waits` of `Lines` and `Objects`,
+        // Proved: at most 65,536 bytes of a tree wait to be written [`bounded` of `waits` of `TextLines` and `Objects`,
         //   by the invariant of a `Page`]
         ensures bounded { result ≤ 65536 }
     {
@@ -152,6 +157,7 @@ impl<W: Sink> Lines<W> {
     }
 
     // Writes bytes, at most a page of them, on the line that is begun.
+    #[inline(always)]
     fn piece(&mut self, bytes: &[u8])
         requires short { length bytes.now ≤ 65536 }
         requires one_line { has_line_feed bytes.now ≡ false }
@@ -252,6 +258,7 @@ impl<W: Sink> Lines<W> {
     }
 
     // Writes the value of a field.
+    #[inline(always)]
     fn value(&mut self, value: Value<'_>)
         requires one_line { breaks_line value ≡ false }
         ensures adds { Adds (lines self.old) (lines self.new) }
@@ -269,6 +276,7 @@ impl<W: Sink> Lines<W> {
     }
 
     // Writes a field whose value is a number. Most are, so that it is put at once.
+    #[inline(always)]
     fn number_field(&mut self, name: &str, number: u64)
         requires one_line { has_line_feed name.now ≡ false }
         ensures adds { Adds (lines self.old) (lines self.new) }
@@ -284,6 +292,7 @@ impl<W: Sink> Lines<W> {
     }
 
     // Writes a field whatever its value is.
+    #[inline(always)]
     fn whole_field(&mut self, name: &str, value: Value<'_>)
         requires name_line { has_line_feed name.now ≡ false }
         requires value_line { breaks_line value ≡ false }
@@ -357,7 +366,7 @@ impl<W: Sink> Lines<W> {
     }
 }
 
-impl<W: Sink> Tree for Lines<W> {
+impl<W: Sink> Tree for TextLines<W> {
     ghost writing = { λ t. lines t };
 
     ghost found = { λ t. None };
@@ -413,6 +422,7 @@ impl<W: Sink> Tree for Lines<W> {
         }
     }
 
+    #[inline(always)]
     fn bytes(&mut self, bytes: &[u8])
         requires one_line { has_line_feed bytes.now ≡ false }
         ensures adds { Adds (lines self.old) (lines self.new) }
@@ -439,6 +449,7 @@ impl<W: Sink> Tree for Lines<W> {
         });
     }
 
+    #[inline(always)]
     fn begin_field(&mut self, name: &str)
         requires one_line { has_line_feed name.now ≡ false }
         ensures adds { Adds (lines self.old) (lines self.new) }
@@ -451,6 +462,7 @@ impl<W: Sink> Tree for Lines<W> {
         }
     }
 
+    #[inline(always)]
     fn field(&mut self, name: &str, value: Value<'_>)
         requires name_line { has_line_feed name.now ≡ false }
         requires value_line { breaks_line value ≡ false }
@@ -463,6 +475,7 @@ impl<W: Sink> Tree for Lines<W> {
         }
     }
 
+    #[inline(always)]
     fn label(&mut self, _name: &str, word: &str)
         requires word_line { has_line_feed word.now ≡ false }
         ensures adds { Adds (lines self.old) (lines self.new) }

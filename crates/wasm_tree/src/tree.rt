@@ -109,7 +109,7 @@ pub(crate) fn is_default(value: Value<'_>) -> bool
 /// then returns `Output` or `Memory`.
 ///
 /// ```rattle
-/// let mut out = Lines::new(alloc, BoundedSink::new(alloc, 1000)?);
+/// let mut out = TextLines::new(alloc, BoundedSink::new(alloc, 1000)?);
 /// out.line(1, "memory");
 /// out.number("initial", 2);
 /// out.flag("shared", false);
@@ -150,7 +150,7 @@ pub trait Tree {
     /// Stops the tree because an allocation failed.
     fn out_of_memory(&mut self)
         // Proved: what a writer has written below a line stays below it [`adds`, or the clause of each call of `Tree`
-        //   and of each call that shows (`Adds`); `first` of `Lines` (`AddsFirst`)]
+        //   and of each call that shows (`Adds`); `first` of `TextLines` (`AddsFirst`)]
         ensures adds { Adds (writing self.old) (writing self.new) }
         ensures style { (writing self.new).style ≡ (writing self.old).style }
         ensures stops { is_some (writing self.new).why ≡ true }

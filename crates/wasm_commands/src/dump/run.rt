@@ -13,7 +13,7 @@ use std::io::Write;
 use wasm_console::PIECE;
 use wasm_dumper::{Shown, dump};
 use wasm_feed::{Ended, ListError, Source, WriteSink};
-use wasm_tree::{ItemNames, Lines, Objects};
+use wasm_tree::{ItemNames, Objects, TextLines};
 
 // Flushes the output if the dump did not fail.
 fn forward_all<W: Write>(
@@ -46,7 +46,7 @@ fn dump_lines<R: Source, W: Write>(
         (seen_as (has_colors format) (writer_device W.contents output result.1)) result.0 }
 {
     let colored = Colored::new(output, format.has_colors());
-    let mut tree = Lines::with_names(alloc, colored, format.base(), names);
+    let mut tree = TextLines::with_names(alloc, colored, format.base(), names);
     let how = dump(alloc, shown, input, &mut tree, PIECE);
     let colored = tree.into_output();
     (how, colored.into_inner())

@@ -8,7 +8,7 @@ use std::test::Fail;
 use wasm_dumper::{Only, Shown, dump};
 use wasm_feed::{BoundedSink, Ended, Failed, ListError, SliceSource, Source};
 use wasm_parser::{Error, Fault};
-use wasm_tree::Lines;
+use wasm_tree::TextLines;
 
 /// A module with an item in each of its sections, and names that don't ascend.
 const MODULE: &[u8] =
@@ -49,7 +49,7 @@ fn dumped<R: Source>(
     output: BoundedSink,
     piece: usize,
 ) -> (Result<Ended, ListError>, BoundedSink) {
-    let mut tree = Lines::new(alloc, output);
+    let mut tree = TextLines::new(alloc, output);
     let shown = Shown {
         only,
         has_bytes: false,
@@ -227,7 +227,7 @@ fn skips_what_it_does_not_show(rt: HostRuntime) -> Result<(), Fail> {
 fn rows_after_what_it_does_not_show(rt: HostRuntime) -> Result<(), Fail> {
     let text = b"43 | 0a 04 01\ncode 45 49 1 3\n46 | 02 00 0b\nbody 47 49 func[1]\nend 49\n";
     for piece in [1, 7, 65_536] {
-        let mut tree = Lines::new(rt.alloc(), BoundedSink::new(rt.alloc(), 1_000)?);
+        let mut tree = TextLines::new(rt.alloc(), BoundedSink::new(rt.alloc(), 1_000)?);
         let shown = Shown {
             only: &[Only::Id(10)],
             has_bytes: true,

@@ -4,7 +4,7 @@ use std::alloc::Global;
 use std::process::Abort;
 use std::test::Fail;
 use wasm_feed::BoundedSink;
-use wasm_tree::{Lines, Tree};
+use wasm_tree::{TextLines, Tree};
 
 // Names with a quote, a backslash, a line feed, a control character, and a character outside of ASCII.
 const NAMES: &[u8] = b"\0asm\x01\0\0\0\x07\x0f\x02\x03a\"b\0\x00\x05\\\x0a\x01\xc3\xa9\x03\x00";
@@ -159,7 +159,7 @@ fn writes_other_forms(rt: HostRuntime) -> Result<(), Fail> {
 // What a sink has of two parts: bytes are left after the last line of the first one, and the second has no line.
 fn two_parts(alloc: Global) -> Result<BoundedSink, Fail> {
     let cuts = vec![in alloc; 11]?;
-    let mut out = Lines::new(alloc, BoundedSink::new(alloc, 100)?);
+    let mut out = TextLines::new(alloc, BoundedSink::new(alloc, 100)?);
     out.begin_part(alloc, 10, &[1, 2, 3], cuts);
     out.item(1, 11);
     out.begin_part(alloc, 13, &[4], Vec::new(alloc));

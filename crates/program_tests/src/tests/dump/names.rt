@@ -5,7 +5,7 @@ use std::test::Fail;
 use wasm_dumper::{Only, Shown, collect_names, dump};
 use wasm_feed::{BoundedSink, Ended, ListError, Sink, SliceSource};
 use wasm_text::Base;
-use wasm_tree::{ItemNames, Lines};
+use wasm_tree::{ItemNames, TextLines};
 
 // The linked module of docs/DUMP.md, whose bodies are filled with a byte.
 const LINKED: &[u8] =
@@ -145,7 +145,7 @@ fn dumped_into(
 ) -> Result<(Result<Ended, ListError>, BoundedSink), Fail> {
     let names = names_in(alloc, stream)?;
     let output = BoundedSink::new(alloc, room)?;
-    let mut tree = Lines::with_names(alloc, output, Base::Decimal, Some(names));
+    let mut tree = TextLines::with_names(alloc, output, Base::Decimal, Some(names));
     let shown = Shown {
         only: &[Only::Id(10)],
         has_bytes: false,

@@ -9,7 +9,7 @@ use wasm_dumper::{Only, Shown, dump};
 use wasm_feed::{BoundedSink, Ended, Failed, ListError, SliceSource, Source};
 use wasm_parser::{Error, Fault};
 use wasm_text::Base;
-use wasm_tree::{Faults, ItemNames, Lines, Objects, Space};
+use wasm_tree::{Faults, ItemNames, Objects, Space, TextLines};
 
 /// An imported function, two custom sections in turn, a function with its body, and a custom section whose name is a quote.
 const STREAM: &[u8] =
@@ -164,7 +164,7 @@ fn all_of<'n>(found: &'n [Cell<bool>]) -> Shown<'n> {
 fn says_which_choices_were_found(rt: HostRuntime) -> Result<(), Fail> {
     for piece in [1, 7, 65_536] {
         let found = [Cell::new(false), Cell::new(false), Cell::new(false)];
-        let mut tree = Lines::new(rt.alloc(), BoundedSink::new(rt.alloc(), 1_000)?);
+        let mut tree = TextLines::new(rt.alloc(), BoundedSink::new(rt.alloc(), 1_000)?);
         let mut input = SliceSource::new(&STREAM[..39]);
         let ended = dump(rt.alloc(), all_of(&found), &mut input, &mut tree, piece);
         assert!(rt; ended == Ok(Ended::End), "{piece}");
@@ -203,7 +203,7 @@ end 0x47
         assert!(rt; names.add(rt.alloc(), Space::Functions, 0, "f").is_ok());
         assert!(rt; names.add(rt.alloc(), Space::Functions, 1, "g").is_ok());
         let sink = BoundedSink::new(rt.alloc(), 2_000)?;
-        let mut tree = Lines::with_names(rt.alloc(), sink, Base::Hexadecimal, Some(names));
+        let mut tree = TextLines::with_names(rt.alloc(), sink, Base::Hexadecimal, Some(names));
         let mut input = SliceSource::new(STREAM);
         let ended = dump(rt.alloc(), all_of(&[]), &mut input, &mut tree, piece);
         assert!(rt; ended == Ok(Ended::End), "{piece}");
@@ -316,7 +316,7 @@ fn dumps_zeros(
     how: Ended,
     text: &[u8],
 ) -> Result<(), Fail> {
-    let mut tree = Lines::new(alloc, BoundedSink::new(alloc, 1_000)?);
+    let mut tree = TextLines::new(alloc, BoundedSink::new(alloc, 1_000)?);
     let mut input = Zeros {
         bytes: SliceSource::new(b"\0asm\x01\0\0\0\0\x80\x80\x40\x04long"),
         left,
@@ -371,7 +371,7 @@ fn names_come_after_large_sections(rt: HostRuntime) -> Result<(), Fail> {
 fn stops_where_the_sink_is_full(rt: HostRuntime) -> Result<(), Fail> {
     for room in [125, 130, 145, 170] {
         for piece in [1, 7, 65_536] {
-            let mut tree = Lines::new(rt.alloc(), BoundedSink::new(rt.alloc(), room)?);
+            let mut tree = TextLines::new(rt.alloc(), BoundedSink::new(rt.alloc(), room)?);
             let mut input = SliceSource::new(STREAM);
             let ended = dump(rt.alloc(), all_of(&[]), &mut input, &mut tree, piece);
             assert!(rt; ended == Err(ListError::Output), "{room} {piece}");

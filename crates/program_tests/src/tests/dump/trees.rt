@@ -7,7 +7,7 @@ use std::alloc::Global;
 use std::process::Abort;
 use std::test::Fail;
 use wasm_feed::BoundedSink;
-use wasm_tree::{Lines, Objects, Tree};
+use wasm_tree::{Objects, TextLines, Tree};
 
 // Bytes that are escaped, the escape in lines, and the one in JSON.
 const ESCAPES: [(&'static str, &'static str, &'static str); 4] = [
@@ -55,7 +55,7 @@ fn is_written(
     line: &str,
     object: &str,
 ) -> Result<(), Fail> {
-    let mut lines = Lines::new(alloc, BoundedSink::new(alloc, 1000)?);
+    let mut lines = TextLines::new(alloc, BoundedSink::new(alloc, 1000)?);
     write_fields(case, &mut lines);
     same_at(
         rt,
@@ -202,7 +202,7 @@ fn write_empty_lines<T: Tree>(is_text: bool, out: &mut T) {
 #[test]
 fn empty_texts_begin_a_line(rt: HostRuntime) -> Result<(), Fail> {
     for is_text in [false, true] {
-        let mut lines = Lines::new(rt.alloc(), BoundedSink::new(rt.alloc(), 1000)?);
+        let mut lines = TextLines::new(rt.alloc(), BoundedSink::new(rt.alloc(), 1000)?);
         write_empty_lines(is_text, &mut lines);
         let wanted = b"  \n  x\n   n=7\n";
         same_at(
@@ -254,7 +254,7 @@ fn texts_of_any_length(rt: HostRuntime) -> Result<(), Fail> {
             let object = format!(in rt.alloc();
                 "{{\"level\":1,\"t\":\"{first}ab{in_json}cdef{in_json}\"}}\n"
             )?;
-            let mut lines = Lines::new(rt.alloc(), BoundedSink::new(rt.alloc(), 150_000)?);
+            let mut lines = TextLines::new(rt.alloc(), BoundedSink::new(rt.alloc(), 150_000)?);
             write_texts(first, &second, &mut lines);
             same_at(&rt, lines.into_output().written(), line.as_bytes(), &size);
             let mut objects = Objects::new(rt.alloc(), BoundedSink::new(rt.alloc(), 150_000)?);
