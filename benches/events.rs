@@ -7,6 +7,7 @@ use bitflags::Flags;
 use std::alloc::Global;
 use wasm_base::{Error, Result, WasmFeatures};
 use wasm_feed::{Feeder, Step};
+use wasm_frames::{Frame, FrameKind, NextFrame, StoredParser};
 use wasm_parser::{Chunk, Parser, Payload};
 
 /// Chunks of at most this many bytes are pushed, and larger ones are borrowed.
@@ -38,6 +39,28 @@ pub(crate) fn parse_all(bytes: &[u8]) -> Result<Tally> {
     let mut tally = Tally::new();
     for payload in Parser::new(0).parse_all(bytes) {
         tally_payload(payload?, &mut tally);
+    }
+    Ok(tally)
+}
+
+/// Reads the parts of a whole stream as frames, without payloads.
+#[inline(never)]
+pub(crate) fn frames(bytes: &[u8]) -> Result<Tally> {
+    let mut tally = Tally::new();
+    let mut parser = StoredParser::new(0);
+    let mut rest = bytes;
+    for _ in 0..u64::MAX {
+        match parser.next_for::<Tally>(rest, true) {
+            NextFrame::Parsed { frame, consumed } => {
+                tally.add(see_frame(&frame));
+                if frame.kind() == FrameKind::End {
+                    break;
+                }
+                rest = rest.split_at(consumed.min(rest.len())).1;
+            }
+            NextFrame::NeedMoreData(_) => unreachable!(),
+            NextFrame::Fault(error) => return Err(error),
+        }
     }
     Ok(tally)
 }
@@ -164,5 +187,15 @@ fn see(payload: &Payload<'_>) -> u64 {
             Some((id, range)) => u64::from(id) ^ range.start ^ range.end,
             None => 0,
         },
+    }
+}
+
+fn see_frame(frame: &Frame<'_>) -> u64 {
+    let range = frame.range();
+    match frame.kind() {
+        FrameKind::Header | FrameKind::End => 0,
+        FrameKind::Body => range.start ^ range.end,
+        FrameKind::Custom => frame.data_offset() ^ range.end,
+        _other => u64::from(frame.id()) ^ range.start ^ range.end,
     }
 }

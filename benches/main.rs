@@ -19,7 +19,15 @@ const MOST_ROUNDS: u32 = 1000;
 const ENOUGH: u64 = 1;
 
 /// The modes that run if no argument names any.
-const WAYS: [&'static str; 6] = ["parse", "parse_all", "65536", "1", "items", "indices"];
+const WAYS: [&'static str; 7] = [
+    "parse",
+    "parse_all",
+    "frames",
+    "65536",
+    "1",
+    "items",
+    "indices",
+];
 
 /// The stream has a fault, an argument names no mode, or an allocation, a device or the clock failed.
 #[derive(Drop)]
@@ -92,6 +100,7 @@ fn read(alloc: Global, name: &str, bytes: &[u8]) -> Result<Tally, Failed> {
     let tally = match name {
         "parse" => events::parse(bytes)?,
         "parse_all" => events::parse_all(bytes)?,
+        "frames" => events::frames(bytes)?,
         "items" => items::walk_items(alloc, bytes, false)?,
         "indices" => items::walk_items(alloc, bytes, true)?,
         size => match size.parse::<usize>() {

@@ -34,7 +34,7 @@ from common import leb
 from modules import custom, listed, module, section, text
 
 PROGRAM, LISTER, DUMPER = benchmark.PROGRAM, programs.path_of("wasm_list"), programs.path_of("pulleynavy")
-EVENT_WAYS = ["parse", "parse_all", "65536", "4096", "100", "16", "1"]
+EVENT_WAYS = ["parse", "parse_all", "frames", "65536", "4096", "100", "16", "1"]
 # The program of the crate for Rust's examples that reads as the benchmark does.
 ORIGINAL = os.path.join(common.TOP, "bindings", "rust", "examples", "programs", "src", "bin", "bench.rs")
 # The manifest: the crate's folder, name and features.
@@ -95,8 +95,8 @@ def items_of_each_kind(count):
 MADE = [
     ("custom sections", 200_000, lambda count: module(*(custom("custom%d" % (i % 10), b"data") for i in range(count))), EVENT_WAYS, False),
     ("bodies of 1,000 bytes", 40_000, bodies(1000), EVENT_WAYS, False),
-    ("bodies of 99 bytes", 200_000, bodies(99), ["parse", "parse_all"], False),
-    ("unknown sections", 200_000, lambda count: module(*(section(14 + i % 100, b"x" * 20) for i in range(count))), ["parse"], False),
+    ("bodies of 99 bytes", 200_000, bodies(99), ["parse", "parse_all", "frames"], False),
+    ("unknown sections", 200_000, lambda count: module(*(section(14 + i % 100, b"x" * 20) for i in range(count))), ["parse", "frames"], False),
     ("indices of one byte", 1_000_000, segment(lambda i: i % 128), ["indices", "items"], True),
     ("indices, a tenth of two bytes", 1_000_000, segment(lambda i: 300 if i % 10 == 9 else i % 128), ["indices", "items"], True),
     ("functions", 100_000, functions, ["items"], False),
@@ -108,6 +108,7 @@ MADE += [(name, 100_000, make, ["items"], False) for name, make in [
 WORDS = {
     "parse": "an event, parse",
     "parse_all": "an event, parse_all",
+    "frames": "a frame",
     "65536": "an event, chunks of 64 KiB",
     "4096": "an event, chunks of 4 KiB",
     "100": "an event, chunks of 100 bytes",
@@ -122,7 +123,7 @@ WORDS = {
 
 PARSE = "wasm_parser::parser::Parser::parse"
 # The function of the benchmark that goes a way; any other way is the size of a feeder's chunks.
-READERS = {"parse": "events::parse", "parse_all": "events::parse_all", "items": "items::walk_items", "indices": "items::walk_items"}
+READERS = {"parse": "events::parse", "parse_all": "events::parse_all", "frames": "events::frames", "items": "items::walk_items", "indices": "items::walk_items"}
 
 
 def called_by_us(way):
@@ -132,7 +133,7 @@ def called_by_us(way):
 
 def called_in_c(way):
     """Many events by one call are next to the walk over all of them."""
-    return {"items": None, "indices": None, "parse": ("parse", "whole"), "parse_all": ("batch", "in_batches")}.get(way, (way, "in_pieces"))
+    return {"items": None, "indices": None, "frames": None, "parse": ("parse", "whole"), "parse_all": ("batch", "in_batches")}.get(way, (way, "in_pieces"))
 
 
 def called_at_limit(way):
@@ -140,7 +141,7 @@ def called_at_limit(way):
 
 
 def called_in_original(way):
-    return (way, "original_" + way.replace("indices", "items")) if way in READERS else None
+    return (way, "original_" + way.replace("indices", "items")) if way in READERS and way != "frames" else None
 
 
 def calls_in(profile):
@@ -344,7 +345,7 @@ def nanoseconds(count, took):
 def print_callers(only, archive, folder):
     """Nanoseconds of an event from Rattle, and from C and from Rust where there are compilers for them. The crate for Rust has no feeder."""
     program, rows = c_caller(folder, archive), []
-    others = {"C": (program, [way for way in EVENT_WAYS if way != "parse_all"])} if program else {}
+    others = {"C": (program, [way for way in EVENT_WAYS if way not in ("parse_all", "frames")])} if program else {}
     other = program and rust_caller(folder)
     others.update({"Rust": (other, ["parse", "parse_all"])} if other else {})
     for what, usual, make, ways, _ in MADE:

@@ -18,7 +18,8 @@ use std::marker::Model;
 use wasm_frames::{Frame, FrameKind, StoredParser};
 use wasm_parser::{Error, Fault, Payload, Result, WasmFeatures, fits};
 use wasm_streams::{
-    Cursor, FrameStep, make_ready, next_frame_for, read_more, refill, seen, take_left,
+    Cursor, FrameStep, make_ready, next_frame_for, next_stored_for, read_more, refill, seen,
+    take_left,
 };
 use wasm_text::{ListError, Source};
 
@@ -379,7 +380,7 @@ impl<A: Allocator> Feeder<A> {
             return Err(Error::new(Fault::OutOfMemory, 0));
         };
         let rest = &piece[ready..];
-        let looked = look(parse_next_for::<F>(&mut self.cursor, seen(&self.bytes, rest)));
+        let looked = look(parse_next_for::<F, false>(&mut self.cursor, seen(&self.bytes, rest)));
         let taken = take_left(&mut self.cursor, &mut self.bytes, rest);
         Ok((ready + taken, looked))
     }
@@ -459,16 +460,25 @@ pub fn parse_next<'a>(cursor: &mut Cursor, bytes: &'a [u8]) -> Result<Step<'a>>
     ensures steps { StepsAt cursor.old bytes.now (told result) cursor.new }
     ensures items { StepBegins result }
 {
-    parse_next_for::<Step<'_>>(cursor, bytes)
+    parse_next_for::<Step<'_>, true>(cursor, bytes)
 }
 
 // Does what `parse_next` does. `For` is what the caller makes of a step: so each caller of `step_over` has an instance, which
-// LLVM puts in place. The payload is made where the frame is read, and each of the frequent kinds returns on its own.
-fn parse_next_for<'a, For>(cursor: &mut Cursor, bytes: &'a [u8]) -> Result<Step<'a>>
+// LLVM puts in place. The payload is made where the frame is read, and each of the frequent kinds returns on its own. A chunk is
+// large, so that only of stored bytes it pays to remember that a part is not whole.
+fn parse_next_for<'a, For, const ARE_STORED: bool>(
+    cursor: &mut Cursor,
+    bytes: &'a [u8],
+) -> Result<Step<'a>>
     ensures steps { StepsAt cursor.old bytes.now (told result) cursor.new }
     ensures items { StepBegins result }
 {
-    match next_frame_for::<For>(cursor, bytes) {
+    let step = if ARE_STORED {
+        next_stored_for::<For>(cursor, bytes)
+    } else {
+        next_frame_for::<For>(cursor, bytes)
+    };
+    match step {
         FrameStep::Parsed { frame, bytes } => match frame.kind() {
             FrameKind::Body => return Ok(parsed(frame, bytes)),
             FrameKind::Custom => return Ok(parsed(frame, bytes)),

@@ -7,6 +7,7 @@ pub use Rattle.wasm_grammar.proofs.readings.Readings.{reading_same}
 pub use Rattle.wasm_frames.proofs.Along.{answers_go_along}
 pub use Rattle.wasm_frames.proofs.AnswerBounds.{answers_last, asks_for_some, consumes, faults_within}
 pub use Rattle.wasm_frames.proofs.AsksWhereOpen.{asks_where_open}
+pub use Rattle.wasm_frames.proofs.Awaited.{awaits}
 pub use Rattle.wasm_frames.proofs.Consumed.{end_consumes_all}
 pub use Rattle.wasm_frames.proofs.Following.{gives_next}
 pub use Rattle.wasm_grammar.proofs.frames.Kept.{frames_read_the_same, rankless_may_go}

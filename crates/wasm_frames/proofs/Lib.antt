@@ -2,6 +2,7 @@ pub mod Along
 pub mod AnswerBounds
 pub mod AnswerTables
 pub mod AsksWhereOpen
+pub mod Awaited
 pub mod Bodies
 pub mod Bounds
 pub mod Common

@@ -1,3 +1,4 @@
+pub mod Awaited
 pub mod BadNumbers
 pub mod Deciding
 pub mod MagicBegun

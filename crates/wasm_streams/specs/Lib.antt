@@ -1,3 +1,4 @@
+pub mod Awaited
 pub mod Beside
 pub mod Cursors
 pub mod Ends

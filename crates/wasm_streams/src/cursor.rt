@@ -254,11 +254,11 @@ pub fn read_more<A: Allocator, R: Source>(
 /// ```
 pub fn next_frame<'a>(cursor: &mut Cursor, bytes: &'a [u8]) -> FrameStep<'a>
     // Proved: a step of a cursor says what its parser returns on the bytes that it has not consumed,
-    //   and consumes those that it shows; `next_frame_for` makes the same step [the clauses of both
+    //   and consumes those that it shows; `next_frame_for` and `next_stored_for` make the same step [the clauses of each
     //   (`StepsAt`)]
     ensures { StepsAt cursor.old bytes.now (says result) cursor.new }
 {
-    next_frame_for::<Frame<'_>>(cursor, bytes)
+    next_stored_for::<Frame<'_>>(cursor, bytes)
 }
 
 /// Performs the step that `next_frame` does. `For` is what the caller makes of a frame, as for `StoredParser::next_for`.
@@ -284,5 +284,26 @@ pub fn next_frame_for<'a, For>(cursor: &mut Cursor, bytes: &'a [u8]) -> FrameSte
             cursor.wants_more = false;
             FrameStep::Fault(error)
         }
+    }
+}
+
+/// Performs the step that `next_frame_for` does, but does not read a part again while it is not whole. So a part that is
+/// larger than many chunks is read twice, and not at each chunk.
+#[inline(always)]
+pub fn next_stored_for<'a, For>(cursor: &mut Cursor, bytes: &'a [u8]) -> FrameStep<'a>
+    ensures { StepsAt cursor.old bytes.now (says result) cursor.new }
+{
+    let rest = after(bytes, cursor.mark);
+    let missing = cursor.parser.missing(rest, cursor.is_finished);
+    if missing > 0 {
+        cursor.wants_more = true;
+        return FrameStep::NeedMoreData(missing);
+    }
+    match next_frame_for::<For>(cursor, bytes) {
+        FrameStep::NeedMoreData(hint) => {
+            cursor.parser.remember(rest, hint);
+            FrameStep::NeedMoreData(hint)
+        }
+        decided => decided,
     }
 }

@@ -27,7 +27,9 @@ mod turns;
 mod visits;
 
 pub use ahead::{Ahead, make_ready, seen, take_left};
-pub use cursor::{Cursor, FrameStep, next_frame, next_frame_for, read_more, refill};
+pub use cursor::{
+    Cursor, FrameStep, next_frame, next_frame_for, next_stored_for, read_more, refill,
+};
 pub use passing::{Passing, pass_part, put_all};
 pub use turns::{Ended, Turn};
 pub use visits::{Visitor, visit};

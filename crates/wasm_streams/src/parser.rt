@@ -1,25 +1,43 @@
 // The parser in a cursor.
-ghost use Rattle.std.specs.Prelude.{◌≡◌, option_map};
-ghost use Rattle.wasm_frames.specs.Answer.{Consumes, GivesFrame, content_of};
+ghost use Rattle.std.specs.Prelude.{◌≡◌, ◌<◌, option_map};
+ghost use Rattle.wasm_frames.specs.Answer.{Consumes, GivesFrame, answer_to, asks, content_of};
 ghost use Rattle.wasm_frames.specs.SkipNext.{SkipsNext, skip_is, skip_of};
 ghost use Rattle.wasm_frames.specs.Stored.{parser_of};
+ghost use Rattle.wasm_streams.specs.Awaited.{IsAsked};
 
 use std::marker::Model;
+use wasm_base::fits;
 use wasm_frames::{NextFrame, SkippedPart, StoredParser};
 
+/// A part at an offset whose end was missing.
+#[derive(Clone, Copy)]
+pub(crate) struct CutPart {
+    pub(crate) offset: u64,
+    /// The bytes at its offset: its head is among them.
+    pub(crate) first: [u8; 8],
+    /// How many bytes it has; 0 if no such part was met.
+    pub(crate) size: usize,
+}
+
 /// A parser of frames, which clauses see as what it knows, and not as its numbers.
+///
+/// It remembers a part whose end was missing, so that the part need not be read again before it is whole.
 #[derive(Drop)]
 pub(crate) struct FrameParser {
     stored: StoredParser,
+    cut: CutPart,
 }
 
 impl Model for FrameParser {
     ghost use Rattle.wasm_frames.specs.ParserState.{ParserState};
     ghost use Rattle.wasm_frames.specs.Stored.{parser_of};
+    ghost use Rattle.wasm_streams.specs.Awaited.{Recalls};
 
     ghost Value = { ParserState };
 
     ghost view = { λ p. parser_of p.stored };
+
+    ghost invariant = { λ p. Recalls (parser_of p.stored) p.cut };
 }
 
 impl FrameParser {
@@ -27,7 +45,14 @@ impl FrameParser {
     pub(crate) fn new(stored: StoredParser) -> FrameParser
         ensures { result ≡ parser_of stored }
     {
-        FrameParser { stored }
+        FrameParser {
+            stored,
+            cut: CutPart {
+                offset: stored.offset,
+                first: [0; 8],
+                size: 0,
+            },
+        }
     }
 
     /// Returns a copy of the parser.
@@ -36,6 +61,7 @@ impl FrameParser {
     {
         FrameParser {
             stored: self.stored,
+            cut: self.cut,
         }
     }
 
@@ -61,6 +87,43 @@ impl FrameParser {
         ensures consumes { Consumes bytes.now (content_of result) }
     {
         self.stored.next_for::<For>(bytes, eof)
+    }
+
+    /// Returns how many bytes are missing of the part that begins with these, or 0 if that is not known.
+    #[inline(always)]
+    pub(crate) fn missing(&self, bytes: &[u8], eof: bool) -> usize
+        ensures { 0 < result → answer_to self.now eof bytes.now ≡ asks result }
+    {
+        let part = &self.cut;
+        if bytes.len() >= part.size || part.offset != self.stored.offset || eof {
+            return 0;
+        }
+        if bytes.starts_with(part.first.as_slice()) {
+            return part.size - bytes.len();
+        }
+        0
+    }
+
+    /// Remembers how many bytes are missing. A request for one byte may be for the next of a number, and says less.
+    #[inline(never)]
+    pub(crate) fn remember(&mut self, bytes: &[u8], hint: usize)
+        requires { IsAsked self.old bytes.now hint }
+        ensures { self.new ≡ self.old }
+    {
+        let offset = self.stored.offset;
+        let Some(first) = bytes.first_chunk::<8>() else {
+            return;
+        };
+        let Some(size) = bytes.len().checked_add(hint) else {
+            return;
+        };
+        if hint > 1 && fits(offset, size) {
+            self.cut = CutPart {
+                offset,
+                first: *first,
+                size,
+            };
+        }
     }
 
     /// Skips the next part, as `StoredParser::skip_next` does.

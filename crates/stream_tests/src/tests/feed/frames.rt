@@ -105,6 +105,55 @@ fn steps_for_a_caller(rt: HostRuntime) {
     }
 }
 
+// A cursor that met a part whose end was missing says the same of any bytes as one that did not.
+fn meets(rt: &impl Abort, parser: StoredParser, cut: &[u8], hint: usize, bytes: &[u8]) {
+    let mut one = Cursor::new(parser);
+    let mut other = Cursor::new(parser);
+    for _again in 0..2 {
+        steps(rt, &mut one, cut, Said::More(hint), (8, 0, true));
+    }
+    for _again in 0..2 {
+        step_both(rt, &mut one, &mut other, bytes);
+        one.rewind();
+        other.rewind();
+    }
+    step_both(rt, &mut one, &mut other, cut);
+    one.rewind();
+    other.rewind();
+    one.finish();
+    other.finish();
+    step_both(rt, &mut one, &mut other, bytes);
+}
+
+#[test]
+fn a_part_whose_end_is_missing(rt: HostRuntime) {
+    let mut parser = StoredParser::new(0);
+    let header = given(parser.next(&PARTS[..8], false));
+    same(&rt, header, Said::Frame(FrameKind::Header, 8));
+    let cut = b"\0\x7f\x03key1234567890".as_slice();
+    for bytes in [
+        // As many bytes, more, fewer, and too few to know the part by.
+        cut,
+        b"\0\x7f\x03key1234567890 and more".as_slice(),
+        b"\0\x7f\x03key12".as_slice(),
+        b"\0\x7f\x03ke".as_slice(),
+        b"".as_slice(),
+        // Other bytes after the same first ones, and other first ones: of another size, a whole part, a fault, a magic.
+        b"\0\x7f\x03key12, and others".as_slice(),
+        b"\0\x7e\x03key1234567890".as_slice(),
+        b"\0\x0d\x03key1234567890".as_slice(),
+        b"\x80\x7f\x03key1234567890".as_slice(),
+        b"\0asm\x01\0\0\0\0\x7f\x03key1".as_slice(),
+        b"\0as".as_slice(),
+    ] {
+        meets(&rt, parser, cut, 113, bytes);
+    }
+    // A count that is not whole may end with the next byte, or one byte earlier if that is another.
+    let begun = b"\x0a\x8a\x80\x80\x80\0\x81\x80\x80\x80".as_slice();
+    let whole = b"\x0a\x8a\x80\x80\x80\0\x81\x80\x80\0".as_slice();
+    meets(&rt, parser, begun, 1, whole);
+}
+
 // What a parser returned, and the number of bytes that it consumed.
 fn given(answer: NextFrame<'_>) -> Said {
     match answer {
